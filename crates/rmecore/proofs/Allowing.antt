@@ -1,0 +1,131 @@
+-- What the needs of a deed say, as facts of the abstract lock, and back.
+use Rattle.std.proofs.Common.{◌≡◌, ◌≢◌, ℕ, zero, suc, ◌<◌, Bool, true, false, if◌then◌else◌, ◌==◌, ◌⊎◌, refl, ap, inl, inr, arith, eq-eqb, eqb-true, lt-ltb, ltb-true}
+use Rattle.std.proofs.lemmas.Bool.{cases_Bool, or_cases}
+use Rattle.rmecore.specs.Needs.{AllHold, least, none_below, put}
+use Rattle.rmecore.specs.AbstractLock.{Abstract, is_out, is_door, is_ready, is_inside, is_dead_in, needs}
+use Rattle.rmecore.specs.declared.outer.Outer.{Outer}
+use Rattle.rmecore.specs.declared.outer.Outer.TheVariants.{Begin, Ready as IsReady, Enter, Crash, Reenter, Leave, Quit}
+use Rattle.rmecore.specs.declared.phase.Phase.{Phase}
+use Rattle.rmecore.specs.declared.phase.Phase.TheVariants.{Out, Door, Ready, Inside, DeadIn}
+
+-- what a deed needs, as facts
+abbrev pub Allows : ℕ → Abstract → Outer → Type 0
+Allows n a (Begin p) = (p < n) × (a.phase p ≡ Out)
+Allows n a (IsReady p) = (p < n) × (a.phase p ≡ Door)
+Allows n a (Enter p) =
+    (p < n) × (a.phase p ≡ Ready) × ((q : ℕ) → q < n → a.phase q ≢ Inside) × ((q : ℕ) → q < n → a.phase q ≢ DeadIn) × ((q : ℕ) → q < n → a.ahead p q ≡ false)
+Allows n a (Crash p) = p < n
+Allows n a (Reenter p) = (p < n) × (a.phase p ≡ DeadIn)
+Allows n a (Leave p) = (p < n) × (a.phase p ≡ Inside)
+Allows n a (Quit p) = (p < n) × ((a.phase p ≡ Door) ⊎ (a.phase p ≡ Ready))
+
+least-none : (n : ℕ) (test : ℕ → Bool) → ((q : ℕ) → q < n → test q ≡ false) → least n test ≡ n
+least-none zero test none = refl
+least-none (suc n) test none = rw (none 0 (omega arith)) (ap suc (least-none n (λ k. test (suc k)) (λ q h. none (suc q) (omega arith))))
+
+pub none_below-from : (n : ℕ) (test : ℕ → Bool) → ((q : ℕ) → q < n → test q ≡ false) → none_below n test ≡ true
+none_below-from n test none = eq-eqb _ _ (least-none n test none)
+
+not_inside : (phase : Phase) → phase ≢ Inside → is_inside phase ≡ false
+not_inside Out ne = refl
+not_inside Door ne = refl
+not_inside Ready ne = refl
+not_inside Inside ne = absurd (ne refl)
+not_inside DeadIn ne = refl
+
+not_dead : (phase : Phase) → phase ≢ DeadIn → is_dead_in phase ≡ false
+not_dead Out ne = refl
+not_dead Door ne = refl
+not_dead Ready ne = refl
+not_dead Inside ne = refl
+not_dead DeadIn ne = absurd (ne refl)
+
+pub needs_hold : (n : ℕ) (a : Abstract) (d : Outer) → Allows n a d → AllHold (needs n a d)
+needs_hold n a (Begin p) h = (lt-ltb p n h.0, (ap is_out h.1, tt))
+needs_hold n a (IsReady p) h = (lt-ltb p n h.0, (ap is_door h.1, tt))
+needs_hold n a (Enter p) h =
+    (lt-ltb p n h.0, (ap is_ready h.1, (none_below-from n _ (λ q less. not_inside _ (h.2 q less)), (none_below-from n _ (λ q less. not_dead _ (h.3 q less)), (none_below-from n (a.ahead p) h.4, tt)))))
+needs_hold n a (Crash p) h = (lt-ltb p n h, tt)
+needs_hold n a (Reenter p) h = (lt-ltb p n h.0, (ap is_dead_in h.1, tt))
+needs_hold n a (Leave p) h = (lt-ltb p n h.0, (ap is_inside h.1, tt))
+needs_hold n a (Quit p) h = (lt-ltb p n h.0, (elim h.1 [ inl e ↦ rw e refl | inr e ↦ rw e refl ], tt))
+
+-- and back
+
+least-none_at : (n : ℕ) (test : ℕ → Bool) → (least n test == n) ≡ true → (q : ℕ) → q < n → test q ≡ false
+least-none_at zero test e q h = absurd (omega arith)
+least-none_at (suc n) test e zero h =
+    elim (cases_Bool (test 0)) [
+      | inl e1 ↦ let f : (0 == suc n) ≡ true = rw e1 at e in let g : 0 ≡ suc n = eqb-true 0 (suc n) f in absurd (omega arith)
+      | inr e1 ↦ e1
+    ]
+least-none_at (suc n) test e (suc q) h =
+    elim (cases_Bool (test 0)) [
+      | inl e1 ↦ let f : (0 == suc n) ≡ true = rw e1 at e in let g : 0 ≡ suc n = eqb-true 0 (suc n) f in absurd (omega arith)
+      | inr e1 ↦ let later : (suc (least n (λ k. test (suc k))) == suc n) ≡ true = rw e1 at e in least-none_at n (λ k. test (suc k)) (eq-eqb _ _ (suc-eq _ _ (eqb-true _ _ later))) q (omega arith)
+    ]
+  where
+    suc-eq : (x y : ℕ) → suc x ≡ suc y → x ≡ y
+    suc-eq x y e = omega arith
+
+pub none_below-at : (n : ℕ) (test : ℕ → Bool) → none_below n test ≡ true → (q : ℕ) → q < n → test q ≡ false
+none_below-at n test e = least-none_at n test e
+
+is_out-from : (phase : Phase) → is_out phase ≡ true → phase ≡ Out
+is_out-from Out e = refl
+is_out-from _ e = cc
+
+is_door-from : (phase : Phase) → is_door phase ≡ true → phase ≡ Door
+is_door-from Door e = refl
+is_door-from _ e = cc
+
+is_ready-from : (phase : Phase) → is_ready phase ≡ true → phase ≡ Ready
+is_ready-from Ready e = refl
+is_ready-from _ e = cc
+
+is_inside-from : (phase : Phase) → is_inside phase ≡ true → phase ≡ Inside
+is_inside-from Inside e = refl
+is_inside-from _ e = cc
+
+is_dead_in-from : (phase : Phase) → is_dead_in phase ≡ true → phase ≡ DeadIn
+is_dead_in-from DeadIn e = refl
+is_dead_in-from _ e = cc
+
+inside-not : (phase : Phase) → is_inside phase ≡ false → phase ≢ Inside
+inside-not phase e is = let f : is_inside phase ≡ true = ap is_inside is in cc
+
+dead-not : (phase : Phase) → is_dead_in phase ≡ false → phase ≢ DeadIn
+dead-not phase e is = let f : is_dead_in phase ≡ true = ap is_dead_in is in cc
+
+-- what the needs of a deed tell
+pub allows_from : (n : ℕ) (a : Abstract) (d : Outer) → AllHold (needs n a d) → Allows n a d
+allows_from n a (Begin p) h = (ltb-true p n h.0, is_out-from _ h.1.0)
+allows_from n a (IsReady p) h = (ltb-true p n h.0, is_door-from _ h.1.0)
+allows_from n a (Enter p) h =
+    (ltb-true p n h.0, is_ready-from _ h.1.0, (λ q less. inside-not _ (none_below-at n _ h.1.1.0 q less)), (λ q less. dead-not _ (none_below-at n _ h.1.1.1.0 q less)), none_below-at n (a.ahead p) h.1.1.1.1.0)
+allows_from n a (Crash p) h = ltb-true p n h.0
+allows_from n a (Reenter p) h = (ltb-true p n h.0, is_dead_in-from _ h.1.0)
+allows_from n a (Leave p) h = (ltb-true p n h.0, is_inside-from _ h.1.0)
+allows_from n a (Quit p) h = (ltb-true p n h.0, elim (or_cases _ _ h.1.0) [ inl e ↦ inl (is_door-from _ e) | inr e ↦ inr (is_ready-from _ e) ])
+
+-- who leaves all ahead sets
+pub put_false : (f : ℕ → Bool) (p i : ℕ) → put f p false i ≡ true → f i ≡ true
+put_false f p i e = go (i == p) e
+  where
+    go : (b : Bool) → (if b then false else f i) ≡ true → f i ≡ true
+    go true e = cc
+    go false e = e
+
+pub put_false_self : (f : ℕ → Bool) (p : ℕ) → put f p false p ≡ true → ⊥
+put_false_self f p e = let same : (p == p) ≡ true = eq-eqb p p refl in go (p == p) same e
+  where
+    go : (b : Bool) → b ≡ true → (if b then false else f p) ≡ true → ⊥
+    go true s e = cc
+    go false s e = cc
+
+pub put_false_kept : (f : ℕ → Bool) (p i : ℕ) → f i ≡ false → put f p false i ≡ false
+put_false_kept f p i e = go (i == p)
+  where
+    go : (b : Bool) → (if b then false else f i) ≡ false
+    go true = refl
+    go false = e

@@ -1,0 +1,213 @@
+-- What holds of every world of a run, and of the abstract lock beside it.
+use Rattle.std.proofs.Common.{◌≡◌, ◌≢◌, ℕ, zero, suc, ◌+◌, ◌-◌, ◌<◌, ◌≤◌, Bool, true, false, ◌||◌, ◌==◌, ◌⊎◌, List, [], ◌∷◌, Some, refl, ap, ◌∙◌, inl, inr, arith, eqb-true, eq-eqb, ne_eqb}
+use Rattle.std.proofs.lemmas.Bool.{cases_Bool, cases_eq}
+use Rattle.rmecore.specs.Place.{Place, Rest, Dead, Reread, Opening, Door, Shutting, Wait, Inside, Leaving, Withdrawing, Unmarking, has, without, span, others}
+use Rattle.rmecore.specs.Needs.{put}
+use Rattle.rmecore.specs.AbstractLock.{Abstract, is_ready, crashed}
+use Rattle.rmecore.specs.declared.phase.Phase.{Phase}
+use Rattle.rmecore.specs.declared.phase.Phase.TheVariants.{Out, Door as AtDoor, Ready as Waiting, Inside as Within, DeadIn as DeadWithin}
+use Rattle.rmecore.specs.World.{World}
+use Rattle.rmecore.specs.declared.own.Own.{Own}
+
+-- lists as sets
+
+pub eqb_self : (p : ℕ) → (p == p) ≡ true
+eqb_self p = eq-eqb p p refl
+
+pub has-without : (js : List ℕ) (i j : ℕ) → i ≢ j → has (without j js) i ≡ has js i
+has-without [] i j ne = refl
+has-without (k ∷ js) i j ne =
+    elim (cases_Bool (k == j)) [
+      | inl e ↦
+          let is : k ≡ j = eqb-true k j e in
+          let no : (i == k) ≡ false = ne_eqb i k (λ same. ne (same ∙ is)) in
+          rw (e, no) (has-without js i j ne)
+      | inr e ↦ rw e (ap (λ b. (i == k) || b) (has-without js i j ne))
+    ]
+
+has-span : (p i k j : ℕ) → i ≤ j → j < i + k → j ≢ p → has (span p i k) j ≡ true
+has-span p i zero j h less ne = absurd (omega arith)
+has-span p i (suc k) j h less ne =
+    elim (cases_eq j i) [
+      | inl e ↦
+          let no : (i == p) ≡ false = ne_eqb i p (λ same. ne (e ∙ same)) in
+          let yes : (j == i) ≡ true = eq-eqb j i e in
+          rw (no, yes)
+      | inr e ↦
+          let later : has (span p (i + 1) k) j ≡ true = has-span p (i + 1) k j (omega arith) (omega arith) ne in
+          elim (cases_Bool (i == p)) [
+            | inl f ↦ rw f later
+            | inr f ↦ let no : (j == i) ≡ false = ne_eqb j i e in rw (f, no) later
+          ]
+    ]
+
+pub has-others : (n p i : ℕ) → i < n → i ≢ p → has (others n p) i ≡ true
+has-others n p i h ne = has-span p 0 (n - 0) i (omega arith) (omega arith) ne
+
+pub put_same : {A : Type 0} (f : ℕ → A) (p : ℕ) (x : A) → put f p x p ≡ x
+put_same f p x = rw (eqb_self p)
+
+pub put_other : {A : Type 0} (f : ℕ → A) (p : ℕ) (x : A) (q : ℕ) → q ≢ p → put f p x q ≡ f q
+put_other f p x q ne = rw (ne_eqb q p ne)
+
+-- which words a process can have at a place
+abbrev pub Row : Own → Type 0
+Row x = (x.choosing ≡ 0) ⊎ (x.inside ≡ 0)
+
+abbrev pub Fits : Own → Place → Type 0
+Fits x Rest = (x.inside ≡ 0) × ((x.choosing ≡ 0) ⊎ (x.number ≡ 0))
+Fits x Dead = Row x
+Fits x (Reread call []) = Row x
+Fits x (Reread call (c ∷ [])) = Row x × (x.choosing ≡ c)
+Fits x (Reread call (c ∷ k ∷ [])) = Row x × (x.choosing ≡ c) × (x.number ≡ k)
+Fits x (Reread call (c ∷ k ∷ i ∷ seen)) = ⊥
+Fits x Opening = (x.choosing ≡ 0) × (x.number ≡ 0) × (x.inside ≡ 0)
+Fits x (Door unread m) = (0 < x.choosing) × (x.number ≡ 0) × (x.inside ≡ 0)
+Fits x (Shutting call k) = (x.number ≡ k) × (0 < k) × (x.inside ≡ 0)
+Fits x (Wait k unpassed looked) = (x.choosing ≡ 0) × (x.number ≡ k) × (0 < k) × (x.inside ≡ 0)
+Fits x Inside = (x.choosing ≡ 0) × (0 < x.number) × (0 < x.inside)
+Fits x Leaving = (x.choosing ≡ 0) × (0 < x.number) × (0 < x.inside)
+Fits x Withdrawing = (x.choosing ≡ 0) × (0 < x.number) × (x.inside ≡ 0)
+Fits x (Unmarking call) = (x.choosing ≡ 0) × (x.number ≡ 0)
+
+-- the phase, from the words and from whether private memory was lost
+abbrev pub is_lost : Place → Bool
+is_lost Dead = true
+is_lost (Reread call seen) = true
+is_lost _ = false
+
+abbrev pub phase_at : ℕ → ℕ → ℕ → Bool → Phase
+phase_at zero zero i b = Out
+phase_at (suc c) zero i b = AtDoor
+phase_at c (suc k) zero b = Waiting
+phase_at c (suc k) (suc i) true = DeadWithin
+phase_at c (suc k) (suc i) false = Within
+
+abbrev pub phase_of : Own → Place → Phase
+phase_of x s = phase_at x.choosing x.number x.inside (is_lost s)
+
+-- number k of p is before number v of i
+abbrev pub Before : ℕ → ℕ → ℕ → ℕ → Type 0
+Before k p v i = (k < v) ⊎ ((k ≡ v) × (p < i))
+
+-- who is at this place hasn't missed p's number k: the number that it takes is above k
+abbrev pub Counted : ℕ → ℕ → Place → Type 0
+Counted k p (Door unread m) = (has unread p ≡ true) ⊎ (k ≤ m)
+Counted k p _ = Unit {0}
+
+-- p with number k is before i, now and whatever number i takes next
+pub record Stands (k p i : ℕ) (y : Own) (t : Place) : Type 0 where
+  pub less : (y.number ≡ 0) ⊎ Before k p y.number i
+  pub counted : Counted k p t
+
+abbrev pub WaitsPast : Place → ℕ → Type 0
+WaitsPast (Wait k unpassed looked) i = has unpassed i ≡ false
+WaitsPast _ _ = ⊥
+
+-- a process with these words at this place has passed i
+abbrev pub Passed : Own → Place → ℕ → Type 0
+Passed x s i = ((0 < x.number) × (0 < x.inside)) ⊎ WaitsPast s i
+
+abbrev pub Looked : Place → ℕ → Type 0
+Looked (Wait k unpassed (Some j)) i = j ≡ i
+Looked _ _ = ⊥
+
+-- what p knows of another process i; b: p is ahead of i in the abstract lock
+pub record Pair (b : Bool) (p : ℕ) (x : Own) (s : Place) (i : ℕ) (y : Own) (t : Place) : Type 0 where
+  pub passed : Passed x s i → Stands x.number p i y t
+  pub looked : Looked s i → Counted x.number p t
+  pub ahead : b ≡ true → (0 < x.number) × (x.inside ≡ 0) × Stands x.number p i y t
+
+pub record Tied (n : ℕ) (w : World) (a : Abstract) : Type 0 where
+  pub fits : (p : ℕ) → p < n → Fits (w.words p) (w.places p)
+  pub phase : (p : ℕ) → p < n → a.phase p ≡ phase_of (w.words p) (w.places p)
+  pub self : (p : ℕ) → a.ahead p p ≡ false
+  pub pairs : (p i : ℕ) → p < n → i < n → p ≢ i → Pair (a.ahead i p) p (w.words p) (w.places p) i (w.words i) (w.places i)
+
+-- the phases by the words
+
+pub phase_out : (c k i : ℕ) (b : Bool) → c ≡ 0 → k ≡ 0 → phase_at c k i b ≡ Out
+phase_out zero zero i b e f = refl
+phase_out zero (suc k) i b e f = cc
+phase_out (suc c) zero i b e f = cc
+phase_out (suc c) (suc k) i b e f = cc
+
+pub phase_door : (c k i : ℕ) (b : Bool) → 0 < c → k ≡ 0 → phase_at c k i b ≡ AtDoor
+phase_door zero zero i b e f = absurd (omega arith)
+phase_door zero (suc k) i b e f = cc
+phase_door (suc c) zero i b e f = refl
+phase_door (suc c) (suc k) i b e f = cc
+
+pub phase_waiting : (c k i : ℕ) (b : Bool) → 0 < k → i ≡ 0 → phase_at c k i b ≡ Waiting
+phase_waiting c zero i b e f = absurd (omega arith)
+phase_waiting zero (suc k) zero b e f = refl
+phase_waiting (suc c) (suc k) zero b e f = refl
+phase_waiting c (suc k) (suc i) b e f = cc
+
+pub phase_within : (c k i : ℕ) → 0 < k → 0 < i → phase_at c k i false ≡ Within
+phase_within c zero i e f = absurd (omega arith)
+phase_within c (suc k) zero e f = absurd (omega arith)
+phase_within zero (suc k) (suc i) e f = refl
+phase_within (suc c) (suc k) (suc i) e f = refl
+
+pub phase_dead : (c k i : ℕ) → 0 < k → 0 < i → phase_at c k i true ≡ DeadWithin
+phase_dead c zero i e f = absurd (omega arith)
+phase_dead c (suc k) zero e f = absurd (omega arith)
+phase_dead zero (suc k) (suc i) e f = refl
+phase_dead (suc c) (suc k) (suc i) e f = refl
+
+-- and back
+
+pub within_means : (c k i : ℕ) (b : Bool) → phase_at c k i b ≡ Within → (0 < k) × (0 < i)
+within_means zero zero i b e = cc
+within_means (suc c) zero i b e = cc
+within_means zero (suc k) zero b e = cc
+within_means (suc c) (suc k) zero b e = cc
+within_means c (suc k) (suc i) b e = omega arith
+
+pub dead_means : (c k i : ℕ) (b : Bool) → phase_at c k i b ≡ DeadWithin → (0 < k) × (0 < i)
+dead_means zero zero i b e = cc
+dead_means (suc c) zero i b e = cc
+dead_means zero (suc k) zero b e = cc
+dead_means (suc c) (suc k) zero b e = cc
+dead_means c (suc k) (suc i) b e = omega arith
+
+pub waiting_means : (c k i : ℕ) (b : Bool) → is_ready (phase_at c k i b) ≡ true → (0 < k) × (i ≡ 0)
+waiting_means zero zero i b e = cc
+waiting_means (suc c) zero i b e = cc
+waiting_means c (suc k) zero b e = omega arith
+waiting_means zero (suc k) (suc i) true e = cc
+waiting_means zero (suc k) (suc i) false e = cc
+waiting_means (suc c) (suc k) (suc i) true e = cc
+waiting_means (suc c) (suc k) (suc i) false e = cc
+
+-- lost memory tells on the phase only inside
+pub phase_any : (c k i : ℕ) (b b' : Bool) → (k ≡ 0) ⊎ (i ≡ 0) → phase_at c k i b ≡ phase_at c k i b'
+phase_any zero zero i b b' e = refl
+phase_any (suc c) zero i b b' e = refl
+phase_any zero (suc k) zero b b' e = refl
+phase_any (suc c) (suc k) zero b b' e = refl
+phase_any c (suc k) (suc i) b b' e = absurd (omega arith)
+
+pub phase_crashed : (c k i : ℕ) (b : Bool) → crashed (phase_at c k i b) ≡ phase_at c k i true
+phase_crashed zero zero i b = refl
+phase_crashed (suc c) zero i b = refl
+phase_crashed zero (suc k) zero b = refl
+phase_crashed (suc c) (suc k) zero b = refl
+phase_crashed zero (suc k) (suc i) true = refl
+phase_crashed zero (suc k) (suc i) false = refl
+phase_crashed (suc c) (suc k) (suc i) true = refl
+phase_crashed (suc c) (suc k) (suc i) false = refl
+
+-- words of every place are among those of the restart table
+pub row_of : (x : Own) (s : Place) → Fits x s → Row x
+row_of x Rest h = inr h.0
+row_of x Dead h = h
+row_of x (Reread call []) h = h
+row_of x (Reread call (c ∷ [])) h = h.0
+row_of x (Reread call (c ∷ k ∷ [])) h = h.0
+row_of x (Reread call (c ∷ k ∷ i ∷ seen)) h = absurd h
+row_of x Opening h = inl h.0
+row_of x (Door unread m) h = inr h.2
+row_of x (Shutting call k) h = inr h.2
+row_of x _ h = inl h.0

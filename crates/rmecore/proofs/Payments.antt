@@ -1,0 +1,232 @@
+-- Each step of a call that isn't blocked counts one, up to the answer, and then the number is that of the table.
+use Rattle.std.proofs.Common.{◌≡◌, ℕ, zero, suc, ◌+◌, ◌-◌, ◌*◌, ◌<◌, ◌≤◌, max, true, false, ◌||◌, ◌==◌, if◌then◌else◌, List, [], ◌∷◌, length, Option, Some, None, IsSome, IfSome, unwrap_or, refl, sym, ap, ◌∙◌, subst, inl, inr, arith, eqb-true, eq-eqb, ne_eqb}
+use Rattle.std.proofs.lemmas.Bool.{cases_Bool, cases_eq, false_from_ne_true}
+use Rattle.rmecore.specs.Place.{Place, Rest, Dead, Reread, Opening, Door, Shutting, Wait, Inside, Leaving, Withdrawing, Unmarking, has, without, span, others, is_before, relocked, recovered, restart, shut, unmarked, next}
+use Rattle.rmecore.specs.Machine.{is_blocked, answer, again, found, reread_answer, shut_answer, unmark_answer}
+use Rattle.rmecore.specs.OwnSteps.{own_steps, most_steps}
+use Rattle.rmecore.specs.Refused.{is_idle}
+use Rattle.rmecore.specs.Paid.{Distinct, Pays, ReadsBegun, is_glance}
+use Rattle.rmecore.proofs.Invariant.{has-without}
+use Rattle.rmecore.proofs.Accesses.{passed}
+use Rattle.rmecore.proofs.Runs.{guard}
+use Rattle.rmecore.proofs.Scans.{has-span-low}
+use Rattle.rmecore.specs.declared.core_done.CoreDone.{CoreDone}
+use Rattle.rmecore.specs.declared.core_done.CoreDone.TheVariants.{In, InAgain, Spent, Out, Found as Finds, Withdrawn}
+use Rattle.rmecore.specs.declared.found.Found.TheVariants.{Idle, Left, Doorway, Waiting, Inside as Found-Inside}
+use Rattle.rmecore.specs.declared.core_call.CoreCall.{CoreCall}
+use Rattle.rmecore.specs.declared.core_call.CoreCall.TheVariants.{Lock, Recover, Unlock, Withdraw}
+use Rattle.rmecore.specs.declared.kind.Kind.{Kind}
+use Rattle.rmecore.specs.declared.kind.Kind.TheVariants.{Reread as Rereads, Open as Opens, Peek as Peeks, Take as Takes, Shut as Shuts, Look as Looks, Weigh as Weighs, Mark as Marks, Drop as Drops, Glance as Glances}
+use Rattle.rmecore.specs.declared.word.Word.{Word}
+use Rattle.rmecore.specs.declared.word.Word.TheVariants.{Choosing as ChoosingOf, Number as NumberOf, Inside as InsideOf}
+
+without-absent : (js : List ℕ) (j : ℕ) → has js j ≡ false → without j js ≡ js
+without-absent [] j h = refl
+without-absent (i ∷ is) j h =
+    elim (cases_eq j i) [
+      | inl e ↦ let yes : (j == i) ≡ true = eq-eqb j i e in let bad : true ≡ false = rw yes at h in absurd (cc)
+      | inr ne ↦
+          let no : (j == i) ≡ false = ne_eqb j i ne in
+          let no' : (i == j) ≡ false = ne_eqb i j (λ e. ne (sym e)) in
+          let later : has is j ≡ false = rw no at h in
+          rw no' (ap (λ l. i ∷ l) (without-absent is j later))
+    ]
+
+length-without : (js : List ℕ) (j : ℕ) → has js j ≡ true → Distinct js → length (without j js) + 1 ≡ length js
+length-without [] j h d = absurd (cc)
+length-without (i ∷ is) j h d =
+    elim (cases_eq j i) [
+      | inl e ↦
+          let yes : (i == j) ≡ true = eq-eqb i j (sym e) in
+          let gone : has is j ≡ false = subst (λ r. has is r ≡ false) (sym e) d.0 in
+          rw (yes, without-absent is j gone) (omega arith)
+      | inr ne ↦
+          let no : (j == i) ≡ false = ne_eqb j i ne in
+          let no' : (i == j) ≡ false = ne_eqb i j (λ e. ne (sym e)) in
+          let later : has is j ≡ true = rw no at h in
+          let rest = length-without is j later d.1 in
+          rw no' (omega arith)
+    ]
+
+distinct-without : (js : List ℕ) (j : ℕ) → Distinct js → Distinct (without j js)
+distinct-without [] j d = tt
+distinct-without (i ∷ is) j d =
+    elim (cases_eq i j) [
+      | inl e ↦ let yes : (i == j) ≡ true = eq-eqb i j e in rw yes (distinct-without is j d.1)
+      | inr ne ↦ let no : (i == j) ≡ false = ne_eqb i j ne in rw no (has-without is i j ne ∙ d.0, distinct-without is j d.1)
+    ]
+
+distinct-span : (p i k : ℕ) → Distinct (span p i k)
+distinct-span p i zero = tt
+distinct-span p i (suc k) =
+    elim (cases_Bool (i == p)) [
+      | inl e ↦ rw e (distinct-span p (i + 1) k)
+      | inr e ↦ rw e (false_from_ne_true _ (λ f. let up = has-span-low p (i + 1) k i f in omega arith), distinct-span p (i + 1) k)
+    ]
+
+length-span-past : (p i k : ℕ) → p < i → length (span p i k) ≡ k
+length-span-past p i zero h = refl
+length-span-past p i (suc k) h = let no : (i == p) ≡ false = ne_eqb i p (omega arith) in let rest = length-span-past p (i + 1) k (omega arith) in rw no (omega arith)
+
+length-span : (p i k : ℕ) → i ≤ p → p < i + k → length (span p i k) + 1 ≡ k
+length-span p i zero h below = absurd (omega arith)
+length-span p i (suc k) h below =
+    elim (cases_eq i p) [
+      | inl e ↦ let yes : (i == p) ≡ true = eq-eqb i p e in let rest = length-span-past p (i + 1) k (omega arith) in rw yes (omega arith)
+      | inr ne ↦ let no : (i == p) ≡ false = ne_eqb i p ne in let rest = length-span p (i + 1) k (omega arith) (omega arith) in rw no (omega arith)
+    ]
+
+length-others : (n p : ℕ) → p < n → length (others n p) + 1 ≡ n
+length-others n p below = let h = length-span p 0 (n - 0) (omega arith) (omega arith) in omega arith
+
+-- the place and the answer to which a step comes
+abbrev pub Comes : ℕ → ℕ → ℕ → ℕ → Option CoreDone → Place → ℕ → Type 0
+Comes n c k i done s steps = Pays n c k i s steps × IfSome done (λ d. own_steps n c k i d ≡ Some steps)
+
+-- the same number, written in another way
+same : {o : Option ℕ} {x : ℕ} (y : ℕ) → o ≡ Some x → x ≡ y → o ≡ Some y
+same y e f = e ∙ ap Some f
+
+module _ (n p : ℕ) (below : p < n) where
+  all : Distinct (others n p)
+  all = distinct-span p 0 (n - 0)
+
+  each : length (others n p) + 1 ≡ n
+  each = length-others n p below
+
+  relocks : (c k i : ℕ) → Comes n c k i (again c k i) (relocked n p c k i) 3
+  relocks (suc c) zero i = let l = each in ((all, ap Some (omega arith), ap Some (omega arith)), tt)
+  relocks (suc c) (suc k) i = (ap Some (omega arith), tt)
+  relocks zero zero zero = ((ap Some (omega arith), ap Some (omega arith)), tt)
+  relocks zero zero (suc i) = ((ap Some (omega arith), ap Some (omega arith)), tt)
+  relocks zero (suc k) zero = let l = each in ((all, ap Some (omega arith)), tt)
+  relocks zero (suc k) (suc i) = (tt, refl)
+
+  recovers : (c k i : ℕ) → Comes n c k i (found c k i) (recovered c k i) 3
+  recovers (suc c) zero i = (tt, refl)
+  recovers (suc c) (suc k) i = (refl, tt)
+  recovers zero zero zero = (tt, refl)
+  recovers zero zero (suc i) = (refl, tt)
+  recovers zero (suc k) zero = (tt, refl)
+  recovers zero (suc k) (suc i) = (tt, refl)
+
+  restarts : (call : CoreCall) (c k i : ℕ) → Comes n c k i (reread_answer call c k i) (restart n p call c k i) 3
+  restarts Lock c k i = relocks c k i
+  restarts Recover c k i = recovers c k i
+  restarts Unlock c k i = recovers c k i
+  restarts Withdraw c k i = recovers c k i
+
+  restarts_as : (call : CoreCall) (c k i x y v : ℕ) → x ≡ c → y ≡ k → v ≡ i → (steps : ℕ) → steps ≡ 2 → Comes n c k i (reread_answer call x y v) (restart n p call x y v) (steps + 1)
+  restarts_as call c k i x y v e f g steps h =
+      let three : steps + 1 ≡ 3 = omega arith in
+      rw (e, f, g, three) (restarts call c k i)
+
+  -- after a step that isn't blocked
+  abbrev Goes : ℕ → ℕ → ℕ → Option CoreDone → ℕ → Place → Type 0
+  Goes c k i done steps s = Comes n c k i done s (steps + 1)
+
+  shuts : (call : CoreCall) (c k i x steps : ℕ) → Pays n c k i (Shutting call x) steps → Goes c k i (shut_answer call) steps (shut n p call x)
+  shuts Lock c k i x steps h = let l = each in ((all, same _ h (omega arith)), tt)
+  shuts Recover c k i x steps h = (tt, h)
+  shuts Unlock c k i x steps h = (tt, h)
+  shuts Withdraw c k i x steps h = (tt, h)
+
+  unmarks : (call : CoreCall) (c k i steps : ℕ) → Pays n c k i (Unmarking call) steps → Goes c k i (unmark_answer call) steps (unmarked call)
+  unmarks Lock c k i steps h = ((same _ h.0 (omega arith), same _ h.1 (omega arith)), tt)
+  unmarks Recover c k i steps h = (tt, h)
+  unmarks Unlock c k i steps h = (tt, h)
+  unmarks Withdraw c k i steps h = (tt, h)
+
+  pub pays : (limit c k i : ℕ) (s : Place) (kind : Kind) (word : Word) (v steps : ℕ) → IsSome (next n limit p s kind word v) → is_glance kind ≡ false → ReadsBegun c k i s v → Pays n c k i s steps
+      → Comes n c k i (answer s kind v) (unwrap_or (next n limit p s kind word v) s) (if is_blocked p s kind v then steps else steps + 1)
+  pays limit c k i (Reread call []) Rereads (ChoosingOf q) v steps some not_glance reads h = guard _ _ _ (Goes c k i None steps) some (λ e. ((omega arith, reads), tt))
+  pays limit c k i (Reread call (x ∷ [])) Rereads (NumberOf q) v steps some not_glance reads h = guard _ _ _ (Goes c k i None steps) some (λ e. ((omega arith, h.1, reads), tt))
+  pays limit c k i (Reread call (x ∷ y ∷ [])) Rereads (InsideOf q) v steps some not_glance reads h =
+      guard _ (restart n p call x y v) _ (Goes c k i (reread_answer call x y v) steps) some (λ e. restarts_as call c k i x y v h.1 h.2 reads steps h.0)
+  pays limit c k i Opening Opens (ChoosingOf q) v steps some not_glance reads h =
+      guard _ (Door (others n p) 0) _ (Goes c k i None steps) some (λ e. let l = each in ((all, same _ h.0 (omega arith), same _ h.1 (omega arith)), tt))
+  pays limit c k i (Door unread m) Peeks (NumberOf j) v steps some not_glance reads h =
+      guard _ (Door (without j unread) (max m v)) _ (Goes c k i None steps) some
+      (λ e. let l = length-without unread j e h.0 in ((distinct-without unread j h.0, same _ h.1 (omega arith), same _ h.2 (omega arith)), tt))
+  pays limit c k i (Door [] m) Takes (NumberOf q) v steps some not_glance reads h = guard _ (Shutting Lock v) _ (Goes c k i None steps) some (λ e. (same _ h.2 (omega arith), tt))
+  pays limit c k i (Door [] m) Shuts (ChoosingOf q) v steps some not_glance reads h = guard _ Rest _ (Goes c k i (Some Spent) steps) some (λ e. (tt, h.1))
+  pays limit c k i (Shutting call x) Shuts (ChoosingOf q) v steps some not_glance reads h = guard _ (shut n p call x) _ (Goes c k i (shut_answer call) steps) some (λ e. shuts call c k i x steps h)
+  pays limit c k i (Wait x unpassed None) Looks (ChoosingOf j) v steps some not_glance reads h =
+      let e : has unpassed j ≡ true = passed _ _ some in
+      elim (cases_Bool (v == 0)) [ inl z ↦ rw (z, e) ((h.0, e, same _ h.1 (omega arith)), tt) | inr z ↦ rw (z, e) (h, tt) ]
+  pays limit c k i (Wait x unpassed (Some i')) Weighs (NumberOf j) v steps some not_glance reads h =
+      let e : (j == i') ≡ true = passed _ _ some in
+      let is : j ≡ i' = eqb-true j i' e in
+      elim (cases_Bool ((v == 0) || is_before x p v j)) [
+        | inl z ↦
+            let z' : ((v == 0) || is_before x p v i') ≡ true = subst (λ r. ((v == 0) || is_before x p v r) ≡ true) is z in
+            let there : has unpassed j ≡ true = ap (has unpassed) is ∙ h.1 in
+            let l = length-without unpassed j there h.0 in
+            rw (z, z', e) ((distinct-without unpassed j h.0, same _ h.2 (omega arith)), tt)
+        | inr z ↦ let z' : ((v == 0) || is_before x p v i') ≡ false = subst (λ r. ((v == 0) || is_before x p v r) ≡ false) is z in rw (z, z', e) (h, tt)
+      ]
+  pays limit c k i (Wait x [] None) Marks (InsideOf q) v steps some not_glance reads h = guard _ Inside _ (Goes c k i (Some In) steps) some (λ e. (tt, h.1))
+  pays limit c k i Leaving Drops (NumberOf q) v steps some not_glance reads h = guard _ (Unmarking Unlock) _ (Goes c k i None steps) some (λ e. (same _ h (omega arith), tt))
+  pays limit c k i Withdrawing Drops (NumberOf q) v steps some not_glance reads h = guard _ Rest _ (Goes c k i (Some Withdrawn) steps) some (λ e. (tt, h))
+  pays limit c k i (Unmarking call) Marks (InsideOf q) v steps some not_glance reads h = guard _ (unmarked call) _ (Goes c k i (unmark_answer call) steps) some (λ e. unmarks call c k i steps h)
+  pays limit c k i (Reread call (x ∷ y ∷ z ∷ seen)) kind word v steps some not_glance reads h = absurd h
+  pays limit c k i s Glances word v steps some not_glance reads h = absurd (cc)
+  pays limit c k i _ _ _ v steps some not_glance reads h = absurd (cc)
+
+-- no number of the table is above the most
+
+at_most : (n c k i : ℕ) (done : CoreDone) (x : ℕ) → 0 < n → own_steps n c k i done ≡ Some x → x ≤ most_steps n
+at_most n zero zero zero In x h e = let f : 3 * n + 4 ≡ x = cc in omega arith
+at_most n zero zero (suc i) In x h e = let f : 3 * n + 5 ≡ x = cc in omega arith
+at_most n zero (suc k) zero In x h e = let f : 2 * n + 2 ≡ x = cc in omega arith
+at_most n zero (suc k) (suc i) In x h e = absurd (cc)
+at_most n (suc c) zero i In x h e = let f : 3 * n + 3 ≡ x = cc in omega arith
+at_most n (suc c) (suc k) i In x h e = let f : 2 * n + 3 ≡ x = cc in omega arith
+at_most n zero (suc k) (suc i) InAgain x h e = let f : 3 ≡ x = cc in omega arith
+at_most n zero zero zero Spent x h e = let f : n + 4 ≡ x = cc in omega arith
+at_most n (suc c) zero i Spent x h e = let f : n + 3 ≡ x = cc in omega arith
+at_most n zero zero (suc i) Spent x h e = let f : n + 5 ≡ x = cc in omega arith
+at_most n c k i Out x h e = let f : 2 ≡ x = cc in omega arith
+at_most n c k i Withdrawn x h e = let f : 1 ≡ x = cc in omega arith
+at_most n zero zero zero (Finds Idle) x h e = let f : 3 ≡ x = cc in omega arith
+at_most n zero zero (suc i) (Finds Left) x h e = let f : 4 ≡ x = cc in omega arith
+at_most n (suc c) zero i (Finds Doorway) x h e = let f : 3 ≡ x = cc in omega arith
+at_most n (suc c) (suc k) i (Finds Waiting) x h e = let f : 4 ≡ x = cc in omega arith
+at_most n zero (suc k) zero (Finds Waiting) x h e = let f : 3 ≡ x = cc in omega arith
+at_most n zero (suc k) (suc i) (Finds Found-Inside) x h e = let f : 3 ≡ x = cc in omega arith
+at_most n _ _ _ _ x h e = absurd (cc)
+
+more_to_come : (n c k i : ℕ) (done : CoreDone) (x left : ℕ) → 0 < n → 0 < left → own_steps n c k i done ≡ Some (x + left) → x < most_steps n
+more_to_come n c k i done x left h some e = let most = at_most n c k i done (x + left) h e in omega arith
+
+-- a call under way has taken fewer
+pub fewer : (n c k i : ℕ) (s : Place) (x : ℕ) → 0 < n → is_idle s ≡ false → Pays n c k i s x → x < most_steps n
+fewer n c k i Rest x h busy pays = absurd (cc)
+fewer n c k i Dead x h busy pays = absurd (cc)
+fewer n c k i Inside x h busy pays = absurd (cc)
+fewer n c k i (Reread call []) x h busy pays = omega arith
+fewer n c k i (Reread call (a ∷ [])) x h busy pays = let f = pays.0 in omega arith
+fewer n c k i (Reread call (a ∷ b ∷ [])) x h busy pays = let f = pays.0 in omega arith
+fewer n c k i (Reread call (a ∷ b ∷ d ∷ seen)) x h busy pays = absurd pays
+fewer n c k i Opening x h busy pays = more_to_come n c k i In x _ h (omega arith) pays.1
+fewer n c k i (Door unread m) x h busy pays = more_to_come n c k i In x _ h (omega arith) pays.2
+fewer n c k i (Shutting Lock y) x h busy pays = more_to_come n c k i In x _ h (omega arith) pays
+fewer n c k i (Shutting Recover y) x h busy pays = more_to_come n c k i (Finds Waiting) x _ h (omega arith) pays
+fewer n c k i (Shutting Unlock y) x h busy pays = more_to_come n c k i (Finds Waiting) x _ h (omega arith) pays
+fewer n c k i (Shutting Withdraw y) x h busy pays = more_to_come n c k i (Finds Waiting) x _ h (omega arith) pays
+fewer n c k i (Wait y unpassed None) x h busy pays = more_to_come n c k i In x _ h (omega arith) pays.1
+fewer n c k i (Wait y [] (Some j)) x h busy pays = absurd (cc)
+fewer n c k i (Wait y (u ∷ us) (Some j)) x h busy pays = more_to_come n c k i In x _ h (omega arith) pays.2
+fewer n c k i Leaving x h busy pays = more_to_come n c k i Out x _ h (omega arith) pays
+fewer n c k i Withdrawing x h busy pays = more_to_come n c k i Withdrawn x _ h (omega arith) pays
+fewer n c k i (Unmarking Lock) x h busy pays = more_to_come n c k i In x _ h (omega arith) pays.1
+fewer n c k i (Unmarking Recover) x h busy pays = more_to_come n c k i (Finds Left) x _ h (omega arith) pays
+fewer n c k i (Unmarking Unlock) x h busy pays = more_to_come n c k i Out x _ h (omega arith) pays
+fewer n c k i (Unmarking Withdraw) x h busy pays = more_to_come n c k i (Finds Left) x _ h (omega arith) pays
+
+-- a fresh start, up to and with the shut
+pub fresh_start : (n p k steps : ℕ) → p < n → Pays n 0 0 0 (Wait k (others n p) None) steps → steps ≡ n + 5
+fresh_start n p k steps below pays =
+    let each = length-others n p below in
+    let sum : 3 * n + 4 ≡ steps + (2 * length (others n p) + 1) = let e = pays.1 in cc in
+    omega arith

@@ -1,0 +1,114 @@
+-- One process at most is in the section, and only its entry and its exit change who is.
+use Rattle.std.proofs.Common.{◌≡◌, ◌≢◌, ℕ, ◌<◌, List, [], ◌∷◌, refl, sym, ◌∙◌, subst, inl, inr}
+use Rattle.std.proofs.lemmas.Bool.{cases_eq}
+use Rattle.rmecore.specs.Needs.{AllHold, put}
+use Rattle.rmecore.specs.AbstractLock.{Abstract, nobody, needs, done, doer, crashed, Legal}
+use Rattle.rmecore.specs.Sole.{IsIn, IsEnter, IsLeave, Sole, all_done}
+use Rattle.rmecore.proofs.Allowing.{Allows, allows_from}
+use Rattle.rmecore.proofs.Invariant.{put_same, put_other}
+use Rattle.rmecore.specs.declared.outer.Outer.{Outer}
+use Rattle.rmecore.specs.declared.outer.Outer.TheVariants.{Begin, Ready as IsReady, Enter, Crash, Reenter, Leave, Quit}
+use Rattle.rmecore.specs.declared.phase.Phase.{Phase}
+use Rattle.rmecore.specs.declared.phase.Phase.TheVariants.{Out, Door, Ready, Inside, DeadIn}
+
+in_crashed : (phase : Phase) → IsIn (crashed phase) → IsIn phase
+in_crashed Out h = h
+in_crashed Door h = h
+in_crashed Ready h = h
+in_crashed Inside h = tt
+in_crashed DeadIn h = tt
+
+-- who is in after p's phase was put was in before, if p was
+less_put : (f : ℕ → Phase) (p : ℕ) (x : Phase) (q : ℕ) → (IsIn x → IsIn (f p)) → IsIn (put f p x q) → IsIn (f q)
+less_put f p x q go h =
+    elim (cases_eq q p) [
+      | inl e ↦ subst (λ r. IsIn (f r)) (sym e) (go (subst IsIn (put_same f p x) (subst (λ r. IsIn (put f p x r)) e h)))
+      | inr ne ↦ subst IsIn (put_other f p x q ne) h
+    ]
+
+neither : (phase : Phase) → phase ≢ Inside → phase ≢ DeadIn → IsIn phase → ⊥
+neither Out x y i = i
+neither Door x y i = i
+neither Ready x y i = i
+neither Inside x y i = x refl
+neither DeadIn x y i = y refl
+
+module _ (n : ℕ) (a : Abstract) (sole : Sole n a) where
+  -- a deed after which nobody new is in
+  none_new : (p : ℕ) (x : Phase) → (IsIn x → IsIn (a.phase p)) → (q r : ℕ) → q < n → r < n → IsIn (put a.phase p x q) → IsIn (put a.phase p x r) → q ≡ r
+  none_new p x go q r hq hr iq ir = sole q r hq hr (less_put a.phase p x q go iq) (less_put a.phase p x r go ir)
+
+  -- an entry, where nobody was in
+  entered : (p q : ℕ) → Allows n a (Enter p) → q < n → IsIn (put a.phase p Inside q) → q ≡ p
+  entered p q h below i =
+      elim (cases_eq q p) [
+        | inl e ↦ e
+        | inr ne ↦ absurd (neither (a.phase q) (h.2 q below) (h.3 q below) (subst IsIn (put_other a.phase p Inside q ne) i))
+      ]
+
+  pub sole_by : (d : Outer) → Allows n a d → Sole n (done a d)
+  sole_by (Begin p) h = none_new p Door (λ i. absurd i)
+  sole_by (IsReady p) h = none_new p Ready (λ i. absurd i)
+  sole_by (Enter p) h = λ q r hq hr iq ir. entered p q h hq iq ∙ sym (entered p r h hr ir)
+  sole_by (Crash p) h = none_new p (crashed (a.phase p)) (in_crashed (a.phase p))
+  sole_by (Reenter p) h = none_new p Inside (λ i. subst IsIn (sym h.1) tt)
+  sole_by (Leave p) h = none_new p Out (λ i. absurd i)
+  sole_by (Quit p) h = none_new p Out (λ i. absurd i)
+
+-- a deed changes the phase of its doer alone
+pub phase_other : (a : Abstract) (d : Outer) (q : ℕ) → q ≢ doer d → (done a d).phase q ≡ a.phase q
+phase_other a (Begin p) q ne = put_other a.phase p Door q ne
+phase_other a (IsReady p) q ne = put_other a.phase p Ready q ne
+phase_other a (Enter p) q ne = put_other a.phase p Inside q ne
+phase_other a (Crash p) q ne = put_other a.phase p (crashed (a.phase p)) q ne
+phase_other a (Reenter p) q ne = put_other a.phase p Inside q ne
+phase_other a (Leave p) q ne = put_other a.phase p Out q ne
+phase_other a (Quit p) q ne = put_other a.phase p Out q ne
+
+crashed_in : (phase : Phase) → IsIn phase → IsIn (crashed phase)
+crashed_in Out h = h
+crashed_in Door h = h
+crashed_in Ready h = h
+crashed_in Inside h = tt
+crashed_in DeadIn h = tt
+
+-- who was in is in after p's phase was put, if p is
+more_put : (f : ℕ → Phase) (p : ℕ) (x : Phase) (q : ℕ) → (IsIn (f p) → IsIn x) → IsIn (f q) → IsIn (put f p x q)
+more_put f p x q go h =
+    elim (cases_eq q p) [
+      | inl e ↦ subst (λ r. IsIn (put f p x r)) (sym e) (subst IsIn (sym (put_same f p x)) (go (subst (λ r. IsIn (f r)) e h)))
+      | inr ne ↦ subst IsIn (sym (put_other f p x q ne)) h
+    ]
+
+-- only an entry brings somebody in
+pub in_before : (n : ℕ) (a : Abstract) (d : Outer) (q : ℕ) → Allows n a d → (IsEnter d → ⊥) → IsIn ((done a d).phase q) → IsIn (a.phase q)
+in_before n a (Begin p) q h not i = less_put a.phase p Door q (λ x. absurd x) i
+in_before n a (IsReady p) q h not i = less_put a.phase p Ready q (λ x. absurd x) i
+in_before n a (Enter p) q h not i = absurd (not tt)
+in_before n a (Crash p) q h not i = less_put a.phase p (crashed (a.phase p)) q (in_crashed (a.phase p)) i
+in_before n a (Reenter p) q h not i = less_put a.phase p Inside q (λ x. subst IsIn (sym h.1) tt) i
+in_before n a (Leave p) q h not i = less_put a.phase p Out q (λ x. absurd x) i
+in_before n a (Quit p) q h not i = less_put a.phase p Out q (λ x. absurd x) i
+
+not_in : {phase : Phase} (x : Phase) → phase ≡ x → (IsIn x → ⊥) → IsIn phase → ⊥
+not_in x e h i = h (subst IsIn e i)
+
+-- only an exit takes somebody out
+pub in_after : (n : ℕ) (a : Abstract) (d : Outer) (q : ℕ) → Allows n a d → (IsLeave d → ⊥) → IsIn (a.phase q) → IsIn ((done a d).phase q)
+in_after n a (Begin p) q h not i = more_put a.phase p Door q (λ x. absurd (not_in Out h.1 (λ y. y) x)) i
+in_after n a (IsReady p) q h not i = more_put a.phase p Ready q (λ x. absurd (not_in Door h.1 (λ y. y) x)) i
+in_after n a (Enter p) q h not i = more_put a.phase p Inside q (λ x. tt) i
+in_after n a (Crash p) q h not i = more_put a.phase p (crashed (a.phase p)) q (crashed_in (a.phase p)) i
+in_after n a (Reenter p) q h not i = more_put a.phase p Inside q (λ x. tt) i
+in_after n a (Leave p) q h not i = absurd (not tt)
+in_after n a (Quit p) q h not i = more_put a.phase p Out q (λ x. absurd (elim h.1 [ inl e ↦ not_in Door e (λ y. y) x | inr e ↦ not_in Ready e (λ y. y) x ])) i
+
+pub sole_nobody : (n : ℕ) → Sole n nobody
+sole_nobody n p q hp hq ip iq = absurd ip
+
+pub sole_done : (n : ℕ) (a : Abstract) (d : Outer) → AllHold (needs n a d) → Sole n a → Sole n (done a d)
+sole_done n a d h sole = sole_by n a sole d (allows_from n a d h)
+
+pub sole_after : (n : ℕ) (a : Abstract) (ds : List Outer) → Legal n a ds → Sole n a → Sole n (all_done a ds)
+sole_after n a [] h sole = sole
+sole_after n a (d ∷ ds) h sole = sole_after n (done a d) ds h.1 (sole_done n a d h.0 sole)

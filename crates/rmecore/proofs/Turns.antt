@@ -1,0 +1,121 @@
+-- Every step of the lock is an entry, a re-entry, an exit, or nothing for who is in; and none is at a data word.
+use Rattle.std.proofs.Common.{◌≡◌, ℕ, zero, suc, Bool, true, false, ◌==◌, ◌||◌, [], ◌∷◌, Option, Some, None, IsSome, refl, sym, subst}
+use Rattle.std.proofs.lemmas.Bool.{cond_both}
+use Rattle.rmecore.specs.Place.{Place, Rest, Dead, Reread, Opening, Door, Shutting, Wait, Inside, Leaving, Withdrawing, Unmarking, only, has, without, is_before, next, restart, shut, unmarked}
+use Rattle.rmecore.specs.World.{step_deed}
+use Rattle.rmecore.specs.Turn.{Elsewhere, Plain, Turn, Enters, Reenters, Exits, Same, Else}
+use Rattle.rmecore.specs.declared.outer.Outer.{Outer}
+use Rattle.rmecore.specs.declared.core_call.CoreCall.{CoreCall}
+use Rattle.rmecore.specs.declared.core_call.CoreCall.TheVariants.{Lock, Recover, Unlock, Withdraw}
+use Rattle.rmecore.specs.declared.kind.Kind.{Kind}
+use Rattle.rmecore.specs.declared.kind.Kind.TheVariants.{Reread as Rereads, Open as Opens, Peek as Peeks, Take as Takes, Shut as Shuts, Look as Looks, Weigh as Weighs, Mark as Marks, Drop as Drops, Glance as Glances}
+use Rattle.rmecore.specs.declared.word.Word.{Word}
+use Rattle.rmecore.specs.declared.word.Word.TheVariants.{Choosing as ChoosingOf, Number as NumberOf, Inside as InsideOf, Data as DataAt}
+
+only_is : (b : Bool) (x t : Place) → only b x ≡ Some t → x ≡ t
+only_is true x t e = cc
+only_is false x t e = absurd (cc)
+
+module _ (n limit p : ℕ) where
+  else_by : (b : Bool) (x s t : Place) (d : Option Outer) → only b x ≡ Some t → Elsewhere x → Plain p d → Turn p s t d
+  else_by b x s t d e away plain = Else (subst Elsewhere (only_is b x t e) away) plain
+
+  restarts : (call : CoreCall) (c k v : ℕ) (t : Place) → restart n p call c k v ≡ t → Turn p (Reread call (c ∷ k ∷ [])) t (step_deed p (Reread call (c ∷ k ∷ [])) Rereads v)
+  restarts Lock (suc c) zero v t e = Else (subst Elsewhere e tt) tt
+  restarts Lock (suc c) (suc k) v t e = Else (subst Elsewhere e tt) tt
+  restarts Lock zero zero zero t e = Else (subst Elsewhere e tt) tt
+  restarts Lock zero zero (suc v) t e = Else (subst Elsewhere e tt) tt
+  restarts Lock zero (suc k) zero t e = Else (subst Elsewhere e tt) tt
+  restarts Lock zero (suc k) (suc v) t e = Reenters Lock (zero ∷ suc k ∷ []) refl (sym e) refl
+  restarts Recover (suc c) zero v t e = Else (subst Elsewhere e tt) tt
+  restarts Recover (suc c) (suc k) v t e = Else (subst Elsewhere e tt) tt
+  restarts Recover zero zero zero t e = Else (subst Elsewhere e tt) tt
+  restarts Recover zero zero (suc v) t e = Else (subst Elsewhere e tt) tt
+  restarts Recover zero (suc k) zero t e = Else (subst Elsewhere e tt) tt
+  restarts Recover zero (suc k) (suc v) t e = Reenters Recover (zero ∷ suc k ∷ []) refl (sym e) refl
+  restarts Unlock (suc c) zero v t e = Else (subst Elsewhere e tt) tt
+  restarts Unlock (suc c) (suc k) v t e = Else (subst Elsewhere e tt) tt
+  restarts Unlock zero zero zero t e = Else (subst Elsewhere e tt) tt
+  restarts Unlock zero zero (suc v) t e = Else (subst Elsewhere e tt) tt
+  restarts Unlock zero (suc k) zero t e = Else (subst Elsewhere e tt) tt
+  restarts Unlock zero (suc k) (suc v) t e = Reenters Unlock (zero ∷ suc k ∷ []) refl (sym e) refl
+  restarts Withdraw (suc c) zero v t e = Else (subst Elsewhere e tt) tt
+  restarts Withdraw (suc c) (suc k) v t e = Else (subst Elsewhere e tt) tt
+  restarts Withdraw zero zero zero t e = Else (subst Elsewhere e tt) tt
+  restarts Withdraw zero zero (suc v) t e = Else (subst Elsewhere e tt) tt
+  restarts Withdraw zero (suc k) zero t e = Else (subst Elsewhere e tt) tt
+  restarts Withdraw zero (suc k) (suc v) t e = Reenters Withdraw (zero ∷ suc k ∷ []) refl (sym e) refl
+
+  glanced : (s : Place) (v : ℕ) → step_deed p s Glances v ≡ None
+  glanced Rest v = refl
+  glanced Dead v = refl
+  glanced (Reread call []) v = refl
+  glanced (Reread call (c ∷ [])) v = refl
+  glanced (Reread call (c ∷ k ∷ [])) v = refl
+  glanced (Reread call (c ∷ k ∷ i ∷ is)) v = refl
+  glanced Opening v = refl
+  glanced (Door unread m) v = refl
+  glanced (Shutting call k) v = refl
+  glanced (Wait k unpassed looked) v = refl
+  glanced Inside v = refl
+  glanced Leaving v = refl
+  glanced Withdrawing v = refl
+  glanced (Unmarking call) v = refl
+
+  glance : (s t : Place) (v : ℕ) → Some s ≡ Some t → Turn p s t (step_deed p s Glances v)
+  glance s t v e =
+      let same : s ≡ t = cc in Same same (glanced s v)
+
+  shut_else : (call : CoreCall) (k : ℕ) → Elsewhere (shut n p call k)
+  shut_else Lock k = tt
+  shut_else Recover k = tt
+  shut_else Unlock k = tt
+  shut_else Withdraw k = tt
+
+  unmarked_else : (call : CoreCall) → Elsewhere (unmarked call)
+  unmarked_else Lock = tt
+  unmarked_else Recover = tt
+  unmarked_else Unlock = tt
+  unmarked_else Withdraw = tt
+
+  pub turn : (s : Place) (kind : Kind) (word : Word) (v : ℕ) (t : Place) → next n limit p s kind word v ≡ Some t → Turn p s t (step_deed p s kind v)
+  turn (Reread call []) Rereads (ChoosingOf q) v t e = else_by (q == p) _ _ t _ e tt tt
+  turn (Reread call (c ∷ [])) Rereads (NumberOf q) v t e = else_by (q == p) _ _ t _ e tt tt
+  turn (Reread call (c ∷ k ∷ [])) Rereads (InsideOf q) v t e = restarts call c k v t (only_is (q == p) (restart n p call c k v) t e)
+  turn Opening Opens (ChoosingOf q) v t e = else_by _ _ _ t _ e tt refl
+  turn (Door unread m) Peeks (NumberOf j) v t e = else_by (has unread j) _ _ t _ e tt tt
+  turn (Door [] m) Takes (NumberOf q) v t e = else_by _ _ _ t _ e tt refl
+  turn (Door [] m) Shuts (ChoosingOf q) v t e = else_by _ _ _ t _ e tt refl
+  turn (Shutting call k) Shuts (ChoosingOf q) v t e = else_by _ _ _ t _ e (shut_else call k) tt
+  turn (Wait k unpassed None) Looks (ChoosingOf j) v t e =
+      else_by (has unpassed j) _ _ t _ e (cond_both (v == 0) (Wait k unpassed (Some j)) (Wait k unpassed None) Elsewhere (λ _. tt) (λ _. tt)) tt
+  turn (Wait k unpassed (Some i)) Weighs (NumberOf j) v t e =
+      else_by (j == i) _ _ t _ e (cond_both ((v == 0) || is_before k p v j) (Wait k (without j unpassed) None) (Wait k unpassed (Some i)) Elsewhere (λ _. tt) (λ _. tt)) tt
+  turn (Wait k [] None) Marks (InsideOf q) v t e = Enters k [] None refl (sym (only_is _ Inside t e)) refl
+  turn Leaving Drops (NumberOf q) v t e = Exits refl (subst Elsewhere (only_is _ (Unmarking Unlock) t e) tt) refl
+  turn Withdrawing Drops (NumberOf q) v t e = else_by _ _ _ t _ e tt refl
+  turn (Unmarking call) Marks (InsideOf q) v t e = else_by _ _ _ t _ e (unmarked_else call) tt
+  turn s Glances (ChoosingOf q) v t e = glance s t v e
+  turn s Glances (NumberOf q) v t e = glance s t v e
+  turn s Glances (InsideOf q) v t e = glance s t v e
+  turn _ _ _ v t e = absurd (cc)
+
+pub not_data : (n limit p : ℕ) (s : Place) (kind : Kind) (i v : ℕ) → IsSome (next n limit p s kind (DataAt i) v) → ⊥
+not_data n limit p (Reread call []) Rereads i v some = cc
+not_data n limit p (Reread call (c ∷ [])) Rereads i v some = cc
+not_data n limit p (Reread call (c ∷ k ∷ [])) Rereads i v some = cc
+not_data n limit p Opening Opens i v some = cc
+not_data n limit p (Door [] m) Peeks i v some = cc
+not_data n limit p (Door (j ∷ js) m) Peeks i v some = cc
+not_data n limit p (Door [] m) Takes i v some = cc
+not_data n limit p (Door [] m) Shuts i v some = cc
+not_data n limit p (Shutting call k) Shuts i v some = cc
+not_data n limit p (Wait k [] None) Looks i v some = cc
+not_data n limit p (Wait k (j ∷ js) None) Looks i v some = cc
+not_data n limit p (Wait k unpassed (Some j)) Weighs i v some = cc
+not_data n limit p (Wait k [] None) Marks i v some = cc
+not_data n limit p Leaving Drops i v some = cc
+not_data n limit p Withdrawing Drops i v some = cc
+not_data n limit p (Unmarking call) Marks i v some = cc
+not_data n limit p s Glances i v some = cc
+not_data _ _ _ _ _ _ _ some = cc

@@ -1,0 +1,13 @@
+use Rattle.rmecore.proofs.Phases.{tied_after, within}
+use Rattle.rmecore.proofs.Runs.{at_first}
+use Rattle.rmecore.proofs.Images.{at_image}
+use Rattle.rmecore.specs.World.{at_rest}
+use Rattle.rmecore.specs.AbstractLock.{nobody}
+use Rattle.rmecore.specs.Lawful.{all_dead, start_of}
+use Rattle.rmecore.proofs.laws.who_stands_inside_is_in.Goals as goal
+
+pub returns-clause-from_rest : goal.returns-clause-from_rest
+returns-clause-from_rest c = λ n limit p events below run at. within (tied_after n limit at_rest nobody events (at_first n) run) p below at
+
+pub returns-clause-later : goal.returns-clause-later
+returns-clause-later c = λ n limit p words events below lawful run at. within (tied_after n limit (all_dead words) (start_of words) events (at_image n limit words lawful) run) p below at

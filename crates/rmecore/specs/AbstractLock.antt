@@ -1,0 +1,87 @@
+-- The abstract lock (Golab and Ramaraju; Jayanti and Joshi): a phase for each process and, for each process, who is ahead
+-- of it. It has no numbers. The rows Begin to Quit of the judge table.
+use Rattle.std.specs.Prelude.{ℕ, Bool, true, false, ◌||◌, nat_lt, List, [], ◌∷◌}
+use Rattle.rmecore.specs.Needs.{AllHold, least, none_below, put}
+use Rattle.rmecore.specs.declared.fault.Fault.{Fault}
+use Rattle.rmecore.specs.declared.fault.Fault.TheVariants.{OutOfPlace, TwoInside, NotReentered, Overtaken}
+use Rattle.rmecore.specs.declared.outer.Outer.{Outer}
+use Rattle.rmecore.specs.declared.outer.Outer.TheVariants.{Begin, Ready as IsReady, Enter, Crash, Reenter, Leave, Quit}
+use Rattle.rmecore.specs.declared.phase.Phase.{Phase}
+use Rattle.rmecore.specs.declared.phase.Phase.TheVariants.{Out, Door, Ready, Inside, DeadIn}
+
+pub record Abstract : Type 0 where
+  pub phase : ℕ → Phase
+  -- ahead p q: q is in p's set, and enters before p
+  pub ahead : ℕ → ℕ → Bool
+
+-- everyone is out, and every set is empty
+abbrev pub nobody : Abstract
+nobody = record { phase = λ p. Out; ahead = λ p q. false }
+
+abbrev pub is_out : Phase → Bool
+is_out Out = true
+is_out _ = false
+
+abbrev pub is_door : Phase → Bool
+is_door Door = true
+is_door _ = false
+
+abbrev pub is_ready : Phase → Bool
+is_ready Ready = true
+is_ready _ = false
+
+abbrev pub is_inside : Phase → Bool
+is_inside Inside = true
+is_inside _ = false
+
+abbrev pub is_dead_in : Phase → Bool
+is_dead_in DeadIn = true
+is_dead_in _ = false
+
+-- where a crash leaves a process
+abbrev pub crashed : Phase → Phase
+crashed Inside = DeadIn
+crashed phase = phase
+
+abbrev pub doer : Outer → ℕ
+doer (Begin p) = p
+doer (IsReady p) = p
+doer (Enter p) = p
+doer (Crash p) = p
+doer (Reenter p) = p
+doer (Leave p) = p
+doer (Quit p) = p
+
+-- a deed's row among n processes: its needs in order, each with its fault
+abbrev pub row : ℕ → Abstract → Outer → List (Bool × Fault)
+row n a (Begin p) = (is_out (a.phase p), OutOfPlace) ∷ []
+row n a (IsReady p) = (is_door (a.phase p), OutOfPlace) ∷ []
+row n a (Enter p) =
+    (is_ready (a.phase p), OutOfPlace)
+    ∷ (none_below n (λ q. is_inside (a.phase q)), TwoInside)
+    ∷ (none_below n (λ q. is_dead_in (a.phase q)), NotReentered)
+    ∷ (none_below n (a.ahead p), Overtaken p (least n (a.ahead p)))
+    ∷ []
+row n a (Crash p) = []
+row n a (Reenter p) = (is_dead_in (a.phase p), OutOfPlace) ∷ []
+row n a (Leave p) = (is_inside (a.phase p), OutOfPlace) ∷ []
+row n a (Quit p) = (is_door (a.phase p) || is_ready (a.phase p), OutOfPlace) ∷ []
+
+-- behind what every deed needs: a process of the n
+abbrev pub needs : ℕ → Abstract → Outer → List (Bool × Fault)
+needs n a d = (nat_lt (doer d) n, OutOfPlace) ∷ row n a d
+
+-- what a deed does
+abbrev pub done : Abstract → Outer → Abstract
+done a (Begin p) = record { phase = put a.phase p Door; ahead = put a.ahead p (λ q. is_ready (a.phase q)) }
+done a (IsReady p) = record { phase = put a.phase p Ready; ahead = a.ahead }
+done a (Enter p) = record { phase = put a.phase p Inside; ahead = λ q. put (a.ahead q) p false }
+done a (Crash p) = record { phase = put a.phase p (crashed (a.phase p)); ahead = a.ahead }
+done a (Reenter p) = record { phase = put a.phase p Inside; ahead = a.ahead }
+done a (Leave p) = record { phase = put a.phase p Out; ahead = a.ahead }
+done a (Quit p) = record { phase = put a.phase p Out; ahead = λ q. put (a.ahead q) p false }
+
+-- a list of deeds is legal where each is allowed after those before it
+abbrev pub Legal : ℕ → Abstract → List Outer → Type 0
+Legal n a [] = Unit {0}
+Legal n a (d ∷ ds) = AllHold (needs n a d) × Legal n (done a d) ds

@@ -1,0 +1,43 @@
+-- Words that outlive a crash of everything, and the abstract lock that they tell of. Of the words alone one can tell who
+-- stands in its doorway, who waits and who died inside (the restart table).
+use Rattle.std.specs.Prelude.{◌≡◌, ◌≢◌, ℕ, zero, suc, ◌<◌, ◌≤◌, Bool, true, false, ◌&&◌, ◌⊎◌}
+use Rattle.rmecore.specs.Place.{Dead, is_before}
+use Rattle.rmecore.specs.World.{World}
+use Rattle.rmecore.specs.AbstractLock.{Abstract, is_ready}
+use Rattle.rmecore.specs.declared.phase.Phase.{Phase}
+use Rattle.rmecore.specs.declared.phase.Phase.TheVariants.{Out, Door, Ready, DeadIn}
+use Rattle.rmecore.specs.declared.own.Own.{Own}
+
+-- one of the six rows of the restart table, with a number up to limit
+pub record IsRow (limit : ℕ) (x : Own) : Type 0 where
+  pub choosing : x.choosing ≤ 1
+  pub number : x.number ≤ limit
+  pub inside : x.inside ≤ 1
+  pub row : (x.choosing ≡ 0) ⊎ (x.inside ≡ 0)
+
+-- the one that is inside has the least pair of all that hold a number; so there is at most one
+pub record IsLawful (n limit : ℕ) (words : ℕ → Own) : Type 0 where
+  pub rows : (p : ℕ) → IsRow limit (words p)
+  pub least : (p q : ℕ) → p < n → q < n → q ≢ p → 0 < (words p).number → 0 < (words p).inside → 0 < (words q).number → is_before (words p).number p (words q).number q ≡ true
+
+-- every process crashed
+abbrev pub all_dead : (ℕ → Own) → World
+all_dead words = record { words = words; places = λ p. Dead }
+
+abbrev pub dead_phase : (choosing number inside : ℕ) → Phase
+dead_phase zero zero i = Out
+dead_phase (suc c) zero i = Door
+dead_phase c (suc k) zero = Ready
+dead_phase c (suc k) (suc i) = DeadIn
+
+abbrev pub phase_by : Own → Phase
+phase_by x = dead_phase x.choosing x.number x.inside
+
+-- whether q with words y is ahead of p with words x, by p's phase
+abbrev pub is_ahead : Phase → ℕ → Own → ℕ → Own → Bool
+is_ahead Door p x q y = is_ready (phase_by y)
+is_ahead Ready p x q y = is_ready (phase_by y) && is_before y.number q x.number p
+is_ahead _ p x q y = false
+
+abbrev pub start_of : (ℕ → Own) → Abstract
+start_of words = record { phase = λ p. phase_by (words p); ahead = λ p q. is_ahead (phase_by (words p)) p (words p) q (words q) }

@@ -1,0 +1,16 @@
+pub mod Place
+pub mod World
+pub mod Needs
+pub mod AbstractLock
+pub mod Sole
+pub mod Turn
+pub mod Body
+pub mod Samples
+pub mod Lawful
+pub mod Machine
+pub mod Named
+pub mod Refused
+pub mod Simulated
+pub mod OwnSteps
+pub mod Paid
+pub mod Tallied

@@ -1,0 +1,136 @@
+-- What one process does in Lamport's Bakery (choosing and number; the one with the least pair enters), to which a third
+-- word, inside, is added: its place, and the place that follows from its own events alone. The doorway reads one number
+-- at a time.
+use Rattle.std.specs.Prelude.{ℕ, zero, suc, ◌+◌, ◌-◌, max, Bool, false, ◌&&◌, ◌||◌, ◌==◌, nat_lt, nat_le, if◌then◌else◌, List, [], ◌∷◌, Option, Some, None}
+use Rattle.rmecore.specs.declared.core_call.CoreCall.{CoreCall}
+use Rattle.rmecore.specs.declared.core_call.CoreCall.TheVariants.{Lock, Recover, Unlock, Withdraw}
+use Rattle.rmecore.specs.declared.kind.Kind.{Kind}
+use Rattle.rmecore.specs.declared.kind.Kind.TheVariants.{Reread as Rereads, Open as Opens, Peek as Peeks, Take as Takes, Shut as Shuts, Look as Looks, Weigh as Weighs, Mark as Marks, Drop as Drops, Glance as Glances}
+use Rattle.rmecore.specs.declared.word.Word.{Word}
+use Rattle.rmecore.specs.declared.word.Word.TheVariants.{Choosing as ChoosingOf, Number as NumberOf, Inside as InsideOf}
+
+-- one event is a start, a crash (which takes the private memory of one process: Golab and Ramaraju), or one load or store
+-- of one word with the value read or written
+pub data Event : Type 0 where
+  Starts : (p : ℕ) → (call : CoreCall) → Event
+  Crashes : (p : ℕ) → Event
+  Steps : (p : ℕ) → (kind : Kind) → (word : Word) → (value : ℕ) → Event
+
+-- where a process stands. Sets of processes are lists without order
+pub data Place : Type 0 where
+  Rest Dead : Place
+  -- own words read so far, after a start
+  Reread : (call : CoreCall) → (seen : List ℕ) → Place
+  Opening : Place
+  -- the processes not yet read, and the greatest number read
+  Door : (unread : List ℕ) → (greatest : ℕ) → Place
+  Shutting : (call : CoreCall) → (number : ℕ) → Place
+  -- the own number, the processes not yet passed, and the one of them that was looked at
+  Wait : (number : ℕ) → (unpassed : List ℕ) → (looked : Option ℕ) → Place
+  Inside Leaving Withdrawing : Place
+  Unmarking : (call : CoreCall) → Place
+
+abbrev pub has : List ℕ → ℕ → Bool
+has [] i = false
+has (j ∷ js) i = (i == j) || has js i
+
+abbrev pub without : ℕ → List ℕ → List ℕ
+without j [] = []
+without j (i ∷ is) = if i == j then without j is else i ∷ without j is
+
+-- the processes i, i + 1, .. that come within the next k numbers, but for p
+abbrev pub span : ℕ → ℕ → ℕ → List ℕ
+span p i zero = []
+span p i (suc k) = if i == p then span p (i + 1) k else i ∷ span p (i + 1) k
+
+-- all processes below n from i on, but for p
+abbrev pub above : ℕ → ℕ → ℕ → List ℕ
+above n p i = span p i (n - i)
+
+-- all processes below n but for p
+abbrev pub others : ℕ → ℕ → List ℕ
+others n p = above n p 0
+
+-- pairs (number, process) are ordered by number, then by process (Lamport)
+abbrev pub is_before : ℕ → ℕ → ℕ → ℕ → Bool
+is_before k p v j = nat_lt k v || ((k == v) && nat_lt p j)
+
+abbrev pub only : Bool → Place → Option Place
+only b place = if b then Some place else None
+
+-- The restart table, this product's own, over choosing, number and inside: what a lock does next, and what a recovery
+-- does. Choosing and inside are never both set, so which of them counts then
+-- doesn't matter.
+abbrev pub relocked : ℕ → ℕ → ℕ → ℕ → ℕ → Place
+relocked n p (suc c) zero i = Door (others n p) 0
+relocked n p (suc c) (suc k) i = Shutting Lock (suc k)
+relocked n p zero zero zero = Opening
+relocked n p zero zero (suc i) = Unmarking Lock
+relocked n p zero (suc k) zero = Wait (suc k) (others n p) None
+relocked n p zero (suc k) (suc i) = Inside
+
+abbrev pub recovered : ℕ → ℕ → ℕ → Place
+recovered (suc c) zero i = Rest
+recovered (suc c) (suc k) i = Shutting Recover (suc k)
+recovered zero zero zero = Rest
+recovered zero zero (suc i) = Unmarking Recover
+recovered zero (suc k) zero = Rest
+recovered zero (suc k) (suc i) = Inside
+
+abbrev pub restart : ℕ → ℕ → CoreCall → ℕ → ℕ → ℕ → Place
+restart n p Lock c k i = relocked n p c k i
+restart n p _ c k i = recovered c k i
+
+abbrev pub shut : ℕ → ℕ → CoreCall → ℕ → Place
+shut n p Lock k = Wait k (others n p) None
+shut n p _ k = Rest
+
+abbrev pub unmarked : CoreCall → Place
+unmarked Lock = Opening
+unmarked _ = Rest
+
+-- The place after one step of process p, with the value that it read or wrote. In a run the greatest number is never above
+-- limit, and choosing and inside are never both set; the definition goes on there too, so that it can be followed by one
+-- who sees the events of p alone.
+abbrev pub next : ℕ → ℕ → ℕ → Place → Kind → Word → ℕ → Option Place
+next n limit p (Reread call []) Rereads (ChoosingOf q) v = only (q == p) (Reread call (v ∷ []))
+next n limit p (Reread call (c ∷ [])) Rereads (NumberOf q) v = only (q == p) (Reread call (c ∷ v ∷ []))
+next n limit p (Reread call (c ∷ k ∷ [])) Rereads (InsideOf q) v = only (q == p) (restart n p call c k v)
+next n limit p Opening Opens (ChoosingOf q) v = only ((q == p) && (v == 1)) (Door (others n p) 0)
+next n limit p (Door unread m) Peeks (NumberOf j) v = only (has unread j) (Door (without j unread) (max m v))
+next n limit p (Door [] m) Takes (NumberOf q) v = only ((q == p) && (nat_lt m limit && (v == m + 1))) (Shutting Lock v)
+next n limit p (Door [] m) Shuts (ChoosingOf q) v = only ((q == p) && (nat_le limit m && (v == 0))) Rest
+next n limit p (Shutting call k) Shuts (ChoosingOf q) v = only ((q == p) && (v == 0)) (shut n p call k)
+next n limit p (Wait k unpassed None) Looks (ChoosingOf j) v =
+    only (has unpassed j) (if v == 0 then Wait k unpassed (Some j) else Wait k unpassed None)
+next n limit p (Wait k unpassed (Some i)) Weighs (NumberOf j) v =
+    only (j == i) (if (v == 0) || is_before k p v j then Wait k (without j unpassed) None else Wait k unpassed (Some i))
+next n limit p (Wait k [] None) Marks (InsideOf q) v = only ((q == p) && (v == 1)) Inside
+next n limit p Leaving Drops (NumberOf q) v = only ((q == p) && (v == 0)) (Unmarking Unlock)
+next n limit p Withdrawing Drops (NumberOf q) v = only ((q == p) && (v == 0)) Rest
+next n limit p (Unmarking call) Marks (InsideOf q) v = only ((q == p) && (v == 0)) (unmarked call)
+next n limit p place Glances (ChoosingOf q) v = Some place
+next n limit p place Glances (NumberOf q) v = Some place
+next n limit p place Glances (InsideOf q) v = Some place
+next _ _ _ _ _ _ _ = None
+
+-- the place after a call was started
+abbrev pub started : Place → CoreCall → Option Place
+started Rest Lock = Some (Reread Lock [])
+started Rest Recover = Some (Reread Recover [])
+started Dead Lock = Some (Reread Lock [])
+started Dead Recover = Some (Reread Recover [])
+started Inside Unlock = Some Leaving
+started (Wait k unpassed looked) Withdraw = Some Withdrawing
+started _ _ = None
+
+abbrev pub process : Event → ℕ
+process (Starts p call) = p
+process (Crashes p) = p
+process (Steps p kind word v) = p
+
+-- the place after an event of its process. A crash leaves nothing of it
+abbrev pub moved : ℕ → ℕ → Place → Event → Option Place
+moved n limit place (Starts p call) = started place call
+moved n limit place (Crashes p) = Some Dead
+moved n limit place (Steps p kind word v) = next n limit p place kind word v

@@ -1,0 +1,75 @@
+//! The value of a message.
+
+ghost use Rattle.std.specs.Prelude.{◌≡◌, ◌<◌, ◌↔◌, length, slice_index, IfOk, IfErr, IsOk};
+ghost use Rattle.rmecore.specs.Body.{IsWide};
+
+use crate::refusal::Refusal;
+use std::marker::Model;
+
+/// One to eight words. Contracts see it as the list of them.
+#[derive(Clone, Copy, PartialEq, Eq, Debug)]
+pub struct Body {
+    width: u64,
+    words: [u64; 8],
+}
+
+impl Model for Body {
+    ghost use Rattle.std.specs.Prelude.{ℕ, ◌-◌, List, ◌++◌, take, length};
+    ghost use Rattle.rmecore.specs.Body.{IsBody, zeros};
+
+    ghost Value = { List ℕ };
+
+    ghost view = { λ b. take b.width b.words };
+
+    ghost invariant = { λ b. IsBody b.width b.words };
+
+    ghost inverse = { λ xs. record { width = length xs; words = xs ++ zeros (8 - length xs) } };
+}
+
+impl Body {
+    /// A body of these words.
+    pub fn new(words: &[u64]) -> Result<Body, Refusal>
+        ensures ok { IfOk result (λ body. body ≡ words.now) }
+        ensures valid { IsOk result ↔ IsWide words.now }
+        ensures refused { IfErr result (λ refusal. refusal ≡ Refusal.BadWidth) }
+    {
+        let width = words.len();
+        if width == 0 || width > 8 {
+            return Err(Refusal::BadWidth);
+        }
+        let mut all = [0; 8];
+        all[..width].copy_from_slice(words);
+        Ok(Body {
+            width: width as u64,
+            words: all,
+        })
+    }
+
+    /// How many words it has.
+    pub fn width(&self) -> u64
+        ensures width { result ≡ length self.now }
+        ensures wide { IsWide self.now }
+    {
+        self.width
+    }
+
+    /// Its word j.
+    pub fn word(&self, j: u64) -> Result<u64, Refusal>
+        ensures ok { IfOk result (λ word. word ≡ slice_index self.now j) }
+        ensures valid { IsOk result ↔ (j < length self.now) }
+        ensures refused { IfErr result (λ refusal. refusal ≡ Refusal.BadIndex) }
+    {
+        if j >= self.width {
+            return Err(Refusal::BadIndex);
+        }
+        Ok(self.words[j as usize])
+    }
+
+    /// Its words.
+    pub fn as_slice(&self) -> &[u64]
+        ensures words { result.now ≡ self.now }
+        ensures wide { IsWide self.now }
+    {
+        &self.words[..self.width as usize]
+    }
+}

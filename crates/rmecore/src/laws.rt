@@ -1,0 +1,111 @@
+//! Laws over every run of the definitions. Each is the contract of a function that does nothing.
+
+ghost use Rattle.std.specs.Prelude.{◌≡◌, ◌≢◌, ◌≤◌, ◌<◌, ◌+◌, false, if◌then◌else◌, IsSome, IfSome, Some, None, unwrap_or, ℕ, List, [], ◌∷◌, ◌++◌, ◌⊎◌};
+ghost use Rattle.rmecore.specs.Samples.{two, giving_up};
+ghost use Rattle.rmecore.specs.Place.{Event, process, Place, Door, Reread, Wait, Inside, Leaving, Withdrawing, others, next};
+ghost use Rattle.rmecore.specs.Machine.{is_blocked, answer};
+ghost use Rattle.rmecore.specs.OwnSteps.{own_steps, most_steps};
+ghost use Rattle.rmecore.specs.Refused.{is_idle};
+ghost use Rattle.rmecore.specs.Paid.{Pays, ReadsBegun, is_glance};
+ghost use Rattle.rmecore.specs.declared.kind.Kind.{Kind};
+ghost use Rattle.rmecore.specs.declared.word.Word.{Word};
+ghost use Rattle.rmecore.specs.declared.word.Word.TheVariants.{Data};
+ghost use Rattle.rmecore.specs.declared.core_call.CoreCall.{CoreCall};
+ghost use Rattle.rmecore.specs.World.{World, IsReached, at_rest, May, Run, after, final, own_events, place_after, deed, deeds, and_then, step_deed};
+ghost use Rattle.rmecore.specs.Lawful.{IsRow, IsLawful, all_dead, start_of};
+ghost use Rattle.rmecore.specs.Needs.{AllHold};
+ghost use Rattle.rmecore.specs.AbstractLock.{Abstract, nobody, needs, done, doer, Legal};
+ghost use Rattle.rmecore.specs.Sole.{IsIn, IsEnter, IsLeave, Sole, all_done};
+ghost use Rattle.rmecore.specs.Turn.{Turn};
+
+use crate::outer::Outer;
+use crate::own::Own;
+use crate::phase::Phase;
+
+/// The deeds of every run, of any number of processes, are allowed by the abstract lock.
+pub fn every_run_is_legal()
+    ensures { (n limit : ℕ) (events : List Event) → Run n limit at_rest events → Legal n nobody (deeds n limit at_rest events) }
+{}
+
+/// After every run the words are lawful: the one that is inside, alive or dead, has the least pair of all that hold a number.
+pub fn every_run_ends_lawful()
+    ensures { (n limit : ℕ) (events : List Event) → Run n limit at_rest events → IsLawful n limit (final n limit at_rest events).words }
+{}
+
+/// The same from any lawful words, with every process crashed.
+pub fn every_later_run_is_legal()
+    ensures legal { (n limit : ℕ) (words : ℕ → Own) (events : List Event) → IsLawful n limit words → Run n limit (all_dead words) events → Legal n (start_of words) (deeds n limit (all_dead words) events) }
+    ensures lawful { (n limit : ℕ) (words : ℕ → Own) (events : List Event) → IsLawful n limit words → Run n limit (all_dead words) events → IsLawful n limit (final n limit (all_dead words) events).words }
+{}
+
+/// A process's place is a function of its own events.
+pub fn places_are_own()
+    ensures { (n limit p : ℕ) (w : World) (events : List Event) → (final n limit w events).places p ≡ place_after n limit (w.places p) (own_events p events) }
+{}
+
+/// An event that may come at the end prolongs a run, and its deed stands behind those of the run.
+pub fn runs_grow()
+    ensures run { (n limit : ℕ) (w : World) (events : List Event) (e : Event) → Run n limit w events → May n limit (final n limit w events) e → Run n limit w (events ++ e ∷ []) }
+    ensures deeds { (n limit : ℕ) (w : World) (events : List Event) (e : Event) → deeds n limit w (events ++ e ∷ []) ≡ deeds n limit w events ++ and_then (deed ((final n limit w events).places (process e)) e) [] }
+    ensures world { (n limit : ℕ) (w : World) (events : List Event) (e : Event) → final n limit w (events ++ e ∷ []) ≡ after n limit (final n limit w events) e }
+{}
+
+/// One run written out, and its deeds.
+pub fn a_run()
+    ensures runs { Run 2 10 at_rest two }
+    ensures gives_up { Run 2 10 at_rest giving_up }
+    ensures given_up { deeds 2 10 at_rest giving_up ≡ Outer.Begin 0 ∷ Outer.Ready 0 ∷ Outer.Begin 1 ∷ Outer.Ready 1 ∷ Outer.Quit 0 ∷ Outer.Enter 1 ∷ [] }
+    ensures deeds { deeds 2 10 at_rest two ≡ Outer.Begin 0 ∷ Outer.Begin 1 ∷ Outer.Ready 1 ∷ Outer.Ready 0 ∷ Outer.Enter 0 ∷ Outer.Crash 0 ∷ Outer.Reenter 0 ∷ Outer.Leave 0 ∷ Outer.Enter 1 ∷ [] }
+{}
+
+/// The abstract lock refuses a second one inside, one that doesn't let a crashed one in again, and one that overtakes.
+pub fn refused()
+    ensures two_inside { Legal 2 nobody (Outer.Begin 0 ∷ Outer.Ready 0 ∷ Outer.Begin 1 ∷ Outer.Ready 1 ∷ Outer.Enter 0 ∷ Outer.Enter 1 ∷ []) → ⊥ }
+    ensures not_reentered { Legal 2 nobody (Outer.Begin 0 ∷ Outer.Ready 0 ∷ Outer.Begin 1 ∷ Outer.Ready 1 ∷ Outer.Enter 0 ∷ Outer.Crash 0 ∷ Outer.Enter 1 ∷ []) → ⊥ }
+    ensures overtaken_from_behind { Legal 2 nobody (Outer.Begin 0 ∷ Outer.Ready 0 ∷ Outer.Begin 1 ∷ Outer.Ready 1 ∷ Outer.Quit 1 ∷ Outer.Begin 1 ∷ Outer.Ready 1 ∷ Outer.Enter 1 ∷ []) → ⊥ }
+    ensures overtaken { Legal 2 nobody (Outer.Begin 0 ∷ Outer.Ready 0 ∷ Outer.Begin 1 ∷ Outer.Ready 1 ∷ Outer.Enter 1 ∷ []) → ⊥ }
+{}
+
+/// Where a definition takes more than the tables have, nothing of it occurs: no number read is above the limit, and a
+/// process's words are always a row of the restart table.
+pub fn tables_are_kept()
+    ensures greatest { (n limit p m : ℕ) (w : World) (unread : List ℕ) → IsReached n limit w → w.places p ≡ Door unread m → m ≤ limit }
+    ensures rows { (n limit p : ℕ) (w : World) → IsReached n limit w → IsRow limit (w.words p) }
+{}
+
+/// How many steps a call takes beside those that are blocked: none at its start, one more with each step (a process reads
+/// its own words as they were then), and with its answer what the table of own steps says. A lock from words 0 comes to
+/// its waiting after n + 5 steps. A call under way has taken fewer than any call takes at most.
+pub fn steps_of_a_call()
+    ensures first { (n c k i : ℕ) (call : CoreCall) → Pays n c k i (Reread call []) 0 }
+    ensures exit { (n c k i : ℕ) → Pays n c k i Leaving 0 }
+    ensures withdraw { (n c k i : ℕ) → Pays n c k i Withdrawing 0 }
+    ensures each { (n limit p c k i : ℕ) (place : Place) (kind : Kind) (word : Word) (v steps : ℕ) → p < n → IsSome (next n limit p place kind word v) → is_glance kind ≡ false → ReadsBegun c k i place v → Pays n c k i place steps → Pays n c k i (unwrap_or (next n limit p place kind word v) place) (if is_blocked p place kind v then steps else steps + 1) }
+    ensures answered { (n limit p c k i : ℕ) (place : Place) (kind : Kind) (word : Word) (v steps : ℕ) → p < n → IsSome (next n limit p place kind word v) → is_glance kind ≡ false → ReadsBegun c k i place v → Pays n c k i place steps → IfSome (answer place kind v) (λ done. own_steps n c k i done ≡ Some (if is_blocked p place kind v then steps else steps + 1)) }
+    ensures fresh_start { (n p k steps : ℕ) → p < n → Pays n 0 0 0 (Wait k (others n p) None) steps → steps ≡ n + 5 }
+    ensures most { (n c k i : ℕ) (place : Place) (steps : ℕ) → 0 < n → is_idle place ≡ false → Pays n c k i place steps → steps < most_steps n }
+{}
+
+/// Of the processes one at most is in the section, alive or dead, after every list of legal deeds. A deed changes its
+/// doer's phase alone, only an entry brings somebody in, and only an exit takes somebody out.
+pub fn one_is_in()
+    ensures nobody { (n : ℕ) → Sole n nobody }
+    ensures each { (n : ℕ) (a : Abstract) (d : Outer) → AllHold (needs n a d) → Sole n a → Sole n (done a d) }
+    ensures legal { (n : ℕ) (a : Abstract) (ds : List Outer) → Legal n a ds → Sole n a → Sole n (all_done a ds) }
+    ensures others { (a : Abstract) (d : Outer) (q : ℕ) → q ≢ doer d → (done a d).phase q ≡ a.phase q }
+    ensures came { (n : ℕ) (a : Abstract) (d : Outer) (q : ℕ) → AllHold (needs n a d) → (IsEnter d → ⊥) → IsIn ((done a d).phase q) → IsIn (a.phase q) }
+    ensures stays { (n : ℕ) (a : Abstract) (d : Outer) (q : ℕ) → AllHold (needs n a d) → (IsLeave d → ⊥) → IsIn (a.phase q) → IsIn ((done a d).phase q) }
+{}
+
+/// What a step of the lock is for those who only ask who is in: an entry, a re-entry, an exit, or none of them. No step
+/// of the lock is at a data word.
+pub fn steps_are_turns()
+    ensures turn { (n limit p : ℕ) (s : Place) (kind : Kind) (word : Word) (v : ℕ) (t : Place) → next n limit p s kind word v ≡ Some t → Turn p s t (step_deed p s kind v) }
+    ensures no_data { (n limit p : ℕ) (s : Place) (kind : Kind) (i v : ℕ) → IsSome (next n limit p s kind (Data i) v) → ⊥ }
+{}
+
+/// A process that stands inside, or before its exit, is inside in the abstract lock too, after every run.
+pub fn who_stands_inside_is_in()
+    ensures from_rest { (n limit p : ℕ) (events : List Event) → p < n → Run n limit at_rest events → ((final n limit at_rest events).places p ≡ Inside) ⊎ ((final n limit at_rest events).places p ≡ Leaving) → (all_done nobody (deeds n limit at_rest events)).phase p ≡ Phase.Inside }
+    ensures later { (n limit p : ℕ) (words : ℕ → Own) (events : List Event) → p < n → IsLawful n limit words → Run n limit (all_dead words) events → ((final n limit (all_dead words) events).places p ≡ Inside) ⊎ ((final n limit (all_dead words) events).places p ≡ Leaving) → (all_done (start_of words) (deeds n limit (all_dead words) events)).phase p ≡ Phase.Inside }
+{}

@@ -1,0 +1,321 @@
+//! What one process does, as a machine over its private memory alone. It knows no shared word: it says which one it
+//! loads or stores next, and is fed with what was read.
+
+ghost use Rattle.std.specs.Prelude.{◌≡◌, ◌==◌, ◌||◌, Some, None, true, false, IfSome, OnOk, OnErr, IfOk, IfErr, is_none};
+ghost use Rattle.rmecore.specs.Place.{above, is_before};
+
+use crate::access::Access;
+use crate::core_call::CoreCall;
+use crate::core_done::CoreDone;
+use crate::kind::Kind;
+use crate::outer::Outer;
+use crate::progress::{BLOCKED, Progress, QUIET};
+use crate::refusal::Refusal;
+use crate::restart::{after_shut, after_unmark, restarted};
+use crate::stage::Stage;
+use crate::word::Word;
+use std::marker::Model;
+
+/// One process of `procs`, with its private memory.
+#[derive(Debug, Drop)]
+pub struct LockProcess {
+    procs: u64,
+    limit: u64,
+    index: u64,
+    stage: Stage,
+}
+
+impl Model for LockProcess {
+    ghost use Rattle.std.specs.Prelude.{◌<◌};
+    ghost use Rattle.rmecore.specs.Machine.{Standing, place_of};
+
+    ghost Value = { Standing };
+
+    ghost view = { λ s. record { procs = s.procs; limit = s.limit; index = s.index; place = place_of s.procs s.index s.stage } };
+
+    ghost invariant = { λ s. s.index < s.procs };
+}
+
+impl LockProcess {
+    ghost use Rattle.std.specs.Prelude.{◌<◌};
+    ghost use Rattle.rmecore.specs.Place.{Rest, Dead, started};
+    ghost use Rattle.rmecore.specs.Refused.{start_refusal, is_idle};
+    ghost use Rattle.rmecore.specs.Named.{own_number, own_call};
+    ghost use Rattle.rmecore.specs.Machine.{Standing, first, place_of, next_access, after_access, at_door, at_wait, progress, word_of, InLock, IsAllowed, IsLeast, StoresOwn};
+
+    /// A process at rest.
+    pub fn new(procs: u64, limit: u64, index: u64) -> LockProcess
+        requires { index < procs }
+        ensures { result ≡ record { procs = procs; limit = limit; index = index; place = Rest } }
+    {
+        LockProcess {
+            procs,
+            limit,
+            index,
+            stage: Stage::Rest,
+        }
+    }
+
+    /// The first other process from an index on.
+    fn first(&self, from: u64) -> Option<u64>
+        ensures first { result ≡ first (above self.now.procs self.now.index from) }
+        ensures room { IfSome result (λ j. j < u64.MAX) }
+    {
+        let j = if from == self.index { from + 1 } else { from };
+        if j < self.procs { Some(j) } else { None }
+    }
+
+    /// The step that comes next, if a call is under way. It may be taken whatever a load reads, and where the
+    /// definition leaves a choice it has the least process.
+    pub fn next(&self) -> Option<Access>
+        ensures next { result ≡ next_access self.now }
+        ensures allowed { IfSome result (IsAllowed self.now) }
+        ensures least { IfSome result (IsLeast self.now) }
+        ensures within { IfSome result (λ a. InLock self.now.procs (word_of a)) }
+        ensures own { IfSome result (StoresOwn self.now.index) }
+        ensures idle { is_none result ≡ is_idle self.now.place }
+    {
+        let _ = &self.stage;
+        self.access()
+    }
+
+    fn access(&self) -> Option<Access>
+        ensures next { result ≡ next_access self.now }
+        ensures idle { is_none result ≡ is_idle self.now.place }
+    {
+        let own = self.index;
+        match self.stage {
+            Stage::Rest | Stage::Dead | Stage::Inside => None,
+            Stage::ReadingChoosing { .. } => Some(Access::Load(Kind::Reread, Word::Choosing(own))),
+            Stage::ReadingNumber { .. } => Some(Access::Load(Kind::Reread, Word::Number(own))),
+            Stage::ReadingInside { .. } => Some(Access::Load(Kind::Reread, Word::Inside(own))),
+            Stage::Opening => Some(Access::Store(Kind::Open, Word::Choosing(own), 1)),
+            Stage::Door { next, greatest } => match self.first(next) {
+                Some(j) => Some(Access::Load(Kind::Peek, Word::Number(j))),
+                None if greatest < self.limit => {
+                    Some(Access::Store(Kind::Take, Word::Number(own), greatest + 1))
+                }
+                None => Some(Access::Store(Kind::Shut, Word::Choosing(own), 0)),
+            },
+            Stage::Shutting { .. } => Some(Access::Store(Kind::Shut, Word::Choosing(own), 0)),
+            Stage::Wait { next, looked, .. } => match self.first(next) {
+                Some(j) if looked => Some(Access::Load(Kind::Weigh, Word::Number(j))),
+                Some(j) => Some(Access::Load(Kind::Look, Word::Choosing(j))),
+                None => Some(Access::Store(Kind::Mark, Word::Inside(own), 1)),
+            },
+            Stage::Leaving | Stage::Withdrawing => {
+                Some(Access::Store(Kind::Drop, Word::Number(own), 0))
+            }
+            Stage::Unmarking { .. } => Some(Access::Store(Kind::Mark, Word::Inside(own), 0)),
+        }
+    }
+
+    /// Where the next step leads with the value that was read, and what it was.
+    fn after(&self, value: u64) -> (Stage, Progress)
+        ensures place { place_of self.now.procs self.now.index result.0 ≡ after_access self.now (next_access self.now) value }
+        ensures progress { result.1 ≡ progress self.now (next_access self.now) value }
+    {
+        let own = self.index;
+        match self.stage {
+            Stage::Rest | Stage::Dead | Stage::Inside => (self.stage, QUIET),
+            Stage::ReadingChoosing { call } => {
+                let choosing = value;
+                (Stage::ReadingNumber { call, choosing }, QUIET)
+            }
+            Stage::ReadingNumber { call, choosing } => (
+                Stage::ReadingInside {
+                    call,
+                    choosing,
+                    number: value,
+                },
+                QUIET,
+            ),
+            Stage::ReadingInside {
+                call,
+                choosing,
+                number,
+            } => restarted(own, call, choosing, number, value),
+            Stage::Opening => (Stage::DOORWAY, Progress::outer(Outer::Begin(own))),
+            Stage::Door { next, greatest } => self.after_door(next, greatest, value),
+            Stage::Shutting { call, number } => after_shut(call, number),
+            Stage::Wait {
+                number,
+                next,
+                looked,
+            } => self.after_wait(number, next, looked, value),
+            Stage::Leaving => {
+                let call = CoreCall::Unlock;
+                (
+                    Stage::Unmarking { call },
+                    Progress::outer(Outer::Leave(own)),
+                )
+            }
+            Stage::Withdrawing => self.quit(CoreDone::Withdrawn),
+            Stage::Unmarking { call } => after_unmark(call),
+        }
+    }
+
+    /// The place in the line is given up.
+    fn quit(&self, done: CoreDone) -> (Stage, Progress)
+        ensures { result ≡ (Stage.Rest, record { outer = Some (Outer.Quit self.now.index); done = Some done; blocked = false }) }
+    {
+        (Stage::Rest, Progress::ended(Outer::Quit(self.index), done))
+    }
+
+    fn after_door(&self, next: u64, greatest: u64, value: u64) -> (Stage, Progress)
+        ensures place { place_of self.now.procs self.now.index result.0 ≡ after_access (at_door self.now next greatest) (next_access (at_door self.now next greatest)) value }
+        ensures progress { result.1 ≡ progress (at_door self.now next greatest) (next_access (at_door self.now next greatest)) value }
+    {
+        match self.first(next) {
+            Some(j) => (
+                Stage::Door {
+                    next: j + 1,
+                    greatest: greatest.max(value),
+                },
+                QUIET,
+            ),
+            None if greatest < self.limit => (
+                Stage::Shutting {
+                    call: CoreCall::Lock,
+                    number: greatest + 1,
+                },
+                Progress::outer(Outer::Ready(self.index)),
+            ),
+            None => self.quit(CoreDone::Spent),
+        }
+    }
+
+    /// Whether a waiter with this number goes past process `j`, whose number was read.
+    fn passes(&self, number: u64, value: u64, j: u64) -> bool
+        ensures { result ≡ ((value == 0) || is_before number self.now.index value j) }
+    {
+        value == 0 || (number, self.index) < (value, j)
+    }
+
+    fn after_wait(&self, number: u64, next: u64, looked: bool, value: u64) -> (Stage, Progress)
+        ensures place { place_of self.now.procs self.now.index result.0 ≡ after_access (at_wait self.now number next looked) (next_access (at_wait self.now number next looked)) value }
+        ensures progress { result.1 ≡ progress (at_wait self.now number next looked) (next_access (at_wait self.now number next looked)) value }
+    {
+        match self.first(next) {
+            Some(j) if looked && self.passes(number, value, j) => (
+                Stage::Wait {
+                    number,
+                    next: j + 1,
+                    looked: false,
+                },
+                QUIET,
+            ),
+            Some(_) if looked || value != 0 => (
+                Stage::Wait {
+                    number,
+                    next,
+                    looked,
+                },
+                BLOCKED,
+            ),
+            Some(_) => (
+                Stage::Wait {
+                    number,
+                    next,
+                    looked: true,
+                },
+                QUIET,
+            ),
+            None => (
+                Stage::Inside,
+                Progress::ended(Outer::Enter(self.index), CoreDone::In),
+            ),
+        }
+    }
+
+    /// Takes the next step, with the value that it read. A step that stores ignores the value, and where there is no
+    /// step nothing changes.
+    pub fn feed(&mut self, value: u64) -> Progress
+        ensures place { self.new ≡ record self.old { place = after_access self.old (next_access self.old) value } }
+        ensures allowed { IfSome (next_access self.old) (IsAllowed self.old) }
+        ensures progress { result ≡ progress self.old (next_access self.old) value }
+    {
+        let (stage, progress) = self.after(value);
+        self.stage = stage;
+        progress
+    }
+
+    /// What the next step will be with this value. Nothing is taken yet.
+    pub fn outlook(&self, value: u64) -> Progress
+        ensures { result ≡ progress self.now (next_access self.now) value }
+    {
+        self.after(value).1
+    }
+
+    /// Why a call can't be started now, if it can't.
+    pub fn refusal(&self, call: CoreCall) -> Option<Refusal>
+        ensures { result ≡ start_refusal self.now.place call }
+    {
+        self.started(call).err()
+    }
+
+    /// The own number, where the place names it.
+    pub fn number(&self) -> Option<u64>
+        ensures { result ≡ own_number self.now.place }
+    {
+        match self.stage {
+            Stage::ReadingInside { number, .. }
+            | Stage::Shutting { number, .. }
+            | Stage::Wait { number, .. } => Some(number),
+            _ => None,
+        }
+    }
+
+    /// The call under way, where the place names it.
+    pub fn call(&self) -> Option<CoreCall>
+        ensures { result ≡ own_call self.now.place }
+    {
+        match self.stage {
+            Stage::ReadingChoosing { call }
+            | Stage::ReadingNumber { call, .. }
+            | Stage::ReadingInside { call, .. }
+            | Stage::Shutting { call, .. }
+            | Stage::Unmarking { call } => Some(call),
+            _ => None,
+        }
+    }
+
+    /// Starts a call, unless a call is under way or the process stands where the call makes no sense.
+    pub fn start(&mut self, call: CoreCall) -> Result<(), Refusal>
+        ensures ok { OnOk result (started self.old.place call ≡ Some self.new.place) }
+        ensures same { self.new ≡ record self.old { place = self.new.place } }
+        ensures accepted { OnOk result (start_refusal self.old.place call ≡ None) }
+        ensures refused { IfErr result (λ e. start_refusal self.old.place call ≡ Some e) }
+        ensures not_allowed { OnErr result (started self.old.place call ≡ None) }
+        ensures err { OnErr result (self.new ≡ self.old) }
+    {
+        self.stage = self.started(call)?;
+        Ok(())
+    }
+
+    fn started(&self, call: CoreCall) -> Result<Stage, Refusal>
+        ensures ok { IfOk result (λ stage. started self.now.place call ≡ Some (place_of self.now.procs self.now.index stage)) }
+        ensures accepted { OnOk result (start_refusal self.now.place call ≡ None) }
+        ensures refused { IfErr result (λ e. start_refusal self.now.place call ≡ Some e) }
+        ensures not_allowed { OnErr result (started self.now.place call ≡ None) }
+    {
+        match (call, self.stage) {
+            (CoreCall::Withdraw, Stage::Wait { .. }) => Ok(Stage::Withdrawing),
+            (CoreCall::Withdraw, _) => Err(Refusal::NotWaiting),
+            (CoreCall::Unlock, Stage::Inside) => Ok(Stage::Leaving),
+            (CoreCall::Unlock, Stage::Rest | Stage::Dead) => Err(Refusal::NotOwner),
+            (CoreCall::Lock | CoreCall::Recover, Stage::Rest | Stage::Dead) => {
+                Ok(Stage::ReadingChoosing { call })
+            }
+            (CoreCall::Lock | CoreCall::Recover, Stage::Inside) => Err(Refusal::AlreadyIn),
+            (_, _) => Err(Refusal::CallUnderWay),
+        }
+    }
+
+    /// Loses the private memory.
+    pub fn crash(&mut self)
+        ensures { self.new ≡ record self.old { place = Dead } }
+    {
+        self.stage = Stage::Dead;
+    }
+}

@@ -1,0 +1,60 @@
+//! What a step was.
+
+ghost use Rattle.std.specs.Prelude.{◌≡◌, Some, None, false};
+
+use crate::core_done::CoreDone;
+use crate::outer::Outer;
+
+/// What a step was for others and for its call.
+#[derive(Clone, Copy, Debug, PartialEq, Eq)]
+pub struct Progress {
+    pub outer: Option<Outer>,
+    pub done: Option<CoreDone>,
+    /// A look or a weigh after which the process stands where it stood.
+    pub blocked: bool,
+}
+
+pub(crate) const QUIET: Progress = Progress {
+    outer: None,
+    done: None,
+    blocked: false,
+};
+
+pub(crate) const BLOCKED: Progress = Progress {
+    outer: None,
+    done: None,
+    blocked: true,
+};
+
+impl Progress {
+    pub(crate) fn outer(outer: Outer) -> Progress
+        ensures { result ≡ record { outer = Some outer; done = None; blocked = false } }
+    {
+        Progress {
+            outer: Some(outer),
+            done: None,
+            blocked: false,
+        }
+    }
+
+    pub(crate) fn done(done: CoreDone) -> Progress
+        ensures { result ≡ record { outer = None; done = Some done; blocked = false } }
+    {
+        Progress {
+            outer: None,
+            done: Some(done),
+            blocked: false,
+        }
+    }
+
+    /// A deed with which the call is over.
+    pub(crate) fn ended(outer: Outer, done: CoreDone) -> Progress
+        ensures { result ≡ record { outer = Some outer; done = Some done; blocked = false } }
+    {
+        Progress {
+            outer: Some(outer),
+            done: Some(done),
+            blocked: false,
+        }
+    }
+}

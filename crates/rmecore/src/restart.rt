@@ -1,0 +1,110 @@
+//! The restart table: where a process goes once it has read its own words again.
+
+ghost use Rattle.std.specs.Prelude.{◌≡◌, Some, None, false, ℕ};
+ghost use Rattle.rmecore.specs.Place.{relocked, recovered, restart, shut, unmarked};
+ghost use Rattle.rmecore.specs.Machine.{place_of, found, again, reread_answer, shut_answer, unmark_answer};
+ghost use Rattle.rmecore.specs.World.{reentry};
+
+use crate::core_call::CoreCall;
+use crate::core_done::CoreDone;
+use crate::found::Found;
+use crate::outer::Outer;
+use crate::progress::{Progress, QUIET};
+use crate::stage::Stage;
+
+/// Where a call of process `own` goes on after its three rereads.
+pub fn restarted(
+    own: u64,
+    call: CoreCall,
+    choosing: u64,
+    number: u64,
+    inside: u64,
+) -> (Stage, Progress)
+    ensures place { (n : ℕ) → place_of n own result.0 ≡ restart n own call choosing number inside }
+    ensures progress { result.1 ≡ record { outer = reentry own choosing number inside; done = reread_answer call choosing number inside; blocked = false } }
+{
+    match call {
+        CoreCall::Lock => relocked(own, choosing, number, inside),
+        CoreCall::Recover | CoreCall::Unlock | CoreCall::Withdraw => {
+            recovered(own, choosing, number, inside)
+        }
+    }
+}
+
+/// A lock goes on to what is left to do.
+fn relocked(own: u64, choosing: u64, number: u64, inside: u64) -> (Stage, Progress)
+    ensures place { (n : ℕ) → place_of n own result.0 ≡ relocked n own choosing number inside }
+    ensures progress { result.1 ≡ record { outer = reentry own choosing number inside; done = again choosing number inside; blocked = false } }
+{
+    match (choosing, number, inside) {
+        (0, 0, 0) => (Stage::Opening, QUIET),
+        (0, 0, _) => {
+            let call = CoreCall::Lock;
+            (Stage::Unmarking { call }, QUIET)
+        }
+        (0, _, 0) => (Stage::waiting(number), QUIET),
+        (0, _, _) => (Stage::Inside, reentered(own, CoreDone::InAgain)),
+        (_, 0, _) => (Stage::DOORWAY, QUIET),
+        (_, _, _) => {
+            let call = CoreCall::Lock;
+            (Stage::Shutting { call, number }, QUIET)
+        }
+    }
+}
+
+/// A recovery goes no further than it must.
+fn recovered(own: u64, choosing: u64, number: u64, inside: u64) -> (Stage, Progress)
+    ensures place { (n : ℕ) → place_of n own result.0 ≡ recovered choosing number inside }
+    ensures progress { result.1 ≡ record { outer = reentry own choosing number inside; done = found choosing number inside; blocked = false } }
+{
+    match (choosing, number, inside) {
+        (0, 0, 0) => (Stage::Rest, Progress::done(CoreDone::Found(Found::Idle))),
+        (0, 0, _) => {
+            let call = CoreCall::Recover;
+            (Stage::Unmarking { call }, QUIET)
+        }
+        (0, _, 0) => (Stage::Rest, Progress::done(CoreDone::Found(Found::Waiting))),
+        (0, _, _) => (
+            Stage::Inside,
+            reentered(own, CoreDone::Found(Found::Inside)),
+        ),
+        (_, 0, _) => (Stage::Rest, Progress::done(CoreDone::Found(Found::Doorway))),
+        (_, _, _) => {
+            let call = CoreCall::Recover;
+            (Stage::Shutting { call, number }, QUIET)
+        }
+    }
+}
+
+fn reentered(own: u64, done: CoreDone) -> Progress
+    ensures { result ≡ record { outer = Some (Outer.Reenter own); done = Some done; blocked = false } }
+{
+    Progress::ended(Outer::Reenter(own), done)
+}
+
+/// Choosing is 0 again: a lock waits now, a recovery has found that it waited.
+pub fn after_shut(call: CoreCall, number: u64) -> (Stage, Progress)
+    ensures place { (n p : ℕ) → place_of n p result.0 ≡ shut n p call number }
+    ensures progress { result.1 ≡ record { outer = None; done = shut_answer call; blocked = false } }
+{
+    match call {
+        CoreCall::Lock => (Stage::waiting(number), QUIET),
+        CoreCall::Recover | CoreCall::Unlock | CoreCall::Withdraw => {
+            (Stage::Rest, Progress::done(CoreDone::Found(Found::Waiting)))
+        }
+    }
+}
+
+/// The mark is gone: a lock opens its doorway, and any other call is over.
+pub fn after_unmark(call: CoreCall) -> (Stage, Progress)
+    ensures place { (n p : ℕ) → place_of n p result.0 ≡ unmarked call }
+    ensures progress { result.1 ≡ record { outer = None; done = unmark_answer call; blocked = false } }
+{
+    match call {
+        CoreCall::Lock => (Stage::Opening, QUIET),
+        CoreCall::Unlock => (Stage::Rest, Progress::done(CoreDone::Out)),
+        CoreCall::Recover | CoreCall::Withdraw => {
+            (Stage::Rest, Progress::done(CoreDone::Found(Found::Left)))
+        }
+    }
+}

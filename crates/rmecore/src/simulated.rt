@@ -1,0 +1,287 @@
+//! The lock in simulation: all processes over words in memory, each step taken on request.
+
+ghost use Rattle.std.specs.Prelude.{◌≡◌, ◌<◌, ◌≤◌, ◌⊎◌, ◌↔◌, IfSome, IfOk, IfErr, OnOk, OnErr, IsErrOf, Ok, Err, Some, None, ℕ, length, vec_len, slice_index_or, slice_set, replicate};
+ghost use Rattle.rmecore.specs.Place.{Starts, Crashes, Rest};
+ghost use Rattle.rmecore.specs.Machine.{absent};
+ghost use Rattle.rmecore.specs.World.{at_rest, deed, IsReached};
+ghost use Rattle.rmecore.specs.Lawful.{IsLawful};
+ghost use Rattle.rmecore.specs.Machine.{answer, is_blocked};
+
+use crate::core_call::CoreCall;
+use crate::happened::Happened;
+use crate::memory::perform;
+use crate::outer::Outer;
+use crate::own::Own;
+use crate::process::LockProcess;
+use crate::refusal::Refusal;
+use crate::tally::Tally;
+use std::alloc::Global;
+use std::marker::Model;
+
+/// The greatest number of processes of one lock.
+pub const MOST_PROCS: u64 = 64;
+
+/// The greatest limit of numbers, 2^62: one more than a number is always a u64.
+pub const MOST_LIMIT: u64 = 4_611_686_018_427_387_904;
+
+const ZEROS: Own = Own {
+    choosing: 0,
+    number: 0,
+    inside: 0,
+};
+
+const UNSTARTED: Tally = Tally {
+    steps: 0,
+    blocked: 0,
+    began: ZEROS,
+};
+
+/// All processes, with the words that they share. A call is started, and then stepped until a step answers it; a crash
+/// may fall before any step. Processes are numbered from 0. No call after `new` takes memory.
+#[derive(Debug, Drop)]
+pub struct Core {
+    procs: u64,
+    limit: u64,
+    words: Vec<Own>,
+    processes: Vec<LockProcess>,
+    tallies: Vec<Tally>,
+}
+
+impl Model for Core {
+    ghost use Rattle.rmecore.specs.World.{IsReached};
+    ghost use Rattle.rmecore.specs.Simulated.{Simulated, IsSeated, own_at, place_at};
+    ghost use Rattle.rmecore.specs.Tallied.{AllTallied};
+
+    ghost Value = { Simulated };
+
+    ghost view = { λ c. record { procs = c.procs; limit = c.limit; words = c.words.items; processes = c.processes.items; tallies = c.tallies.items } };
+
+    ghost invariant = { λ c. record { seated : IsSeated c.procs c.limit c.words.items c.processes.items c.tallies.items; reached : IsReached c.procs c.limit (record { words = own_at c.words.items; places = place_at c.processes.items }); tallied : AllTallied c.procs (record { words = own_at c.words.items; places = place_at c.processes.items }) c.tallies.items } };
+}
+
+fn all_at_rest(alloc: Global, procs: u64, limit: u64) -> Result<Vec<LockProcess>, Refusal>
+    ensures length { IfOk result (λ processes. vec_len processes ≡ procs) }
+    ensures each { IfOk result (λ processes. (p : ℕ) → p < procs → slice_index_or processes.items p absent ≡ record { procs = procs; limit = limit; index = p; place = Rest }) }
+    ensures memory { IfErr result (λ e. e ≡ Refusal.OutOfMemory) }
+{
+    let mut processes = Vec::with_capacity(alloc, procs as usize)?;
+    for index in 0..procs {
+        processes.push(LockProcess::new(procs, limit, index))?;
+    }
+    Ok(processes)
+}
+
+impl Core {
+    ghost use Rattle.std.specs.Prelude.{◌+◌, false};
+    ghost use Rattle.rmecore.specs.OwnSteps.{most_steps};
+    ghost use Rattle.rmecore.specs.Paid.{is_glance};
+    ghost use Rattle.rmecore.specs.Refused.{is_idle};
+    ghost use Rattle.rmecore.specs.Tallied.{IsExact, HasTaken, IsTaking, IsRereading};
+    ghost use Rattle.rmecore.specs.Simulated.{world_of, own_at, place_at, tally_at, Takes, event_of, ChoosesLeast, refusal_at, step_refusal, counted, fresh, zeros, new_refusal, cause};
+
+    /// All words are 0, and all processes at rest. `limit` is the greatest number that a process may take.
+    ///
+    /// `BadProcs`: not 1 to 64 processes. `BadLimit`: not 1 to 2^62. `OutOfMemory`: a list of the processes was refused.
+    pub fn new(alloc: Global, procs: u64, limit: u64) -> Result<Core, Refusal>
+        ensures accepted { OnOk result (new_refusal procs limit ≡ None) }
+        ensures refused { IfErr result (λ e. new_refusal procs limit ≡ cause e) }
+        ensures sizes { IfOk result (λ core. (core.procs ≡ procs) × (core.limit ≡ limit)) }
+        ensures world { IfOk result (λ core. world_of core ≡ at_rest) }
+        ensures tallies { IfOk result (λ core. core.tallies ≡ replicate procs (fresh zeros)) }
+    {
+        if procs == 0 || procs > MOST_PROCS {
+            return Err(Refusal::BadProcs);
+        }
+        if limit == 0 || limit > MOST_LIMIT {
+            return Err(Refusal::BadLimit);
+        }
+        let words = vec![in alloc; ZEROS; procs as usize]?;
+        let tallies = vec![in alloc; UNSTARTED; procs as usize]?;
+        let processes = all_at_rest(alloc, procs, limit)?;
+        Ok(Core {
+            procs,
+            limit,
+            words,
+            processes,
+            tallies,
+        })
+    }
+
+    /// Starts a lock, from rest or after a crash. Its steps go on from what the process's words tell of its last call.
+    ///
+    /// `CallUnderWay`: another call has to be stepped to its end first. `AlreadyIn`: the process is inside.
+    pub fn start_lock(&mut self, p: u64) -> Result<(), Refusal>
+        ensures accepted { OnOk result (refusal_at self.old p CoreCall.Lock ≡ None) }
+        ensures refused { IfErr result (λ e. refusal_at self.old p CoreCall.Lock ≡ Some e) }
+        ensures start { OnOk result (Takes self.old (Starts p CoreCall.Lock) self.new) }
+        ensures tally { OnOk result (self.new.tallies ≡ slice_set self.old.tallies p (fresh (own_at self.old.words p))) }
+        ensures err { OnErr result (self.new ≡ self.old) }
+    {
+        self.start(p, CoreCall::Lock)
+    }
+
+    /// Starts a recovery: it finds out where the process stood, and goes no further than it must: it never scans.
+    ///
+    /// `CallUnderWay` and `AlreadyIn` as at a lock.
+    pub fn start_recover(&mut self, p: u64) -> Result<(), Refusal>
+        ensures accepted { OnOk result (refusal_at self.old p CoreCall.Recover ≡ None) }
+        ensures refused { IfErr result (λ e. refusal_at self.old p CoreCall.Recover ≡ Some e) }
+        ensures start { OnOk result (Takes self.old (Starts p CoreCall.Recover) self.new) }
+        ensures tally { OnOk result (self.new.tallies ≡ slice_set self.old.tallies p (fresh (own_at self.old.words p))) }
+        ensures err { OnErr result (self.new ≡ self.old) }
+    {
+        self.start(p, CoreCall::Recover)
+    }
+
+    /// Starts the exit of a process that is inside: the number is dropped first, which lets the next one in, then the mark.
+    ///
+    /// `NotOwner`: the process is not inside, or crashed there and has not entered again.
+    pub fn start_unlock(&mut self, p: u64) -> Result<(), Refusal>
+        ensures accepted { OnOk result (refusal_at self.old p CoreCall.Unlock ≡ None) }
+        ensures refused { IfErr result (λ e. refusal_at self.old p CoreCall.Unlock ≡ Some e) }
+        ensures start { OnOk result (Takes self.old (Starts p CoreCall.Unlock) self.new) }
+        ensures tally { OnOk result (self.new.tallies ≡ slice_set self.old.tallies p (fresh (own_at self.old.words p))) }
+        ensures err { OnErr result (self.new ≡ self.old) }
+    {
+        self.start(p, CoreCall::Unlock)
+    }
+
+    /// Gives up the lock that a process waits for, in its place: that lock is never answered.
+    ///
+    /// `NotWaiting`: no lock of the process is under way, or it is still in its doorway or before it.
+    pub fn start_withdraw(&mut self, p: u64) -> Result<(), Refusal>
+        ensures accepted { OnOk result (refusal_at self.old p CoreCall.Withdraw ≡ None) }
+        ensures refused { IfErr result (λ e. refusal_at self.old p CoreCall.Withdraw ≡ Some e) }
+        ensures start { OnOk result (Takes self.old (Starts p CoreCall.Withdraw) self.new) }
+        ensures tally { OnOk result (self.new.tallies ≡ slice_set self.old.tallies p (fresh (own_at self.old.words p))) }
+        ensures err { OnErr result (self.new ≡ self.old) }
+    {
+        self.start(p, CoreCall::Withdraw)
+    }
+
+    /// The words of a process.
+    pub fn words(&self, p: u64) -> Result<Own, Refusal>
+        ensures reached { IsReached self.now.procs self.now.limit (world_of self.now) }
+        ensures lawful { IsLawful self.now.procs self.now.limit (world_of self.now).words }
+        ensures ok { IfOk result (λ own. (p < self.now.procs) × (own ≡ (world_of self.now).words p)) }
+        ensures refused { IfErr result (λ e. (self.now.procs ≤ p) × (e ≡ Refusal.NoSuchProcess)) }
+    {
+        match self.words.get(p as usize) {
+            Some(own) => Ok(*own),
+            None => Err(Refusal::NoSuchProcess),
+        }
+    }
+
+    /// Takes the next step of a process: one load or one store of one word. A reading that is blocked is a step too, and
+    /// the next step reads the same word again.
+    ///
+    /// `NothingToDo`: no call of the process is under way.
+    pub fn step(&mut self, p: u64) -> Result<Happened, Refusal>
+        ensures accepted { OnOk result (step_refusal self.old p ≡ None) }
+        ensures refused { IfErr result (λ e. step_refusal self.old p ≡ Some e) }
+        ensures step { IfOk result (λ h. Takes self.old (event_of p h) self.new) }
+        ensures kind { IfOk result (λ h. is_glance h.kind ≡ false) }
+        ensures least { IfOk result (ChoosesLeast self.old p) }
+        ensures reached { OnOk result (IsReached self.new.procs self.new.limit (world_of self.new)) }
+        ensures outer { IfOk result (λ h. h.outer ≡ deed (place_at self.old.processes p) (event_of p h)) }
+        ensures done { IfOk result (λ h. h.done ≡ answer (place_at self.old.processes p) h.kind h.value) }
+        ensures tally { IfOk result (λ h. self.new.tallies ≡ slice_set self.old.tallies p (counted (tally_at self.old.tallies p) (is_blocked p (place_at self.old.processes p) h.kind h.value))) }
+        ensures taken { IfOk result (λ h. IfSome h.done (λ done. IsExact (tally_at self.new.tallies p) → HasTaken self.old.procs (tally_at self.new.tallies p) done)) }
+        ensures err { OnErr result (self.new ≡ self.old) }
+    {
+        if p >= self.procs {
+            return Err(Refusal::NoSuchProcess);
+        }
+        let process = &mut self.processes[p as usize];
+        let Some(access) = process.next() else {
+            return Err(Refusal::NothingToDo);
+        };
+        let value = perform(&mut self.words, access);
+        let progress = process.feed(value);
+        self.tallies[p as usize].count(progress.blocked);
+        Ok(Happened {
+            kind: access.kind(),
+            word: access.word(),
+            value,
+            outer: progress.outer,
+            done: progress.done,
+        })
+    }
+
+    fn start(&mut self, p: u64, call: CoreCall) -> Result<(), Refusal>
+        ensures accepted { OnOk result (refusal_at self.old p call ≡ None) }
+        ensures refused { IfErr result (λ e. refusal_at self.old p call ≡ Some e) }
+        ensures start { OnOk result (Takes self.old (Starts p call) self.new) }
+        ensures tally { OnOk result (self.new.tallies ≡ slice_set self.old.tallies p (fresh (own_at self.old.words p))) }
+        ensures err { OnErr result (self.new ≡ self.old) }
+    {
+        if p >= self.procs {
+            return Err(Refusal::NoSuchProcess);
+        }
+        let process = &mut self.processes[p as usize];
+        process.start(call)?;
+        self.tallies[p as usize] = Tally {
+            steps: 0,
+            blocked: 0,
+            began: self.words[p as usize],
+        };
+        Ok(())
+    }
+
+    /// A process loses its private memory, and with it a call that is under way. Any process may crash, also one that is
+    /// idle or dead; all words stay.
+    pub fn crash(&mut self, p: u64) -> Result<Outer, Refusal>
+        ensures refused { IfErr result (λ e. (self.old.procs ≤ p) × (e ≡ Refusal.NoSuchProcess)) }
+        ensures crash { OnOk result (Takes self.old (Crashes p) self.new) }
+        ensures outer { IfOk result (λ outer. deed (place_at self.old.processes p) (Crashes p) ≡ Some outer) }
+        ensures tallies { self.new.tallies ≡ self.old.tallies }
+        ensures err { OnErr result (self.new ≡ self.old) }
+    {
+        if p >= self.procs {
+            return Err(Refusal::NoSuchProcess);
+        }
+        self.processes[p as usize].crash();
+        Ok(Outer::Crash(p))
+    }
+
+    /// How many steps the last call of a process has taken, the blocked ones among them, held at the greatest u64. Before
+    /// any call it is 0; a withdraw is a call of its own.
+    pub fn steps(&self, p: u64) -> Result<u64, Refusal>
+        ensures ok { IfOk result (λ steps. (p < self.now.procs) × (steps ≡ (tally_at self.now.tallies p).steps)) }
+        ensures taking { IsExact (tally_at self.now.tallies p) → p < self.now.procs → IsTaking self.now.procs (tally_at self.now.tallies p) (place_at self.now.processes p) }
+        ensures most { IsExact (tally_at self.now.tallies p) → p < self.now.procs → is_idle (place_at self.now.processes p) ≡ false → (tally_at self.now.tallies p).steps < most_steps self.now.procs + (tally_at self.now.tallies p).blocked }
+        ensures refused { IfErr result (λ e. (self.now.procs ≤ p) × (e ≡ Refusal.NoSuchProcess)) }
+    {
+        Ok(self.tally(p)?.steps)
+    }
+
+    /// How many of these steps were looks and weighs that left the process where it stood, held at the greatest u64.
+    pub fn blocked(&self, p: u64) -> Result<u64, Refusal>
+        ensures ok { IfOk result (λ blocked. (p < self.now.procs) × (blocked ≡ (tally_at self.now.tallies p).blocked)) }
+        ensures refused { IfErr result (λ e. (self.now.procs ≤ p) × (e ≡ Refusal.NoSuchProcess)) }
+    {
+        Ok(self.tally(p)?.blocked)
+    }
+
+    /// The words of a process at the start of its last call. While it reads its own words again they still stand.
+    pub fn began(&self, p: u64) -> Result<Own, Refusal>
+        ensures ok { IfOk result (λ began. (p < self.now.procs) × (began ≡ (tally_at self.now.tallies p).began)) }
+        ensures rereading { p < self.now.procs → IsRereading (place_at self.now.processes p) → (tally_at self.now.tallies p).began ≡ own_at self.now.words p }
+        ensures refused { IfErr result (λ e. (self.now.procs ≤ p) × (e ≡ Refusal.NoSuchProcess)) }
+    {
+        Ok(self.tally(p)?.began)
+    }
+
+    fn tally(&self, p: u64) -> Result<Tally, Refusal>
+        ensures ok { IfOk result (λ tally. (p < self.now.procs) × (tally ≡ tally_at self.now.tallies p)) }
+        ensures taking { IsExact (tally_at self.now.tallies p) → p < self.now.procs → IsTaking self.now.procs (tally_at self.now.tallies p) (place_at self.now.processes p) }
+        ensures most { IsExact (tally_at self.now.tallies p) → p < self.now.procs → is_idle (place_at self.now.processes p) ≡ false → (tally_at self.now.tallies p).steps < most_steps self.now.procs + (tally_at self.now.tallies p).blocked }
+        ensures rereading { p < self.now.procs → IsRereading (place_at self.now.processes p) → (tally_at self.now.tallies p).began ≡ own_at self.now.words p }
+        ensures refused { IfErr result (λ e. (self.now.procs ≤ p) × (e ≡ Refusal.NoSuchProcess)) }
+    {
+        match self.tallies.get(p as usize) {
+            Some(tally) => Ok(*tally),
+            None => Err(Refusal::NoSuchProcess),
+        }
+    }
+}

@@ -1,0 +1,10 @@
+//! The shared words.
+
+/// A shared word: a lock word of a process, or a data word by its index.
+#[derive(Clone, Copy, Debug, PartialEq, Eq)]
+pub enum Word {
+    Choosing(u64),
+    Number(u64),
+    Inside(u64),
+    Data(u64),
+}

@@ -1,0 +1,64 @@
+-- A run of a safe script keeps the mailbox, and entries below count stand.
+use Rattle.std.specs.Prelude.{ℕ, zero, suc, List, refl}
+use Rattle.std.proofs.Common.{subst, sym}
+use Rattle.redomail.specs.declared.deed.Deed.{Deed}
+use Rattle.redomail.specs.declared.message.Message.{Message}
+use Rattle.redomail.specs.Mailbox.{Mailbox}
+use Rattle.redomail.specs.Leads.{MailLeads}
+use Rattle.redomail.specs.declared.reply.Reply.{Reply}
+use Rattle.redomail.specs.declared.layout.Layout.{Layout}
+use Rattle.redomail.specs.declared.task.Task.{Task}
+use Rattle.redomail.specs.Layout.{Words}
+use Rattle.redomail.specs.Script.{Script, Get, Put, Done, tail}
+use Rattle.redomail.specs.Tasks.{script}
+use Rattle.redomail.specs.Deeds.{deeds_of_put}
+use Rattle.redomail.specs.Safe.{Safe}
+use Rattle.redomail.proofs.Leading.{leads_on}
+use Rattle.redomail.specs.Laws.{StepsStaySafe, EntriesStand}
+use Rattle.redomail.specs.Runs.{StepKept, Run, stepped_to, ran, start, MayBegin, added_by, Kept}
+use Rattle.redomail.proofs.Stands.{shown_entries_stand}
+use Rattle.redomail.proofs.Safe.{seen}
+use Rattle.redomail.proofs.Begins.{begun_safe}
+
+module _ (l : Layout) (p : ℕ) (m : Message) (s0 : Mailbox) where
+  -- after some steps: the deeds so far are allowed, and what is left is safe
+  abbrev pub Stood : Run Reply → Type 0
+  Stood x = (s : Mailbox) × MailLeads l.cap s0 x.deeds s × Safe l p m s0 x.left x.words s
+
+  step_on : (e : Script Reply) (w : Words) (ds : List Deed) (s : Mailbox) → MailLeads l.cap s0 ds s → Safe l p m s0 e w s → Stood (stepped_to l p e w ds)
+  step_on (Get i next) w ds s e h = (s, e, h.1)
+  step_on (Put i v rest) w ds s e h =
+      let g = h.2 in (g.0, leads_on l.cap s0 s g.0 ds (deeds_of_put l p w i v) e g.1, g.2)
+  step_on (Done a) w ds s e h = (s, e, h)
+
+  pub Stood-ran : (k : ℕ) (x : Run Reply) → Stood x → Stood (ran l p k x)
+  Stood-ran zero x h = h
+  Stood-ran (suc k) x h =
+      let g = Stood-ran k x h in let y = ran l p k x in step_on y.left y.words y.deeds g.0 g.1 g.2
+
+  pub Kept-from_stood : (x : Run Reply) → Stood x → Kept l p m s0 x
+  Kept-from_stood x h =
+      let a = seen l p m s0 x.left x.words h.0 h.2 in
+      record { state = h.0; legal = h.1; shape = a.0; shown = a.1 }
+
+pub steps_stay_safe : StepsStaySafe
+steps_stay_safe l p m old (Get i next) w now h = (now, refl, h.1)
+steps_stay_safe l p m old (Put i v rest) w now h = h.2
+steps_stay_safe l p m old (Done a) w now h = (now, refl, h)
+
+pub step_kept : (e : Script Reply) (x : ℕ) → StepKept e x (tail e x)
+step_kept (Get i next) x l p m old w now h e = (now, refl, subst (λ y. Safe l p m old (next y) w now) (sym e) h.1)
+step_kept (Put i v rest) x l p m old w now h e = h.2
+step_kept (Done a) x l p m old w now h e = (now, refl, h)
+
+pub stood : (l : Layout) (p : ℕ) (t : Task) (w : Words) (s : Mailbox) (k : ℕ) → MayBegin l p t w s → Stood l p (added_by l t p w) s (ran l p k (start (script l p t) w))
+stood l p t w s k may = Stood-ran l p (added_by l t p w) s k (start (script l p t) w) (s, refl, begun_safe l p t w s may)
+
+pub tasks_keep : (l : Layout) (p : ℕ) (t : Task) (w : Words) (s : Mailbox) (k : ℕ) → MayBegin l p t w s → Kept l p (added_by l t p w) s (ran l p k (start (script l p t) w))
+tasks_keep l p t w s k may = Kept-from_stood l p (added_by l t p w) s _ (stood l p t w s k may)
+
+pub entries_stand : EntriesStand
+entries_stand l p t w s k may =
+    let kept = tasks_keep l p t w s k may in
+    shown_entries_stand l p p w (ran l p k (start (script l p t) w)).words s kept.state
+    (ran l p k (start (script l p t) w)).deeds may.shape kept.legal kept.shape

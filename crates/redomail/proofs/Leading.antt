@@ -1,0 +1,17 @@
+-- Deeds of the mailbox one after another.
+use Rattle.std.specs.Prelude.{◌≡◌, ℕ, true, List, [], ◌∷◌, ◌++◌, refl}
+use Rattle.std.proofs.Common.{sym, subst}
+use Rattle.rmecore.specs.Needs.{AllHold}
+use Rattle.redomail.specs.declared.deed.Deed.{Deed}
+use Rattle.redomail.specs.Mailbox.{Mailbox, row, done}
+use Rattle.redomail.specs.Leads.{MailLeads}
+
+pub no_deed : (cap : ℕ) (s : Mailbox) (ds : List Deed) → ds ≡ [] → MailLeads cap s ds s
+no_deed cap s ds e = subst (λ xs. MailLeads cap s xs s) (sym e) refl
+
+pub one_deed : (cap : ℕ) (s : Mailbox) (ds : List Deed) (d : Deed) → ds ≡ d ∷ [] → AllHold (row cap true s d) → MailLeads cap s ds (done s d)
+one_deed cap s ds d e holds = subst (λ xs. MailLeads cap s xs (done s d)) (sym e) (holds, refl)
+
+pub leads_on : (cap : ℕ) (s t u : Mailbox) (ds es : List Deed) → MailLeads cap s ds t → MailLeads cap t es u → MailLeads cap s (ds ++ es) u
+leads_on cap s t u [] es first then = subst (λ x. MailLeads cap x es u) (sym first) then
+leads_on cap s t u (d ∷ ds) es first then = (first.0, leads_on cap (done s d) t u ds es first.1 then)

@@ -1,0 +1,178 @@
+-- A script over a list of words: where a run of its steps has come.
+use Rattle.std.specs.Prelude.{◌≡◌, ◌≢◌, ℕ, zero, suc, ◌<◌, List, length, slice_index, slice_set, refl}
+use Rattle.std.proofs.Common.{sym, ◌∙◌, ap, subst, inl, inr, arith, get_or-set_same, get_or-set_other}
+use Rattle.std.proofs.Math.ListN.{length-set}
+use Rattle.std.proofs.lemmas.Bool.{cases_eq}
+use Rattle.redomail.specs.declared.message.Message.{Message}
+use Rattle.redomail.specs.Mailbox.{Mailbox}
+use Rattle.rmecore.specs.Needs.{put}
+use Rattle.redomail.specs.declared.layout.Layout.{Layout}
+use Rattle.redomail.specs.declared.next.Next.TheVariants as want
+use Rattle.redomail.specs.declared.task.Task.{Task}
+use Rattle.redomail.specs.declared.reply.Reply.{Reply}
+use Rattle.redomail.specs.Layout.{Words, words_of, size}
+use Rattle.redomail.specs.Script.{Script, Get, Put, Done, head, tail}
+use Rattle.redomail.specs.Tasks.{script}
+use Rattle.redomail.specs.Shape.{Shape}
+use Rattle.redomail.specs.declared.deed.Deed.{Deed}
+use Rattle.redomail.specs.Runs.{stepped_to, Run, ran, start, added_by}
+use Rattle.redomail.specs.Cells.{step_over, steps_over, outcome, steps_left, IsOnWay, Ready, TaskKept, TaskAnswered}
+use Rattle.redomail.proofs.Words.{put-other, put-same}
+use Rattle.redomail.specs.Safe.{Safe}
+use Rattle.redomail.proofs.Keeps.{tasks_keep, stood}
+
+-- Some steps lead to what is left and these words, and from there to the same outcome.
+pub record IsReached (e : Script Reply) (xs : List ℕ) (f : Script Reply) (ys : List ℕ) : Type 0 where
+  pub count : ℕ
+  pub left_is : (steps_over count e xs).0 ≡ f
+  pub words_is : (steps_over count e xs).1 ≡ ys
+  pub same : outcome f ys ≡ outcome e xs
+
+pub reached_start : (e : Script Reply) (xs : List ℕ) → IsReached e xs e xs
+reached_start e xs = record { count = 0; left_is = refl; words_is = refl; same = refl }
+
+outcome-step : (f : Script Reply) (ys : List ℕ) → outcome (step_over f ys).0 (step_over f ys).1 ≡ outcome f ys
+outcome-step (Get i next) ys = refl
+outcome-step (Put i v rest) ys = refl
+outcome-step (Done a) ys = refl
+
+reached_step : (e : Script Reply) (xs : List ℕ) (f : Script Reply) (ys : List ℕ) → IsReached e xs f ys → IsReached e xs (step_over f ys).0 (step_over f ys).1
+reached_step e xs f ys h = record {
+  count = suc h.count;
+  left_is = rw (h.left_is, h.words_is) refl;
+  words_is = rw (h.left_is, h.words_is) refl;
+  same = outcome-step f ys ∙ h.same;
+}
+
+-- what a script wants shows what it is
+step_of_get : (f : Script Reply) (ys : List ℕ) (i : ℕ) → want.Get i ≡ head f → step_over f ys ≡ (tail f (slice_index ys i), ys)
+step_of_get (Get j next) ys i e =
+    let same : i ≡ j = cc in rw same refl
+step_of_get (Put j v rest) ys i e = cc
+step_of_get (Done a) ys i e = cc
+
+step_of_put : (f : Script Reply) (ys : List ℕ) (i v : ℕ) → want.Put i v ≡ head f → step_over f ys ≡ (tail f 0, slice_set ys i v)
+step_of_put (Get j next) ys i v e = cc
+step_of_put (Put j u rest) ys i v e =
+    let same : i ≡ j = cc in
+    let value : v ≡ u = cc in
+    rw (same, value) refl
+step_of_put (Done a) ys i v e = cc
+
+pub is_done : (f : Script Reply) (a : Reply) → want.Done a ≡ head f → f ≡ Done a
+is_done (Get j next) a e = cc
+is_done (Put j u rest) a e = cc
+is_done (Done b) a e =
+    let same : a ≡ b = cc in rw same refl
+
+left_falls : (f : Script Reply) (ys : List ℕ) → ((a : Reply) → head f ≡ want.Done a → ⊥) → steps_left (step_over f ys).0 (step_over f ys).1 < steps_left f ys
+left_falls (Get j next) ys n = omega arith
+left_falls (Put j u rest) ys n = omega arith
+left_falls (Done a) ys n = absurd (n a refl)
+
+-- one more step, with the equations that a loop over the words has
+pub reached_got : (e : Script Reply) (xs : List ℕ) (f : Script Reply) (ys : List ℕ) (i word : ℕ) (f2 : Script Reply) (ys2 : List ℕ) → want.Get i ≡ head f → word ≡ slice_index ys i → f2 ≡ tail f word → ys2 ≡ ys
+    → IsReached e xs f ys → IsReached e xs f2 ys2
+reached_got e xs f ys i word f2 ys2 en ew ef ey h =
+    let s : step_over f ys ≡ (tail f (slice_index ys i), ys) = step_of_get f ys i en in
+    let a : (step_over f ys).0 ≡ f2 = ap (λ z. z.0) s ∙ sym (ef ∙ ap (tail f) ew) in
+    let b : (step_over f ys).1 ≡ ys2 = ap (λ z. z.1) s ∙ sym ey in
+    rw (← a, ← b) (reached_step e xs f ys h)
+
+pub reached_put : (e : Script Reply) (xs : List ℕ) (f : Script Reply) (ys : List ℕ) (i v : ℕ) (f2 : Script Reply) (ys2 : List ℕ) → want.Put i v ≡ head f → f2 ≡ tail f 0 → ys2 ≡ slice_set ys i v
+    → IsReached e xs f ys → IsReached e xs f2 ys2
+reached_put e xs f ys i v f2 ys2 en ef ey h =
+    let s : step_over f ys ≡ (tail f 0, slice_set ys i v) = step_of_put f ys i v en in
+    let a : (step_over f ys).0 ≡ f2 = ap (λ z. z.0) s ∙ sym ef in
+    let b : (step_over f ys).1 ≡ ys2 = ap (λ z. z.1) s ∙ sym ey in
+    rw (← a, ← b) (reached_step e xs f ys h)
+
+pub falls_got : (f : Script Reply) (ys : List ℕ) (i word : ℕ) (f2 : Script Reply) (ys2 : List ℕ) → want.Get i ≡ head f → word ≡ slice_index ys i → f2 ≡ tail f word → ys2 ≡ ys → steps_left f2 ys2 < steps_left f ys
+falls_got f ys i word f2 ys2 en ew ef ey =
+    let s : step_over f ys ≡ (tail f (slice_index ys i), ys) = step_of_get f ys i en in
+    let a : (step_over f ys).0 ≡ f2 = ap (λ z. z.0) s ∙ sym (ef ∙ ap (tail f) ew) in
+    let b : (step_over f ys).1 ≡ ys2 = ap (λ z. z.1) s ∙ sym ey in
+    rw (← a, ← b) (left_falls f ys (λ c h. let bad : want.Get i ≡ want.Done c = en ∙ h in cc))
+
+pub falls_put : (f : Script Reply) (ys : List ℕ) (i v : ℕ) (f2 : Script Reply) (ys2 : List ℕ) → want.Put i v ≡ head f → f2 ≡ tail f 0 → ys2 ≡ slice_set ys i v → steps_left f2 ys2 < steps_left f ys
+falls_put f ys i v f2 ys2 en ef ey =
+    let s : step_over f ys ≡ (tail f 0, slice_set ys i v) = step_of_put f ys i v en in
+    let a : (step_over f ys).0 ≡ f2 = ap (λ z. z.0) s ∙ sym ef in
+    let b : (step_over f ys).1 ≡ ys2 = ap (λ z. z.1) s ∙ sym ey in
+    rw (← a, ← b) (left_falls f ys (λ c h. let bad : want.Put i v ≡ want.Done c = en ∙ h in cc))
+
+words_of-set : (xs : List ℕ) (i v : ℕ) → i < length xs → put (words_of xs) i v ≡ words_of (slice_set xs i v)
+words_of-set xs i v l = λ t j. each j t
+  where
+    each : (j : ℕ) → put (words_of xs) i v j ≡ words_of (slice_set xs i v) j
+    each j = elim (cases_eq j i) [
+      | inl e ↦ put-same (words_of xs) i v j e ∙ (rw (e, get_or-set_same) refl)
+      | inr ne ↦ put-other (words_of xs) i v j ne ∙ (let d : j ≢ i = ne in rw get_or-set_other refl)
+    ]
+
+-- the run over the list is the run over the words
+record Agrees (l : Layout) (x : Run Reply) (f : Script Reply) (ys : List ℕ) : Type 0 where
+  pub left_is : x.left ≡ f
+  pub words_is : x.words ≡ words_of ys
+  pub size_is : length ys ≡ size l
+
+agrees_by : (l : Layout) (p : ℕ) (m : Message) (s0 : Mailbox) (e : Script Reply) (ys : List ℕ) (ds : List Deed) (s : Mailbox) → Safe l p m s0 e (words_of ys) s → length ys ≡ size l
+    → Agrees l (stepped_to l p e (words_of ys) ds) (step_over e ys).0 (step_over e ys).1
+agrees_by l p m s0 (Get i next) ys ds s h n = record { left_is = refl; words_is = refl; size_is = n }
+agrees_by l p m s0 (Put i v rest) ys ds s h n =
+    let low : i < size l = h.1 in
+    record { left_is = refl; words_is = words_of-set ys i v (omega arith); size_is = length-set ys i v ∙ n }
+agrees_by l p m s0 (Done a) ys ds s h n = record { left_is = refl; words_is = refl; size_is = n }
+
+agrees_step : (l : Layout) (p : ℕ) (m : Message) (s0 : Mailbox) (e : Script Reply) (w : Words) (ds : List Deed) (f : Script Reply) (ys : List ℕ) (s : Mailbox) → Safe l p m s0 e w s → e ≡ f → w ≡ words_of ys → length ys ≡ size l
+    → Agrees l (stepped_to l p e w ds) (step_over f ys).0 (step_over f ys).1
+agrees_step l p m s0 e w ds f ys s safe ef ew n =
+    let here : Safe l p m s0 f (words_of ys) s = subst (λ z. Safe l p m s0 z (words_of ys) s) ef (subst (λ u. Safe l p m s0 e u s) ew safe) in
+    let P : Script Reply → Type 0 = λ z. Agrees l (stepped_to l p z w ds) (step_over f ys).0 (step_over f ys).1 in
+    let Q : Words → Type 0 = λ u. Agrees l (stepped_to l p f u ds) (step_over f ys).0 (step_over f ys).1 in
+    subst P (sym ef) (subst Q (sym ew) (agrees_by l p m s0 f ys ds s here n))
+
+agrees : (l : Layout) (p : ℕ) (e : Script Reply) (xs : List ℕ) (t : Task) (s : Mailbox) (k : ℕ) → Ready l p e xs t s → Agrees l (ran l p k (start (script l p t) (words_of xs))) (steps_over k e xs).0 (steps_over k e xs).1
+agrees l p e xs t s zero h = record { left_is = sym h.begins; words_is = refl; size_is = h.size }
+agrees l p e xs t s (suc k) h =
+    let a = agrees l p e xs t s k h in
+    let x : Run Reply = ran l p k (start (script l p t) (words_of xs)) in
+    let g = stood l p t (words_of xs) s k h.may in
+    agrees_step l p (added_by l t p (words_of xs)) s x.left x.words x.deeds (steps_over k e xs).0 (steps_over k e xs).1 g.0 g.2 a.left_is a.words_is a.size_is
+
+pub on_way : (e : Script Reply) (xs : List ℕ) (f : Script Reply) (ys zs : List ℕ) → zs ≡ ys → IsReached e xs f ys → IsOnWay e xs zs
+on_way e xs f ys zs same h = (h.count, same ∙ sym h.words_is)
+
+pub kept_on_way : (e : Script Reply) (xs ys : List ℕ) → IsOnWay e xs ys → TaskKept e xs ys
+kept_on_way e xs ys way l p t s h =
+    let k : ℕ = way.0 in
+    let a = agrees l p e xs t s k h in
+    let same = way.1 in
+    let kept = tasks_keep l p t (words_of xs) s k h.may in
+    record {
+      state = kept.state;
+      deeds = (ran l p k (start (script l p t) (words_of xs))).deeds;
+      legal = kept.legal;
+      size = ap length same ∙ a.size_is;
+      shape = subst (λ w. Shape l p w kept.state) (a.words_is ∙ ap words_of (sym same)) kept.shape;
+      shown = kept.shown;
+    }
+
+pub answered_at : (e : Script Reply) (xs : List ℕ) (f : Script Reply) (ys : List ℕ) (reply : Reply) → f ≡ Done reply → IsReached e xs f ys → TaskAnswered e xs reply ys
+answered_at e xs f ys reply ended r l p t s h =
+    let k : ℕ = r.count in
+    let a = agrees l p e xs t s k h in
+    let m = added_by l t p (words_of xs) in
+    let g = stood l p t (words_of xs) s k h.may in
+    let x : Run Reply = ran l p k (start (script l p t) (words_of xs)) in
+    let left : x.left ≡ Done reply = a.left_is ∙ (r.left_is ∙ ended) in
+    let words : x.words ≡ words_of ys = a.words_is ∙ ap words_of r.words_is in
+    let safe : Safe l p m s (Done reply) (words_of ys) g.0 = subst (λ z. Safe l p m s z (words_of ys) g.0) left (subst (λ u. Safe l p m s x.left u g.0) words g.2) in
+    record {
+      state = g.0;
+      deeds = x.deeds;
+      legal = g.1;
+      shape = safe.0.0;
+      disarmed = safe.2;
+      tells = safe.1;
+    }

@@ -1,0 +1,13 @@
+-- Whose deeds a put's are.
+use Rattle.std.specs.Prelude.{◌&&◌, ◌==◌, refl}
+use Rattle.std.proofs.lemmas.Bool.{cond_both}
+use Rattle.redomail.specs.Leads.{AreOwn}
+use Rattle.redomail.specs.Laws.{PutsAreOwn}
+
+pub puts_are_own : PutsAreOwn
+puts_are_own l p w i v =
+    cond_both (w i == v) _ _ (AreOwn p) (λ _. tt) (λ _.
+    cond_both ((i == 3) && (v == 1)) _ _ (AreOwn p) (λ _. (refl, tt)) (λ _.
+    cond_both (i == 2) _ _ (AreOwn p) (λ _. (refl, tt)) (λ _.
+    cond_both ((i == 1) && (v == 1)) _ _ (AreOwn p) (λ _. (refl, tt)) (λ _.
+    cond_both ((i == 0) && (v == 1)) _ _ (AreOwn p) (λ _. (refl, tt)) (λ _. tt)))))

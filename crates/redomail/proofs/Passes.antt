@@ -1,0 +1,38 @@
+-- The shape passes from one process inside to the next, where one may leave.
+use Rattle.std.specs.Prelude.{Bool, true, false, ◌||◌, None, is_none}
+use Rattle.std.proofs.Common.{◌≡◌, ℕ, refl, sym, ◌∙◌, inl, inr, arith}
+use Rattle.std.proofs.lemmas.Bool.{cases_Bool, true≢false}
+use Rattle.redomail.specs.declared.layout.Layout.{Layout}
+use Rattle.redomail.specs.Layout.{Words}
+use Rattle.redomail.specs.Shape.{pending_in}
+use Rattle.redomail.specs.Laws.{MayLeave, ShapePassesOn}
+
+at_rest : (l : Layout) (p q : ℕ) (w : Words) → w 3 ≡ 0 → pending_in l p w ≡ pending_in l q w
+at_rest l p q w off = rw off refl
+
+pub shape_passes_on : ShapePassesOn
+shape_passes_on l p q w s free h = record {
+  ruined = h.ruined;
+  closed = h.closed;
+  armed = h.armed;
+  apart = h.apart;
+  room = h.room;
+  shown = h.shown;
+  listed = h.listed;
+  record_rule = λ on. let r = h.record_rule on in (r.0, r.1, r.2, λ sound. elim free [ inl off ↦ absurd (omega arith) | inr gone ↦ absurd (true≢false (sym gone ∙ sound)) ]);
+  pending = λ sound. elim free [ inl off ↦ h.pending sound ∙ at_rest l p q w off | inr gone ↦ absurd (true≢false (sym gone ∙ sound)) ];
+}
+
+or_true : (b : Bool) → (b || true) ≡ true
+or_true true = refl
+or_true false = refl
+
+pub may_leave : MayLeave
+may_leave l p q cap w s free h =
+    elim free [
+      | inl off ↦ (elim (cases_Bool s.ruined) [
+        | inl gone ↦ (rw gone (or_true (is_none s.pending)), tt)
+        | inr sound ↦ (let none : s.pending ≡ None = h.pending sound ∙ (rw off refl) in rw none refl, tt)
+      ])
+      | inr gone ↦ (rw gone (or_true (is_none s.pending)), tt)
+    ]

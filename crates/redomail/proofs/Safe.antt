@@ -1,0 +1,59 @@
+-- Scripts that are safe, put by put.
+use Rattle.std.specs.Prelude.{◌≡◌, ℕ, ◌+◌, ◌<◌, ◌≤◌, List, [], ◌∷◌, ◌++◌, length, refl}
+use Rattle.std.proofs.Common.{sym, ◌∙◌, subst, arith}
+use Rattle.redomail.specs.declared.message.Message.{Message}
+use Rattle.redomail.specs.Mailbox.{Mailbox}
+use Rattle.rmecore.specs.Needs.{put}
+use Rattle.redomail.specs.declared.reply.Reply.{Reply}
+use Rattle.redomail.specs.declared.layout.Layout.{Layout}
+use Rattle.redomail.specs.Layout.{Words, row, held, size, IsLayout}
+use Rattle.redomail.specs.Script.{Script, Get, Put, Done, puts, in_row}
+use Rattle.redomail.specs.Safe.{Seen, Safe}
+use Rattle.redomail.proofs.Leading.{no_deed}
+use Rattle.redomail.proofs.Scripts.{held-small}
+use Rattle.redomail.proofs.Words.{put-other, put-same, put-nothing, place_small, deeds_of_put-none}
+
+size_small : (l : Layout) → IsLayout l → size l ≤ 900000
+size_small l h = place_small l l.cap h h.small
+
+module _ (l : Layout) (p : ℕ) (m : Message) (s0 : Mailbox) where
+  pub seen : (e : Script Reply) (w : Words) (s : Mailbox) → Safe l p m s0 e w s → Seen l p m s0 w s
+  seen (Get i next) w s h = h.0
+  seen (Put i v rest) w s h = h.0
+  seen (Done a) w s h = h.0
+
+  -- a put that is no deed
+  pub quiet : (i v : ℕ) (e : Script Reply) (w : Words) (s : Mailbox) → 3 < i → i < size l → Seen l p m s0 w s → Safe l p m s0 e (put w i v) s → Safe l p m s0 (Put i v e) w s
+  quiet i v e w s low high look h = (look, high, (s, no_deed l.cap s _ (deeds_of_put-none l p w i v low), h))
+
+  -- a row that stands already
+  pub same_row : (i : ℕ) (vs : List ℕ) (ys : List (ℕ × ℕ)) (e : Script Reply) (w : Words) (s : Mailbox) → IsLayout l → 3 < i → i + length vs ≤ size l
+      → row w i (length vs) ≡ vs → Safe l p m s0 (puts ys e) w s → Safe l p m s0 (puts (in_row i vs ++ ys) e) w s
+  same_row i [] ys e w s layout low high stands h = h
+  same_row i (v ∷ vs) ys e w s layout low high stands h =
+      let small = size_small l layout in
+      let same : held i ≡ i = held-small i (omega arith) in
+      let here : w i ≡ v = cc in
+      let next : row w (i + 1) (length vs) ≡ vs = cc in
+      let rest = same_row (i + 1) vs ys e w s layout (omega arith) (omega arith) next h in
+      let P : ℕ → Type 0 = λ j. Safe l p m s0 (Put j v (puts (in_row (i + 1) vs ++ ys) e)) w s in
+      subst P (sym same) (quiet i v _ w s low (omega arith) (seen _ w s rest)
+      (subst (λ x. Safe l p m s0 (puts (in_row (i + 1) vs ++ ys) e) x s) (sym (put-nothing w i v here)) rest))
+
+  -- a row of puts that keep what is known
+  pub row_of : (Known : Words → Type 0) (low high : ℕ) (s : Mailbox) → IsLayout l → 3 < low → high ≤ size l
+      → ((w : Words) → Known w → Seen l p m s0 w s) → ((w : Words) (i v : ℕ) → low ≤ i → i < high → Known w → Known (put w i v))
+      → (i : ℕ) (vs : List ℕ) (ys : List (ℕ × ℕ)) (e : Script Reply) (w : Words) → low ≤ i → i + length vs ≤ high → Known w
+      → ((v : Words) → Known v → row v i (length vs) ≡ vs → ((j : ℕ) → j < i → v j ≡ w j) → Safe l p m s0 (puts ys e) v s)
+      → Safe l p m s0 (puts (in_row i vs ++ ys) e) w s
+  row_of Known low high s layout above below look keep i [] ys e w a b known go = go w known refl (λ j _. refl)
+  row_of Known low high s layout above below look keep i (x ∷ vs) ys e w a b known go =
+      let small = size_small l layout in
+      let same : held i ≡ i = held-small i (omega arith) in
+      let rest = row_of Known low high s layout above below look keep (i + 1) vs ys e (put w i x) (omega arith) (omega arith)
+      (keep w i x a (omega arith) known)
+      (λ v kv stands alike.
+      let here : v i ≡ x = alike i (omega arith) ∙ put-same w i x i refl in
+      go v kv (rw (here, stands) refl) (λ j lt. alike j (omega arith) ∙ put-other w i x j (λ q. omega arith))) in
+      let P : ℕ → Type 0 = λ j. Safe l p m s0 (Put j x (puts (in_row (i + 1) vs ++ ys) e)) w s in
+      subst P (sym same) (quiet i x _ w s (omega arith) (omega arith) (look w known) rest)

@@ -1,0 +1,14 @@
+use Rattle.std.proofs.Common.{◌≡◌}
+use Rattle.redomail.specs.Cells.{steps_left}
+use Rattle.redomail.specs.Left.{left}
+use Rattle.redomail.proofs.OnWay.{IsReached}
+use Rattle.redomail.proofs.cells.run_task.Given as goal
+
+abbrev pub invariant-loop-i : goal.invariant-loop-i
+invariant-loop-i g l = record {
+  reached : IsReached (left l.initial.job) (g.C.Cells.words l.initial.cells) (left l.job) (g.C.Cells.words l.cells);
+  calm : g.C.Cells.stops l.cells ≡ g.C.Cells.stops l.initial.cells;
+}
+
+abbrev pub decreases-loop-i : goal.decreases-loop-i
+decreases-loop-i g l = steps_left (left l.job) (g.C.Cells.words l.cells)

@@ -1,0 +1,7 @@
+use Rattle.std.proofs.Common.{◌≡◌}
+use Rattle.redomail.specs.Layout.{words_of}
+use Rattle.redomail.specs.Shape.{entries}
+use Rattle.redomail.proofs.contents.shown.Given as goal
+
+abbrev pub invariant-loop-a : goal.invariant-loop-a
+invariant-loop-a g l = l.messages.items ≡ entries l.layout (words_of l.words) l.a

@@ -1,0 +1,13 @@
+use Rattle.std.proofs.Common.{subst, sym}
+use Rattle.redomail.specs.Jobs.{left_at}
+use Rattle.redomail.specs.Left.{left}
+use Rattle.redomail.specs.Runs.{StepKept}
+use Rattle.redomail.proofs.Keeps.{step_kept}
+use Rattle.redomail.proofs.job.Job.feed.Goals as goal
+
+pub returns-clause-kept : goal.returns-clause-kept
+returns-clause-kept c =
+    let j = c.self.inside in
+    let x = c.args.value in
+    subst (λ job. StepKept (left job) x (left_at j.layout j.sender c.after-self-inside.result)) c.self.view_is
+    (subst (StepKept (left_at j.layout j.sender j.stage) x) (sym c.after-self-inside.ensures.left) (step_kept (left_at j.layout j.sender j.stage) x))

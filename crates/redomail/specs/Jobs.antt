@@ -1,0 +1,66 @@
+-- A job, seen as the script that is left of its task.
+use Rattle.std.specs.Prelude.{◌≡◌, ℕ, ◌+◌, ◌-◌, ◌*◌, ◌<◌, ◌==◌, [], length, take, drop}
+use Rattle.redomail.specs.declared.reply.Reply.{Reply}
+use Rattle.redomail.specs.declared.layout.Layout.{Layout}
+use Rattle.redomail.specs.declared.stage.Stage.{Stage}
+use Rattle.redomail.specs.declared.stage.Stage.TheVariants as stage
+use Rattle.redomail.specs.declared.reply.Reply.TheVariants.{AlreadyClosed, ClosedNow, Mended, Word, Ruined}
+use Rattle.redomail.specs.declared.reply.Reply.TheVariants as reply
+use Rattle.redomail.specs.Layout.{board_at, last_at}
+use Rattle.redomail.specs.Script.{Script, Get, Put, Done, puts, gets}
+use Rattle.redomail.specs.Tasks.{store_steps, decided, append, repair, redo, close}
+
+abbrev pub left_at : Layout → ℕ → Stage → Script Reply
+left_at l p (stage.AskClosed seq value) = append l p seq value
+left_at l p (stage.AskCount seq value closed) =
+    Get 2 (λ count. Get (last_at l p) (λ last. decided l p seq value closed count last))
+left_at l p (stage.AskLast seq value closed count) =
+    Get (last_at l p) (λ last. decided l p seq value closed count last)
+left_at l p stage.AskArmed = repair l p
+left_at l p stage.AskAt = Get 4 (λ at. Get 5 (λ seq. gets 6 l.width [] (redo l p at seq)))
+left_at l p (stage.AskSeq at) = Get 5 (λ seq. gets 6 l.width [] (redo l p at seq))
+left_at l p (stage.AskValue at seq words read) =
+    gets (6 + read) (l.width - read) (take read words) (redo l p at seq)
+left_at l p (stage.Write r step answer) = puts (drop step (store_steps l p r)) (Done answer)
+left_at l p stage.AskOpen = close
+left_at l p stage.PutClosed = Put 1 1 (Done ClosedNow)
+left_at l p (stage.GetBoard i) = Get (board_at l i) (λ x. Done (Word x))
+left_at l p (stage.PutBoard i v) = Put (board_at l i) v (Done reply.Done)
+left_at l p stage.PutRuined = Put 0 1 (Done reply.Done)
+left_at l p stage.AskRuined = Get 0 (λ x. Done (Ruined (x == 1)))
+left_at l p (stage.Ended answer) = Done answer
+
+-- how many words the value that a stage holds has
+abbrev pub value_width : Layout → Stage → ℕ
+value_width l (stage.AskClosed seq value) = length value
+value_width l (stage.AskCount seq value closed) = length value
+value_width l (stage.AskLast seq value closed count) = length value
+value_width l (stage.Write r step answer) = length r.value
+value_width l _ = l.width
+
+-- the room for the words that a repair reads, and how many it has read
+abbrev pub buffer_width : Stage → ℕ
+buffer_width (stage.AskValue at seq words read) = length words
+buffer_width _ = 8
+
+abbrev pub words_read : Stage → ℕ
+words_read (stage.AskValue at seq words read) = read
+words_read _ = 0
+
+-- how many of the steps of storing stand
+abbrev pub steps_done : Stage → ℕ
+steps_done (stage.Write r step answer) = step
+steps_done _ = 0
+
+abbrev pub board_index : Stage → ℕ
+board_index (stage.GetBoard i) = i
+board_index (stage.PutBoard i v) = i
+board_index _ = 0
+
+-- What a stage keeps, so that its values fit the layout.
+pub record FitsStage (l : Layout) (x : Stage) : Type 0 where
+  pub value : value_width l x ≡ l.width
+  pub buffer : buffer_width x ≡ 8
+  pub read : words_read x < l.width
+  pub step : steps_done x < 8 + 2 * l.width
+  pub board : board_index x < 4

@@ -1,0 +1,23 @@
+-- Deeds of the mailbox, done by whoever is inside.
+use Rattle.std.specs.Prelude.{◌≡◌, ℕ, true, List, [], ◌∷◌}
+use Rattle.rmecore.specs.Needs.{AllHold}
+use Rattle.redomail.specs.Mailbox.{Mailbox, row, done}
+use Rattle.redomail.specs.declared.deed.Deed.{Deed}
+use Rattle.redomail.specs.declared.deed.Deed.TheVariants.{Outer, Commit, Show, Close, Ruin}
+
+-- These deeds, each by a process that is inside, are allowed one after another and lead from this mailbox to that one.
+abbrev pub MailLeads : ℕ → Mailbox → List Deed → Mailbox → Type 0
+MailLeads cap m [] t = m ≡ t
+MailLeads cap m (d ∷ ds) t = AllHold (row cap true m d) × MailLeads cap (done m d) ds t
+
+-- a deed of the mailbox by p
+abbrev pub IsOwn : ℕ → Deed → Type 0
+IsOwn p (Outer d) = ⊥
+IsOwn p (Commit q seq v) = q ≡ p
+IsOwn p (Show q at seq v) = q ≡ p
+IsOwn p (Close q) = q ≡ p
+IsOwn p (Ruin q) = q ≡ p
+
+abbrev pub AreOwn : ℕ → List Deed → Type 0
+AreOwn p [] = Unit {0}
+AreOwn p (d ∷ ds) = IsOwn p d × AreOwn p ds

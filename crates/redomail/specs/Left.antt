@@ -1,0 +1,27 @@
+-- What contracts see of a job, and what is left of its task.
+use Rattle.std.specs.Prelude.{ℕ}
+use Rattle.redomail.specs.declared.layout.Layout.{Layout}
+use Rattle.redomail.specs.declared.reply.Reply.{Reply}
+use Rattle.redomail.specs.declared.stage.Stage.{Stage}
+use Rattle.redomail.specs.declared.task.Task.{Task}
+use Rattle.redomail.specs.Script.{Script}
+use Rattle.redomail.specs.Jobs.{left_at}
+use Rattle.redomail.specs.Stages.{first_stage, stage_after}
+
+-- a job's sizes, its process, and how far it has come
+pub record Pending : Type 0 where
+  pub layout : Layout
+  pub sender : ℕ
+  pub stage : Stage
+
+-- the script that is left of it
+abbrev pub left : Pending → Script Reply
+left job = left_at job.layout job.sender job.stage
+
+-- a task, not yet begun
+abbrev pub begun : Layout → ℕ → Task → Pending
+begun l p t = record { layout = l; sender = p; stage = first_stage t }
+
+-- the job once it was given this word
+abbrev pub fed : Pending → ℕ → Pending
+fed job word = record job { stage = stage_after job.layout job.stage word }

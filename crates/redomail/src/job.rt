@@ -1,0 +1,104 @@
+//! A task under way.
+
+ghost use Rattle.std.specs.Prelude.{◌≡◌, Some, None, IfOk, IfErr, OnOk};
+ghost use Rattle.redomail.specs.Refusals.{refused as refusal_of};
+ghost use Rattle.redomail.specs.Runs.{StepKept};
+ghost use Rattle.redomail.specs.Script.{head, tail};
+ghost use Rattle.redomail.specs.Tasks.{script};
+
+use crate::layout::Layout;
+use crate::next::Next;
+use crate::stage::Stage;
+use crate::task::Task;
+use rmecore::Refusal;
+use std::marker::Model;
+
+/// A task of a process, which wants one data word after another. It holds no memory. Contracts see it as the script that is
+/// left.
+#[derive(Clone, Copy, PartialEq, Eq, Debug)]
+pub struct Job {
+    layout: Layout,
+    sender: u64,
+    stage: Stage,
+}
+
+impl Model for Job {
+    ghost use Rattle.std.specs.Prelude.{◌<◌};
+    ghost use Rattle.redomail.specs.Layout.{IsLayout};
+    ghost use Rattle.redomail.specs.Jobs.{FitsStage};
+    ghost use Rattle.redomail.specs.Left.{Pending};
+
+    ghost Value = { Pending };
+
+    ghost view = { λ j. record { layout = j.layout; sender = j.sender; stage = j.stage } };
+
+    ghost invariant = { λ j. record { lawful : IsLayout j.layout; below : j.sender < j.layout.procs; fits : FitsStage j.layout j.stage } };
+
+    ghost inverse = { λ v. record { layout = v.layout; sender = v.sender; stage = v.stage } };
+}
+
+impl Job {
+    ghost use Rattle.redomail.specs.Left.{left, begun, fed};
+
+    /// A task of a process, not yet begun.
+    pub fn new(layout: Layout, sender: u64, task: Task) -> Result<Job, Refusal>
+        ensures made { IfOk result (λ job. left job ≡ script layout sender task) }
+        ensures exact { IfOk result (λ job. job ≡ begun layout sender task) }
+        ensures allowed { OnOk result (refusal_of layout sender task ≡ None) }
+        ensures refused { IfErr result (λ refusal. refusal_of layout sender task ≡ Some refusal) }
+    {
+        check(&layout, sender, &task)?;
+        let stage = Stage::first(layout, sender, task);
+        Ok(Job {
+            layout,
+            sender,
+            stage,
+        })
+    }
+
+    /// What the job wants next.
+    pub fn next(&self) -> Next
+        ensures { result ≡ head (left self.now) }
+    {
+        self.stage.next(self.layout, self.sender)
+    }
+
+    /// Goes on: after a `Get` with the word that was read, after a `Put` with any value. After `Done` it changes nothing.
+    pub fn feed(&mut self, value: u64)
+        ensures left { left self.new ≡ tail (left self.old) value }
+        ensures kept { StepKept (left self.old) value (left self.new) }
+        ensures exact { self.new ≡ fed self.old value }
+    {
+        self.stage = self.stage.after(self.layout, self.sender, value);
+    }
+}
+
+// Refuses what no job is made of, with the first cause.
+fn check(layout: &Layout, sender: u64, task: &Task) -> Result<(), Refusal>
+    ensures allowed { OnOk result (refusal_of layout.now sender task.now ≡ None) }
+    ensures refused { IfErr result (λ refusal. refusal_of layout.now sender task.now ≡ Some refusal) }
+{
+    if layout.procs == 0 || layout.procs > 64 {
+        return Err(Refusal::BadProcs);
+    }
+    if layout.cap == 0 || layout.cap > 65536 {
+        return Err(Refusal::BadCap);
+    }
+    if sender >= layout.procs {
+        return Err(Refusal::NoSuchProcess);
+    }
+    if let Task::BoardGet(i) | Task::BoardPut(i, _) = *task {
+        if i >= 4 {
+            return Err(Refusal::BadIndex);
+        }
+    }
+    if layout.width == 0 || layout.width > 8 {
+        return Err(Refusal::BadWidth);
+    }
+    if let Task::Append { value, .. } = *task {
+        if value.width() != layout.width {
+            return Err(Refusal::BadWidth);
+        }
+    }
+    Ok(())
+}

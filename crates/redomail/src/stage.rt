@@ -1,0 +1,175 @@
+//! How far a job has come.
+
+ghost use Rattle.std.specs.Prelude.{◌≡◌, ℕ, ◌<◌, ◌+◌, None, length, slice_set};
+ghost use Rattle.redomail.specs.Layout.{IsLayout};
+ghost use Rattle.redomail.specs.Jobs.{FitsStage, left_at};
+ghost use Rattle.redomail.specs.Refusals.{refused};
+ghost use Rattle.redomail.specs.Script.{head, tail};
+ghost use Rattle.redomail.specs.Stages.{first_stage, stage_after, read_stage, decided_stage};
+ghost use Rattle.redomail.specs.Tasks.{script, decided as decided_by};
+
+use crate::layout::{ARMED, CLOSED, COUNT, Layout, RECORD, RUINED};
+use crate::next::Next;
+use crate::record::Record;
+use crate::reply::Reply;
+use crate::task::Task;
+use rmecore::Body;
+
+/// How far a job has come: what it does next, with what it knows.
+#[derive(Clone, Copy, PartialEq, Eq, Debug)]
+pub(crate) enum Stage {
+    /// An append asks whether the mailbox is closed, with its number and its value.
+    AskClosed(u64, Body),
+    /// It asks for count, and knows closed.
+    AskCount(u64, Body, u64),
+    /// It asks for the sender's last number, and knows closed and count.
+    AskLast(u64, Body, u64, u64),
+    /// A repair asks whether the record is armed.
+    AskArmed,
+    /// It asks for the record's place.
+    AskAt,
+    /// It asks for the record's number, and knows the place.
+    AskSeq(u64),
+    /// It asks for the record's value, and knows the place, the number and so many words of the value.
+    AskValue(u64, u64, [u64; 8], u64),
+    /// This many steps of storing the record stand; then comes the reply.
+    Write(Record, u64, Reply),
+    /// A close asks whether the mailbox is closed.
+    AskOpen,
+    PutClosed,
+    GetBoard(u64),
+    PutBoard(u64, u64),
+    PutRuined,
+    AskRuined,
+    Ended(Reply),
+}
+
+impl Stage {
+    /// The first stage of a task.
+    pub(crate) fn first(layout: Layout, sender: u64, task: Task) -> Stage
+        requires { refused layout sender task ≡ None }
+        ensures left { left_at layout sender result ≡ script layout sender task }
+        ensures exact { result ≡ first_stage task }
+        ensures fits { FitsStage layout result }
+    {
+        match task {
+            Task::Append { seq, value } => Stage::AskClosed(seq, value),
+            Task::Close => Stage::AskOpen,
+            Task::Repair => Stage::AskArmed,
+            Task::BoardGet(i) => Stage::GetBoard(i),
+            Task::BoardPut(i, v) => Stage::PutBoard(i, v),
+            Task::Ruin => Stage::PutRuined,
+            Task::Check => Stage::AskRuined,
+        }
+    }
+
+    /// What the task wants next.
+    pub(crate) fn next(&self, layout: Layout, sender: u64) -> Next
+        requires lawful { IsLayout layout }
+        requires below { sender < layout.procs }
+        requires fits { FitsStage layout self.now }
+        ensures { result ≡ head (left_at layout sender self.now) }
+    {
+        match *self {
+            Stage::AskClosed(..) | Stage::AskOpen => Next::Get(CLOSED),
+            Stage::AskCount(..) => Next::Get(COUNT),
+            Stage::AskLast(..) => Next::Get(layout.last(sender)),
+            Stage::AskArmed => Next::Get(ARMED),
+            Stage::AskAt => Next::Get(RECORD),
+            Stage::AskSeq(_) => Next::Get(RECORD + 1),
+            Stage::AskValue(_, _, _, read) => Next::Get(RECORD + 2 + read),
+            Stage::Write(record, step, _) => {
+                let (i, v) = record.put(layout, sender, step);
+                Next::Put(i, v)
+            }
+            Stage::PutClosed => Next::Put(CLOSED, 1),
+            Stage::GetBoard(i) => Next::Get(layout.board(i)),
+            Stage::PutBoard(i, v) => Next::Put(layout.board(i), v),
+            Stage::PutRuined => Next::Put(RUINED, 1),
+            Stage::AskRuined => Next::Get(RUINED),
+            Stage::Ended(reply) => Next::Done(reply),
+        }
+    }
+
+    /// The stage after this one, given the word that was asked for.
+    pub(crate) fn after(&self, layout: Layout, sender: u64, word: u64) -> Stage
+        requires lawful { IsLayout layout }
+        requires below { sender < layout.procs }
+        requires fits { FitsStage layout self.now }
+        ensures left { left_at layout sender result ≡ tail (left_at layout sender self.now) word }
+        ensures exact { result ≡ stage_after layout self.now word }
+        ensures fits { FitsStage layout result }
+    {
+        match *self {
+            Stage::AskClosed(seq, value) => Stage::AskCount(seq, value, word),
+            Stage::AskCount(seq, value, closed) => Stage::AskLast(seq, value, closed, word),
+            Stage::AskLast(seq, value, closed, count) => decided(
+                layout, seq, value, closed, count, word,
+            ),
+            Stage::AskArmed if word == 0 => Stage::Ended(Reply::Mended(false)),
+            Stage::AskArmed => Stage::AskAt,
+            Stage::AskAt => Stage::AskSeq(word),
+            Stage::AskSeq(at) => Stage::AskValue(at, word, [0; 8], 0),
+            Stage::AskValue(at, seq, words, read) => read_on(layout, at, seq, words, read, word),
+            Stage::Write(record, step, reply) => {
+                if step + 1 < 8 + 2 * layout.width {
+                    Stage::Write(record, step + 1, reply)
+                } else {
+                    Stage::Ended(reply)
+                }
+            }
+            Stage::AskOpen if word == 1 => Stage::Ended(Reply::AlreadyClosed),
+            Stage::AskOpen => Stage::PutClosed,
+            Stage::PutClosed => Stage::Ended(Reply::ClosedNow),
+            Stage::GetBoard(_) => Stage::Ended(Reply::Word(word)),
+            Stage::PutBoard(..) | Stage::PutRuined => Stage::Ended(Reply::Done),
+            Stage::AskRuined => Stage::Ended(Reply::Ruined(word == 1)),
+            Stage::Ended(reply) => Stage::Ended(reply),
+        }
+    }
+}
+
+// A repair that was given one more word of the record's value.
+fn read_on(layout: Layout, at: u64, seq: u64, words: [u64; 8], read: u64, word: u64) -> Stage
+    requires lawful { IsLayout layout }
+    requires within { read < layout.width }
+    requires room { length words ≡ 8 }
+    ensures left { (p : ℕ) → left_at layout p result ≡ tail (left_at layout p (Stage.AskValue at seq words read)) word }
+    ensures exact { result ≡ read_stage layout at seq (slice_set words read word) (read + 1) }
+    ensures fits { FitsStage layout result }
+{
+    let mut words = words;
+    words[read as usize] = word;
+    let read = read + 1;
+    if read < layout.width {
+        return Stage::AskValue(at, seq, words, read);
+    }
+    let Ok(value) = Body::new(&words[..read as usize]) else {
+        unreachable!()
+    };
+    Stage::Write(Record { at, seq, value }, 3 + read, Reply::Mended(true))
+}
+
+// What an append does once it knows the three words.
+fn decided(layout: Layout, seq: u64, value: Body, closed: u64, count: u64, last: u64) -> Stage
+    requires lawful { IsLayout layout }
+    requires fits { length value ≡ layout.width }
+    ensures left { (p : ℕ) → left_at layout p result ≡ decided_by layout p seq value closed count last }
+    ensures exact { result ≡ decided_stage layout seq value closed count last }
+    ensures fits { FitsStage layout result }
+{
+    if seq == 0 {
+        Stage::Ended(Reply::OutOfOrder)
+    } else if seq <= last {
+        Stage::Ended(Reply::Already)
+    } else if seq - 1 > last {
+        Stage::Ended(Reply::OutOfOrder)
+    } else if closed == 1 {
+        Stage::Ended(Reply::Closed)
+    } else if count == layout.cap {
+        Stage::Ended(Reply::Full)
+    } else {
+        let at = count;
+        Stage::Write(Record { at, seq, value }, 0, Reply::Stored)
+    }
+}

@@ -1,0 +1,14 @@
+pub mod Steps
+pub mod Least
+pub mod Histories
+pub mod Bits
+pub mod Writes
+pub mod Counts
+pub mod Inside
+pub mod Order
+pub mod Mail
+pub mod Numbers
+pub mod Sets
+pub mod Starts
+pub mod Halves
+pub mod Agreement

@@ -1,0 +1,191 @@
+-- The mailbox: the Shows of each sender are numbered from 1, committed before, placed by their count, and none follows a Close.
+use Rattle.std.specs.Prelude.{◌≡◌, ℕ, zero, suc, ◌+◌, ◌<◌, true, ◌&&◌, ◌==◌, bytes_eq, List, [], ◌∷◌, length, take, count_by, Option, Some, None, is_none, refl, ◌⊎◌}
+use Rattle.std.proofs.Common.{sym, ◌∙◌, subst, inl, inr, arith, length-append}
+use Rattle.std.proofs.lemmas.Bool.{true≢false, false≢true, and_parts, eqb-true, not-true}
+use Rattle.std.proofs.lemmas.Slice.Eq.{bytes_eq-Decides}
+use Rattle.rmecore.specs.declared.outer.Outer.TheVariants.{Begin, Ready, Enter, Crash, Reenter, Leave, Quit}
+use Rattle.redomail.specs.declared.deed.Deed.{Deed}
+use Rattle.redomail.specs.declared.deed.Deed.TheVariants as deed
+use Rattle.redomail.specs.declared.message.Message.{Message}
+use Rattle.judge.specs.Table.{State, empty, needs, after}
+use Rattle.rmecore.specs.Needs.{AllHold}
+use Rattle.redomail.specs.Mailbox.{is_by, message, is_pending}
+use Rattle.judge.specs.Plain.{is_show, is_show_of, Stands, StandsBefore, MailInOrder}
+use Rattle.judge.proofs.Counts.{one_if, count_cons, count_push}
+use Rattle.judge.proofs.Steps.{Allowed}
+
+-- how many messages of p are shown
+abbrev shown_of : State → ℕ → ℕ
+shown_of s p = count_by (is_by p) s.mail.shown
+
+-- A pending message has the next number of its sender.
+abbrev pub MailSound : State → Type 0
+MailSound s = (p seq : ℕ) (v : List ℕ) → is_pending s.mail.pending p seq v ≡ true → seq ≡ shown_of s p + 1
+
+pub MailSound-empty : (procs cap : ℕ) → MailSound (empty procs cap)
+MailSound-empty procs cap p seq v e = absurd (false≢true e)
+
+same_words : (xs ys : List ℕ) → bytes_eq xs ys ≡ true → xs ≡ ys
+same_words xs ys e = (bytes_eq-Decides xs ys).0 e
+
+-- what a message is, whose parts are tested
+pub message_parts : (a b : ℕ) (c : List ℕ) (p seq : ℕ) (v : List ℕ) → ((a == p) && (b == seq) && bytes_eq c v) ≡ true → (a ≡ p) × (b ≡ seq) × (c ≡ v)
+message_parts a b c p seq v e =
+    let h = and_parts ((a == p) && (b == seq)) (bytes_eq c v) e in
+    let g = and_parts (a == p) (b == seq) h.0 in
+    (eqb-true a p g.0, eqb-true b seq g.1, same_words c v h.1)
+
+-- the needs of a Commit, as facts
+commit_numbered : (s : State) (p seq : ℕ) (v : List ℕ) → AllHold (needs s (deed.Commit p seq v)) → seq ≡ shown_of s p + 1
+commit_numbered s p seq v h = eqb-true seq (shown_of s p + 1) h.1.1.1.1.1.0
+
+MailSound-after : (s : State) (d : Deed) → AllHold (needs s d) → MailSound s → MailSound (after s d)
+MailSound-after s (deed.Outer (Begin q)) h sound = sound
+MailSound-after s (deed.Outer (Ready q)) h sound = sound
+MailSound-after s (deed.Outer (Enter q)) h sound = sound
+MailSound-after s (deed.Outer (Crash q)) h sound = sound
+MailSound-after s (deed.Outer (Reenter q)) h sound = sound
+MailSound-after s (deed.Outer (Leave q)) h sound = sound
+MailSound-after s (deed.Outer (Quit q)) h sound = sound
+MailSound-after s (deed.Commit q n w) h sound = λ p seq v e.
+    let parts = message_parts q n w p seq v e in
+    let P : ℕ → Type 0 = λ k. n ≡ shown_of s k + 1 in
+    sym parts.1 ∙ subst P parts.0 (commit_numbered s q n w h)
+MailSound-after s (deed.Show q at n w) h sound = λ p seq v e. absurd (false≢true e)
+MailSound-after s (deed.Close q) h sound = sound
+MailSound-after s (deed.Ruin q) h sound = sound
+
+-- only a Show adds to what is shown
+shown_of-after : (s : State) (d : Deed) (p : ℕ) → shown_of (after s d) p ≡ shown_of s p + one_if (is_show_of p d)
+shown_of-after s (deed.Outer (Begin q)) p = omega arith
+shown_of-after s (deed.Outer (Ready q)) p = omega arith
+shown_of-after s (deed.Outer (Enter q)) p = omega arith
+shown_of-after s (deed.Outer (Crash q)) p = omega arith
+shown_of-after s (deed.Outer (Reenter q)) p = omega arith
+shown_of-after s (deed.Outer (Leave q)) p = omega arith
+shown_of-after s (deed.Outer (Quit q)) p = omega arith
+shown_of-after s (deed.Commit q n w) p = omega arith
+shown_of-after s (deed.Show q at n w) p = count_push (is_by p) s.mail.shown (message q n w)
+shown_of-after s (deed.Close q) p = omega arith
+shown_of-after s (deed.Ruin q) p = omega arith
+
+length-after : (s : State) (d : Deed) → length (after s d).mail.shown ≡ length s.mail.shown + one_if (is_show d)
+length-after s (deed.Outer (Begin q)) = omega arith
+length-after s (deed.Outer (Ready q)) = omega arith
+length-after s (deed.Outer (Enter q)) = omega arith
+length-after s (deed.Outer (Crash q)) = omega arith
+length-after s (deed.Outer (Reenter q)) = omega arith
+length-after s (deed.Outer (Leave q)) = omega arith
+length-after s (deed.Outer (Quit q)) = omega arith
+length-after s (deed.Commit q n w) = omega arith
+length-after s (deed.Show q at n w) = omega (arith, length-append s.mail.shown (message q n w ∷ []))
+length-after s (deed.Close q) = omega arith
+length-after s (deed.Ruin q) = omega arith
+
+-- what a Show needed
+shows : (s : State) (d : Deed) (p at seq : ℕ) (v : List ℕ) → AllHold (needs s d) → d ≡ deed.Show p at seq v → AllHold (needs s (deed.Show p at seq v))
+shows s d p at seq v h e = let P : Deed → Type 0 = λ k. AllHold (needs s k) in subst P e h
+
+-- Seen from a state, a Show's number counts the messages shown there and the Shows since.
+pub numbered : (s : State) (ds : List Deed) → MailSound s → Allowed s ds → (p i at seq : ℕ) (v : List ℕ) → Stands ds i (deed.Show p at seq v) → seq ≡ shown_of s p + count_by (is_show_of p) (take i ds) + 1
+numbered s [] sound ok p i at seq v here = absurd here
+numbered s (d ∷ ds) sound ok p zero at seq v here =
+    let e = sound p seq v (shows s d p at seq v ok.0 here).1.1.0 in omega (arith, e)
+numbered s (d ∷ ds) sound ok p (suc i) at seq v here =
+    let ih = numbered (after s d) ds (MailSound-after s d ok.0 sound) ok.1 p i at seq v here in
+    omega (arith, ih, shown_of-after s d p, count_cons (is_show_of p) d (take i ds))
+
+pub placed : (s : State) (ds : List Deed) → Allowed s ds → (p i at seq : ℕ) (v : List ℕ) → Stands ds i (deed.Show p at seq v) → at ≡ length s.mail.shown + count_by is_show (take i ds)
+placed s [] ok p i at seq v here = absurd here
+placed s (d ∷ ds) ok p zero at seq v here =
+    let e = eqb-true at (length s.mail.shown) (shows s d p at seq v ok.0 here).1.1.1.0 in omega (arith, e)
+placed s (d ∷ ds) ok p (suc i) at seq v here =
+    let ih = placed (after s d) ds ok.1 p i at seq v here in
+    omega (arith, ih, length-after s d, count_cons is_show d (take i ds))
+
+-- what is pending after a deed was pending before it, or is what it commits
+pending_since : (s : State) (d : Deed) (p seq : ℕ) (v : List ℕ) → is_pending (after s d).mail.pending p seq v ≡ true → (is_pending s.mail.pending p seq v ≡ true) ⊎ (d ≡ deed.Commit p seq v)
+pending_since s (deed.Outer (Begin q)) p seq v e = inl e
+pending_since s (deed.Outer (Ready q)) p seq v e = inl e
+pending_since s (deed.Outer (Enter q)) p seq v e = inl e
+pending_since s (deed.Outer (Crash q)) p seq v e = inl e
+pending_since s (deed.Outer (Reenter q)) p seq v e = inl e
+pending_since s (deed.Outer (Leave q)) p seq v e = inl e
+pending_since s (deed.Outer (Quit q)) p seq v e = inl e
+pending_since s (deed.Commit q n w) p seq v e =
+    let parts = message_parts q n w p seq v e in
+    let a = parts.0 in let b = parts.1 in let c = parts.2 in
+    inr cc
+pending_since s (deed.Show q at n w) p seq v e = absurd (false≢true e)
+pending_since s (deed.Close q) p seq v e = inl e
+pending_since s (deed.Ruin q) p seq v e = inl e
+
+-- Seen from a state, what is shown was pending there or is committed since.
+pub committed : (s : State) (ds : List Deed) → Allowed s ds → (p i at seq : ℕ) (v : List ℕ) → Stands ds i (deed.Show p at seq v) → (is_pending s.mail.pending p seq v ≡ true) ⊎ StandsBefore ds i (deed.Commit p seq v)
+committed s [] ok p i at seq v here = absurd here
+committed s (d ∷ ds) ok p zero at seq v here = inl (shows s d p at seq v ok.0 here).1.1.0
+committed s (d ∷ ds) ok p (suc i) at seq v here =
+    elim (committed (after s d) ds ok.1 p i at seq v here) [
+      | inr w ↦ inr (suc w.0, omega (arith, w.1), w.2)
+      | inl e ↦
+          elim (pending_since s d p seq v e) [ inl was ↦ inl was | inr is ↦ inr (0, omega arith, is) ]
+    ]
+
+-- closed, and nothing is pending
+abbrev pub Quiet : State → Type 0
+Quiet s = (s.mail.closed ≡ true) × (is_none s.mail.pending ≡ true)
+
+none_pending : (o : Option Message) (p seq : ℕ) (v : List ℕ) → is_none o ≡ true → is_pending o p seq v ≡ true → ⊥
+none_pending None p seq v e h = false≢true h
+none_pending (Some m) p seq v e h = false≢true e
+
+no_commit_now : (s : State) (p seq : ℕ) (v : List ℕ) → AllHold (needs s (deed.Commit p seq v)) → Quiet s → ⊥
+no_commit_now s p seq v h quiet = true≢false (sym quiet.0 ∙ not-true s.mail.closed h.1.1.1.1.1.1.0)
+
+no_show_now : (s : State) (p at seq : ℕ) (v : List ℕ) → AllHold (needs s (deed.Show p at seq v)) → Quiet s → ⊥
+no_show_now s p at seq v h quiet = none_pending s.mail.pending p seq v quiet.1 h.1.1.0
+
+-- a Close leaves it closed, with nothing pending
+closes : (s : State) (d : Deed) (q : ℕ) → AllHold (needs s d) → d ≡ deed.Close q → Quiet (after s d)
+closes s d q h e =
+    let P : Deed → Type 0 = λ k. AllHold (needs s k) → Quiet (after s k) in
+    subst P (sym e) (λ g. (refl, g.1.1.0)) h
+
+Quiet-after : (s : State) (d : Deed) → AllHold (needs s d) → Quiet s → Quiet (after s d)
+Quiet-after s (deed.Outer (Begin q)) h quiet = quiet
+Quiet-after s (deed.Outer (Ready q)) h quiet = quiet
+Quiet-after s (deed.Outer (Enter q)) h quiet = quiet
+Quiet-after s (deed.Outer (Crash q)) h quiet = quiet
+Quiet-after s (deed.Outer (Reenter q)) h quiet = quiet
+Quiet-after s (deed.Outer (Leave q)) h quiet = quiet
+Quiet-after s (deed.Outer (Quit q)) h quiet = quiet
+Quiet-after s (deed.Commit q n w) h quiet = absurd (no_commit_now s q n w h quiet)
+Quiet-after s (deed.Show q at n w) h quiet = (quiet.0, refl)
+Quiet-after s (deed.Close q) h quiet = (refl, quiet.1)
+Quiet-after s (deed.Ruin q) h quiet = quiet
+
+-- neither stands later than a Close
+pub none_after : (s : State) (ds : List Deed) → Quiet s → Allowed s ds → (p j at seq : ℕ) (v : List ℕ) → (Stands ds j (deed.Commit p seq v) → ⊥) × (Stands ds j (deed.Show p at seq v) → ⊥)
+none_after s [] quiet ok p j at seq v = (λ here. here, λ here. here)
+none_after s (d ∷ ds) quiet ok p zero at seq v =
+    let P : Deed → Type 0 = λ k. AllHold (needs s k) in
+    (λ here. no_commit_now s p seq v (subst P here ok.0) quiet, λ here. no_show_now s p at seq v (subst P here ok.0) quiet)
+none_after s (d ∷ ds) quiet ok p (suc j) at seq v = none_after (after s d) ds (Quiet-after s d ok.0 quiet) ok.1 p j at seq v
+
+pub after_close : (s : State) (ds : List Deed) → Allowed s ds → (p q i j at seq : ℕ) (v : List ℕ) → Stands ds i (deed.Close q) → i < j → (Stands ds j (deed.Commit p seq v) → ⊥) × (Stands ds j (deed.Show p at seq v) → ⊥)
+after_close s [] ok p q i j at seq v close l = absurd close
+after_close s (d ∷ ds) ok p q i zero at seq v close l = absurd (omega arith)
+after_close s (d ∷ ds) ok p q zero (suc j) at seq v close l =
+    none_after (after s d) ds (closes s d q ok.0 close) ok.1 p j at seq v
+after_close s (d ∷ ds) ok p q (suc i) (suc j) at seq v close l =
+    after_close (after s d) ds ok.1 p q i j at seq v close (omega arith)
+
+pub MailInOrder-from_allowed : (procs cap : ℕ) (ds : List Deed) → Allowed (empty procs cap) ds → MailInOrder ds
+MailInOrder-from_allowed procs cap ds ok = record {
+  numbered = λ p i at seq v here. omega (arith, numbered (empty procs cap) ds (MailSound-empty procs cap) ok p i at seq v here);
+  placed = λ p i at seq v here. omega (arith, placed (empty procs cap) ds ok p i at seq v here);
+  committed = λ p i at seq v here.
+      elim (committed (empty procs cap) ds ok p i at seq v here) [ inl e ↦ absurd (false≢true e) | inr w ↦ w ];
+  no_commit = λ p q i j seq v close l. (after_close (empty procs cap) ds ok p q i j 0 seq v close l).0;
+  no_show = λ p q i j at seq v close l. (after_close (empty procs cap) ds ok p q i j at seq v close l).1;
+}

@@ -1,0 +1,7 @@
+use Rattle.std.proofs.Common.{◌≡◌, ◌<◌, ℕ, List, true, map, All, slice_index_or}
+use Rattle.rmecore.specs.AbstractLock.{is_ready}
+use Rattle.judge.specs.Starts.{phase_in}
+use Rattle.judge.proofs.shape.all_sets_ready.Given as goal
+
+abbrev pub invariant-loop-names : goal.invariant-loop-names
+invariant-loop-names l = (k : ℕ) (d : List ℕ) → k < l.names-index → All (λ q. is_ready (phase_in l.phases q) ≡ true) (slice_index_or (map (λ names. names.items) l.sets) k d)

@@ -1,0 +1,11 @@
+use Rattle.std.proofs.Common.{◌≡◌, length, take, count_by}
+use Rattle.redomail.specs.Mailbox.{is_by}
+use Rattle.judge.specs.Kept.{Lists}
+use Rattle.judge.proofs.Numbers.{Numbered}
+use Rattle.judge.proofs.shape.counted.Given as goal
+
+abbrev pub invariant-loop-message : goal.invariant-loop-message
+invariant-loop-message l =
+    (length l.counts ≡ 64)
+    × Lists l.counts 64 (λ p. count_by (is_by p) (take l.message-index l.shown))
+    × Numbered l.procs l.shown l.message-index

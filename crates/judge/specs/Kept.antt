@@ -1,0 +1,52 @@
+-- What a judge keeps. The ahead sets are rows of bits, one for each process.
+use Rattle.std.specs.Prelude.{◌≡◌, ℕ, ◌<◌, ◌≤◌, Bool, true, List, length, slice_index, slice_index_or, Option, is_some, if◌then◌else◌}
+use Rattle.std.specs.Int.{bit_at}
+use Rattle.rmecore.specs.declared.phase.Phase.{Phase}
+use Rattle.redomail.specs.declared.message.Message.{Message}
+use Rattle.redomail.specs.declared.deed.Deed.{Deed}
+use Rattle.redomail.specs.declared.deed.Deed.TheVariants as deed
+use Rattle.redomail.specs.Mailbox.{doer}
+
+-- all of a state but the messages shown, of which it is kept how many there are, and how many of each sender
+pub record Kept : Type 0 where
+  pub procs : ℕ
+  pub cap : ℕ
+  pub phases : List Phase
+  pub ahead : List ℕ
+  pub counts : List ℕ
+  pub shown : ℕ
+  pub pending : Option Message
+  pub closed : Bool
+  pub ruined : Bool
+
+-- the limits, a place for each process in each list, and no more messages than there is room for
+pub record IsSound (k : Kept) : Type 0 where
+  pub few : k.procs ≤ 64
+  pub small : k.cap ≤ 65536
+  pub phases : length k.phases ≡ k.procs
+  pub ahead : length k.ahead ≡ k.procs
+  pub counts : length k.counts ≡ k.procs
+  pub counts_low : (p : ℕ) → p < k.procs → slice_index k.counts p ≤ k.shown
+  pub shown_low : k.shown ≤ k.cap
+  pub room : is_some k.pending ≡ true → k.shown < k.cap
+
+-- the list has the function's values at the first n places
+abbrev pub Lists : {X : Type 0} → List X → ℕ → (ℕ → X) → Type 0
+Lists {X} xs n f = (k : ℕ) (d : X) → k < n → slice_index_or xs k d ≡ f k
+
+-- the first n bits are the function's values
+abbrev pub HasBits : ℕ → ℕ → (ℕ → Bool) → Type 0
+HasBits row n f = (q : ℕ) → q < n → bit_at row q ≡ (if f q then 1 else 0)
+
+-- each of the first n rows has its function's values at its first n bits
+abbrev pub HasRows : List ℕ → ℕ → (ℕ → ℕ → Bool) → Type 0
+HasRows rows n f = (p : ℕ) → p < n → HasBits (slice_index rows p) n (f p)
+
+-- the judge has room for what the deed does: a process of its own, a place for a message that is committed, and one that
+-- is pending where one is shown
+abbrev pub HasRoom : Kept → Deed → Type 0
+HasRoom k (deed.Outer o) = doer (deed.Outer o) < k.procs
+HasRoom k (deed.Commit p seq v) = (p < k.procs) × (k.shown < k.cap)
+HasRoom k (deed.Show p at seq v) = (p < k.procs) × (is_some k.pending ≡ true)
+HasRoom k (deed.Close p) = p < k.procs
+HasRoom k (deed.Ruin p) = p < k.procs

@@ -1,0 +1,9 @@
+pub mod Table
+pub mod Legal
+pub mod Kept
+pub mod Stands
+pub mod Plain
+pub mod Starts
+pub mod PlainFrom
+pub mod Halves
+pub mod View

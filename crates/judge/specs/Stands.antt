@@ -1,0 +1,25 @@
+-- The histories after which a judge stands.
+use Rattle.std.specs.Prelude.{◌≡◌, List, length, count_by}
+use Rattle.redomail.specs.declared.deed.Deed.{Deed}
+use Rattle.redomail.specs.Mailbox.{is_by}
+use Rattle.judge.specs.Table.{State}
+use Rattle.judge.specs.Legal.{Leads}
+use Rattle.judge.specs.Kept.{Kept, Lists, HasRows}
+
+-- a judge that keeps this state: its phases, ahead sets, pending, closed, ruined and the number shown of each sender
+pub record Keeps (judge : Kept) (s : State) : Type 0 where
+  pub procs : judge.procs ≡ s.procs
+  pub cap : judge.cap ≡ s.cap
+  pub phases : Lists judge.phases s.procs s.lock.phase
+  pub ahead : HasRows judge.ahead s.procs s.lock.ahead
+  pub counts : Lists judge.counts s.procs (λ p. count_by (is_by p) s.mail.shown)
+  pub shown : judge.shown ≡ length s.mail.shown
+  pub pending : judge.pending ≡ s.mail.pending
+  pub closed : judge.closed ≡ s.mail.closed
+  pub ruined : judge.ruined ≡ s.mail.ruined
+
+-- a judge that stands after this history from that start: the history is legal, and it keeps the state that it leads to
+pub record StandsAfter (start : State) (history : List Deed) (judge : Kept) : Type 0 where
+  pub state : State
+  pub legal : Leads start history state
+  pub kept : Keeps judge state

@@ -1,0 +1,16 @@
+-- A judge as its users see it.
+use Rattle.judge.specs.Kept.{Kept}
+use Rattle.judge.specs.declared.judge.Judge.TheInside.{Inside}
+
+abbrev pub kept_of : Inside → Kept
+kept_of judge = record {
+  procs = judge.procs;
+  cap = judge.cap;
+  phases = judge.phases.items;
+  ahead = judge.ahead.items;
+  counts = judge.counts.items;
+  shown = judge.shown;
+  pending = judge.pending;
+  closed = judge.closed;
+  ruined = judge.ruined;
+}

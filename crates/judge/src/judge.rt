@@ -1,0 +1,359 @@
+//! The judge at work: it is fed one deed after another, and takes no memory for it.
+
+ghost use Rattle.std.specs.Prelude.{◌≡◌, ℕ, ◌+◌, ◌==◌, count_by, nat_lt, length, ◌<◌, ◌≤◌, ◌↔◌, ◌⊎◌, Bool, true, is_some, List, [], ◌∷◌, ◌++◌, IfNone, IsTrue, IfOk, IfErr, IsErrOf, MatchResult, OnErr, OnOk, Ok, Err, false};
+ghost use Rattle.rmecore.specs.AbstractLock.{is_inside, is_dead_in, doer as lock_doer};
+ghost use Rattle.rmecore.specs.Needs.{put, least, none_below, first_fault as fault_of};
+ghost use Rattle.redomail.specs.Mailbox.{is_by, is_pending as is_pending_in, doer as doer_of};
+ghost use Rattle.judge.specs.Table.{State, empty, lock_needs, mail_needs, needs, after, judged};
+ghost use Rattle.judge.specs.Legal.{judged_all};
+ghost use Rattle.judge.specs.Kept.{HasRoom};
+ghost use Rattle.judge.specs.Stands.{Keeps, StandsAfter};
+ghost use Rattle.judge.specs.Starts.{state_of, IsStart, IsWithin, LockHolds, MailHolds};
+
+use crate::start::Start;
+use crate::{place, rows, shape};
+use redomail::{Deed, Message};
+use rmecore::{Body, Fault, Outer, Phase, Refusal};
+use std::alloc::Global;
+use std::marker::Model;
+
+/// A judge of one list of deeds, which stands after those that it has taken. Of the messages shown it keeps how many there
+/// are of each sender, and no message.
+#[derive(Debug, Drop)]
+pub struct Judge {
+    procs: u64,
+    cap: u64,
+    phases: Vec<Phase>,
+    ahead: Vec<u64>,
+    counts: Vec<u64>,
+    shown: u64,
+    pending: Option<Message>,
+    closed: bool,
+    ruined: bool,
+}
+
+impl Model for Judge {
+    ghost use Rattle.judge.specs.Kept.{Kept, IsSound};
+
+    ghost Value = { Kept };
+
+    ghost use Rattle.judge.specs.View.{kept_of};
+
+    ghost view = { kept_of };
+
+    ghost invariant = { λ judge. IsSound (kept_of judge) };
+}
+
+/// The fault of the first need that isn't met.
+fn first_fault(needs: &[(bool, Fault)]) -> Option<Fault>
+    ensures { result ≡ fault_of needs.now }
+{
+    for need in needs {
+        if !need.0 {
+            return Some(need.1);
+        }
+    }
+    None
+}
+
+/// Is just this message pending?
+fn is_pending(pending: Option<Message>, p: u64, seq: u64, v: Body) -> bool
+    ensures { result ≡ is_pending_in pending p seq v }
+{
+    match pending {
+        None => false,
+        Some(m) => m.sender == p && m.seq == seq && m.value == v,
+    }
+}
+
+/// Whose deed it is.
+fn doer(deed: &Deed) -> u64
+    ensures { result ≡ doer_of deed.now }
+{
+    match *deed {
+        Deed::Outer(Outer::Begin(p)) => p,
+        Deed::Outer(Outer::Ready(p)) => p,
+        Deed::Outer(Outer::Enter(p)) => p,
+        Deed::Outer(Outer::Crash(p)) => p,
+        Deed::Outer(Outer::Reenter(p)) => p,
+        Deed::Outer(Outer::Leave(p)) => p,
+        Deed::Outer(Outer::Quit(p)) => p,
+        Deed::Commit { p, .. } => p,
+        Deed::Show { p, .. } => p,
+        Deed::Close { p } => p,
+        Deed::Ruin { p } => p,
+    }
+}
+
+impl Judge {
+    /// A judge of a new lock, before any deed: of 1 to 64 processes, and of a mailbox with room for 1 to 65,536 messages
+    /// (`cap`). It takes all the memory that it will ever need: `OutOfMemory` where that is refused.
+    pub fn new(alloc: Global, procs: u64, cap: u64) -> Result<Judge, Refusal>
+        ensures made { IfOk result (λ judge. StandsAfter (empty procs cap) [] judge) }
+        ensures procs { IsErrOf result Refusal.BadProcs ↔ ((procs ≡ 0) ⊎ (64 < procs)) }
+        ensures cap { IsErrOf result Refusal.BadCap ↔ ((0 < procs) × (procs ≤ 64) × ((cap ≡ 0) ⊎ (65536 < cap))) }
+        ensures only { IfErr result (λ r. (r ≡ Refusal.BadProcs) ⊎ (r ≡ Refusal.BadCap) ⊎ (r ≡ Refusal.OutOfMemory)) }
+    {
+        if procs == 0 || procs > 64 {
+            return Err(Refusal::BadProcs);
+        }
+        if cap == 0 || cap > 65536 {
+            return Err(Refusal::BadCap);
+        }
+        let n = procs as usize;
+        let phases = vec![in alloc; Phase::Out; n]?;
+        let ahead = vec![in alloc; 0; n]?;
+        let counts = vec![in alloc; 0; n]?;
+        Ok(Judge {
+            procs,
+            cap,
+            phases,
+            ahead,
+            counts,
+            shown: 0,
+            pending: None,
+            closed: false,
+            ruined: false,
+        })
+    }
+
+    /// A judge of a list that goes on from a start, as that of an image, before any deed of it. `BadShape` means that no
+    /// earlier deeds could have left this start. What is shown is read once and not kept.
+    pub fn from_start(alloc: Global, start: &Start) -> Result<Judge, Refusal>
+        ensures made { IfOk result (λ judge. StandsAfter (state_of start.now) [] judge) }
+        ensures start { OnOk result (IsStart start.now) }
+        ensures procs { IsErrOf result Refusal.BadProcs ↔ ((start.now.procs ≡ 0) ⊎ (64 < start.now.procs)) }
+        ensures cap { IsErrOf result Refusal.BadCap ↔ ((0 < start.now.procs) × (start.now.procs ≤ 64) × ((start.now.cap ≡ 0) ⊎ (65536 < start.now.cap))) }
+        ensures shape { IsErrOf result Refusal.BadShape ↔ (IsWithin start.now.procs start.now.cap × (LockHolds start.now × MailHolds start.now → ⊥)) }
+        ensures only { IfErr result (λ r. (r ≡ Refusal.BadProcs) ⊎ (r ≡ Refusal.BadCap) ⊎ (r ≡ Refusal.BadShape) ⊎ (r ≡ Refusal.OutOfMemory)) }
+    {
+        if start.procs == 0 || start.procs > 64 {
+            return Err(Refusal::BadProcs);
+        }
+        if start.cap == 0 || start.cap > 65536 {
+            return Err(Refusal::BadCap);
+        }
+        let Some(counts) = shape::counts(start) else {
+            return Err(Refusal::BadShape);
+        };
+        let phases = Vec::from_slice(alloc, start.phases.as_slice())?;
+        let ahead = rows::rows_of(alloc, start.ahead.as_slice())?;
+        let counts = Vec::from_slice(alloc, &counts[..start.procs as usize])?;
+        Ok(Judge {
+            procs: start.procs,
+            cap: start.cap,
+            phases,
+            ahead,
+            counts,
+            shown: start.shown.as_slice().len() as u64,
+            pending: start.pending,
+            closed: start.closed,
+            ruined: start.ruined,
+        })
+    }
+
+    /// Where p is.
+    fn phase(&self, p: u64) -> Phase
+        requires { p < self.now.procs }
+        ensures { (s : State) → Keeps self.now s → result ≡ s.lock.phase p }
+    {
+        self.phases[p as usize]
+    }
+
+    /// Is this the number of p's next message?
+    fn is_next(&self, p: u64, seq: u64) -> bool
+        requires { p < self.now.procs }
+        ensures { (s : State) → Keeps self.now s → result ≡ (seq == count_by (is_by p) s.mail.shown + 1) }
+    {
+        seq == self.counts[p as usize] + 1
+    }
+
+    /// Is there room for one more message?
+    fn has_room(&self) -> bool
+        ensures room { (s : State) → Keeps self.now s → result ≡ nat_lt (length s.mail.shown) s.cap }
+        ensures below { IsTrue result → self.now.shown < self.now.cap }
+    {
+        self.shown < self.cap
+    }
+
+    /// The least process ahead of p, or the number of processes.
+    fn least_ahead(&self, p: u64) -> u64
+        requires { p < self.now.procs }
+        ensures { (s : State) → Keeps self.now s → result ≡ least s.procs (s.lock.ahead p) }
+    {
+        rows::least_in(self.ahead[p as usize], self.procs)
+    }
+
+    /// Nobody is inside.
+    fn none_inside(&self) -> bool
+        ensures { (s : State) → Keeps self.now s → result ≡ none_below s.procs (λ q. is_inside (s.lock.phase q)) }
+    {
+        !place::anyone_inside(&self.phases)
+    }
+
+    /// Nobody died inside.
+    fn none_dead_in(&self) -> bool
+        ensures { (s : State) → Keeps self.now s → result ≡ none_below s.procs (λ q. is_dead_in (s.lock.phase q)) }
+    {
+        !place::anyone_dead_in(&self.phases)
+    }
+}
+
+impl Judge {
+    /// The fault of a deed of the lock, if there is one.
+    fn lock_fault(&self, p: u64, deed: Outer) -> Option<Fault>
+        requires below { p < self.now.procs }
+        requires own { p ≡ lock_doer deed }
+        ensures { (s : State) → Keeps self.now s → result ≡ fault_of (lock_needs s (Deed.Outer deed) ++ mail_needs s (Deed.Outer deed)) }
+    {
+        let phase = self.phase(p);
+        match deed {
+            Outer::Begin(_) => first_fault(&[(place::is_out(phase), Fault::OutOfPlace)]),
+            Outer::Ready(_) => first_fault(&[(place::is_door(phase), Fault::OutOfPlace)]),
+            Outer::Enter(_) => {
+                let of = self.least_ahead(p);
+                first_fault(&[
+                    (place::is_ready(phase), Fault::OutOfPlace),
+                    (self.none_inside(), Fault::TwoInside),
+                    (self.none_dead_in(), Fault::NotReentered),
+                    (of == self.procs, Fault::Overtaken { by: p, of }),
+                ])
+            }
+            Outer::Crash(_) => None,
+            Outer::Reenter(_) => first_fault(&[(place::is_dead_in(phase), Fault::OutOfPlace)]),
+            Outer::Leave(_) => first_fault(&[
+                (place::is_inside(phase), Fault::OutOfPlace),
+                (self.pending.is_none() || self.ruined, Fault::MailOrder),
+            ]),
+            Outer::Quit(_) => first_fault(&[(
+                place::is_door(phase) || place::is_ready(phase),
+                Fault::OutOfPlace,
+            )]),
+        }
+    }
+
+    /// The fault of a Commit with this number, if there is one.
+    fn commit_fault(&self, p: u64, seq: u64) -> Option<Fault>
+        requires { p < self.now.procs }
+        ensures fault { (s : State) (v : List ℕ) → Keeps self.now s → result ≡ fault_of (mail_needs s (Deed.Commit p seq v)) }
+        ensures room { IfNone result (self.now.shown < self.now.cap) }
+    {
+        first_fault(&[
+            (place::is_inside(self.phase(p)), Fault::NotInside),
+            (!self.ruined, Fault::MailOrder),
+            (self.pending.is_none(), Fault::MailOrder),
+            (self.has_room(), Fault::MailOrder),
+            (self.is_next(p, seq), Fault::MailOrder),
+            (!self.closed, Fault::AfterClose),
+        ])
+    }
+
+    /// The fault of a deed, if there is one.
+    fn fault(&self, deed: &Deed) -> Option<Fault>
+        ensures fault { (s : State) → Keeps self.now s → result ≡ fault_of (needs s deed.now) }
+        ensures room { IfNone result (HasRoom self.now deed.now) }
+    {
+        let p = doer(deed);
+        if p >= self.procs {
+            return Some(Fault::OutOfPlace);
+        }
+        let inside = place::is_inside(self.phase(p));
+        match *deed {
+            Deed::Outer(outer) => self.lock_fault(p, outer),
+            Deed::Commit { p, seq, .. } => self.commit_fault(p, seq),
+            Deed::Show { at, seq, v, .. } => first_fault(&[
+                (inside, Fault::NotInside),
+                (is_pending(self.pending, p, seq, v), Fault::MailOrder),
+                (at == self.shown, Fault::MailOrder),
+            ]),
+            Deed::Close { .. } => first_fault(&[
+                (inside, Fault::NotInside),
+                (self.pending.is_none(), Fault::MailOrder),
+                (!self.closed, Fault::AfterClose),
+            ]),
+            Deed::Ruin { .. } => {
+                first_fault(&[(inside, Fault::NotInside), (!self.ruined, Fault::MailOrder)])
+            }
+        }
+    }
+
+    /// Moves p to this phase.
+    fn move_to(&mut self, p: u64, phase: Phase)
+        requires { p < self.old.procs }
+        ensures { (s : State) → Keeps self.old s → Keeps self.new (record s { lock = record s.lock { phase = put s.lock.phase p phase } }) }
+    {
+        self.phases[p as usize] = phase;
+    }
+
+    /// p begins, behind all that are ready.
+    fn begin(&mut self, p: u64)
+        requires { p < self.old.procs }
+        ensures { (s : State) → Keeps self.old s → Keeps self.new (after s (Deed.Outer (Outer.Begin p))) }
+    {
+        self.ahead[p as usize] = rows::ready_row(&self.phases);
+        self.phases[p as usize] = Phase::Door;
+    }
+
+    /// p moves to this phase, and is ahead of nobody.
+    fn pass(&mut self, p: u64, phase: Phase)
+        requires { p < self.old.procs }
+        ensures { (s : State) → Keeps self.old s → Keeps self.new (record s { lock = record { phase = put s.lock.phase p phase; ahead = λ q. put (s.lock.ahead q) p false } }) }
+    {
+        rows::clear_column(&mut self.ahead, p);
+        self.phases[p as usize] = phase;
+    }
+
+    /// One more message of p is shown, and nothing is pending.
+    fn show(&mut self, p: u64)
+        requires below { p < self.old.procs }
+        requires pending { is_some self.old.pending ≡ true }
+        ensures { (s : State) (at seq : ℕ) (v : List ℕ) → Keeps self.old s → Keeps self.new (after s (Deed.Show p at seq v)) }
+    {
+        self.counts[p as usize] += 1;
+        self.shown += 1;
+        self.pending = None;
+    }
+
+    /// Does what the deed does.
+    fn take(&mut self, deed: &Deed)
+        requires { HasRoom self.old deed.now }
+        ensures { (s : State) → Keeps self.old s → Keeps self.new (after s deed.now) }
+    {
+        match *deed {
+            Deed::Outer(Outer::Begin(p)) => self.begin(p),
+            Deed::Outer(Outer::Ready(p)) => self.move_to(p, Phase::Ready),
+            Deed::Outer(Outer::Enter(p)) => self.pass(p, Phase::Inside),
+            Deed::Outer(Outer::Crash(p)) => {
+                let phase = self.phase(p);
+                self.move_to(p, place::crashed(phase));
+            }
+            Deed::Outer(Outer::Reenter(p)) => self.move_to(p, Phase::Inside),
+            Deed::Outer(Outer::Leave(p)) => self.move_to(p, Phase::Out),
+            Deed::Outer(Outer::Quit(p)) => self.pass(p, Phase::Out),
+            Deed::Commit { p, seq, v } => {
+                self.pending = Some(Message {
+                    sender: p,
+                    seq,
+                    value: v,
+                });
+            }
+            Deed::Show { p, .. } => self.show(p),
+            Deed::Close { .. } => self.closed = true,
+            Deed::Ruin { .. } => self.ruined = true,
+        }
+    }
+
+    /// Takes the next deed of the history, or says what is wrong with it: the first of its needs that fails. After a fault
+    /// another deed may be fed. It takes no memory, and goes over the processes once or twice.
+    pub fn feed(&mut self, deed: Deed) -> Result<(), Fault>
+        ensures judged { (s : State) → Keeps self.old s → MatchResult result (λ _. (judged s deed ≡ Ok (after s deed)) × Keeps self.new (after s deed)) (λ fault. judged s deed ≡ Err fault) }
+        ensures fed { (start : State) (history : List Deed) → StandsAfter start history self.old → MatchResult result (λ _. StandsAfter start (history ++ deed ∷ []) self.new) (λ fault. judged_all start (history ++ deed ∷ []) ≡ Err fault) }
+        ensures same { OnErr result (self.new ≡ self.old) }
+    {
+        if let Some(fault) = self.fault(&deed) {
+            return Err(fault);
+        }
+        self.take(&deed);
+        Ok(())
+    }
+}

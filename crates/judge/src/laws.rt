@@ -1,0 +1,61 @@
+//! Laws over every list of deeds. Each is the contract of a function that does nothing.
+
+ghost use Rattle.std.specs.Prelude.{◌≡◌, ◌<◌, ◌↔◌, ℕ, List, [], ◌∷◌, ◌++◌, map, Ok};
+ghost use Rattle.rmecore.specs.AbstractLock.{Abstract, Legal};
+ghost use Rattle.rmecore.specs.Needs.{AllHold};
+ghost use Rattle.rmecore.specs.Place.{Event};
+ghost use Rattle.rmecore.specs.World.{at_rest, Run, deeds};
+ghost use Rattle.redomail.specs.Mailbox.{doer};
+ghost use Rattle.judge.specs.Halves.{outers, MailAllows, all_after, Agree};
+ghost use Rattle.judge.specs.Legal.{Leads, IsLegal};
+ghost use Rattle.judge.specs.Plain.{IsPlain, LockInOrder};
+ghost use Rattle.judge.specs.PlainFrom.{IsPlainFrom};
+ghost use Rattle.judge.specs.Starts.{state_of, IsStart};
+ghost use Rattle.judge.specs.Table.{State, lock_needs, mail_needs, needs, after, judged};
+
+use crate::start::Start;
+use redomail::Deed;
+use rmecore::Outer;
+
+/// Every legal history of a new lock, of any number of processes and any room, has the plain properties.
+pub fn legal_histories_are_plain()
+    ensures { (procs cap : ℕ) (history : List Deed) → IsLegal procs cap history → IsPlain history }
+{}
+
+/// So has every history that goes on from a start that `Judge::from_start` accepts, counting what came before it.
+pub fn histories_from_a_start_are_plain()
+    ensures { (start : Start) (history : List Deed) (t : State) → IsStart start → Leads (state_of start) history t → IsPlainFrom start history }
+{}
+
+/// The deeds of every run of the core from all words 0, of any number of processes and any limit, are legal beside a
+/// mailbox of any room, and have the plain properties of the lock.
+pub fn core_runs_are_legal()
+    ensures legal { (n limit cap : ℕ) (events : List Event) → Run n limit at_rest events → IsLegal n cap (map Deed.Outer (deeds n limit at_rest events)) }
+    ensures plain { (n limit : ℕ) (events : List Event) → Run n limit at_rest events → LockInOrder (map Deed.Outer (deeds n limit at_rest events)) }
+{
+    rmecore::laws::every_run_is_legal();
+}
+
+/// A list of deeds leads from a state where the abstract lock allows its deeds of the lock, and the mailbox list allows
+/// each deed; and only there.
+pub fn histories_have_two_halves()
+    ensures together { (s : State) (history : List Deed) → Legal s.procs s.lock (outers history) → MailAllows s.procs s.cap s.lock s.mail history → Leads s history (all_after s history) }
+    ensures lock { (s t : State) (history : List Deed) → Leads s history t → Legal s.procs s.lock (outers history) }
+    ensures mail { (s t : State) (history : List Deed) → Leads s history t → MailAllows s.procs s.cap s.lock s.mail history }
+    ensures state { (s t : State) (history : List Deed) → Leads s history t → t ≡ all_after s history }
+{}
+
+/// A deed is allowed where its process is one of the n, and the lock and the mailbox both allow it; then the state is what
+/// the deed leaves. A history grows by such a deed, and one history goes on from another.
+pub fn histories_grow()
+    ensures deed { (s : State) (deed : Deed) → doer deed < s.procs → AllHold (lock_needs s deed) → AllHold (mail_needs s deed) → judged s deed ≡ Ok (after s deed) }
+    ensures grow { (s t u : State) (history : List Deed) (deed : Deed) → Leads s history t → judged t deed ≡ Ok u → Leads s (history ++ deed ∷ []) u }
+    ensures go_on { (s t u : State) (history later : List Deed) → Leads s history t → Leads t later u → Leads s (history ++ later) u }
+{}
+
+/// Only the processes below n count: a list of deeds that leads from a state leads also from one whose lock agrees there,
+/// as that of a `Start` does with the words that it was made of.
+pub fn only_the_processes_count()
+    ensures lock { (n : ℕ) (a b : Abstract) (deeds : List Outer) → Agree n a b → Legal n a deeds → Legal n b deeds }
+    ensures history { (s t : State) (b : Abstract) (history : List Deed) → Agree s.procs s.lock b → Leads s history t → Leads (record s { lock = b }) history (all_after (record s { lock = b }) history) }
+{}

@@ -1,0 +1,23 @@
+//! The judge: which lists of deeds a recoverable first-come first-served lock with a mailbox could have made.
+#![tactic(auto)]
+
+pub mod ahead;
+pub mod judge;
+pub mod laws;
+pub mod messages;
+pub mod phases;
+mod place;
+mod rows;
+mod shape;
+pub mod start;
+
+pub use ahead::Ahead;
+pub use judge::Judge;
+pub use messages::Messages;
+pub use phases::Phases;
+pub use redomail::{Deed, Message};
+pub use rmecore::{Fault, Outer, Phase, Refusal};
+pub use start::Start;
+
+#[cfg(test)]
+mod tests;

@@ -1,0 +1,66 @@
+//! Where a process is.
+
+ghost use Rattle.std.specs.Prelude.{◌≡◌};
+ghost use Rattle.std.specs.List.{list_any};
+ghost use Rattle.rmecore.specs.AbstractLock.{is_out as is_at_out, is_door as is_at_door, is_ready as is_at_ready, is_inside as is_at_inside, is_dead_in as is_at_dead_in, crashed as crashed_from};
+
+use rmecore::Phase;
+
+/// It is outside.
+pub(crate) fn is_out(phase: Phase) -> bool
+    ensures { result ≡ is_at_out phase }
+{
+    matches!(phase, Phase::Out)
+}
+
+/// It is in the doorway.
+pub(crate) fn is_door(phase: Phase) -> bool
+    ensures { result ≡ is_at_door phase }
+{
+    matches!(phase, Phase::Door)
+}
+
+/// It has finished the doorway.
+pub(crate) fn is_ready(phase: Phase) -> bool
+    ensures { result ≡ is_at_ready phase }
+{
+    matches!(phase, Phase::Ready)
+}
+
+/// It is inside.
+pub(crate) fn is_inside(phase: Phase) -> bool
+    ensures { result ≡ is_at_inside phase }
+{
+    matches!(phase, Phase::Inside)
+}
+
+/// It died inside.
+pub(crate) fn is_dead_in(phase: Phase) -> bool
+    ensures { result ≡ is_at_dead_in phase }
+{
+    matches!(phase, Phase::DeadIn)
+}
+
+/// Where a crash leaves it.
+pub(crate) fn crashed(phase: Phase) -> Phase
+    ensures { result ≡ crashed_from phase }
+{
+    match phase {
+        Phase::Inside => Phase::DeadIn,
+        _ => phase,
+    }
+}
+
+/// Is anyone inside?
+pub(crate) fn anyone_inside(phases: &[Phase]) -> bool
+    ensures { result ≡ list_any is_at_inside phases.now }
+{
+    phases.contains(&Phase::Inside)
+}
+
+/// Did anyone die inside?
+pub(crate) fn anyone_dead_in(phases: &[Phase]) -> bool
+    ensures { result ≡ list_any is_at_dead_in phases.now }
+{
+    phases.contains(&Phase::DeadIn)
+}

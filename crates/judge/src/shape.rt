@@ -1,0 +1,143 @@
+//! What a judge can start from, as tests that take no memory.
+
+ghost use Rattle.std.specs.Prelude.{◌≡◌, ℕ, ◌+◌, ◌<◌, ◌≤◌, ◌↔◌, true, All, IsTrue, IfSome, IsSome, length, count_by, map, slice_index, is_none};
+ghost use Rattle.rmecore.specs.AbstractLock.{is_ready as is_at_ready, is_dead_in as is_at_dead_in};
+ghost use Rattle.redomail.specs.Mailbox.{is_by};
+ghost use Rattle.judge.specs.Kept.{Lists};
+ghost use Rattle.judge.specs.Starts.{phase_in, IsNext, AreNumbered, LockHolds, MailHolds};
+
+use crate::place;
+use crate::start::Start;
+use redomail::Message;
+use rmecore::Phase;
+
+/// A process's phase; one past the list is out.
+fn phase_at(phases: &[Phase], p: u64) -> Phase
+    ensures { result ≡ phase_in phases.now p }
+{
+    phases.get(p as usize).copied().unwrap_or(Phase::Out)
+}
+
+/// How many died inside.
+fn dead_in(phases: &[Phase]) -> usize
+    ensures { result ≡ count_by is_at_dead_in phases.now }
+{
+    let mut count = 0;
+    for phase in phases {
+        if place::is_dead_in(*phase) {
+            count += 1;
+        }
+    }
+    count
+}
+
+/// Are all these ready?
+fn all_ready(phases: &[Phase], names: &[u64]) -> bool
+    ensures { IsTrue result ↔ All (λ q. is_at_ready (phase_in phases.now q) ≡ true) names.now }
+{
+    for name in names {
+        if !place::is_ready(phase_at(phases, *name)) {
+            return false;
+        }
+    }
+    true
+}
+
+/// Is it its sender's next message, behind as many as counted?
+fn is_next(counts: &[u64; 64], procs: u64, message: &Message) -> bool
+    requires { procs ≤ 64 }
+    ensures { IsTrue result ↔ ((message.now.sender < procs) × (message.now.seq ≡ slice_index counts.now message.now.sender + 1)) }
+{
+    message.sender < procs && message.seq.checked_sub(1) == Some(counts[message.sender as usize])
+}
+
+/// No message of anyone.
+fn nothing_counted() -> [u64; 64]
+    ensures none { Lists result 64 (λ p. 0) }
+    ensures len { length result ≡ 64 }
+{
+    [0; 64]
+}
+
+/// How many messages of each sender there are, where each is its sender's next one.
+fn counted(procs: u64, shown: &[Message]) -> Option<[u64; 64]>
+    requires { procs ≤ 64 }
+    ensures counts { IfSome result (λ counts. Lists counts 64 (λ p. count_by (is_by p) shown.now)) }
+    ensures numbered { IsSome result ↔ AreNumbered procs shown.now }
+{
+    let mut counts = nothing_counted();
+    for message in shown {
+        if !is_next(&counts, procs, message) {
+            return None;
+        }
+        counts[message.sender as usize] += 1;
+    }
+    Some(counts)
+}
+
+/// Are all of all these sets ready?
+fn all_sets_ready(phases: &[Phase], sets: &[Vec<u64>]) -> bool
+    ensures { IsTrue result ↔ All (All (λ q. is_at_ready (phase_in phases.now q) ≡ true)) (map (λ names. names.items) sets.now) }
+{
+    for names in sets {
+        if !all_ready(phases, names) {
+            return false;
+        }
+    }
+    true
+}
+
+/// Can a judge start from these phases and sets?
+fn lock_holds(start: &Start) -> bool
+    ensures { IsTrue result ↔ LockHolds start.now }
+{
+    let phases = start.phases.as_slice();
+    let sets = start.ahead.as_slice();
+    phases.len() as u64 == start.procs
+        && sets.len() as u64 == start.procs
+        && !place::anyone_inside(phases)
+        && dead_in(phases) <= 1
+        && all_sets_ready(phases, sets)
+}
+
+/// Can this be pending?
+fn pending_holds(start: &Start, counts: &[u64; 64]) -> bool
+    requires few { start.now.procs ≤ 64 }
+    requires counts { Lists counts.now 64 (λ p. count_by (is_by p) start.now.shown) }
+    ensures { IsTrue result ↔ (IfSome start.now.pending (λ m. IsNext start.now.procs start.now.shown m × (length start.now.shown < start.now.cap)) × (start.now.closed ≡ true → is_none start.now.pending ≡ true)) }
+{
+    match &start.pending {
+        None => true,
+        Some(message) => {
+            !start.closed
+                && (start.shown.as_slice().len() as u64) < start.cap
+                && is_next(counts, start.procs, message)
+        }
+    }
+}
+
+/// How many messages of each sender are shown, where a judge can start from what is shown and pending.
+fn mail_counts(start: &Start) -> Option<[u64; 64]>
+    requires { start.now.procs ≤ 64 }
+    ensures counts { IfSome result (λ counts. Lists counts 64 (λ p. count_by (is_by p) start.now.shown)) }
+    ensures holds { IsSome result ↔ MailHolds start.now }
+{
+    let shown = start.shown.as_slice();
+    let counts = counted(start.procs, shown)?;
+    if shown.len() as u64 > start.cap || !pending_holds(start, &counts) {
+        return None;
+    }
+    Some(counts)
+}
+
+/// How many messages of each sender are shown, where a judge of at most 64 processes can start from this.
+pub(crate) fn counts(start: &Start) -> Option<[u64; 64]>
+    requires { start.now.procs ≤ 64 }
+    ensures counts { IfSome result (λ counts. Lists counts 64 (λ p. count_by (is_by p) start.now.shown)) }
+    ensures holds { IsSome result ↔ (LockHolds start.now × MailHolds start.now) }
+{
+    if !lock_holds(start) {
+        return None;
+    }
+    mail_counts(start)
+}

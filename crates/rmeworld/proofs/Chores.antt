@@ -1,0 +1,191 @@
+-- What a process's machine does is what the definition says, at whatever spot it stands.
+use Rattle.std.proofs.Common.{◌≡◌, ℕ, Bool, true, false, ◌&&◌, ◌==◌, if◌then◌else◌, List, [], ◌∷◌, Result, Ok, Err, OnErr, Option, Some, None, IsSome, IfSome, unwrap_or, refl, sym, ap, ◌∙◌, subst, inl, inr, eq-eqb}
+use Rattle.std.proofs.lemmas.Bool.{cases_Bool}
+use Rattle.rmecore.specs.Place.{Place, Rest, Dead, Wait, Inside, next}
+use Rattle.rmecore.specs.declared.refusal.Refusal.{Refusal}
+use Rattle.rmeworld.specs.declared.call.Call.{Call}
+use Rattle.rmeworld.specs.declared.call.Call.TheVariants.{Lock, Unlock, Consistent, Recover, Append, Close, Get, Put, Withdraw}
+use Rattle.rmeworld.specs.Refused.{first_cause, start_refusal}
+use Rattle.rmecore.specs.Machine.{Standing, progress, quiet, after_access, next_access as lock_access, kind_of, word_of, carried, IsAllowed as IsLockAllowed}
+use Rattle.rmecore.specs.declared.access.Access.{Access}
+use Rattle.redomail.specs.declared.layout.Layout.{Layout}
+use Rattle.redomail.specs.declared.reply.Reply.{Reply}
+use Rattle.redomail.specs.declared.reply.Reply.TheVariants.{Ruined}
+use Rattle.redomail.specs.declared.task.Task.TheVariants as task
+use Rattle.redomail.specs.Script.{Script, Get as Asks, Put as Writes, Done, head, tail}
+use Rattle.redomail.specs.declared.next.Next.TheVariants as want
+use Rattle.redomail.specs.Tasks.{script}
+use Rattle.redomail.specs.Left.{Pending, left, begun}
+use Rattle.rmeworld.specs.declared.answer.Answer.TheVariants.{NotRecoverable}
+use Rattle.rmeworld.specs.declared.errand.Errand.{Errand as Chore}
+use Rattle.rmeworld.specs.declared.errand.Errand.TheVariants.{Free as IsFree, Asking, Doing as Does}
+use Rattle.rmeworld.specs.declared.why.Why.{Why}
+use Rattle.rmeworld.specs.declared.why.Why.TheVariants.{Checking, Mending}
+use Rattle.rmeworld.specs.Answered.{by_lock, by_script}
+use Rattle.rmeworld.specs.Entered.{is_entry}
+use Rattle.rmeworld.specs.Errands.{errand_of, HasStep, Held}
+use Rattle.rmeworld.specs.Spot.{Errand, Free, Doing, Spot, only_spot, begun_from, moved_by, mended_entered, errand_entered, at_lock, settled, end_place, end_mended, end_barred}
+use Rattle.rmeworld.specs.Stand.{Stand, outcome, IsAllowed, spot_of, standing, lock_moved, job_left, stepped_by, access_by, next_access, after_at, spot_after}
+use Rattle.rmeworld.proofs.Entries.{stays}
+
+-- the process with this to do
+abbrev pub with : Stand → Chore → Stand
+with s e = record s { errand = e }
+
+abbrev pub Goes : Stand → Chore → ℕ → Type 0
+Goes s e v = spot_of (stepped_by s e v) ≡ spot_after (with s e) (next_access (with s e)) v
+
+checks : (l : Layout) (p : ℕ) (b : Bool) → errand_of (if b then Does Checking (begun l p task.Check) else IsFree) ≡ (if b then Doing Checking (script l p task.Check) else Free)
+checks l p true = refl
+checks l p false = refl
+
+at_lock_goes : (s : Stand) (o : Option Place) → IsSome o
+    → unwrap_or (at_lock s.layout s.index s.lock s.mended s.barred o) (spot_of (with s IsFree)) ≡ record { lock = unwrap_or o s.lock; mended = mended_entered s.mended s.lock (unwrap_or o s.lock); barred = s.barred; errand = errand_entered s.layout s.index s.lock (unwrap_or o s.lock) }
+at_lock_goes s None some = cc
+at_lock_goes s (Some t) some = refl
+
+-- a step of the lock's part
+pub lock_goes : (s : Stand) (v : ℕ) → IfSome (lock_access (standing s)) (IsLockAllowed (standing s)) → Goes s IsFree v
+lock_goes s v h = by (lock_access (standing s)) h
+  where
+    by : (o : Option Access) → IfSome o (IsLockAllowed (standing s)) → spot_of (lock_moved s (after_access (standing s) o v)) ≡ spot_after (with s IsFree) o v
+    by None h =
+        let calm = stays s.lock in
+        λ i. record { lock = s.lock; mended = sym (calm.1 s.mended) i; barred = s.barred; errand = (ap (λ b. errand_of (if b then Does Checking (begun s.layout s.index task.Check) else IsFree)) (sym calm.0)) i }
+    by (Some a) h =
+        let t : Place = after_access (standing s) (Some a) v in
+        (λ i. record { lock = t; mended = mended_entered s.mended s.lock t; barred = s.barred; errand = checks s.layout s.index (is_entry s.lock t) i })
+        ∙ sym (at_lock_goes s (next s.layout.procs s.limit s.index s.lock (kind_of a) (word_of a) (carried a v)) (h v))
+
+step_settled : (b c : Bool) (why : Why) (e : Script Reply) → HasStep e → settled b c why e ≡ record { lock = Inside; mended = b; barred = c; errand = Doing why e }
+step_settled b c why (Asks i rest) h = refl
+step_settled b c why (Writes i v rest) h = refl
+step_settled b c why (Done reply) h = absurd h
+
+-- the get of ruined with which consistent begins
+pub ask_goes : (s : Stand) (job : Pending) (v : ℕ) → Held (Asking job) s.lock → Goes s (Asking job) v
+ask_goes s job v h = by (v == 1)
+  where
+    by : (b : Bool) → spot_of (if b then record s { errand = IsFree } else record s { errand = Does Mending job }) ≡ settled s.mended s.barred Mending (if b then Done (Ruined true) else left job)
+    by true = λ i. record { lock = h.0 i; mended = s.mended; barred = s.barred; errand = Free }
+    by false = (λ i. record { lock = h.0 i; mended = s.mended; barred = s.barred; errand = Doing Mending (left job) }) ∙ sym (step_settled s.mended s.barred Mending (left job) h.1)
+
+-- with this script left, or its reply
+left_goes : (s : Stand) (why : Why) (job : Pending) (e : Script Reply) → left job ≡ e → s.lock ≡ Inside → spot_of (job_left s why job e) ≡ settled s.mended s.barred why e
+left_goes s why job (Done reply) is f = refl
+left_goes s why job (Asks i rest) is f = λ k. record { lock = f k; mended = s.mended; barred = s.barred; errand = Doing why (is k) }
+left_goes s why job (Writes i v rest) is f = λ k. record { lock = f k; mended = s.mended; barred = s.barred; errand = Doing why (is k) }
+
+-- a step of a script
+pub job_goes : (s : Stand) (why : Why) (job job' : Pending) (v : ℕ) → Held (Does why job) s.lock → left job' ≡ tail (left job) v
+    → spot_of (job_left s why job' (left job')) ≡ spot_after (with s (Does why job)) (next_access (with s (Does why job))) v
+job_goes s why job job' v h e = left_goes s why job' (left job') refl h.0 ∙ ap (settled s.mended s.barred why) e ∙ by (left job) h.1
+  where
+    by : (x : Script Reply) → HasStep x → settled s.mended s.barred why (tail x v) ≡ after_at s.layout s.limit s.index (record { lock = s.lock; mended = s.mended; barred = s.barred; errand = Doing why x }) (access_by s.limit s.index s.lock (Doing why x)) v
+    by (Asks i rest) h = let own : (i == i) ≡ true = eq-eqb i i refl in rw own refl
+    by (Writes i x rest) h =
+        let own : (i == i) ≡ true = eq-eqb i i refl in
+        let same : (x == x) ≡ true = eq-eqb x x refl in
+        rw (own, same) refl
+    by (Done reply) h = absurd h
+
+-- what the step of a script answers while another comes
+pub nothing_answered : (why : Why) (b : Bool) (e : Script Reply) → HasStep e → by_script why b e ≡ None
+nothing_answered why b (Asks i rest) h = refl
+nothing_answered why b (Writes i v rest) h = refl
+nothing_answered why b (Done reply) h = absurd h
+
+-- what the get of ruined with which consistent begins answers
+pub asked_answers : (b : Bool) (c : Bool) (e : Script Reply) → HasStep e → by_script Mending b (if c then Done (Ruined true) else e) ≡ (if c then Some NotRecoverable else None)
+asked_answers b true e h = refl
+asked_answers b false e h = nothing_answered Mending b e h
+
+at_lock_some : (l : Layout) (p : ℕ) (s : Place) (b c : Bool) (o : Option Place) → IsSome o → IsSome (at_lock l p s b c o)
+at_lock_some l p s b c None some = some
+at_lock_some l p s b c (Some t) some = refl
+
+-- the lock's step is allowed, whatever a load reads
+pub lock_allowed : (s : Stand) → IfSome (lock_access (standing s)) (IsLockAllowed (standing s)) → IfSome (next_access (with s IsFree)) (IsAllowed (with s IsFree))
+lock_allowed s h = by (lock_access (standing s)) h
+  where
+    by : (o : Option Access) → IfSome o (IsLockAllowed (standing s)) → IfSome o (IsAllowed (with s IsFree))
+    by None h = tt
+    by (Some a) h = λ v. at_lock_some s.layout s.index s.lock s.mended s.barred _ (h v)
+
+-- and so is a script's
+pub script_allowed : (s : Stand) (why : Why) (job : Pending) → IfSome (next_access (with s (Does why job))) (IsAllowed (with s (Does why job)))
+script_allowed s why job = by (left job)
+  where
+    by : (x : Script Reply) → IfSome (access_by s.limit s.index s.lock (Doing why x)) (λ a. (v : ℕ) → IsSome (moved_by s.layout s.limit s.index s.lock s.mended s.barred (Doing why x) (kind_of a) (word_of a) (carried a v)))
+    by (Asks i rest) = λ v. let own : (i == i) ≡ true = eq-eqb i i refl in rw own refl
+    by (Writes i x rest) = λ v.
+        let own : (i == i) ≡ true = eq-eqb i i refl in
+        let same : (x == x) ≡ true = eq-eqb x x refl in
+        rw (own, same) refl
+    by (Done reply) = tt
+
+-- what a step of the lock's part is
+pub lock_outcome : (s : Stand) (v : ℕ)
+    → outcome (with s IsFree) (next_access (with s IsFree)) v ≡ record { progress = progress (standing s) (lock_access (standing s)) v; answer = by_lock s.barred (progress (standing s) (lock_access (standing s)) v).done }
+lock_outcome s v = by (lock_access (standing s))
+  where
+    by : (o : Option Access) → outcome (with s IsFree) o v ≡ record { progress = progress (standing s) o v; answer = by_lock s.barred (progress (standing s) o v).done }
+    by None = refl
+    by (Some a) = refl
+
+-- what the lock's machine is, seen by the process
+pub standing_is : (s : Stand) (t : Standing) → t.procs ≡ s.layout.procs → t.limit ≡ s.limit → t.index ≡ s.index → t.place ≡ s.lock → standing s ≡ t
+standing_is s t a b c d = λ i. record { procs = sym a i; limit = sym b i; index = sym c i; place = sym d i }
+
+failing : (test : Bool) (r e : Refusal) (spot : Spot) → first_cause ((test, r) ∷ []) ≡ Some e → only_spot test spot ≡ None
+failing true r e spot h = cc
+failing false r e spot h = refl
+
+failing_both : (b test : Bool) (q r e : Refusal) (spot : Spot) → first_cause ((b, q) ∷ (test, r) ∷ []) ≡ Some e → only_spot (b && test) spot ≡ None
+failing_both true test q r e spot h = failing test r e spot h
+failing_both false true q r e spot h = refl
+failing_both false false q r e spot h = refl
+
+-- a start that is refused isn't allowed
+pub refuses : (l : Layout) (p : ℕ) (s : Place) (b c : Bool) (e : Errand) (call : Call) (r : Refusal)
+    → start_refusal l (record { lock = s; mended = b; barred = c; errand = e }) call ≡ Some r → begun_from l p s b e call ≡ None
+refuses l p s b c (Doing why left) call r h = refl
+refuses l p Inside b c Free (Append seq value) r h = failing_both b _ _ _ _ _ h
+refuses l p Inside b c Free Close r h = failing b _ _ _ h
+refuses l p Inside b c Free (Get i) r h = failing _ _ _ _ h
+refuses l p Inside b c Free (Put i v) r h = failing _ _ _ _ h
+refuses l p Inside true c Free Unlock r h = cc
+refuses l p Inside false c Free Unlock r h = cc
+refuses l p Inside false c Free Consistent r h = cc
+refuses l p Rest b c Free Lock r h = cc
+refuses l p Dead b c Free Lock r h = cc
+refuses l p Rest b c Free Recover r h = cc
+refuses l p Dead b c Free Recover r h = cc
+refuses l p (Wait k unpassed looked) b c Free Withdraw r h = cc
+refuses l p s true c Free Lock r h = refl
+refuses l p s false c Free Lock r h = refl
+refuses l p s true c Free Recover r h = refl
+refuses l p s false c Free Recover r h = refl
+refuses l p s true c Free Withdraw r h = refl
+refuses l p s false c Free Withdraw r h = refl
+refuses l p s true c Free Unlock r h = refl
+refuses l p s false c Free Unlock r h = refl
+refuses l p s true c Free Consistent r h = refl
+refuses l p s false c Free Consistent r h = refl
+refuses l p s true c Free (Append seq value) r h = refl
+refuses l p s false c Free (Append seq value) r h = refl
+refuses l p s true c Free Close r h = refl
+refuses l p s false c Free Close r h = refl
+refuses l p s true c Free (Get i) r h = refl
+refuses l p s false c Free (Get i) r h = refl
+refuses l p s true c Free (Put i v) r h = refl
+refuses l p s false c Free (Put i v) r h = refl
+
+pub is_done : (e : Script Reply) (reply : Reply) → head e ≡ want.Done reply → e ≡ Done reply
+is_done (Done a) reply h = cc
+is_done (Asks i rest) reply h = cc
+is_done (Writes i v rest) reply h = cc
+
+pub always_err : {T E : Type 0} (r : Result T E) (P : Type 0) → P → OnErr r P
+always_err (Ok x) P h = tt
+always_err (Err e) P h = h

@@ -1,0 +1,406 @@
+-- What each happening leaves: its deeds are allowed, and everything that is known stands after it.
+use Rattle.std.proofs.Common.{◌≡◌, ◌≢◌, ℕ, ◌<◌, Bool, true, false, ◌&&◌, ◌||◌, ◌==◌, nat_lt, length, List, [], ◌∷◌, ◌++◌, Option, Some, None, is_none, Ok, refl, sym, ap, ◌∙◌, subst, inl, inr, ◌⊎◌, arith}
+use Rattle.std.proofs.lemmas.Bool.{cases_Bool, cases_eq, true≢false, ltb-true, lt-ltb}
+use Rattle.rmecore.specs.Needs.{AllHold, put}
+use Rattle.rmecore.specs.AbstractLock.{Abstract, is_inside, crashed, needs, done}
+use Rattle.rmecore.specs.Place.{Place, Rest, Dead, Reread, Opening, Door, Shutting, Wait, Inside, Leaving, Withdrawing, Unmarking, next, started}
+use Rattle.rmecore.specs.Sole.{IsIn, Sole}
+use Rattle.rmecore.specs.Turn.{Elsewhere, Plain, Turn, Enters, Reenters, Exits, Same, Else}
+use Rattle.rmecore.specs.World.{step_deed}
+use Rattle.rmecore.specs.declared.core_call.CoreCall.{CoreCall}
+use Rattle.rmecore.specs.declared.core_call.CoreCall.TheVariants as core
+use Rattle.rmecore.specs.declared.kind.Kind.{Kind}
+use Rattle.rmecore.specs.declared.outer.Outer.{Outer}
+use Rattle.rmecore.specs.declared.outer.Outer.TheVariants.{Begin, Ready, Enter, Crash, Reenter, Leave, Quit}
+use Rattle.rmecore.specs.declared.phase.Phase.{Phase}
+use Rattle.rmecore.specs.declared.phase.Phase.TheVariants as phase
+use Rattle.rmecore.specs.declared.word.Word.{Word}
+use Rattle.rmecore.proofs.Allowing.{Allows, allows_from}
+use Rattle.rmecore.proofs.Invariant.{put_same, put_other}
+use Rattle.rmecore.proofs.Soles.{sole_done}
+use Rattle.rmecore.proofs.Turns.{turn}
+use Rattle.redomail.specs.declared.deed.Deed.{Deed}
+use Rattle.redomail.specs.declared.deed.Deed.TheVariants as deed
+use Rattle.redomail.specs.declared.layout.Layout.{Layout}
+use Rattle.redomail.specs.declared.task.Task.TheVariants as task
+use Rattle.redomail.specs.declared.reply.Reply.{Reply}
+use Rattle.redomail.specs.Deeds.{deeds_of_put}
+use Rattle.redomail.specs.Layout.{Words, IsLayout}
+use Rattle.redomail.specs.Leads.{MailLeads, AreOwn}
+use Rattle.redomail.specs.Mailbox.{Mailbox, row as mail_row, done as mail_done}
+use Rattle.redomail.specs.Script.{Script, Get as Asks, Put as Writes}
+use Rattle.redomail.specs.Shape.{Shape, bit}
+use Rattle.redomail.specs.Tasks.{script, consistent}
+use Rattle.redomail.proofs.Owns.{puts_are_own}
+use Rattle.redomail.proofs.Passes.{shape_passes_on, may_leave}
+use Rattle.redomail.proofs.Safe.{seen}
+use Rattle.judge.specs.Legal.{and_then, judged_all, Leads}
+use Rattle.judge.specs.Table.{State}
+use Rattle.judge.proofs.Halves.{AllHold-append, judged-allowed}
+use Rattle.rmeworld.specs.declared.call.Call.{Call}
+use Rattle.rmeworld.specs.declared.call.Call.TheVariants.{Lock, Unlock, Consistent, Recover, Append, Close, Get, Put, Withdraw}
+use Rattle.rmeworld.specs.declared.why.Why.{Why}
+use Rattle.rmeworld.specs.declared.why.Why.TheVariants.{Checking, Ruining, Mending, Working}
+use Rattle.rmeworld.specs.Spot.{Errand, Free, Doing, Spot, dead, settled, errand_entered, mended_entered, at_lock, begun_from}
+use Rattle.rmeworld.specs.World.{outer_deeds}
+use Rattle.rmeworld.specs.Law.{ErrandTells}
+use Rattle.rmeworld.proofs.Projection.{at_lock_some, begun, inside_some}
+use Rattle.rmeworld.proofs.Knowing.{Clean, Work, Post, PostAt, settled_post, Post-out, checking, ruining, mending, appending, closing, getting, putting, work_tells}
+
+abbrev pub done_by : Abstract → Option Outer → Abstract
+done_by a None = a
+done_by a (Some d) = done a d
+
+abbrev pub AllowsBy : ℕ → Abstract → Option Outer → Type 0
+AllowsBy n a None = Unit {0}
+AllowsBy n a (Some d) = AllHold (needs n a d)
+
+-- the judge's state over this lock and this mailbox
+abbrev pub judge_of : Layout → Abstract → Mailbox → State
+judge_of l a m = record { procs = l.procs; cap = l.cap; lock = a; mail = m }
+
+abbrev pub by : Outer → ℕ
+by (Begin p) = p
+by (Ready p) = p
+by (Enter p) = p
+by (Crash p) = p
+by (Reenter p) = p
+by (Leave p) = p
+by (Quit p) = p
+
+phase_other : (a : Abstract) (d : Outer) (q : ℕ) → q ≢ by d → (done a d).phase q ≡ a.phase q
+phase_other a (Begin p) q ne = put_other a.phase p phase.Door q ne
+phase_other a (Ready p) q ne = put_other a.phase p phase.Ready q ne
+phase_other a (Enter p) q ne = put_other a.phase p phase.Inside q ne
+phase_other a (Crash p) q ne = put_other a.phase p (crashed (a.phase p)) q ne
+phase_other a (Reenter p) q ne = put_other a.phase p phase.Inside q ne
+phase_other a (Leave p) q ne = put_other a.phase p phase.Out q ne
+phase_other a (Quit p) q ne = put_other a.phase p phase.Out q ne
+
+-- What stands of the mailbox at any point, beside what each process knows: one process at most is in, alive or dead, the
+-- words have the shape for it, and where nobody is in they are clean or ruined.
+pub record Kept (l : Layout) (a : Abstract) (w : Words) (m : Mailbox) : Type 0 where
+  pub sole : Sole l.procs a
+  pub shape : (q : ℕ) → ((r : ℕ) → r < l.procs → IsIn (a.phase r) → r ≡ q) → Shape l q w m
+  pub rest : ((r : ℕ) → r < l.procs → IsIn (a.phase r) → ⊥) → w 0 ≡ 0 → w 3 ≡ 0
+
+shape_in : (l : Layout) (a : Abstract) (w : Words) (m : Mailbox) (p : ℕ) → Kept l a w m → p < l.procs → IsIn (a.phase p) → Shape l p w m
+shape_in l a w m p k below i = k.shape p (λ r lt j. k.sole r p lt below j i)
+
+-- clean or ruined, by what the mailbox says
+clean_by : (l : Layout) (p : ℕ) (w : Words) (m : Mailbox) → Shape l p w m → (w 0 ≡ 0 → w 3 ≡ 0) → (w 3 ≡ 0) ⊎ (m.ruined ≡ true)
+clean_by l p w m h clean = elim (cases_Bool m.ruined) [ inl t ↦ inr t | inr f ↦ inl (clean (h.ruined ∙ ap bit f)) ]
+
+-- who stays in when p's phase is put
+crashed_in : (ph : Phase) → IsIn ph → IsIn (crashed ph)
+crashed_in phase.Out h = h
+crashed_in phase.Door h = h
+crashed_in phase.Ready h = h
+crashed_in phase.Inside h = tt
+crashed_in phase.DeadIn h = tt
+
+more_put : (f : ℕ → Phase) (p : ℕ) (x : Phase) (q : ℕ) → (IsIn (f p) → IsIn x) → IsIn (f q) → IsIn (put f p x q)
+more_put f p x q go h =
+    elim (cases_eq q p) [
+      | inl e ↦ subst (λ r. IsIn (put f p x r)) (sym e) (subst IsIn (sym (put_same f p x)) (go (subst (λ r. IsIn (f r)) e h)))
+      | inr ne ↦ subst IsIn (sym (put_other f p x q ne)) h
+    ]
+
+abbrev pub IsLeave : Outer → Type 0
+IsLeave (Leave p) = Unit {0}
+IsLeave _ = ⊥
+
+out_of : (ph x : Phase) → ph ≡ x → (IsIn x → ⊥) → IsIn ph → ⊥
+out_of ph x e h i = h (subst IsIn e i)
+
+more_in : (n : ℕ) (a : Abstract) (d : Outer) (q : ℕ) → Allows n a d → (IsLeave d → ⊥) → IsIn (a.phase q) → IsIn ((done a d).phase q)
+more_in n a (Begin p) q h ne i = more_put a.phase p phase.Door q (out_of (a.phase p) phase.Out h.1 (λ x. x)) i
+more_in n a (Ready p) q h ne i = more_put a.phase p phase.Ready q (out_of (a.phase p) phase.Door h.1 (λ x. x)) i
+more_in n a (Enter p) q h ne i = more_put a.phase p phase.Inside q (λ x. tt) i
+more_in n a (Crash p) q h ne i = more_put a.phase p (crashed (a.phase p)) q (crashed_in (a.phase p)) i
+more_in n a (Reenter p) q h ne i = more_put a.phase p phase.Inside q (λ x. tt) i
+more_in n a (Leave p) q h ne i = absurd (ne tt)
+more_in n a (Quit p) q h ne i =
+    more_put a.phase p phase.Out q (elim h.1 [ inl e ↦ out_of (a.phase p) phase.Door e (λ x. x) | inr e ↦ out_of (a.phase p) phase.Ready e (λ x. x) ]) i
+
+pub record Outcome (l : Layout) (a : Abstract) (w : Words) (m : Mailbox) (p : ℕ) (d : Option Outer) (ds : List Deed) (w' : Words) (spot : Spot) : Type 0 where
+  pub mail : Mailbox
+  pub leads : Leads (judge_of l a m) (outer_deeds d ++ ds) (judge_of l (done_by a d) mail)
+  pub kept : Kept l (done_by a d) w' mail
+  pub here : PostAt l p ((done_by a d).phase p) w' mail spot
+  pub others : (q : ℕ) → q < l.procs → q ≢ p → (x : Spot) → PostAt l q (a.phase q) w m x → PostAt l q ((done_by a d).phase q) w' mail x
+
+module _ (l : Layout) (a : Abstract) (w : Words) (m : Mailbox) (p : ℕ) (layout : IsLayout l) (below : p < l.procs) (k : Kept l a w m) where
+  abbrev Goes : Option Outer → Spot → Type 0
+  Goes d spot = Outcome l a w m p d [] w spot
+
+  pub nothing : (spot : Spot) → PostAt l p (a.phase p) w m spot → Goes None spot
+  nothing spot h = record { mail = m; leads = refl; kept = k; here = h; others = λ q lt ne x y. y }
+
+  -- what a leaving process knows
+  abbrev LeavesClean : Outer → Type 0
+  LeavesClean (Leave q) = w 0 ≡ 0 → w 3 ≡ 0
+  LeavesClean _ = Unit {0}
+
+  -- what the mailbox needs for a deed of the lock
+  mail_allows : (d : Outer) (inside : Bool) → Allows l.procs a d → LeavesClean d → AllHold (mail_row l.cap inside m (deed.Outer d))
+  mail_allows (Begin q) inside h c = tt
+  mail_allows (Ready q) inside h c = tt
+  mail_allows (Enter q) inside h c = tt
+  mail_allows (Crash q) inside h c = tt
+  mail_allows (Reenter q) inside h c = tt
+  mail_allows (Leave q) inside h c =
+      let here = shape_in l a w m q k h.0 (subst IsIn (sym h.1) tt) in
+      may_leave l q q l.cap w m (clean_by l q w m here c) here
+  mail_allows (Quit q) inside h c = tt
+
+  leads_to : (d : Outer) → AllHold (needs l.procs a d) → LeavesClean d → Leads (judge_of l a m) (deed.Outer d ∷ []) (judge_of l (done a d) m)
+  leads_to d may c =
+      ap (λ r. and_then r (λ t. Ok t))
+      (judged-allowed (judge_of l a m) (deed.Outer d) (may.0, AllHold-append _ _ may.1 (mail_allows d (is_inside (a.phase (by_doer d))) (allows_from l.procs a d may) c)))
+    where
+      by_doer : Outer → ℕ
+      by_doer d = by d
+
+  -- any deed but Leave: who is in stays in
+  stays : (d : Outer) → AllHold (needs l.procs a d) → (IsLeave d → ⊥) → Kept l (done a d) w m
+  stays d may ne =
+      let h = allows_from l.procs a d may in
+      record {
+        sole = sole_done l.procs a d may k.sole;
+        shape = λ q only. k.shape q (λ r lt i. only r lt (more_in l.procs a d r h ne i));
+        rest = λ none. k.rest (λ r lt i. none r lt (more_in l.procs a d r h ne i));
+      }
+
+  leaves : (q : ℕ) → AllHold (needs l.procs a (Leave q)) → (w 0 ≡ 0 → w 3 ≡ 0) → Kept l (done a (Leave q)) w m
+  leaves q may clean =
+      let h = allows_from l.procs a (Leave q) may in
+      let here = shape_in l a w m q k h.0 (subst IsIn (sym h.1) tt) in
+      record {
+        sole = sole_done l.procs a (Leave q) may k.sole;
+        shape = λ r only. shape_passes_on l q r w m (clean_by l q w m here clean) here;
+        rest = λ none. clean;
+      }
+
+  after_outer : (d : Outer) → AllHold (needs l.procs a d) → LeavesClean d → Kept l (done a d) w m
+  after_outer (Begin q) h c = stays (Begin q) h (λ z. z)
+  after_outer (Ready q) h c = stays (Ready q) h (λ z. z)
+  after_outer (Enter q) h c = stays (Enter q) h (λ z. z)
+  after_outer (Crash q) h c = stays (Crash q) h (λ z. z)
+  after_outer (Reenter q) h c = stays (Reenter q) h (λ z. z)
+  after_outer (Leave q) h c = leaves q h c
+  after_outer (Quit q) h c = stays (Quit q) h (λ z. z)
+
+  -- a deed of the lock
+  by_deed : (d : Outer) (spot : Spot) → by d ≡ p → AllHold (needs l.procs a d) → LeavesClean d → (Kept l (done a d) w m → PostAt l p ((done a d).phase p) w m spot) → Goes (Some d) spot
+  by_deed d spot own may clean here =
+      let kept = after_outer d may clean in
+      record {
+        mail = m;
+        leads = leads_to d may clean;
+        kept = kept;
+        here = here kept;
+        others =
+            λ q lt ne x h.
+            let same : (done a d).phase q ≡ a.phase q = phase_other a d q (λ e. ne (e ∙ own)) in
+            subst (λ ph. PostAt l q ph w m x) (sym same) h;
+      }
+
+  shape_of : a.phase p ≡ phase.Inside → Shape l p w m
+  shape_of h = shape_in l a w m p k below (subst IsIn (sym h) tt)
+
+  inside_row : (m : Mailbox) (d : Deed) (q : ℕ) → q ≡ p → a.phase p ≡ phase.Inside → AllHold (mail_row l.cap true m d) → AllHold (mail_row l.cap (is_inside (a.phase q)) m d)
+  inside_row m d q own h row =
+      let inside : is_inside (a.phase q) ≡ true = ap is_inside (ap a.phase own ∙ h) in
+      subst (λ b. AllHold (mail_row l.cap b m d)) (sym inside) row
+
+  -- deeds of the mailbox by p, which is inside
+  mail_leads : (m t : Mailbox) (ds : List Deed) → a.phase p ≡ phase.Inside → AreOwn p ds → MailLeads l.cap m ds t → Leads (judge_of l a m) ds (judge_of l a t)
+  mail_leads m t [] h own leads = ap (λ x. Ok (judge_of l a x)) leads
+  mail_leads m t (deed.Outer d ∷ ds) h own leads = absurd own.0
+  mail_leads m t (deed.Commit q seq v ∷ ds) h own leads =
+      ap (λ r. and_then r (λ x. judged_all x ds)) (judged-allowed (judge_of l a m) (deed.Commit q seq v) (lt-ltb q l.procs (rw own.0 below), inside_row m (deed.Commit q seq v) q own.0 h leads.0)) ∙ mail_leads (mail_done m (deed.Commit q seq v)) t ds h own.1 leads.1
+  mail_leads m t (deed.Show q at seq v ∷ ds) h own leads =
+      ap (λ r. and_then r (λ x. judged_all x ds)) (judged-allowed (judge_of l a m) (deed.Show q at seq v) (lt-ltb q l.procs (rw own.0 below), inside_row m (deed.Show q at seq v) q own.0 h leads.0)) ∙ mail_leads (mail_done m (deed.Show q at seq v)) t ds h own.1 leads.1
+  mail_leads m t (deed.Close q ∷ ds) h own leads =
+      ap (λ r. and_then r (λ x. judged_all x ds)) (judged-allowed (judge_of l a m) (deed.Close q) (lt-ltb q l.procs (rw own.0 below), inside_row m (deed.Close q) q own.0 h leads.0)) ∙ mail_leads (mail_done m (deed.Close q)) t ds h own.1 leads.1
+  mail_leads m t (deed.Ruin q ∷ ds) h own leads =
+      ap (λ r. and_then r (λ x. judged_all x ds)) (judged-allowed (judge_of l a m) (deed.Ruin q) (lt-ltb q l.procs (rw own.0 below), inside_row m (deed.Ruin q) q own.0 h leads.0)) ∙ mail_leads (mail_done m (deed.Ruin q)) t ds h own.1 leads.1
+
+  -- a put of the process inside
+  by_put : (i v : ℕ) (spot : Spot) (t : Mailbox) → a.phase p ≡ phase.Inside → MailLeads l.cap m (deeds_of_put l p w i v) t → Shape l p (put w i v) t → PostAt l p (a.phase p) (put w i v) t spot
+      → Outcome l a w m p None (deeds_of_put l p w i v) (put w i v) spot
+  by_put i v spot t h leads shape here =
+      let me : IsIn (a.phase p) = subst IsIn (sym h) tt in
+      record {
+        mail = t;
+        leads = mail_leads m t (deeds_of_put l p w i v) h (puts_are_own l p w i v) leads;
+        kept = record {
+          sole = k.sole;
+          shape = λ q only. subst (λ x. Shape l x (put w i v) t) (only p below me) shape;
+          rest = λ none. absurd (none p below me);
+        };
+        here = here;
+        others =
+            λ q lt ne x y.
+            Post-out l q (a.phase q) w (put w i v) m t x.mended x.errand x.lock (λ e. ne (k.sole q p lt below (subst IsIn (sym e) tt) me)) y;
+      }
+
+  -- the lock's part
+  abbrev entry : Bool → Bool → Place → Place → Spot
+  entry b c from to = record { lock = to; mended = mended_entered b from to; barred = c; errand = errand_entered l p from to }
+
+  away : (ph : Phase) (u : Words) (x : Mailbox) (b c : Bool) (from to : Place) → Elsewhere to → PostAt l p ph u x (entry b c from to)
+  away ph u x b c from Rest h = tt
+  away ph u x b c from Dead h = tt
+  away ph u x b c from (Reread call seen) h = tt
+  away ph u x b c from Opening h = tt
+  away ph u x b c from (Door unread y) h = tt
+  away ph u x b c from (Shutting call y) h = tt
+  away ph u x b c from (Wait y unpassed looked) h = tt
+  away ph u x b c from Inside h = absurd (h)
+  away ph u x b c from Leaving h = absurd (h)
+  away ph u x b c from Withdrawing h = tt
+  away ph u x b c from (Unmarking call) h = tt
+
+  stay : (b c : Bool) (lock : Place) → Post l p (a.phase p) w m b Free lock → PostAt l p (a.phase p) w m (entry b c lock lock)
+  stay b c Rest h = tt
+  stay b c Dead h = tt
+  stay b c (Reread call seen) h = tt
+  stay b c Opening h = tt
+  stay b c (Door unread y) h = tt
+  stay b c (Shutting call y) h = tt
+  stay b c (Wait y unpassed looked) h = tt
+  stay b c Inside h = h
+  stay b c Leaving h = h
+  stay b c Withdrawing h = tt
+  stay b c (Unmarking call) h = tt
+
+  -- at an entry: the ruin check is begun on words of this shape
+  check : (b : Bool) (d : Outer) → Kept l (done a d) w m → (done a d).phase p ≡ phase.Inside → (b ≡ true → w 0 ≡ 0 → w 3 ≡ 0) → Work l p w m b Checking (script l p task.Check)
+  check b d kept is clean = checking l p w m layout below (shape_in l (done a d) w m p kept below (subst IsIn (sym is) tt)) b clean
+
+  enters : (b c : Bool) (y : ℕ) (unpassed : List ℕ) (looked : Option ℕ) → AllHold (needs l.procs a (Enter p)) → Goes (Some (Enter p)) (entry b c (Wait y unpassed looked) Inside)
+  enters b c y unpassed looked may =
+      let h = allows_from l.procs a (Enter p) may in
+      by_deed (Enter p) (entry b c (Wait y unpassed looked) Inside) refl may tt
+      (λ kept.
+      let is : (done a (Enter p)).phase p ≡ phase.Inside = put_same a.phase p phase.Inside in
+      (refl, is, check true (Enter p) kept is (λ _. k.rest (λ r lt i. nobody (a.phase r) (h.2 r lt) (h.3 r lt) i))))
+    where
+      nobody : (ph : Phase) → ph ≢ phase.Inside → ph ≢ phase.DeadIn → IsIn ph → ⊥
+      nobody phase.Inside x z i = x refl
+      nobody phase.DeadIn x z i = z refl
+      nobody phase.Out x z i = i
+      nobody phase.Door x z i = i
+      nobody phase.Ready x z i = i
+
+  back_in : (b c : Bool) (call : CoreCall) (seen : List ℕ) → Kept l (done a (Reenter p)) w m → PostAt l p ((done a (Reenter p)).phase p) w m (entry b c (Reread call seen) Inside)
+  back_in b c core.Lock seen kept =
+      let is : (done a (Reenter p)).phase p ≡ phase.Inside = put_same a.phase p phase.Inside in
+      (refl, is, check false (Reenter p) kept is (λ h. absurd (true≢false (sym h))))
+  back_in b c core.Recover seen kept = (put_same a.phase p phase.Inside, λ h. absurd (true≢false (sym h)))
+  back_in b c core.Unlock seen kept = (put_same a.phase p phase.Inside, λ h. absurd (true≢false (sym h)))
+  back_in b c core.Withdraw seen kept = (put_same a.phase p phase.Inside, λ h. absurd (true≢false (sym h)))
+
+  plain : (b c : Bool) (from to : Place) (d : Option Outer) → Elsewhere to → Plain p d → AllowsBy l.procs a d → Goes d (entry b c from to)
+  plain b c from to None h own may = nothing (entry b c from to) (away (a.phase p) w m b c from to h)
+  plain b c from to (Some (Begin q)) h own may = by_deed (Begin q) (entry b c from to) own may tt (λ kept. away _ w m b c from to h)
+  plain b c from to (Some (Ready q)) h own may = by_deed (Ready q) (entry b c from to) own may tt (λ kept. away _ w m b c from to h)
+  plain b c from to (Some (Quit q)) h own may = by_deed (Quit q) (entry b c from to) own may tt (λ kept. away _ w m b c from to h)
+  plain b c from to (Some (Enter q)) h own may = absurd (own)
+  plain b c from to (Some (Crash q)) h own may = absurd (own)
+  plain b c from to (Some (Reenter q)) h own may = absurd (own)
+  plain b c from to (Some (Leave q)) h own may = absurd (own)
+
+  turned : (b c : Bool) (from to : Place) (d : Option Outer) → Turn p from to d → AllowsBy l.procs a d → Post l p (a.phase p) w m b Free from → Goes d (entry b c from to)
+  turned b c from to d (Enters y unpassed looked e f g) may h =
+      let may' : AllHold (needs l.procs a (Enter p)) = subst (AllowsBy l.procs a) g may in
+      subst (λ x. Goes x (entry b c from to)) (sym g) (subst (λ x. Goes (Some (Enter p)) (entry b c x to)) (sym e) (subst (λ x. Goes (Some (Enter p)) (entry b c (Wait y unpassed looked) x)) (sym f) (enters b c y unpassed looked may')))
+  turned b c from to d (Reenters call seen e f g) may h =
+      let may' : AllHold (needs l.procs a (Reenter p)) = subst (AllowsBy l.procs a) g may in
+      subst (λ x. Goes x (entry b c from to)) (sym g) (subst (λ x. Goes (Some (Reenter p)) (entry b c x to)) (sym e) (subst (λ x. Goes (Some (Reenter p)) (entry b c (Reread call seen) x)) (sym f)
+      (by_deed (Reenter p) (entry b c (Reread call seen) Inside) refl may' tt (back_in b c call seen))))
+  turned b c from to d (Exits e f g) may h =
+      let may' : AllHold (needs l.procs a (Leave p)) = subst (AllowsBy l.procs a) g may in
+      let known : Post l p (a.phase p) w m b Free Leaving = subst (λ x. Post l p (a.phase p) w m b Free x) e h in
+      subst (λ x. Goes x (entry b c from to)) (sym g) (by_deed (Leave p) (entry b c from to) refl may' known.1 (λ kept. away _ w m b c from to f))
+  turned b c from to d (Same e f) may h =
+      subst (λ x. Goes x (entry b c from to)) (sym f) (nothing (entry b c from to) (subst (λ x. PostAt l p (a.phase p) w m (entry b c from x)) e (stay b c from h)))
+  turned b c from to d (Else e f) may h = plain b c from to d e f may
+
+  pub falls : AllHold (needs l.procs a (Crash p)) → Goes (Some (Crash p)) dead
+  falls may = by_deed (Crash p) dead refl may tt (λ kept. tt)
+
+  -- starts
+  starts : (b : Bool) (lock : Place) (call : CoreCall) (to : Place) → started lock call ≡ Some to → (call ≡ core.Unlock → b ≡ true) → Post l p (a.phase p) w m b Free lock → PostAt l p (a.phase p) w m (entry b false lock to)
+  starts b Rest core.Lock to e whole h = let is : Reread core.Lock [] ≡ to = cc in away (a.phase p) w m b false Rest to (subst Elsewhere is tt)
+  starts b Rest core.Recover to e whole h = let is : Reread core.Recover [] ≡ to = cc in away (a.phase p) w m b false Rest to (subst Elsewhere is tt)
+  starts b Dead core.Lock to e whole h = let is : Reread core.Lock [] ≡ to = cc in away (a.phase p) w m b false Dead to (subst Elsewhere is tt)
+  starts b Dead core.Recover to e whole h = let is : Reread core.Recover [] ≡ to = cc in away (a.phase p) w m b false Dead to (subst Elsewhere is tt)
+  starts b Inside core.Unlock to e whole h =
+      let is : Leaving ≡ to = cc in
+      subst (λ x. PostAt l p (a.phase p) w m (entry b false Inside x)) is (h.0, λ z. (h.1 (whole refl)).1)
+  starts b (Wait y unpassed looked) core.Withdraw to e whole h = let is : Withdrawing ≡ to = cc in away (a.phase p) w m b false (Wait y unpassed looked) to (subst Elsewhere is tt)
+  starts b _ _ to e whole h = absurd (cc)
+
+  by_start : (b : Bool) (lock : Place) (call : CoreCall) (s' : Spot) → at_lock l p lock b false (started lock call) ≡ Some s' → (call ≡ core.Unlock → b ≡ true) → Post l p (a.phase p) w m b Free lock → Goes None s'
+  by_start b lock call s' e whole h =
+      let r = at_lock_some l p lock b false (started lock call) s' e in
+      subst (Goes None) r.spot (nothing (entry b false lock r.place) (starts b lock call r.place r.some whole h))
+
+  by_script : (b : Bool) (lock : Place) (fits : Bool) (why : Why) (e : Script Reply) (s' : Spot) → (lock ≡ Inside) × (fits ≡ true) × (begun b why e ≡ s') → Post l p (a.phase p) w m b Free lock
+      → (fits ≡ true → Shape l p w m → (b ≡ true → Clean w) → Work l p w m b why e) → Goes None s'
+  by_script b lock fits why e s' r h work =
+      let known : Post l p (a.phase p) w m b Free Inside = subst (λ x. Post l p (a.phase p) w m b Free x) r.0 h in
+      subst (Goes None) r.2 (nothing (begun b why e) (refl, known.0, work r.1 (shape_of known.0) known.1))
+
+  pub begins : (lock : Place) (b : Bool) (errand : Errand) (call : Call) (s' : Spot) → begun_from l p lock b errand call ≡ Some s' → Post l p (a.phase p) w m b errand lock → Goes None s'
+  begins lock b Free Lock s' e h = by_start b lock core.Lock s' e (λ x. absurd (cc)) h
+  begins lock b Free Recover s' e h = by_start b lock core.Recover s' e (λ x. absurd (cc)) h
+  begins lock b Free Withdraw s' e h = by_start b lock core.Withdraw s' e (λ x. absurd (cc)) h
+  begins lock true Free Unlock s' e h = by_start true lock core.Unlock s' e (λ _. refl) h
+  begins lock false Free Unlock s' e h =
+      by_script false lock true Ruining (script l p task.Ruin) s' (inside_some lock false true Ruining _ s' e) h (λ f i c. ruining l p w m layout below i false)
+  begins lock false Free Consistent s' e h =
+      by_script false lock true Mending (consistent l p) s' (inside_some lock false true Mending _ s' e) h (λ f i c. mending l p w m layout below i)
+  begins lock b Free (Append seq value) s' e h =
+      by_script b lock (b && (length value == l.width)) (Working (task.Append seq value)) _ s' (inside_some lock b _ _ _ s' e) h (λ f i c. appending l p w m layout below i b seq value f c)
+  begins lock b Free Close s' e h =
+      by_script b lock b (Working task.Close) _ s' (inside_some lock b b _ _ s' e) h (λ f i c. closing l p w m layout below i b f c)
+  begins lock b Free (Get i) s' e h =
+      by_script b lock (nat_lt i 4) (Working (task.BoardGet i)) _ s' (inside_some lock b _ _ _ s' e) h (λ f j c. getting l p w m layout below j b i (ltb-true i 4 f) c)
+  begins lock b Free (Put i v) s' e h =
+      by_script b lock (nat_lt i 4) (Working (task.BoardPut i v)) _ s' (inside_some lock b _ _ _ s' e) h (λ f j c. putting l p w m layout below j b i v (ltb-true i 4 f) c)
+  begins lock b _ _ s' e h = absurd (cc)
+
+  -- a step of a script, with what its answer tells
+  abbrev pub Told : Option Outer → List Deed → Words → Spot → Errand → ℕ → Type 0
+  Told d ds u spot errand v = (o : Outcome l a w m p d ds u spot) × ErrandTells p errand v o.mail.shown
+
+  pub gets : (b c : Bool) (why : Why) (j : ℕ) (rest : ℕ → Script Reply) (v : ℕ) (s' : Spot) → settled b c why (rest v) ≡ s' → w j ≡ v → a.phase p ≡ phase.Inside → Work l p w m b why (Asks j rest) → Told None [] w s' (Doing why (Asks j rest)) v
+  unfolding nothing
+  gets b c why j rest v s' e read h work =
+      let on : Work l p w m b why (rest (w j)) = record { m = work.m; old = work.old; safe = work.safe.1; ends = work.ends; mine = work.mine } in
+      let now : Work l p w m b why (rest v) = subst (λ x. Work l p w m b why (rest x)) read on in
+      subst (λ x. Told None [] w x (Doing why (Asks j rest)) v) e
+      (nothing (settled b c why (rest v)) (settled_post l p (a.phase p) w m b c why (rest v) h now), work_tells l p w m b why (rest v) now)
+
+  pub puts : (b c : Bool) (why : Why) (j x : ℕ) (rest : Script Reply) (s' : Spot) → settled b c why rest ≡ s' → a.phase p ≡ phase.Inside → Work l p w m b why (Writes j x rest)
+      → Told None (deeds_of_put l p w j x) (put w j x) s' (Doing why (Writes j x rest)) x
+  unfolding by_put
+  puts b c why j x rest s' e h work =
+      let g = work.safe.2 in
+      let t : Mailbox = g.0 in
+      let now : Work l p (put w j x) t b why rest = record { m = work.m; old = work.old; safe = g.2; ends = work.ends; mine = work.mine } in
+      subst (λ z. Told None (deeds_of_put l p w j x) (put w j x) z (Doing why (Writes j x rest)) x) e (
+        by_put j x (settled b c why rest) t h g.1 (seen l p work.m work.old rest (put w j x) t g.2).0 (settled_post l p (a.phase p) (put w j x) t b c why rest h now),
+        work_tells l p (put w j x) t b why rest now,
+      )
+
+  -- a step of the lock
+  pub locks : (limit : ℕ) (lock : Place) (b c : Bool) (kind : Kind) (word : Word) (v : ℕ) (s' : Spot) → at_lock l p lock b c (next l.procs limit p lock kind word v) ≡ Some s' → AllowsBy l.procs a (step_deed p lock kind v)
+      → Post l p (a.phase p) w m b Free lock → Goes (step_deed p lock kind v) s'
+  locks limit lock b c kind word v s' e may h =
+      let r = at_lock_some l p lock b c (next l.procs limit p lock kind word v) s' e in
+      subst (Goes (step_deed p lock kind v)) r.spot (turned b c lock r.place (step_deed p lock kind v) (turn l.procs limit p lock kind word v r.place r.some) may h)

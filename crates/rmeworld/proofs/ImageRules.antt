@@ -1,0 +1,57 @@
+-- The rules of an image, one by another.
+use Rattle.std.proofs.Common.{◌≡◌, ◌≢◌, ℕ, zero, suc, ◌<◌, true, length, slice_index, inl, inr, refl, sym, subst, arith}
+use Rattle.std.proofs.lemmas.Bool.{cases_eq}
+use Rattle.std.proofs.lemmas.Bool.Decides.{nat_tests}
+use Rattle.rmecore.specs.Body.{zeros}
+use Rattle.rmecore.specs.Lawful.{IsLawful}
+use Rattle.rmecore.specs.Place.{is_before}
+use Rattle.rmecore.specs.Simulated.{own_at}
+use Rattle.rmecore.specs.declared.own.Own.{Own}
+use Rattle.redomail.specs.declared.layout.Layout.{Layout}
+use Rattle.redomail.specs.Layout.{Words, words_of}
+use Rattle.redomail.specs.Shape.{IsNumbered, RecordRule}
+use Rattle.rmeworld.specs.declared.image.Image.{Image}
+use Rattle.rmeworld.specs.ImageRules.{layout_of, IsIn, IsRecorded, Keeps}
+
+pub at_zeros : (n q : ℕ) → slice_index (zeros n) q ≡ 0
+at_zeros zero q = refl
+at_zeros (suc n) zero = refl
+at_zeros (suc n) (suc q) = at_zeros n q
+
+pub record_is_numbered : (l : Layout) (p : ℕ) (w : Words) → RecordRule l p w → IsNumbered l w (w 2)
+record_is_numbered l p w r = elim r.rule [ inl h ↦ h.numbered | inr h ↦ h.listed.numbered ]
+
+not_both : (k p v q : ℕ) → is_before k p v q ≡ true → is_before v q k p ≡ true → ⊥
+not_both k p v q = grind (arith, nat_tests)
+
+-- At most one is in the section.
+pub only_one : (n limit : ℕ) (words : ℕ → Own) (p q : ℕ) → IsLawful n limit words → p < n → q < n → 0 < (words p).number → 0 < (words p).inside → 0 < (words q).number → 0 < (words q).inside → p ≡ q
+only_one n limit words p q h lp lq kp ip kq iq =
+    elim (cases_eq p q) [
+      | inl same ↦ same
+      | inr other ↦
+          absurd (not_both (words p).number p (words q).number q (h.least p q lp lq (λ e. other (sym e)) kp ip kq) (h.least q p lq lp other kq iq kp))
+    ]
+
+-- where the entries aren't numbered no record rule holds
+pub unnumbered : (i : Image) → Keeps 7 i → slice_index i.cells 3 ≢ 0 → (IsNumbered (layout_of i) (words_of i.cells) (slice_index i.cells 2) → ⊥) → IsRecorded i → ⊥
+unnumbered i k armed none r =
+    let heads = k.heads (omega arith) in
+    elim (cases_eq (slice_index i.cells 0) 0) [
+      | inl clean ↦ (let h = r.clean (omega (arith, heads.armed, armed)) clean in none (record_is_numbered (layout_of i) h.0 (words_of i.cells) h.2))
+      | inr ruined ↦ (let h = r.ruined (omega (arith, heads.armed, armed)) (omega (arith, heads.ruined, ruined)) in none (record_is_numbered (layout_of i) h.0 (words_of i.cells) h.2))
+    ]
+
+-- in a lock that isn't ruined the record is that of the one that is in
+pub by_inside : (i : Image) (p : ℕ) → Keeps 7 i → IsIn i p → slice_index i.cells 3 ≢ 0 → slice_index i.cells 0 ≢ 1 → IsRecorded i → RecordRule (layout_of i) p (words_of i.cells)
+by_inside i p k inside armed clean r =
+    let heads = k.heads (omega arith) in
+    let h = r.clean (omega (arith, heads.armed, armed)) (omega (arith, heads.ruined, clean)) in
+    let same = only_one (length i.lock) i.limit (own_at i.lock) h.0 p (k.lawful (omega arith)) h.1.0 inside.0 h.1.1 h.1.2 inside.1 inside.2 in
+    subst (λ q. RecordRule (layout_of i) q (words_of i.cells)) same h.2
+
+pub is_recorded_by : (i : Image) (p : ℕ) → IsIn i p → slice_index i.cells 0 ≢ 1 → RecordRule (layout_of i) p (words_of i.cells) → IsRecorded i
+is_recorded_by i p inside clean r = record {
+  clean = λ armed c. (p, inside, r);
+  ruined = λ armed ruined. absurd (clean ruined);
+}

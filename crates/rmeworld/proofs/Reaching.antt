@@ -1,0 +1,202 @@
+-- What the lock theorem says of a world that a story comes to: its history is legal, and its words are lawful.
+use Rattle.std.proofs.Common.{◌≡◌, ℕ, zero, suc, ◌<◌, ◌≤◌, true, false, nat_lt, Bool, if◌then◌else◌, List, [], ◌∷◌, ◌++◌, Option, Some, None, refl, sym, ap, ◌∙◌, subst, inl, inr, ◌⊎◌, arith}
+use Rattle.std.proofs.lemmas.Bool.{cases_Bool, lt-ltb}
+use Rattle.rmecore.specs.AbstractLock.{Abstract, Legal, nobody}
+use Rattle.rmecore.specs.Lawful.{IsRow, IsLawful, all_dead as core_dead, start_of}
+use Rattle.rmecore.specs.Place.{Dead, Rest}
+use Rattle.rmecore.specs.Sole.{IsIn, all_done}
+use Rattle.rmecore.specs.World.{World, at_rest as core_rest, and_then, final}
+use Rattle.rmecore.specs.declared.outer.Outer.{Outer}
+use Rattle.rmecore.specs.declared.own.Own.{Own}
+use Rattle.rmecore.proofs.Bounds.{Bounded, Within, final_lawful, image_bounded, rest_bounded, rest_rows}
+use Rattle.rmecore.proofs.Images.{at_image}
+use Rattle.rmecore.proofs.Invariant.{Tied, Fits, Pair, phase_at, phase_of}
+use Rattle.rmecore.proofs.Phases.{tied_after}
+use Rattle.rmecore.proofs.Runs.{at_first as core_first, legal}
+use Rattle.redomail.specs.Leads.{IsOwn, AreOwn}
+use Rattle.redomail.specs.Layout.{Words, IsLayout}
+use Rattle.redomail.specs.Mailbox.{nothing_shown}
+use Rattle.redomail.specs.Laws.{NewWords}
+use Rattle.redomail.specs.Deeds.{deeds_of_put}
+use Rattle.redomail.specs.declared.deed.Deed.{Deed}
+use Rattle.redomail.specs.declared.deed.Deed.TheVariants.{Outer as OuterDeed, Commit, Show, Close, Ruin}
+use Rattle.redomail.specs.declared.layout.Layout.{Layout}
+use Rattle.redomail.proofs.Owns.{puts_are_own}
+use Rattle.judge.specs.Halves.{all_after}
+use Rattle.judge.specs.Legal.{Leads, judged_all}
+use Rattle.judge.specs.Table.{State, empty, after}
+use Rattle.judge.proofs.Halves.{state_led}
+use Rattle.rmecore.specs.World.{is_store}
+use Rattle.rmecore.specs.declared.kind.Kind.{Kind}
+use Rattle.rmecore.specs.declared.word.Word.{Word}
+use Rattle.rmecore.specs.declared.word.Word.TheVariants.{Choosing as ChoosingOf, Number as NumberOf, Inside as InsideOf, Data as DataAt}
+use Rattle.rmeworld.specs.Law.{Sits, IsLater, Sound}
+use Rattle.rmeworld.specs.Reached.{crashed_scene, IsOrigin, IsReached}
+use Rattle.rmeworld.specs.Spot.{Spot, Happening, Begins, Falls, Moves, Glances, who, at_rest, dead, outer}
+use Rattle.rmeworld.specs.World.{Scene, at_first, Story, onward, last_scene, outer_deeds, put_deeds, mail_deeds, event_deeds, deeds}
+use Rattle.rmeworld.proofs.Projection.{Held, core_of, outers, projected}
+use Rattle.rmeworld.proofs.Happenings.{done_by, judge_of, Kept}
+use Rattle.rmeworld.proofs.Knowing.{PostAt}
+use Rattle.rmeworld.proofs.Stories.{goes_on, sound, first, state_is, later}
+
+-- the judge's lock after a story's deeds
+
+all_after-append : (s : State) (ds es : List Deed) → all_after s (ds ++ es) ≡ all_after (all_after s ds) es
+all_after-append s [] es = refl
+all_after-append s (d ∷ ds) es = all_after-append (after s d) ds es
+
+mails_keep : (p : ℕ) (s : State) (ds : List Deed) → AreOwn p ds → (all_after s ds).lock ≡ s.lock
+mails_keep p s [] h = refl
+mails_keep p s (OuterDeed d ∷ ds) h = absurd h.0
+mails_keep p s (Commit q seq v ∷ ds) h = mails_keep p (after s (Commit q seq v)) ds h.1
+mails_keep p s (Show q at seq v ∷ ds) h = mails_keep p (after s (Show q at seq v)) ds h.1
+mails_keep p s (Close q ∷ ds) h = mails_keep p (after s (Close q)) ds h.1
+mails_keep p s (Ruin q ∷ ds) h = mails_keep p (after s (Ruin q)) ds h.1
+
+put_own : (l : Layout) (p : ℕ) (cells : Words) (word : Word) (v : ℕ) → AreOwn p (put_deeds l p cells word v)
+put_own l p cells (DataAt i) v = puts_are_own l p cells i v
+put_own l p cells (ChoosingOf q) v = tt
+put_own l p cells (NumberOf q) v = tt
+put_own l p cells (InsideOf q) v = tt
+
+mail_own : (l : Layout) (cells : Words) (e : Happening) → AreOwn (who e) (mail_deeds l cells e)
+mail_own l cells (Begins p call) = tt
+mail_own l cells (Falls p) = tt
+mail_own l cells (Glances p word v) = tt
+mail_own l cells (Moves p kind word v) =
+    elim (cases_Bool (is_store kind)) [ inl e ↦ rw e (put_own l p cells word v) | inr e ↦ rw e tt ]
+
+outer_led : (s : State) (o : Option Outer) → (all_after s (outer_deeds o)).lock ≡ done_by s.lock o
+outer_led s None = refl
+outer_led s (Some d) = refl
+
+done-and_then : (a : Abstract) (o : Option Outer) (ds : List Outer) → all_done a (and_then o ds) ≡ all_done (done_by a o) ds
+done-and_then a None ds = refl
+done-and_then a (Some d) ds = refl
+
+lock_led : (l : Layout) (limit : ℕ) (w : Scene) (es : List Happening) (s : State) → (all_after s (deeds l limit w es)).lock ≡ all_done s.lock (outers l limit w es)
+lock_led l limit w [] s = refl
+lock_led l limit w (e ∷ es) s =
+    let o : Option Outer = outer (w.spots (who e)) e in
+    let ms : List Deed = mail_deeds l w.cells e in
+    let s' : State = all_after s (event_deeds l w e) in
+    let here : s'.lock ≡ done_by s.lock o = ap (λ (x : State). x.lock) (all_after-append s (outer_deeds o) ms) ∙ mails_keep (who e) (all_after s (outer_deeds o)) ms (mail_own l w.cells e) ∙ outer_led s o in
+    ap (λ (x : State). x.lock) (all_after-append s (event_deeds l w e) (deeds l limit (onward l limit w e) es)) ∙ lock_led l limit (onward l limit w e) es s'
+    ∙ ap (λ a. all_done a (outers l limit (onward l limit w e) es)) here ∙ sym (done-and_then s.lock o (outers l limit (onward l limit w e) es))
+
+-- where a sound story ends
+sound_ends : (l : Layout) (limit : ℕ) (w : Scene) (s : State) (es : List Happening) → Sound l limit w s es → (t : State) × Leads s (deeds l limit w es) t × Sits l (last_scene l limit w es).cells t
+sound_ends l limit w s [] h = (s, refl, h)
+sound_ends l limit w s (e ∷ es) h =
+    let g = h.1 in
+    let rest = sound_ends l limit (onward l limit w e) g.0 es g.3 in
+    (rest.0, goes_on s g.0 (event_deeds l w e) (deeds l limit (onward l limit w e) es) g.1 ∙ rest.1, rest.2)
+
+-- who is in has a number and is marked
+in_numbers : (c k i : ℕ) (b : Bool) → IsIn (phase_at c k i b) → (0 < k) × (0 < i)
+in_numbers zero zero i b h = absurd h
+in_numbers (suc c) zero i b h = absurd h
+in_numbers zero (suc k) zero b h = absurd h
+in_numbers (suc c) (suc k) zero b h = absurd h
+in_numbers c (suc k) (suc i) b h = (omega arith, omega arith)
+
+-- what is known where a history begins
+pub record Origin (l : Layout) (limit : ℕ) (w : Scene) (s : State) : Type 0 where
+  pub tied : Tied l.procs (core_of w) s.lock
+  pub bounded : Bounded limit (core_of w)
+  pub rows : (p : ℕ) → l.procs ≤ p → IsRow limit (w.words p)
+  pub held : (p : ℕ) → Held (w.spots p).errand (w.spots p).lock
+  pub kept : Kept l s.lock w.cells s.mail
+  pub posts : (p : ℕ) → p < l.procs → PostAt l p (s.lock.phase p) w.cells s.mail (w.spots p)
+  pub state : s ≡ judge_of l s.lock s.mail
+
+blank_words : NewWords
+blank_words l p w z = record {
+  ruined = z 0;
+  closed = z 1;
+  armed = inl (z 3);
+  apart = λ a b. absurd (omega (arith, z 3));
+  room = omega (arith, z 2);
+  shown = rw (z 2) refl;
+  listed = λ _. rw (z 2) record { numbered = λ a h. absurd (omega arith); counted = λ q h. z _ };
+  record_rule = λ a. absurd (omega (arith, z 3));
+  pending = λ _. rw (z 3) refl;
+}
+
+new_origin : (l : Layout) (limit : ℕ) → IsLayout l → Origin l limit at_first (empty l.procs l.cap)
+new_origin l limit layout =
+    record {
+      tied = core_first l.procs;
+      bounded = rest_bounded limit;
+      rows = λ p past. rest_rows limit;
+      held = λ p. tt;
+      kept = first l limit layout blank_words;
+      posts = λ p below. tt;
+      state = refl;
+    }
+
+-- the spots of a scene in which each of n has crashed
+crashed_at : (P : Spot → Type 0) (n p : ℕ) → P dead → P at_rest → P (if nat_lt p n then dead else at_rest)
+crashed_at P n p h k = elim (cases_Bool (nat_lt p n)) [ inl e ↦ rw e h | inr e ↦ rw e k ]
+
+crashed_below : (P : Spot → Type 0) (n p : ℕ) → p < n → P dead → P (if nat_lt p n then dead else at_rest)
+crashed_below P n p below h = rw (lt-ltb p n below) h
+
+later_origin : (l : Layout) (limit : ℕ) (words : ℕ → Own) (cells : Words) (s : State) → IsLayout l → IsLater l limit words cells s → Origin l limit (crashed_scene l.procs words cells) s
+later_origin l limit words cells s layout h =
+    let n : ℕ = l.procs in
+    let tied : Tied n (core_dead words) s.lock = subst (Tied n (core_dead words)) (sym h.lock) (at_image n limit words h.lawful) in
+    let kept : Kept l s.lock cells s.mail = subst (λ a. Kept l a cells s.mail) (sym h.lock) (later l limit layout words cells s h) in
+    let place : (p : ℕ) → p < n → Dead ≡ (if nat_lt p n then dead else at_rest).lock = λ p below. crashed_below (λ x. Dead ≡ x.lock) n p below refl in
+    record {
+      tied = record {
+        fits = λ p below. subst (Fits (words p)) (place p below) (tied.fits p below);
+        phase = λ p below. tied.phase p below ∙ ap (phase_of (words p)) (place p below);
+        self = tied.self;
+        pairs = λ p i hp hi ne. subst (λ t. Pair (s.lock.ahead i p) p (words p) t i (words i) ((if nat_lt i n then dead else at_rest).lock)) (place p hp) (subst (λ t. Pair (s.lock.ahead i p) p (words p) Dead i (words i) t) (place i hi) (tied.pairs p i hp hi ne));
+      };
+      bounded = record { small = (image_bounded limit n words h.lawful).small; within = λ q. crashed_at (λ x. Within limit x.lock) n q tt tt };
+      rows = λ p past. h.lawful.rows p;
+      held = λ p. crashed_at (λ x. Held x.errand x.lock) n p tt tt;
+      kept = kept;
+      posts = λ p below. crashed_below (λ x. PostAt l p (s.lock.phase p) cells s.mail x) n p below tt;
+      state = λ i. record { procs = h.procs i; cap = h.cap i; lock = s.lock; mail = s.mail };
+    }
+
+pub origin : (l : Layout) (limit : ℕ) (w : Scene) (s : State) → IsLayout l → IsOrigin l limit w s → Origin l limit w s
+origin l limit w s layout (inl h) = subst (λ x. Origin l limit x s) (sym h.0) (subst (Origin l limit at_first) (sym h.1) (new_origin l limit layout))
+origin l limit w s layout (inr h) = subst (λ x. Origin l limit x s) (sym h.0) (later_origin l limit w.words w.cells s layout h.1)
+
+-- what stands where a story has come
+pub record Arrived (l : Layout) (limit : ℕ) (s : State) (w : Scene) (history : List Deed) : Type 0 where
+  pub now : State
+  pub leads : Leads s history now
+  pub sits : Sits l w.cells now
+  pub lawful : IsLawful l.procs limit w.words
+  pub who_is_in : (p : ℕ) → p < l.procs → IsIn (now.lock.phase p) → (0 < (w.words p).number) × (0 < (w.words p).inside)
+
+arrives : (l : Layout) (limit : ℕ) (w : Scene) (s : State) (story : List Happening) → IsLayout l → Origin l limit w s → Story l limit w story → Arrived l limit s (last_scene l limit w story) (deeds l limit w story)
+arrives l limit w s story layout o told =
+    let n : ℕ = l.procs in
+    let r = projected l limit w story o.held told in
+    let allowed = subst (λ ds. Legal n s.lock ds) r.same (legal n limit (core_of w) s.lock r.events o.tied r.run) in
+    let all = sound l limit layout w s.lock s.mail story o.kept o.posts told allowed in
+    let back : Sound l limit w s story = subst (λ x. Sound l limit w x story) (sym o.state) all in
+    let ends = sound_ends l limit w s story back in
+    let lock : ends.0.lock ≡ all_done s.lock (outers l limit w story) = ap (λ (x : State). x.lock) (state_led s ends.0 (deeds l limit w story) ends.1) ∙ lock_led l limit w story s in
+    let tied = tied_after n limit (core_of w) s.lock r.events o.tied r.run in
+    record {
+      now = ends.0;
+      leads = ends.1;
+      sits = ends.2;
+      lawful = subst (IsLawful n limit) r.ends (final_lawful limit n (core_of w) s.lock r.events o.tied o.bounded o.rows r.run);
+      who_is_in = λ p below i.
+          let phase : ends.0.lock.phase p ≡ phase_of ((final n limit (core_of w) r.events).words p) ((final n limit (core_of w) r.events).places p) = ap (λ a. a.phase p) (lock ∙ ap (all_done s.lock) (sym r.same)) ∙ tied.phase p below in
+          let numbers = in_numbers _ _ _ _ (subst IsIn phase i) in
+          subst (λ (x : ℕ → Own). (0 < (x p).number) × (0 < (x p).inside)) r.ends numbers;
+    }
+
+pub reached_arrives : {l : Layout} {limit : ℕ} {w : Scene} {history : List Deed} → IsLayout l → (r : IsReached l limit w history) → Arrived l limit r.state w history
+reached_arrives {l = l} {limit = limit} {history = history} layout r =
+    let a = arrives l limit r.first r.state r.story layout (origin l limit r.first r.state layout r.origin) r.told in
+    subst (λ w. Arrived l limit r.state w history) r.last (subst (Arrived l limit r.state (last_scene l limit r.first r.story)) r.done a)

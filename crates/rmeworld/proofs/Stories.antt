@@ -1,0 +1,206 @@
+-- Every happening keeps everything, so every story is sound.
+use Rattle.std.proofs.Common.{◌≡◌, ℕ, zero, suc, nat_lt, ◌<◌, Bool, true, false, ◌&&◌, ◌==◌, if◌then◌else◌, List, [], ◌∷◌, ◌++◌, Option, Some, None, IsSome, Result, Ok, Err, refl, sym, ap, ◌∙◌, subst, inl, inr, ◌⊎◌, arith, eqb-true}
+use Rattle.std.proofs.lemmas.Bool.{cases_eq, cases_Bool, and_parts, ltb-true, lt-ltb}
+use Rattle.rmecore.specs.AbstractLock.{Abstract, nobody, Legal}
+use Rattle.rmecore.specs.Lawful.{dead_phase, start_of}
+use Rattle.rmecore.specs.Needs.{put}
+use Rattle.rmecore.specs.Place.{Place, next, is_before}
+use Rattle.rmecore.specs.Sole.{IsIn}
+use Rattle.rmecore.specs.World.{is_store, and_then, step_deed}
+use Rattle.rmecore.specs.declared.fault.Fault.{Fault}
+use Rattle.rmecore.specs.declared.kind.Kind.{Kind}
+use Rattle.rmecore.specs.declared.kind.Kind.TheVariants.{Get as Gets, Put as Puts}
+use Rattle.rmecore.specs.declared.outer.Outer.{Outer}
+use Rattle.rmecore.specs.declared.outer.Outer.TheVariants.{Crash}
+use Rattle.rmecore.specs.declared.own.Own.{Own}
+use Rattle.rmecore.specs.declared.word.Word.{Word}
+use Rattle.rmecore.specs.declared.word.Word.TheVariants.{Choosing as ChoosingOf, Number as NumberOf, Inside as InsideOf, Data as DataAt}
+use Rattle.rmecore.proofs.Invariant.{put_same, put_other}
+use Rattle.rmecore.proofs.Soles.{sole_nobody}
+use Rattle.rmecore.proofs.Turns.{not_data}
+use Rattle.redomail.specs.Deeds.{deeds_of_put}
+use Rattle.redomail.specs.Laws.{NewWords}
+use Rattle.redomail.specs.Layout.{Words, IsLayout, size}
+use Rattle.redomail.specs.Mailbox.{Mailbox, nothing_shown}
+use Rattle.redomail.specs.Script.{Get, Put}
+use Rattle.redomail.specs.declared.deed.Deed.{Deed}
+use Rattle.redomail.specs.declared.layout.Layout.{Layout}
+use Rattle.judge.specs.Legal.{Leads, judged_all, and_then as before_next}
+use Rattle.judge.specs.Table.{State, judged}
+use Rattle.rmeworld.specs.Law.{Sits, IsLater, ErrandTells, Tells, Sound}
+use Rattle.rmeworld.specs.Spot.{Errand, Free, Doing, Spot, dead, Happening, Begins, Falls, Moves, Glances, who, moved_by, next_spot, settled, outer_by, outer}
+use Rattle.rmeworld.specs.World.{Scene, at_first, all_dead, Reads as Scene-Reads, reading, put_cell, cells_after, Story, onward, mail_deeds, event_deeds, deeds}
+use Rattle.rmeworld.proofs.Projection.{at_lock_some, only_some, some_of, outers}
+use Rattle.rmeworld.proofs.Knowing.{Post, PostAt}
+use Rattle.rmeworld.proofs.Happenings.{done_by, AllowsBy, judge_of, Kept, Outcome, nothing, begins, falls, gets, puts, locks}
+
+some_by : (o : Option Place) (t : Place) → o ≡ Some t → IsSome o
+some_by o t e = rw e refl
+
+if_same : {A : Type 0} (b : Bool) (x : A) → (if b then x else x) ≡ x
+if_same true x = refl
+if_same false x = refl
+
+-- a word of the lock is no data word
+cells_same : (l : Layout) (n limit p : ℕ) (s t : Place) (kind : Kind) (word : Word) (v : ℕ) (cells : Words) → next n limit p s kind word v ≡ Some t → cells_after l cells (Moves p kind word v) ≡ cells
+cells_same l n limit p s t kind (ChoosingOf q) v cells e = if_same (is_store kind) cells
+cells_same l n limit p s t kind (NumberOf q) v cells e = if_same (is_store kind) cells
+cells_same l n limit p s t kind (InsideOf q) v cells e = if_same (is_store kind) cells
+cells_same l n limit p s t kind (DataAt i) v cells e = absurd (not_data n limit p s kind i v (some_by _ t e))
+
+deeds_none : (l : Layout) (n limit p : ℕ) (s t : Place) (kind : Kind) (word : Word) (v : ℕ) (cells : Words) → next n limit p s kind word v ≡ Some t → mail_deeds l cells (Moves p kind word v) ≡ []
+deeds_none l n limit p s t kind (ChoosingOf q) v cells e = if_same (is_store kind) []
+deeds_none l n limit p s t kind (NumberOf q) v cells e = if_same (is_store kind) []
+deeds_none l n limit p s t kind (InsideOf q) v cells e = if_same (is_store kind) []
+deeds_none l n limit p s t kind (DataAt i) v cells e = absurd (not_data n limit p s kind i v (some_by _ t e))
+
+pub before_is : (x p y q : ℕ) → is_before x p y q ≡ true → (x < y) ⊎ ((x ≡ y) × (p < q))
+before_is x p y q e =
+    elim (cases_Bool (nat_lt x y)) [
+      | inl t ↦ inl (ltb-true x y t)
+      | inr f ↦ (let g : ((x == y) && nat_lt p q) ≡ true = rw f at e in let both = and_parts (x == y) (nat_lt p q) g in inr (eqb-true x y both.0, ltb-true p q both.1))
+    ]
+
+-- deeds lead on, one list after the other
+pub goes_on : (s t : State) (ds es : List Deed) → Leads s ds t → judged_all s (ds ++ es) ≡ judged_all t es
+goes_on s t [] es e = ap (λ x. judged_all x es) (let is : s ≡ t = cc in is)
+goes_on s t (d ∷ ds) es e = go (judged s d) (λ u. goes_on u t ds es) e
+  where
+    go : (r : Result State Fault) → ((u : State) → Leads u ds t → judged_all u (ds ++ es) ≡ judged_all t es) → before_next r (λ u. judged_all u ds) ≡ Ok t → before_next r (λ u. judged_all u (ds ++ es)) ≡ judged_all t es
+    go (Ok u) again e = again u e
+    go (Err f) again e = absurd (cc)
+
+module _ (l : Layout) (limit : ℕ) (layout : IsLayout l) where
+  -- what one happening leaves, and what its answer tells
+  abbrev Left : Scene → Abstract → Mailbox → Happening → Spot → Type 0
+  Left w a m e s' =
+      (o : Outcome l a w.cells m (who e) (outer (w.spots (who e)) e) (mail_deeds l w.cells e) (cells_after l w.cells e) s') × Tells w e o.mail.shown
+
+  -- the same for a process at this place with this errand
+  abbrev Stepped : Scene → Abstract → Mailbox → ℕ → Place → Errand → Kind → Word → ℕ → Spot → Type 0
+  Stepped w a m p lock errand kind word v s' =
+      (o : Outcome l a w.cells m p (outer_by p lock errand kind v) (mail_deeds l w.cells (Moves p kind word v)) (cells_after l w.cells (Moves p kind word v)) s') × ErrandTells p errand v o.mail.shown
+
+  moves : (w : Scene) (a : Abstract) (m : Mailbox) (p : ℕ) → p < l.procs → Kept l a w.cells m → (lock : Place) (b c : Bool) (errand : Errand) (kind : Kind) (word : Word) (v : ℕ) (s' : Spot)
+      → moved_by l limit p lock b c errand kind word v ≡ Some s' → (is_store kind ≡ false → reading w word ≡ v) → AllowsBy l.procs a (outer_by p lock errand kind v) → Post l p (a.phase p) w.cells m b errand lock
+      → Stepped w a m p lock errand kind word v s'
+  moves w a m p below k lock b c Free kind word v s' e reads may h =
+      let r = at_lock_some l p lock b c (next l.procs limit p lock kind word v) s' e in
+      let o = locks l a w.cells m p layout below k limit lock b c kind word v s' e may h in
+      let same = cells_same l l.procs limit p lock r.place kind word v w.cells r.some in
+      let none = deeds_none l l.procs limit p lock r.place kind word v w.cells r.some in (
+        subst (λ ds. Outcome l a w.cells m p (step_deed p lock kind v) ds (cells_after l w.cells (Moves p kind word v)) s') (sym none)
+            (subst (λ u. Outcome l a w.cells m p (step_deed p lock kind v) [] u s') (sym same) o),
+        tt,
+      )
+  moves w a m p below k lock b c (Doing why (Get j rest)) Gets (DataAt i) v s' e reads may h =
+      let r = only_some (i == j) (settled b c why (rest v)) s' e in
+      let at : i ≡ j = eqb-true i j r.0 in
+      let read : w.cells j ≡ v = ap w.cells (sym at) ∙ reads refl in
+      gets l a w.cells m p layout below k b c why j rest v s' r.1 read h.1 h.2
+  moves w a m p below k lock b c (Doing why (Put j x rest)) Puts (DataAt i) v s' e reads may h =
+      let r = only_some ((i == j) && (v == x)) (settled b c why rest) s' e in
+      let both = and_parts (i == j) (v == x) r.0 in
+      let at : i ≡ j = eqb-true i j both.0 in
+      let value : v ≡ x = eqb-true v x both.1 in
+      let P : ℕ → ℕ → Words → Type 0 = λ i' v' u. (o : Outcome l a w.cells m p None (deeds_of_put l p w.cells i' v') u s') × ErrandTells p (Doing why (Put j x rest)) v' o.mail.shown in
+      let within : put_cell l w.cells (DataAt j) x ≡ put w.cells j x = rw (lt-ltb j (size l) h.2.safe.1) refl in
+      let there : P j x (put_cell l w.cells (DataAt j) x) = subst (P j x) (sym within) (puts l a w.cells m p layout below k b c why j x rest s' r.1 h.1 h.2) in
+      subst (λ i'. P i' v (put_cell l w.cells (DataAt i') v)) (sym at) (subst (λ v'. P j v' (put_cell l w.cells (DataAt j) v')) (sym value) there)
+  moves w a m p below k lock b c _ _ _ v s' e reads may h = absurd (cc)
+
+  happens : (w : Scene) (a : Abstract) (m : Mailbox) (e : Happening) (s' : Spot) → who e < l.procs → Kept l a w.cells m → next_spot l limit (w.spots (who e)) e ≡ Some s' → Scene-Reads w e → AllowsBy l.procs a (outer (w.spots (who e)) e)
+      → PostAt l (who e) (a.phase (who e)) w.cells m (w.spots (who e)) → Left w a m e s'
+  happens w a m (Begins p call) s' below k e reads may h =
+      let x = w.spots p in (begins l a w.cells m p layout below k x.lock x.mended x.errand call s' e h, tt)
+  happens w a m (Falls p) s' below k e reads may h =
+      let is : dead ≡ s' = cc in
+      (subst (λ x. Outcome l a w.cells m p (Some (Crash p)) [] w.cells x) is (falls l a w.cells m p layout below k may), tt)
+  happens w a m (Moves p kind word v) s' below k e reads may h =
+      let x = w.spots p in moves w a m p below k x.lock x.mended x.barred x.errand kind word v s' e reads may h
+  happens w a m (Glances p word v) s' below k e reads may h =
+      let is : w.spots p ≡ s' = cc in
+      (subst (λ x. Outcome l a w.cells m p None [] w.cells x) is (nothing l a w.cells m p layout below k (w.spots p) h), tt)
+
+  sits : (a : Abstract) (w : Words) (m : Mailbox) → Kept l a w m → Sits l w (judge_of l a m)
+  sits a w m k = record { shape = k.shape; rest = k.rest }
+
+  head : (a : Abstract) (d : Option Outer) (ds : List Outer) → Legal l.procs a (and_then d ds) → AllowsBy l.procs a d × Legal l.procs (done_by a d) ds
+  head a None ds h = (tt, h)
+  head a (Some d) ds h = h
+
+  abbrev AllPosts : Abstract → Words → Mailbox → (ℕ → Spot) → Type 0
+  AllPosts a w m spots = (q : ℕ) → q < l.procs → PostAt l q (a.phase q) w m (spots q)
+
+  posts : (w : Scene) (a : Abstract) (m : Mailbox) (e : Happening) (s' : Spot) (o : Outcome l a w.cells m (who e) (outer (w.spots (who e)) e) (mail_deeds l w.cells e) (cells_after l w.cells e) s') → AllPosts a w.cells m w.spots
+      → AllPosts (done_by a (outer (w.spots (who e)) e)) (cells_after l w.cells e) o.mail (put w.spots (who e) s')
+  posts w a m e s' o all q lt =
+      let a' : Abstract = done_by a (outer (w.spots (who e)) e) in
+      elim (cases_eq q (who e)) [
+        | inl same ↦ subst (λ r. PostAt l r (a'.phase r) (cells_after l w.cells e) o.mail (put w.spots (who e) s' r)) (sym same) (subst (PostAt l (who e) (a'.phase (who e)) (cells_after l w.cells e) o.mail) (sym (put_same w.spots (who e) s')) o.here)
+        | inr ne ↦ subst (PostAt l q (a'.phase q) (cells_after l w.cells e) o.mail) (sym (put_other w.spots (who e) s' q ne)) (o.others q lt ne (w.spots q) (all q lt))
+      ]
+
+  pub sound : (w : Scene) (a : Abstract) (m : Mailbox) (es : List Happening) → Kept l a w.cells m → AllPosts a w.cells m w.spots → Story l limit w es → Legal l.procs a (outers l limit w es) → Sound l limit w (judge_of l a m) es
+  sound w a m [] k all story legal = sits a w.cells m k
+  sound w a m (e ∷ es) k all story legal =
+      let x = some_of l limit (next_spot l limit (w.spots (who e)) e) (w.spots (who e)) story.0.1 in
+      let r = head a (outer (w.spots (who e)) e) (outers l limit (onward l limit w e) es) legal in
+      let left = happens w a m e x.0 story.0.0 k x.1 story.0.2 r.0 (all (who e) story.0.0) in
+      let o = left.0 in
+      let next_all : AllPosts (done_by a (outer (w.spots (who e)) e)) (cells_after l w.cells e) o.mail (onward l limit w e).spots =
+      subst (λ z. AllPosts (done_by a (outer (w.spots (who e)) e)) (cells_after l w.cells e) o.mail (put w.spots (who e) z)) (sym x.2) (posts w a m e x.0 o all) in
+      (sits a w.cells m k, (judge_of l (done_by a (outer (w.spots (who e)) e)) o.mail, o.leads, left.1, sound (onward l limit w e) (done_by a (outer (w.spots (who e)) e)) o.mail es o.kept next_all story.1 r.1))
+
+  pub legal_by : (w : Scene) (s : State) (es : List Happening) → Sound l limit w s es → (t : State) × Leads s (deeds l limit w es) t
+  legal_by w s [] h = (s, refl)
+  legal_by w s (e ∷ es) h =
+      let g = h.1 in
+      let rest = legal_by (onward l limit w e) g.0 es g.3 in
+      (rest.0, goes_on s g.0 (event_deeds l w e) (deeds l limit (onward l limit w e) es) g.1 ∙ rest.1)
+
+  -- the first scene
+  pub first : NewWords → Kept l nobody at_first.cells nothing_shown
+  first new = record {
+    sole = sole_nobody l.procs;
+    shape = λ q only. new l q at_first.cells (λ i. refl);
+    rest = λ none z. refl;
+  }
+
+  pub first_posts : AllPosts nobody at_first.cells nothing_shown at_first.spots
+  first_posts q lt = tt
+
+  -- a scene of words that outlive a crash of everything
+  in_numbers : (c x i : ℕ) → IsIn (dead_phase c x i) → (0 < x) × (0 < i)
+  in_numbers zero zero i h = absurd (h)
+  in_numbers (suc c) zero i h = absurd (h)
+  in_numbers zero (suc x) zero h = absurd (h)
+  in_numbers (suc c) (suc x) zero h = absurd (h)
+  in_numbers zero (suc x) (suc i) h = (omega arith, omega arith)
+  in_numbers (suc c) (suc x) (suc i) h = (omega arith, omega arith)
+
+  -- the judge's state of such words
+  pub state_is : (words : ℕ → Own) (cells : Words) (s : State) → IsLater l limit words cells s → s ≡ judge_of l (start_of words) s.mail
+  state_is words cells s h = λ i. record { procs = h.procs i; cap = h.cap i; lock = h.lock i; mail = s.mail }
+
+  pub later : (words : ℕ → Own) (cells : Words) (s : State) → IsLater l limit words cells s → Kept l (start_of words) cells s.mail
+  later words cells s h =
+      let sat : Sits l cells (judge_of l (start_of words) s.mail) = subst (Sits l cells) (state_is words cells s h) h.sits in
+      record {
+        sole =
+            λ q r x y i j.
+            elim (cases_eq q r) [
+              | inl same ↦ same
+              | inr ne ↦
+                  (let a = in_numbers (words q).choosing (words q).number (words q).inside i in
+                  let b = in_numbers (words r).choosing (words r).number (words r).inside j in
+                  let e = before_is (words q).number q (words r).number r (h.lawful.least q r x y (λ z. ne (sym z)) a.0 a.1 b.0) in
+                  let f = before_is (words r).number r (words q).number q (h.lawful.least r q y x ne b.0 b.1 a.0) in
+                  absurd (omega arith))
+            ];
+        shape = sat.shape;
+        rest = sat.rest;
+      }
+
+  pub later_posts : (words : ℕ → Own) (cells : Words) (s : State) → AllPosts (start_of words) cells s.mail (all_dead words cells).spots
+  later_posts words cells s q lt = tt

@@ -1,0 +1,48 @@
+-- A happening that may come at the end prolongs a story; and a process's spot follows from its own happenings.
+use Rattle.std.proofs.Common.{◌≡◌, ◌≢◌, ℕ, true, false, ◌==◌, List, [], ◌∷◌, ◌++◌, unwrap_or, refl, sym, ap, ◌∙◌, subst, inl, inr, eq-eqb, ne_eqb, append-nil, append_assoc}
+use Rattle.std.proofs.lemmas.Bool.{cases_eq}
+use Rattle.redomail.specs.declared.deed.Deed.{Deed}
+use Rattle.redomail.specs.declared.layout.Layout.{Layout}
+use Rattle.rmeworld.specs.Spot.{Happening, who, next_spot}
+use Rattle.rmeworld.specs.World.{Scene, Can, onward, Story, last_scene, event_deeds, deeds, own_happenings, spot_after}
+use Rattle.rmeworld.specs.Reached.{IsReached}
+use Rattle.rmeworld.proofs.WorldSteps.{put_same, put_other}
+
+module _ (l : Layout) (limit : ℕ) where
+  pub story_more : (w : Scene) (es : List Happening) (e : Happening) → Story l limit w es → Can l limit (last_scene l limit w es) e → Story l limit w (es ++ e ∷ [])
+  story_more w [] e story can = (can, tt)
+  story_more w (x ∷ es) e story can = (story.0, story_more (onward l limit w x) es e story.1 can)
+
+  pub last_more : (w : Scene) (es : List Happening) (e : Happening) → last_scene l limit w (es ++ e ∷ []) ≡ onward l limit (last_scene l limit w es) e
+  last_more w [] e = refl
+  last_more w (x ∷ es) e = last_more (onward l limit w x) es e
+
+  pub deeds_more : (w : Scene) (es : List Happening) (e : Happening) → deeds l limit w (es ++ e ∷ []) ≡ deeds l limit w es ++ event_deeds l (last_scene l limit w es) e
+  deeds_more w [] e = append-nil (event_deeds l w e)
+  deeds_more w (x ∷ es) e = ap (λ ds. event_deeds l w x ++ ds) (deeds_more (onward l limit w x) es e) ∙ sym (append_assoc (event_deeds l w x) _ _)
+
+  pub reached_more : (w : Scene) (history : List Deed) (e : Happening) → IsReached l limit w history → Can l limit w e → IsReached l limit (onward l limit w e) (history ++ event_deeds l w e)
+  reached_more w history e r can =
+      record {
+        first = r.first;
+        state = r.state;
+        origin = r.origin;
+        story = r.story ++ e ∷ [];
+        told = story_more r.first r.story e r.told (subst (λ x. Can l limit x e) (sym r.last) can);
+        last = last_more r.first r.story e ∙ ap (λ x. onward l limit x e) r.last;
+        done = deeds_more r.first r.story e ∙ (λ i. r.done i ++ event_deeds l (r.last i) e);
+      }
+
+  pub spots_are_own : (p : ℕ) (w : Scene) (es : List Happening) → (last_scene l limit w es).spots p ≡ spot_after l limit (w.spots p) (own_happenings p es)
+  spots_are_own p w [] = refl
+  spots_are_own p w (e ∷ es) =
+      elim (cases_eq (who e) p) [
+        | inl same ↦
+            let is : (who e == p) ≡ true = eq-eqb (who e) p same in
+            let here : (onward l limit w e).spots p ≡ unwrap_or (next_spot l limit (w.spots p) e) (w.spots p) =
+            subst (λ q. (onward l limit w e).spots q ≡ unwrap_or (next_spot l limit (w.spots q) e) (w.spots q)) same (put_same w.spots (who e) _) in
+            rw is (spots_are_own p (onward l limit w e) es ∙ ap (λ s. spot_after l limit s (own_happenings p es)) here)
+        | inr ne ↦
+            let is : (who e == p) ≡ false = ne_eqb (who e) p ne in
+            rw is (spots_are_own p (onward l limit w e) es ∙ ap (λ s. spot_after l limit s (own_happenings p es)) (put_other w.spots (who e) _ p (λ f. ne (sym f))))
+      ]

@@ -1,0 +1,214 @@
+-- A step in memory is a happening of the definition.
+use Rattle.std.proofs.Common.{◌≡◌, ◌≢◌, ℕ, ◌+◌, ◌<◌, ◌≤◌, Bool, true, false, ◌==◌, nat_lt, if◌then◌else◌, List, [], ◌∷◌, ◌++◌, length, take, slice_index, slice_index_or, slice_set, Option, Some, None, IsSome, unwrap_or, refl, sym, ap, ◌∙◌, subst, inl, inr, arith, eq-eqb, ne_eqb, append-nil}
+use Rattle.std.proofs.lemmas.Bool.{cases_Bool, cases_eq, cases_lt, lt-ltb, ltb-true}
+use Rattle.std.proofs.lemmas.List.{get_or-set_same, get_or-set_other, get_or_default, get_or_past, length-set, set_past}
+use Rattle.rmecore.specs.Needs.{put}
+use Rattle.rmecore.specs.World.{is_store, write}
+use Rattle.rmecore.specs.Machine.{kind_of, word_of, carried}
+use Rattle.rmecore.specs.Simulated.{zeros, own_at, tally_at, counted, fresh}
+use Rattle.rmecore.specs.declared.access.Access.{Access}
+use Rattle.rmecore.specs.declared.access.Access.TheVariants.{Load, Store}
+use Rattle.rmecore.specs.declared.own.Own.{Own}
+use Rattle.rmecore.specs.declared.word.Word.{Word}
+use Rattle.rmecore.specs.declared.word.Word.TheVariants.{Choosing as ChoosingOf, Number as NumberOf, Inside as InsideOf, Data as DataAt}
+use Rattle.rmecore.specs.declared.tally.Tally.{Tally}
+use Rattle.redomail.specs.declared.deed.Deed.{Deed}
+use Rattle.redomail.specs.declared.reply.Reply.{Reply}
+use Rattle.redomail.specs.Script.{Script, Get as Asks, Put as Writes, Done}
+use Rattle.redomail.specs.Left.{left, fed}
+use Rattle.rmeworld.specs.declared.call.Call.{Call}
+use Rattle.rmeworld.specs.declared.call.Call.TheVariants.{Lock, Unlock, Consistent, Recover, Append, Close, Get, Put, Withdraw}
+use Rattle.rmeworld.specs.declared.errand.Errand.{Errand as Chore}
+use Rattle.rmeworld.specs.declared.errand.Errand.TheVariants.{Free as IsFree, Asking, Doing as Does}
+use Rattle.rmeworld.specs.declared.why.Why.TheVariants.{Mending}
+use Rattle.redomail.specs.declared.layout.Layout.{Layout}
+use Rattle.redomail.specs.Layout.{words_of, size}
+use Rattle.rmeworld.specs.Replayed.{value_of, words_set, cells_set, words_by, cells_by, advanced_by, crashed}
+use Rattle.rmeworld.specs.Spot.{Happening, Begins, Falls, Moves, who, next_spot}
+use Rattle.rmeworld.specs.Stand.{Stand, stepped_by, job_left, started as stand_started, crashed as stand_crashed, spot_of, next_access, spot_after, stepped as stand_stepped, IsAllowed, InWords, StoresOwn}
+use Rattle.rmeworld.specs.World.{reading, Reads, event_deeds, words_after, put_cell, cells_after}
+use Rattle.rmeworld.specs.WorldState.{WorldState, absent, stand_at, spot_at, scene_of, HasSeat, IsSeated, Takes}
+
+pub put_same : {A : Type 0} (f : ℕ → A) (p : ℕ) (x : A) → put f p x p ≡ x
+put_same f p x = let own : (p == p) ≡ true = eq-eqb p p refl in rw own refl
+
+pub put_other : {A : Type 0} (f : ℕ → A) (p : ℕ) (x : A) (q : ℕ) → q ≢ p → put f p x q ≡ f q
+put_other f p x q ne = let other : (q == p) ≡ false = ne_eqb q p ne in rw other refl
+
+-- a list with one item changed, read as a function
+pub at-set : {A : Type 0} (xs : List A) (d : A) (p : ℕ) (x : A) → p < length xs → (q : ℕ) → slice_index_or (slice_set xs p x) q d ≡ put (λ i. slice_index_or xs i d) p x q
+at-set xs d p x below q =
+    elim (cases_eq q p) [
+      | inl e ↦ subst (λ r. slice_index_or (slice_set xs p x) r d ≡ put (λ i. slice_index_or xs i d) p x r) (sym e) (get_or-set_same xs p x d below ∙ sym (put_same (λ i. slice_index_or xs i d) p x))
+      | inr ne ↦ get_or-set_other xs p q x d ne ∙ sym (put_other (λ i. slice_index_or xs i d) p x q ne)
+    ]
+
+pub spot_at-set : (processes : List Stand) (p : ℕ) (s : Stand) → p < length processes → spot_at (slice_set processes p s) ≡ put (spot_at processes) p (spot_of s)
+spot_at-set processes p s below = λ i. λ q. each q i
+  where
+    each : (q : ℕ) → spot_at (slice_set processes p s) q ≡ put (spot_at processes) p (spot_of s) q
+    each q =
+        elim (cases_eq q p) [
+          | inl e ↦ subst (λ r. spot_at (slice_set processes p s) r ≡ put (spot_at processes) p (spot_of s) r) (sym e) (ap spot_of (get_or-set_same processes p s absent below) ∙ sym (put_same (spot_at processes) p (spot_of s)))
+          | inr ne ↦ ap spot_of (get_or-set_other processes p q s absent ne) ∙ sym (put_other (spot_at processes) p (spot_of s) q ne)
+        ]
+
+own_at-set : (words : List Own) (p : ℕ) (x : Own) → p < length words → own_at (slice_set words p x) ≡ put (own_at words) p x
+own_at-set words p x below = λ i. λ q. at-set words zeros p x below q i
+
+pub words_set_is : (words : List Own) (word : Word) (v : ℕ) → InWords (length words) word → own_at (words_set words word v) ≡ write (own_at words) word v
+words_set_is words (ChoosingOf p) v below = own_at-set words p _ below
+words_set_is words (NumberOf p) v below = own_at-set words p _ below
+words_set_is words (InsideOf p) v below = own_at-set words p _ below
+words_set_is words (DataAt i) v below = refl
+
+pub le-ltb : (a b : ℕ) → b ≤ a → nat_lt a b ≡ false
+le-ltb a b h =
+    elim (cases_Bool (nat_lt a b)) [
+      | inl e ↦ let less : a < b = ltb-true a b e in absurd (omega arith)
+      | inr e ↦ e
+    ]
+
+pub cell_set_is : (l : Layout) (cells : List ℕ) (i v : ℕ) → length cells ≡ size l → words_of (slice_set cells i v) ≡ (if nat_lt i (size l) then put (words_of cells) i v else words_of cells)
+cell_set_is l cells i v filled =
+    elim (cases_lt i (length cells)) [
+      | inl below ↦ let in_size : nat_lt i (size l) ≡ true = lt-ltb i (size l) (subst (λ n. i < n) filled below) in rw in_size (λ k. λ q. at-set cells 0 i v below q k)
+      | inr past ↦ let off : nat_lt i (size l) ≡ false = le-ltb i (size l) (subst (λ n. n ≤ i) filled past) in rw (off, set_past cells i v past) refl
+    ]
+
+-- the words after an access
+pub words_by_is : (words : List Own) (p q : ℕ) (a : Access) (v : ℕ) → InWords (length words) (word_of a) → StoresOwn q a → own_at (words_by words a) ≡ words_after (own_at words) (Moves p (kind_of a) (word_of a) (carried a v))
+words_by_is words p q (Load kind word) v within own = rw own refl
+words_by_is words p q (Store kind word x) v within own = rw (own.0) (words_set_is words word x within)
+
+pub cells_by_is : (l : Layout) (cells : List ℕ) (p q : ℕ) (a : Access) (v : ℕ) → length cells ≡ size l → StoresOwn q a → words_of (cells_by cells a) ≡ cells_after l (words_of cells) (Moves p (kind_of a) (word_of a) (carried a v))
+cells_by_is l cells p q (Load kind word) v filled own = rw own refl
+cells_by_is l cells p q (Store kind (DataAt i) x) v filled own = rw (own.0) (cell_set_is l cells i x filled)
+cells_by_is l cells p q (Store kind (ChoosingOf i) x) v filled own = rw (own.0) refl
+cells_by_is l cells p q (Store kind (NumberOf i) x) v filled own = rw (own.0) refl
+cells_by_is l cells p q (Store kind (InsideOf i) x) v filled own = rw (own.0) refl
+
+-- a step of process p
+module _ (s : WorldState) (p : ℕ) (a : Access) where
+  -- what is known of it
+  pub record IsStep : Type 0 where
+    pub filled : length s.cells ≡ size s.layout
+    pub seated : IsSeated s.layout s.limit s.words s.processes s.tallies
+    pub below : p < s.layout.procs
+    pub next : next_access (stand_at s.processes p) ≡ Some a
+    pub allowed : IsAllowed (stand_at s.processes p) a
+    pub within : InWords s.layout.procs (word_of a)
+    pub own : StoresOwn (stand_at s.processes p).index a
+    pub goes : spot_of (stand_stepped (stand_at s.processes p) (reading (scene_of s) (word_of a))) ≡ spot_after (stand_at s.processes p) (next_access (stand_at s.processes p)) (reading (scene_of s) (word_of a))
+
+seat_at : {l : Layout} {limit : ℕ} {words : List Own} {processes : List Stand} {tallies : List Tally} → IsSeated l limit words processes tallies → (p : ℕ) → p < l.procs → HasSeat l limit p (stand_at processes p)
+seat_at seated p below = seated.seats p below
+
+reads_so : (s : WorldState) (p q : ℕ) (a : Access) → StoresOwn q a → Reads (scene_of s) (Moves p (kind_of a) (word_of a) (carried a (reading (scene_of s) (word_of a))))
+reads_so s p q (Load kind word) own load = refl
+reads_so s p q (Store kind word x) own load = cc
+
+pub step_takes : (s : WorldState) (p : ℕ) (a : Access) → IsStep s p a → Takes s (Moves p (kind_of a) (word_of a) (value_of s a)) (advanced_by s p a)
+step_takes s p a h =
+    let st : Stand = stand_at s.processes p in
+    let v : ℕ = reading (scene_of s) (word_of a) in
+    let x : ℕ = carried a v in
+    let seat = h.seated.seats p h.below in
+    let words_within : InWords (length s.words) (word_of a) = subst (λ n. InWords n (word_of a)) (sym h.seated.words_each) h.within in
+    let same : next_spot st.layout st.limit (spot_of st) (Moves st.index (kind_of a) (word_of a) x) ≡ next_spot s.layout s.limit (spot_of st) (Moves p (kind_of a) (word_of a) x) = λ i. next_spot (seat.0 i) (seat.1 i) (spot_of st) (Moves (seat.2 i) (kind_of a) (word_of a) x) in
+    let to : spot_of (stand_stepped st v) ≡ unwrap_or (next_spot s.layout s.limit (spot_of st) (Moves p (kind_of a) (word_of a) x)) (spot_of st) =
+    h.goes ∙ ap (λ o. spot_after st o v) h.next ∙ ap (λ o. unwrap_or o (spot_of st)) same in
+    let spots = spot_at-set s.processes p (stand_stepped st v) (subst (λ n. p < n) (sym h.seated.processes_each) h.below) ∙ ap (put (spot_at s.processes) p) to in
+    let words = words_by_is s.words p st.index a v words_within h.own in
+    let cells = cells_by_is s.layout s.cells p st.index a v h.filled h.own in
+    record {
+      can = (h.below, subst IsSome same (h.allowed v), reads_so s p st.index a h.own);
+      scene = λ i. record { words = words i; cells = cells i; spots = spots i };
+      history = refl;
+      layout = refl;
+      limit = refl;
+    }
+
+-- a happening that touches no word, and leaves process p as t
+alone : (s : WorldState) (p : ℕ) (t : Stand) (tallies : List Tally) (history : List Deed) (e : Happening) → IsSeated s.layout s.limit s.words s.processes s.tallies → p < s.layout.procs → who e ≡ p
+    → Reads (scene_of s) e → words_after (own_at s.words) e ≡ own_at s.words → cells_after s.layout (words_of s.cells) e ≡ words_of s.cells → next_spot s.layout s.limit (spot_at s.processes p) e ≡ Some (spot_of t)
+    → history ≡ s.history ++ event_deeds s.layout (scene_of s) e → Takes s e (record s { processes = slice_set s.processes p t; tallies = tallies; history = history })
+alone s p t tallies history e seated below mine reads words cells to told =
+    record {
+      can = (rw mine below, rw (mine, to) refl, reads);
+      scene =
+          let there : spot_at (slice_set s.processes p t) ≡ put (spot_at s.processes) (who e) (unwrap_or (next_spot s.layout s.limit (spot_at s.processes (who e)) e) (spot_at s.processes (who e))) =
+          rw (mine, to) (spot_at-set s.processes p t (subst (λ n. p < n) (sym seated.processes_each) below)) in
+          λ i. record { words = sym words i; cells = sym cells i; spots = there i };
+      history = told;
+      layout = refl;
+      limit = refl;
+    }
+
+pub start_takes : (s : WorldState) (p : ℕ) (call : Call) (t : Stand) (tallies : List Tally) → IsSeated s.layout s.limit s.words s.processes s.tallies → p < s.layout.procs
+    → next_spot (stand_at s.processes p).layout (stand_at s.processes p).limit (spot_at s.processes p) (Begins (stand_at s.processes p).index call) ≡ Some (spot_of t)
+    → Takes s (Begins p call) (record s { processes = slice_set s.processes p t; tallies = tallies })
+start_takes s p call t tallies seated below to =
+    let seat = seated.seats p below in
+    let same : next_spot s.layout s.limit (spot_at s.processes p) (Begins p call) ≡ next_spot (stand_at s.processes p).layout (stand_at s.processes p).limit (spot_at s.processes p) (Begins (stand_at s.processes p).index call) =
+    λ i. next_spot (sym seat.0 i) (sym seat.1 i) (spot_at s.processes p) (Begins (sym seat.2 i) call) in
+    alone s p t tallies s.history (Begins p call) seated below refl tt refl refl (same ∙ to) (sym (append-nil s.history))
+
+pub crash_takes : (s : WorldState) (p : ℕ) → IsSeated s.layout s.limit s.words s.processes s.tallies → p < s.layout.procs → Takes s (Falls p) (crashed s p)
+crash_takes s p seated below = alone s p (stand_crashed (stand_at s.processes p)) s.tallies (crashed s p).history (Falls p) seated below refl tt refl refl refl refl
+
+-- a process keeps its seat
+pub keeps_stepped : (s : Stand) (e : Chore) (v : ℕ) → HasSeat s.layout s.limit s.index (stepped_by s e v)
+keeps_stepped s IsFree v = (refl, refl, refl)
+keeps_stepped s (Asking job) v = by (v == 1)
+  where
+    by : (b : Bool) → HasSeat s.layout s.limit s.index (if b then record s { errand = IsFree } else record s { errand = Does Mending job })
+    by true = (refl, refl, refl)
+    by false = (refl, refl, refl)
+keeps_stepped s (Does why job) v = by (left (fed job v))
+  where
+    by : (x : Script Reply) → HasSeat s.layout s.limit s.index (job_left s why (fed job v) x)
+    by (Done reply) = (refl, refl, refl)
+    by (Asks i rest) = (refl, refl, refl)
+    by (Writes i x rest) = (refl, refl, refl)
+
+pub keeps_started : (s : Stand) (b : Bool) (call : Call) → s.mended ≡ b → HasSeat s.layout s.limit s.index (stand_started s call)
+keeps_started s true Unlock is = rw is (refl, refl, refl)
+keeps_started s false Unlock is = rw is (refl, refl, refl)
+keeps_started s b Lock is = (refl, refl, refl)
+keeps_started s b Recover is = (refl, refl, refl)
+keeps_started s b Withdraw is = (refl, refl, refl)
+keeps_started s b Consistent is = (refl, refl, refl)
+keeps_started s b (Append seq value) is = (refl, refl, refl)
+keeps_started s b Close is = (refl, refl, refl)
+keeps_started s b (Get i) is = (refl, refl, refl)
+keeps_started s b (Put i v) is = (refl, refl, refl)
+
+-- seats after one process moved
+pub seated_set :
+    {l : Layout} {limit p : ℕ} {words : List Own} {processes : List Stand} {tallies : List Tally} → IsSeated l limit words processes tallies → p < l.procs → (words' : List Own) (t : Stand) (tallies' : List Tally)
+    → length words' ≡ length words → length tallies' ≡ length tallies → HasSeat l limit p t → IsSeated l limit words' (slice_set processes p t) tallies'
+seated_set {l = l} {limit = limit} {p = p} {processes = processes} seated below words' t tallies' words_each tallies_each seat =
+    record {
+      words_each = words_each ∙ seated.words_each;
+      processes_each = length-set processes p t ∙ seated.processes_each;
+      tallies_each = tallies_each ∙ seated.tallies_each;
+      seats = λ q h. elim (cases_eq q p) [
+        | inl e ↦ subst (λ r. HasSeat l limit r (stand_at (slice_set processes p t) r)) (sym e) (subst (HasSeat l limit p) (sym (get_or-set_same processes p t absent (subst (λ n. p < n) (sym seated.processes_each) below))) seat)
+        | inr ne ↦ subst (HasSeat l limit q) (sym (get_or-set_other processes p q t absent ne)) (seated.seats q h)
+      ];
+    }
+
+pub words_by_length : (words : List Own) (a : Access) → length (words_by words a) ≡ length words
+words_by_length words (Load kind word) = refl
+words_by_length words (Store kind (ChoosingOf q) x) = length-set words q _
+words_by_length words (Store kind (NumberOf q) x) = length-set words q _
+words_by_length words (Store kind (InsideOf q) x) = length-set words q _
+words_by_length words (Store kind (DataAt i) x) = refl
+
+pub cells_by_length : (cells : List ℕ) (a : Access) → length (cells_by cells a) ≡ length cells
+cells_by_length cells (Load kind word) = refl
+cells_by_length cells (Store kind (DataAt i) x) = length-set cells i x
+cells_by_length cells (Store kind (ChoosingOf q) x) = refl
+cells_by_length cells (Store kind (NumberOf q) x) = refl
+cells_by_length cells (Store kind (InsideOf q) x) = refl

@@ -1,0 +1,229 @@
+-- What a world in memory keeps, at every call.
+use Rattle.std.proofs.Common.{◌≡◌, ℕ, zero, suc, ◌+◌, ◌*◌, ◌<◌, ◌≤◌, ◌^◌, min, ◌++◌, [], ◌∷◌, List, take, Option, Some, None, IfSome, nat_lt, length, replicate, slice_index_or, slice_set, refl, sym, ap, ◌∙◌, subst, inl, inr, arith}
+use Rattle.std.proofs.lemmas.Bool.{cases_lt, cases_Bool}
+use Rattle.std.proofs.lemmas.List.{get_or-replicate, get_or_past, get_or_default, length-replicate, length-set}
+use Rattle.std.proofs.Math.Seq.{take-append_seam}
+use Rattle.rmecore.specs.Machine.{access, kind_of, word_of, carried}
+use Rattle.rmecore.specs.Place.{Place, Rest, Dead, Reread, Opening, Door, Shutting, Wait, Inside, Leaving, Withdrawing, Unmarking}
+use Rattle.rmecore.specs.World.{step_deed}
+use Rattle.rmecore.specs.declared.outer.Outer.{Outer}
+use Rattle.redomail.specs.declared.deed.Deed.TheVariants.{Outer as OuterDeed}
+use Rattle.rmecore.specs.Simulated.{zeros, own_at, tally_at, counted, fresh}
+use Rattle.rmecore.specs.declared.own.Own.{Own}
+use Rattle.rmecore.specs.declared.tally.Tally.{Tally}
+use Rattle.rmecore.specs.declared.access.Access.{Access}
+use Rattle.rmecore.specs.declared.access.Access.TheVariants.{Load, Store}
+use Rattle.redomail.specs.declared.layout.Layout.{Layout}
+use Rattle.redomail.specs.Layout.{Words, words_of, place_at, held, size, IsLayout}
+use Rattle.redomail.specs.declared.deed.Deed.{Deed}
+use Rattle.judge.specs.Table.{empty}
+use Rattle.rmeworld.specs.declared.call.Call.{Call}
+use Rattle.rmeworld.specs.Replayed.{value_of, happening, mail_by, or_else, list_of, the_deed, prospect_of, words_by, cells_by, advanced_by, started, crashed}
+use Rattle.rmeworld.specs.Reached.{IsReached, IsWorld}
+use Rattle.rmeworld.specs.Spot.{Errand, Free, Doing, Happening, Begins, Falls, Moves, next_spot, outer_by, at_rest}
+use Rattle.rmeworld.specs.Errands.{errand_of}
+use Rattle.rmeworld.specs.Stand.{Stand, spot_of, resting, IsSize, access_by, next_access, outcome, StoresOwn, stepped as stand_stepped, started as stand_started}
+use Rattle.rmeworld.specs.World.{at_first, onward, reading, outer_deeds, mail_deeds, event_deeds}
+use Rattle.rmeworld.specs.WorldState.{WorldState, absent, stand_at, spot_at, scene_of, HasSeat, IsSeated, Takes, at_rest_from, new_world}
+use Rattle.rmeworld.proofs.StoryGrows.{reached_more}
+use Rattle.rmeworld.proofs.WorldSteps.{IsStep, step_takes, seated_set, words_by_length, cells_by_length, keeps_stepped, keeps_started, start_takes, crash_takes}
+
+pub reached_by : (s : WorldState) (e : Happening) (new : WorldState) → Takes s e new → IsReached s.layout s.limit (scene_of s) s.history → IsReached s.layout s.limit (scene_of new) new.history
+reached_by s e new takes reached =
+    subst (λ w. IsReached s.layout s.limit w new.history) (sym takes.scene)
+    (subst (IsReached s.layout s.limit (onward s.layout s.limit (scene_of s) e)) (sym takes.history) (reached_more s.layout s.limit (scene_of s) s.history e reached takes.can))
+
+length-rest : (l : Layout) (limit p n : ℕ) → length (at_rest_from l limit p n) ≡ n
+length-rest l limit p zero = refl
+length-rest l limit p (suc n) = ap suc (length-rest l limit (p + 1) n)
+
+rest-at : (l : Layout) (limit p n q : ℕ) → q < n → stand_at (at_rest_from l limit p n) q ≡ resting l limit (p + q)
+rest-at l limit p zero q h = absurd (omega arith)
+rest-at l limit p (suc n) zero h = let e : p ≡ p + 0 = omega arith in ap (resting l limit) e
+rest-at l limit p (suc n) (suc q) h = let e : p + 1 + q ≡ p + suc q = omega arith in rest-at l limit (p + 1) n q (omega arith) ∙ ap (resting l limit) e
+
+-- a list is told by its length and its items
+pub rest_is : (l : Layout) (limit : ℕ) (xs : List Stand) (p n : ℕ) → length xs ≡ n → ((q : ℕ) → q < n → stand_at xs q ≡ resting l limit (p + q)) → xs ≡ at_rest_from l limit p n
+rest_is l limit [] p zero len each = refl
+rest_is l limit [] p (suc n) len each = cc
+rest_is l limit (x ∷ xs) p zero len each = absurd (omega arith)
+rest_is l limit (x ∷ xs) p (suc n) len each =
+    let zero_ : p + 0 ≡ p = omega arith in
+    let here : x ≡ resting l limit p = each 0 (omega arith) ∙ ap (resting l limit) zero_ in
+    let rest = rest_is l limit xs (p + 1) n (omega (arith, len)) (λ q h. let e : p + suc q ≡ p + 1 + q = omega arith in each (suc q) (omega arith) ∙ ap (resting l limit) e) in
+    λ i. here i ∷ rest i
+
+zero_words : (n : ℕ) → own_at (replicate n zeros) ≡ at_first.words
+zero_words n = λ i. λ p. each p i
+  where
+    each : (p : ℕ) → own_at (replicate n zeros) p ≡ zeros
+    each p = elim (cases_lt p n) [ inl h ↦ get_or-replicate n p zeros zeros h | inr h ↦ get_or_past (replicate n zeros) p zeros (rw length-replicate h) ]
+
+pub zero_cells : (n : ℕ) → words_of (replicate n 0) ≡ at_first.cells
+zero_cells n = λ i. λ p. each p i
+  where
+    each : (p : ℕ) → words_of (replicate n 0) p ≡ 0
+    each p = elim (cases_lt p n) [ inl h ↦ get_or-replicate n p 0 0 h | inr h ↦ get_or_past (replicate n 0) p 0 (rw length-replicate h) ]
+
+rest_spots : (l : Layout) (limit : ℕ) → spot_at (at_rest_from l limit 0 l.procs) ≡ at_first.spots
+rest_spots l limit = λ i. λ p. each p i
+  where
+    each : (p : ℕ) → spot_at (at_rest_from l limit 0 l.procs) p ≡ at_rest
+    each p =
+        elim (cases_lt p l.procs) [
+          | inl h ↦ ap spot_of (rest-at l limit 0 l.procs p h)
+          | inr h ↦ ap spot_of (get_or_past (at_rest_from l limit 0 l.procs) p absent (rw length-rest h))
+        ]
+
+pub new_scene : (l : Layout) (limit : ℕ) → scene_of (new_world l limit) ≡ at_first
+new_scene l limit =
+    let words = zero_words l.procs in
+    let cells = zero_cells (size l) in
+    let spots = rest_spots l limit in
+    λ i. record { words = words i; cells = cells i; spots = spots i }
+
+pub world_new : (l : Layout) (limit : ℕ) → IsSize l → (1 ≤ limit) × (limit ≤ 2 ^ 62) → IsWorld (new_world l limit)
+world_new l limit sized limited =
+    record {
+      sized = sized;
+      limited = limited;
+      filled = length-replicate (size l) 0;
+      seated = record {
+        words_each = length-replicate l.procs zeros;
+        processes_each = length-rest l limit 0 l.procs;
+        tallies_each = length-replicate l.procs (fresh zeros);
+        seats = λ p below. subst (HasSeat l limit p) (sym (rest-at l limit 0 l.procs p below)) (let e : 0 + p ≡ p = omega arith in (refl, refl, e));
+      };
+      reached = record {
+        first = at_first;
+        state = empty l.procs l.cap;
+        origin = inl (refl, refl);
+        story = [];
+        told = tt;
+        last = sym (new_scene l limit);
+        done = refl;
+      };
+    }
+
+pub world_step : (s : WorldState) (p : ℕ) (a : Access) → IsWorld s → IsStep s p a → IsWorld (advanced_by s p a)
+world_step s p a world step =
+    let st : Stand = stand_at s.processes p in
+    let seat = step.seated.seats p step.below in
+    let keeps = keeps_stepped st st.errand _ in
+    record {
+      sized = world.sized;
+      limited = world.limited;
+      filled = cells_by_length s.cells a ∙ world.filled;
+      seated = seated_set step.seated step.below _ _ _ (words_by_length s.words a) (length-set s.tallies p _) (keeps.0 ∙ seat.0, keeps.1 ∙ seat.1, keeps.2 ∙ seat.2);
+      reached = reached_by s _ (advanced_by s p a) (step_takes s p a step) world.reached;
+    }
+
+pub refill : {A : Type 0} (len : ℕ) (ws rest : List A) → length ws ≡ len → take len (ws ++ rest) ≡ ws
+refill len ws rest e = rw (← e) (take-append_seam ws rest)
+
+-- what an index of the processes gives, and one of the tallies
+pub found : (s : WorldState) (p : ℕ) (t : Stand) → IsWorld s → p < s.layout.procs → t ≡ slice_index_or s.processes p t → stand_at s.processes p ≡ t
+found s p t world below is = get_or_default s.processes p absent t (subst (λ n. p < n) (sym world.seated.processes_each) below) ∙ sym is
+
+pub own_found : (s : WorldState) (p : ℕ) (x : Own) → IsWorld s → p < s.layout.procs → x ≡ slice_index_or s.words p x → own_at s.words p ≡ x
+own_found s p x world below is = get_or_default s.words p zeros x (subst (λ n. p < n) (sym world.seated.words_each) below) ∙ sym is
+
+pub tally_found : (s : WorldState) (p : ℕ) (t : Tally) → IsWorld s → p < s.layout.procs → t ≡ slice_index_or s.tallies p t → tally_at s.tallies p ≡ t
+tally_found s p t world below is = get_or_default s.tallies p _ t (subst (λ n. p < n) (sym world.seated.tallies_each) below) ∙ sym is
+
+-- what the code of a step makes of a world
+pub record Made (s : WorldState) (p : ℕ) (a : Access) (new : WorldState) : Type 0 where
+  pub layout : new.layout ≡ s.layout
+  pub limit : new.limit ≡ s.limit
+  pub words : new.words ≡ words_by s.words a
+  pub cells : new.cells ≡ cells_by s.cells a
+  pub processes : new.processes ≡ slice_set s.processes p (stand_stepped (stand_at s.processes p) (reading (scene_of s) (word_of a)))
+  pub tallies : new.tallies ≡ slice_set s.tallies p (counted (tally_at s.tallies p) (outcome (stand_at s.processes p) (Some a) (reading (scene_of s) (word_of a))).progress.blocked)
+  pub history : new.history ≡ s.history ++ event_deeds s.layout (scene_of s) (happening s p a)
+
+pub made_is : {s : WorldState} {p : ℕ} {a : Access} {new : WorldState} → Made s p a new → new ≡ advanced_by s p a
+made_is m = λ i. record { layout = m.layout i; limit = m.limit i; words = m.words i; cells = m.cells i; processes = m.processes i; tallies = m.tallies i; history = m.history i }
+
+mails : (l : Layout) (p q : ℕ) (cells : Words) (a : Access) (x : ℕ) → StoresOwn q a → mail_by l p cells a ≡ mail_deeds l cells (Moves p (kind_of a) (word_of a) (carried a x))
+mails l p q cells (Load kind word) x own = rw own refl
+mails l p q cells (Store kind word v) x own = rw (own.0) refl
+
+-- the lock's part puts no data word
+no_put : (limit p : ℕ) (place : Place) (l : Layout) (q : ℕ) (cells : Words) → IfSome (access limit p place) (λ a. mail_by l q cells a ≡ [])
+no_put limit p (Door [] m) l q cells = elim (cases_Bool (nat_lt m limit)) [ inl e ↦ rw e refl | inr e ↦ rw e refl ]
+no_put limit p (Door (j ∷ js) m) l q cells = refl
+no_put limit p (Reread call []) l q cells = refl
+no_put limit p (Reread call (c ∷ [])) l q cells = refl
+no_put limit p (Reread call (c ∷ k ∷ [])) l q cells = refl
+no_put limit p (Reread call (c ∷ k ∷ i ∷ seen)) l q cells = tt
+no_put limit p Opening l q cells = refl
+no_put limit p (Shutting call k) l q cells = refl
+no_put limit p (Wait k unpassed (Some j)) l q cells = refl
+no_put limit p (Wait k (j ∷ js) None) l q cells = refl
+no_put limit p (Wait k [] None) l q cells = refl
+no_put limit p Leaving l q cells = refl
+no_put limit p Withdrawing l q cells = refl
+no_put limit p (Unmarking call) l q cells = refl
+no_put limit p Rest l q cells = tt
+no_put limit p Dead l q cells = tt
+no_put limit p Inside l q cells = tt
+
+-- a step has one deed at most
+one_deed : (l : Layout) (limit p q : ℕ) (place : Place) (e : Errand) (a : Access) (cells : Words) (x : ℕ) → access_by limit p place e ≡ Some a
+    → or_else (outer_by q place e (kind_of a) x) (mail_by l q cells a) ≡ outer_deeds (outer_by q place e (kind_of a) x) ++ mail_by l q cells a
+one_deed l limit p q place (Doing why left) a cells x next = refl
+one_deed l limit p q place Free a cells x next = by (step_deed q place (kind_of a) x)
+  where
+    by : (o : Option Outer) → or_else o (mail_by l q cells a) ≡ outer_deeds o ++ mail_by l q cells a
+    by None = refl
+    by (Some d) =
+        let none : mail_by l q cells a ≡ [] = subst (λ o. IfSome o (λ a. mail_by l q cells a ≡ [])) next (no_put limit p place l q cells) in
+        ap (λ ds. OuterDeed d ∷ ds) (sym none)
+
+-- the deeds of an access, by what it was for its process
+pub deeds_are : (s : WorldState) (p : ℕ) (a : Access) (q : ℕ) → IsSeated s.layout s.limit s.words s.processes s.tallies → p < s.layout.procs → StoresOwn q a → next_access (stand_at s.processes p) ≡ Some a
+    → prospect_of s p a (outcome (stand_at s.processes p) (Some a) (reading (scene_of s) (word_of a))) ≡ event_deeds s.layout (scene_of s) (happening s p a)
+deeds_are s p a q seated below own next =
+    let st : Stand = stand_at s.processes p in
+    let seat = seated.seats p below in
+    let x : ℕ = carried a (reading (scene_of s) (word_of a)) in
+    let mail = mails s.layout p q (words_of s.cells) a (reading (scene_of s) (word_of a)) own in
+    (λ i. or_else (outer_by (seat.2 i) st.lock (errand_of st.errand) (kind_of a) x) (mail_by s.layout p (words_of s.cells) a))
+    ∙ one_deed s.layout st.limit st.index p st.lock (errand_of st.errand) a (words_of s.cells) x next
+    ∙ ap (λ ds. outer_deeds (outer_by p st.lock (errand_of st.errand) (kind_of a) x) ++ ds) mail
+
+pub the_one : (d : Option Deed) → the_deed (list_of d) ≡ d
+the_one None = refl
+the_one (Some d) = refl
+
+pub world_start : (s : WorldState) (p : ℕ) (call : Call) → IsWorld s → p < s.layout.procs
+    → next_spot (stand_at s.processes p).layout (stand_at s.processes p).limit (spot_at s.processes p) (Begins (stand_at s.processes p).index call) ≡ Some (spot_of (stand_started (stand_at s.processes p) call))
+    → IsWorld (started s p call)
+world_start s p call world below to =
+    let st : Stand = stand_at s.processes p in
+    let seat = world.seated.seats p below in
+    let keeps = keeps_started st st.mended call refl in
+    record {
+      sized = world.sized;
+      limited = world.limited;
+      filled = world.filled;
+      seated = seated_set world.seated below _ _ _ refl (length-set s.tallies p _) (keeps.0 ∙ seat.0, keeps.1 ∙ seat.1, keeps.2 ∙ seat.2);
+      reached = reached_by s (Begins p call) (started s p call) (start_takes s p call (stand_started st call) (started s p call).tallies world.seated below to) world.reached;
+    }
+
+pub world_crash : (s : WorldState) (p : ℕ) → IsWorld s → p < s.layout.procs → IsWorld (crashed s p)
+world_crash s p world below =
+    record {
+      sized = world.sized;
+      limited = world.limited;
+      filled = world.filled;
+      seated = seated_set world.seated below _ _ _ refl refl (world.seated.seats p below);
+      reached = reached_by s (Falls p) (crashed s p) (crash_takes s p world.seated below) world.reached;
+    }
+
+size_small : (l : Layout) → IsLayout l → size l ≤ 900000
+unfolding place_at
+size_small l h = let small = h.small in grind arith
+
+pub size_held : (l : Layout) → IsLayout l → held (size l) ≡ size l
+size_held l h = let small = size_small l h in omega (arith, small)

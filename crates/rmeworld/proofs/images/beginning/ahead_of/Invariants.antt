@@ -1,0 +1,7 @@
+use Rattle.rmecore.specs.Lawful.{start_of}
+use Rattle.rmecore.specs.Simulated.{own_at}
+use Rattle.rmeworld.proofs.ImageStarts.{NamesBelow}
+use Rattle.rmeworld.proofs.images.beginning.ahead_of.Given as goal
+
+abbrev pub invariant-loop-q : goal.invariant-loop-q
+invariant-loop-q l = NamesBelow ((start_of (own_at l.lock)).ahead l.p) l.q l.names.items

@@ -1,0 +1,13 @@
+use Rattle.std.proofs.Common.{rules}
+use Rattle.std.proofs.lemmas.Result.{IfOk-weaker}
+use Rattle.judge.specs.Starts.{IsStart}
+use Rattle.rmeworld.specs.ImageRules.{IsLawfulImage}
+use Rattle.rmeworld.specs.ImageStart.{IsStartOf}
+use Rattle.rmeworld.proofs.ImageJudged.{is_start}
+use Rattle.rmeworld.proofs.images.beginning.start_of.Goals as goal
+
+pub returns-clause-judged : goal.returns-clause-judged
+returns-clause-judged c =
+    let i = c.args.image.now in
+    let k : IsLawfulImage i = search rules in
+    IfOk-weaker c.started.result (IsStartOf i) IsStart (λ s h. is_start i s k h) c.started.ensures.start

@@ -1,0 +1,7 @@
+use Rattle.std.proofs.Common.{◌≡◌, map, take}
+use Rattle.rmeworld.specs.ImageText.{whole_data}
+use Rattle.serde_json.specs.View.{view}
+use Rattle.rmeworld.proofs.images.form.numbers.Given as goal
+
+abbrev pub invariant-loop-item : goal.invariant-loop-item
+invariant-loop-item l = map view (take l.item-index l.item-items) ≡ map whole_data l.numbers.items

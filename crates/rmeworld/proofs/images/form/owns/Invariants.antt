@@ -1,0 +1,7 @@
+use Rattle.std.proofs.Common.{◌≡◌, map, take}
+use Rattle.rmeworld.specs.ImageText.{own_data}
+use Rattle.serde_json.specs.View.{view}
+use Rattle.rmeworld.proofs.images.form.owns.Given as goal
+
+abbrev pub invariant-loop-item : goal.invariant-loop-item
+invariant-loop-item l = map view (take l.item-index l.item-items) ≡ map own_data l.owns.items

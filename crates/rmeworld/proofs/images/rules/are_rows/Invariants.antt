@@ -1,0 +1,7 @@
+use Rattle.std.proofs.Common.{ℕ, ◌<◌}
+use Rattle.rmecore.specs.Lawful.{IsRow}
+use Rattle.rmecore.specs.Simulated.{own_at}
+use Rattle.rmeworld.proofs.images.rules.are_rows.Given as goal
+
+abbrev pub invariant-loop-own : goal.invariant-loop-own
+invariant-loop-own l = (p : ℕ) → p < l.own-index → IsRow l.limit (own_at l.lock p)

@@ -1,0 +1,7 @@
+use Rattle.std.proofs.Common.{◌≡◌, map, take}
+use Rattle.rmeworld.specs.ImageText.{whole_data}
+use Rattle.serde_json.specs.View.{view}
+use Rattle.rmeworld.proofs.images.writing.list_value.Given as goal
+
+abbrev pub invariant-loop-number : goal.invariant-loop-number
+invariant-loop-number l = map view l.items.items ≡ map whole_data (take l.number-index l.numbers)

@@ -1,0 +1,7 @@
+use Rattle.std.proofs.Common.{◌≡◌, map, take}
+use Rattle.rmeworld.specs.ImageText.{own_data}
+use Rattle.serde_json.specs.View.{view}
+use Rattle.rmeworld.proofs.images.writing.lock_value.Given as goal
+
+abbrev pub invariant-loop-own : goal.invariant-loop-own
+invariant-loop-own l = map view l.items.items ≡ map own_data (take l.own-index l.lock)

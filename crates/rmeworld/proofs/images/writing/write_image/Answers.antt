@@ -1,0 +1,9 @@
+use Rattle.std.proofs.Common.{[], ◌∷◌, ◌++◌, ap, ◌∙◌}
+use Rattle.serde_json.specs.Written.{compact_text}
+use Rattle.rmeworld.proofs.ImageTexts.{no_float}
+use Rattle.rmeworld.proofs.images.writing.write_image.Goals as goal
+
+pub returns-clause-ok : goal.returns-clause-ok
+returns-clause-ok c =
+    let text = c.in_ok-text.ensures.text (rw c.in_ok-value.ensures (no_float c.args.image.now)) in
+    c.in_ok-push.ensures.items ∙ ap (λ xs. xs ++ 10 ∷ []) (text ∙ ap compact_text c.in_ok-value.ensures)

@@ -1,0 +1,32 @@
+use Rattle.std.proofs.Common.{◌≡◌, ℕ, ◌+◌, replicate, sym, ap, ◌∙◌, subst, rules, arith}
+use Rattle.std.proofs.lemmas.Grind.{common_steps}
+use Rattle.rmecore.specs.Simulated.{zeros, fresh}
+use Rattle.redomail.specs.declared.layout.Layout.{Layout}
+use Rattle.redomail.specs.Layout.{size}
+use Rattle.rmeworld.specs.Reached.{IsWorld}
+use Rattle.rmeworld.specs.Stand.{Stand, IsSize, resting}
+use Rattle.rmeworld.specs.WorldState.{WorldState, at_rest_from, new_world}
+use Rattle.rmeworld.proofs.Worlds.{rest_is, world_new, size_held}
+use Rattle.rmeworld.proofs.world.World.new.Goals as goal
+
+abbrev layout : goal.After-new → Layout
+layout c = record { procs = c.args.procs; cap = c.args.cap; width = c.args.width }
+
+sized : (c : goal.After-new) → IsSize (layout c)
+sized c = record { layout = record { few = c.if-procs-gt-MOST_PROCS.false; small = c.if-cap-gt-MOST_CAP.false; least = omega arith; most = c.if-width-gt-MOST_WIDTH.false }; procs = omega arith; cap = omega arith }
+
+is : (c : goal.After-new) → record { layout = layout c; limit = c.args.limit; words = c.in_ok-words.words.items; cells = c.in_ok-cells.cells.items; processes = c.in_ok-processes.processes.items; tallies = c.in_ok-tallies.tallies.items; history = c.new.result.items } ≡ new_world (layout c) c.args.limit
+is c =
+    let words : c.in_ok-words.words.items ≡ replicate c.args.procs zeros = search rules in
+    let tallies : c.in_ok-tallies.tallies.items ≡ replicate c.args.procs (fresh zeros) = search rules in
+    let room : c.in_ok-cells.cells.items ≡ replicate c.words.result 0 = search rules in
+    let cells : c.in_ok-cells.cells.items ≡ replicate (size (layout c)) 0 = room ∙ ap (λ n. replicate n 0) (c.words.ensures ∙ size_held (layout c) (sized c).layout) in
+    let processes : c.in_ok-processes.processes.items ≡ at_rest_from (layout c) c.args.limit 0 c.args.procs =
+    rest_is (layout c) c.args.limit c.in_ok-processes.processes.items 0 c.args.procs (grind (arith, common_steps)) (λ q below. c.in_ok-processes.ensures.each q below ∙ (let e : q ≡ 0 + q = omega arith in ap (resting (layout c) c.args.limit) e)) in
+    λ i. record { layout = layout c; limit = c.args.limit; words = words i; cells = cells i; processes = processes i; tallies = tallies i; history = c.new.ensures.items i }
+
+pub invariant_of-result : goal.invariant_of-result
+invariant_of-result c = subst IsWorld (sym (is c)) (world_new (layout c) c.args.limit (sized c) (omega arith, c.if-limit-gt-MOST_LIMIT.false))
+
+pub returns-clause-ok : goal.returns-clause-ok
+returns-clause-ok c = is c

@@ -1,0 +1,6 @@
+use Rattle.std.proofs.Common.{◌≡◌, map, take}
+use Rattle.rmecore.specs.Simulated.{fresh}
+use Rattle.rmeworld.proofs.world.all_unstarted.Given as goal
+
+abbrev pub invariant-loop-own : goal.invariant-loop-own
+invariant-loop-own l = l.tallies.items ≡ map fresh (take l.own-index l.words)

@@ -1,0 +1,49 @@
+-- A wider image: the value of each place and of the record gets words 0 at its end, and nothing else changes.
+use Rattle.std.specs.Prelude.{◌≡◌, ℕ, ◌+◌, ◌-◌, ◌<◌, ◌≤◌, ◌⊎◌, List, ◌++◌, length, map, slice_index}
+use Rattle.rmecore.specs.Body.{zeros}
+use Rattle.rmecore.specs.declared.refusal.Refusal.{Refusal}
+use Rattle.rmecore.specs.declared.refusal.Refusal.TheVariants.{BadImage, BadWidth, OutOfMemory}
+use Rattle.redomail.specs.declared.message.Message.{Message}
+use Rattle.redomail.specs.Layout.{words_of, row, size}
+use Rattle.redomail.specs.Shape.{entry, entries}
+use Rattle.rmeworld.specs.declared.image.Image.{Image}
+use Rattle.rmeworld.specs.ImageRules.{layout_of, IsLawfulImage, IsFirstBroken}
+
+-- with words 0 at the end, n in all
+abbrev pub padded : ℕ → List ℕ → List ℕ
+padded n xs = xs ++ zeros (n - length xs)
+
+abbrev pub widened : ℕ → Message → Message
+widened n m = record m { value = padded n m.value }
+
+-- j is i with values of this many words
+pub record IsWider (wide : ℕ) (i j : Image) : Type 0 where
+  pub version : j.version ≡ 2
+  pub width : j.width ≡ wide
+  pub cap : j.cap ≡ i.cap
+  pub limit : j.limit ≡ i.limit
+  pub lock : j.lock ≡ i.lock
+  pub filled : length j.cells ≡ size (layout_of j)
+  -- ruined, closed, count, armed, and the record's place and number
+  pub heads : row (words_of j.cells) 0 6 ≡ row (words_of i.cells) 0 6
+  -- the record's value
+  pub recorded : row (words_of j.cells) 6 wide ≡ padded wide (row (words_of i.cells) 6 i.width)
+  -- the board and the last numbers
+  pub others : row (words_of j.cells) (6 + wide) (4 + length i.lock) ≡ row (words_of i.cells) (6 + i.width) (4 + length i.lock)
+  pub places : (a : ℕ) → a < i.cap → entry (layout_of j) (words_of j.cells) a ≡ widened wide (entry (layout_of i) (words_of i.cells) a)
+
+-- why an image isn't widened: its first broken rule; a width that is smaller than its own, or above 8; or want of memory
+abbrev pub IsUnwidened : ℕ → Image → Refusal → Type 0
+IsUnwidened wide i e =
+    ((rule : ℕ) × IsFirstBroken rule i × (e ≡ BadImage rule))
+    ⊎ ((IsLawfulImage i × ((wide < i.width) ⊎ (8 < wide)) × (e ≡ BadWidth)) ⊎ (IsLawfulImage i × (i.width ≤ wide) × (wide ≤ 8) × (e ≡ OutOfMemory)))
+
+-- the messages that an image shows
+abbrev pub shown_in : Image → List Message
+shown_in i = entries (layout_of i) (words_of i.cells) (slice_index i.cells 2)
+
+-- A wider image is lawful where the image was, and shows the same messages, each with words 0 at its end.
+abbrev pub WideningKeeps : Type 0
+WideningKeeps =
+    (wide : ℕ) (i j : Image) → IsLawfulImage i → i.width ≤ wide → wide ≤ 8 → IsWider wide i j
+    → IsLawfulImage j × (shown_in j ≡ map (widened wide) (shown_in i))

@@ -1,0 +1,17 @@
+pub mod ImageRules
+pub mod ImageStart
+pub mod ImageText
+pub mod Whys
+pub mod Entered
+pub mod Spot
+pub mod Answered
+pub mod Refused
+pub mod Errands
+pub mod Stand
+pub mod World
+pub mod ImageWiden
+pub mod WideWords
+pub mod Law
+pub mod WorldState
+pub mod Replayed
+pub mod Reached

@@ -1,0 +1,49 @@
+-- Worlds that some story comes to.
+use Rattle.std.specs.Prelude.{◌≡◌, ℕ, ◌<◌, ◌≤◌, ◌^◌, ◌⊎◌, nat_lt, if◌then◌else◌, List, length}
+use Rattle.rmecore.specs.declared.own.Own.{Own}
+use Rattle.redomail.specs.declared.deed.Deed.{Deed}
+use Rattle.redomail.specs.declared.layout.Layout.{Layout}
+use Rattle.redomail.specs.Layout.{Words, size}
+use Rattle.judge.specs.Legal.{Leads}
+use Rattle.judge.specs.Table.{State, empty}
+use Rattle.rmeworld.specs.Law.{IsLater}
+use Rattle.rmeworld.specs.Spot.{Happening, at_rest, dead}
+use Rattle.rmeworld.specs.Stand.{IsSize}
+use Rattle.rmeworld.specs.World.{Scene, at_first, Story, last_scene, deeds}
+use Rattle.rmeworld.specs.WorldState.{WorldState, IsSeated, scene_of}
+
+-- these words, and each of the n processes crashed
+abbrev pub crashed_scene : ℕ → (ℕ → Own) → Words → Scene
+crashed_scene n words cells = record { words = words; cells = cells; spots = λ p. if nat_lt p n then dead else at_rest }
+
+-- the first scene, with the judge's state where its history begins: of a new world, or of one whose processes have all
+-- crashed, with words that may outlive that
+abbrev pub IsOrigin : Layout → ℕ → Scene → State → Type 0
+IsOrigin l limit w s =
+    ((w ≡ at_first) × (s ≡ empty l.procs l.cap)) ⊎ ((w ≡ crashed_scene l.procs w.words w.cells) × IsLater l limit w.words w.cells s)
+
+-- The scene is the last of some story, and the history is the story's deeds.
+pub record IsReached (l : Layout) (limit : ℕ) (w : Scene) (history : List Deed) : Type 0 where
+  pub first : Scene
+  pub state : State
+  pub origin : IsOrigin l limit first state
+  pub story : List Happening
+  pub told : Story l limit first story
+  pub last : last_scene l limit first story ≡ w
+  pub done : deeds l limit first story ≡ history
+
+-- What a world keeps.
+pub record IsWorld (s : WorldState) : Type 0 where
+  pub sized : IsSize s.layout
+  pub limited : (1 ≤ s.limit) × (s.limit ≤ 2 ^ 62)
+  pub filled : length s.cells ≡ size s.layout
+  pub seated : IsSeated s.layout s.limit s.words s.processes s.tallies
+  pub reached : IsReached s.layout s.limit (scene_of s) s.history
+
+-- The history is legal by the whole judge table, from the state where the world began.
+pub record IsLegalHistory (s : WorldState) : Type 0 where
+  pub first : Scene
+  pub state : State
+  pub origin : IsOrigin s.layout s.limit first state
+  pub now : State
+  pub leads : Leads state s.history now

@@ -1,0 +1,145 @@
+-- A world as a machine: why its calls are refused, what they answer, and what they leave.
+use Rattle.std.specs.Prelude.{ℕ, nat_lt, true, false, if◌then◌else◌, List, [], ◌∷◌, ◌++◌, slice_set, Option, Some, None}
+use Rattle.rmecore.specs.Machine.{kind_of, word_of, carried}
+use Rattle.rmecore.specs.Simulated.{own_at, tally_at, counted, fresh}
+use Rattle.rmecore.specs.declared.access.Access.{Access}
+use Rattle.rmecore.specs.declared.access.Access.TheVariants.{Load, Store}
+use Rattle.rmecore.specs.declared.kind.Kind.TheVariants.{Glance}
+use Rattle.rmecore.specs.declared.outer.Outer.{Outer}
+use Rattle.rmecore.specs.declared.outer.Outer.TheVariants.{Crash}
+use Rattle.rmecore.specs.declared.own.Own.{Own}
+use Rattle.rmecore.specs.declared.refusal.Refusal.{Refusal}
+use Rattle.rmecore.specs.declared.refusal.Refusal.TheVariants.{NoSuchProcess, NothingToDo}
+use Rattle.rmecore.specs.declared.word.Word.{Word}
+use Rattle.rmecore.specs.declared.word.Word.TheVariants.{Choosing as ChoosingOf, Number as NumberOf, Inside as InsideOf, Data as DataAt}
+use Rattle.redomail.specs.declared.layout.Layout.{Layout}
+use Rattle.redomail.specs.Layout.{Words, words_of}
+use Rattle.redomail.specs.declared.deed.Deed.{Deed}
+use Rattle.redomail.specs.declared.deed.Deed.TheVariants.{Outer as OuterDeed}
+use Rattle.rmeworld.specs.declared.call.Call.{Call}
+use Rattle.rmeworld.specs.declared.image.Image.{Image}
+use Rattle.rmeworld.specs.declared.outcome.Outcome.{Outcome}
+use Rattle.rmeworld.specs.declared.stepped.Stepped.{Stepped}
+use Rattle.rmeworld.specs.Refused.{is_idle, start_refusal as spot_refusal}
+use Rattle.rmeworld.specs.Spot.{Happening, Moves}
+use Rattle.rmeworld.specs.Stand.{next_access, outcome, stepped as stand_stepped, started as stand_started, crashed as stand_crashed}
+use Rattle.rmeworld.specs.World.{reading, put_deeds, event_deeds}
+use Rattle.rmeworld.specs.WorldState.{WorldState, stand_at, spot_at, scene_of}
+
+abbrev pub start_refusal : WorldState → ℕ → Call → Option Refusal
+start_refusal s p call = if nat_lt p s.layout.procs then spot_refusal s.layout (spot_at s.processes p) call else Some NoSuchProcess
+
+-- the call is under way, and nothing of it is counted yet
+abbrev pub started : WorldState → ℕ → Call → WorldState
+started s p call =
+    record s {
+      processes = slice_set s.processes p (stand_started (stand_at s.processes p) call);
+      tallies = slice_set s.tallies p (fresh (own_at s.words p));
+    }
+
+abbrev pub advance_refusal : WorldState → ℕ → Option Refusal
+advance_refusal s p = if nat_lt p s.layout.procs then (if is_idle (spot_at s.processes p) then Some NothingToDo else None) else Some NoSuchProcess
+
+-- the value that an access reads or writes
+abbrev pub value_of : WorldState → Access → ℕ
+value_of s a = carried a (reading (scene_of s) (word_of a))
+
+abbrev pub happening : WorldState → ℕ → Access → Happening
+happening s p a = Moves p (kind_of a) (word_of a) (value_of s a)
+
+-- the lock words and the data words after a store
+abbrev pub words_set : List Own → Word → ℕ → List Own
+words_set words (ChoosingOf p) v = slice_set words p (record (own_at words p) { choosing = v })
+words_set words (NumberOf p) v = slice_set words p (record (own_at words p) { number = v })
+words_set words (InsideOf p) v = slice_set words p (record (own_at words p) { inside = v })
+words_set words (DataAt i) v = words
+
+abbrev pub cells_set : List ℕ → Word → ℕ → List ℕ
+cells_set cells (DataAt i) v = slice_set cells i v
+cells_set cells word v = cells
+
+abbrev pub words_by : List Own → Access → List Own
+words_by words (Load kind word) = words
+words_by words (Store kind word v) = words_set words word v
+
+abbrev pub cells_by : List ℕ → Access → List ℕ
+cells_by cells (Load kind word) = cells
+cells_by cells (Store kind word v) = cells_set cells word v
+
+-- the deeds of the put that an access is
+abbrev pub mail_by : Layout → ℕ → Words → Access → List Deed
+mail_by l p cells (Load kind word) = []
+mail_by l p cells (Store kind word v) = put_deeds l p cells word v
+
+-- the deed of the lock, or else these
+abbrev pub or_else : Option Outer → List Deed → List Deed
+or_else None deeds = deeds
+or_else (Some d) deeds = OuterDeed d ∷ []
+
+-- a list of at most one
+abbrev pub list_of : Option Deed → List Deed
+list_of None = []
+list_of (Some d) = d ∷ []
+
+abbrev pub the_deed : List Deed → Option Deed
+the_deed [] = None
+the_deed (d ∷ ds) = Some d
+
+-- the deeds of an access that is this for its process
+abbrev pub prospect_of : WorldState → ℕ → Access → Outcome → List Deed
+prospect_of s p a o = or_else o.progress.outer (mail_by s.layout p (words_of s.cells) a)
+
+-- what this access tells
+abbrev pub stepped_by : WorldState → ℕ → Access → Stepped
+stepped_by s p a =
+    let o = outcome (stand_at s.processes p) (Some a) (reading (scene_of s) (word_of a)) in
+    record {
+      happened = record { kind = kind_of a; word = word_of a; value = value_of s a; outer = o.progress.outer; done = o.progress.done };
+      deed = the_deed (event_deeds s.layout (scene_of s) (happening s p a));
+      answer = o.answer;
+    }
+
+-- and what it leaves
+abbrev pub advanced_by : WorldState → ℕ → Access → WorldState
+advanced_by s p a =
+    let v = reading (scene_of s) (word_of a) in
+    record s {
+      words = words_by s.words a;
+      cells = cells_by s.cells a;
+      processes = slice_set s.processes p (stand_stepped (stand_at s.processes p) v);
+      tallies = slice_set s.tallies p (counted (tally_at s.tallies p) (outcome (stand_at s.processes p) (Some a) v).progress.blocked);
+      history = s.history ++ event_deeds s.layout (scene_of s) (happening s p a);
+    }
+
+-- what stands for a step where there is none
+abbrev pub no_step : Stepped
+no_step = record { happened = record { kind = Glance; word = DataAt 0; value = 0; outer = None; done = None }; deed = None; answer = None }
+
+abbrev pub stepped_if : WorldState → ℕ → Option Access → Stepped
+stepped_if s p None = no_step
+stepped_if s p (Some a) = stepped_by s p a
+
+abbrev pub advanced_if : WorldState → ℕ → Option Access → WorldState
+advanced_if s p None = s
+advanced_if s p (Some a) = advanced_by s p a
+
+-- the next step of p
+abbrev pub stepped : WorldState → ℕ → Stepped
+stepped s p = stepped_if s p (next_access (stand_at s.processes p))
+
+abbrev pub advanced : WorldState → ℕ → WorldState
+advanced s p = advanced_if s p (next_access (stand_at s.processes p))
+
+abbrev pub crash_refusal : WorldState → ℕ → Option Refusal
+crash_refusal s p = if nat_lt p s.layout.procs then None else Some NoSuchProcess
+
+abbrev pub crash_deed : ℕ → Deed
+crash_deed p = OuterDeed (Crash p)
+
+abbrev pub crashed : WorldState → ℕ → WorldState
+crashed s p =
+    record s { processes = slice_set s.processes p (stand_crashed (stand_at s.processes p)); history = s.history ++ crash_deed p ∷ [] }
+
+-- the words that stand, with the sizes
+abbrev pub image_of : WorldState → Image
+image_of s = record { cap = s.layout.cap; cells = s.cells; limit = s.limit; lock = s.words; version = 2; width = s.layout.width }

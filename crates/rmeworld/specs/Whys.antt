@@ -1,0 +1,11 @@
+-- The task that a script on the data words is. Consistent asks before it whether the lock is ruined.
+use Rattle.redomail.specs.declared.task.Task.{Task}
+use Rattle.redomail.specs.declared.task.Task.TheVariants.{Check, Ruin, Repair}
+use Rattle.rmeworld.specs.declared.why.Why.{Why}
+use Rattle.rmeworld.specs.declared.why.Why.TheVariants.{Checking, Ruining, Mending, Working}
+
+abbrev pub task_of : Why → Task
+task_of Checking = Check
+task_of Ruining = Ruin
+task_of Mending = Repair
+task_of (Working task) = task

@@ -1,0 +1,114 @@
+-- What contracts see of a world, and which scene it is.
+use Rattle.std.specs.Prelude.{◌≡◌, ℕ, ◌<◌, ◌≤◌, ◌^◌, ◌&&◌, nat_lt, nat_le, List, [], ◌∷◌, ◌++◌, length, map, replicate, slice_index_or, slice_set, zero, suc, ◌+◌, if◌then◌else◌, Option, Some, None, IsSome}
+use Rattle.rmecore.specs.Machine.{owner}
+use Rattle.rmecore.specs.Simulated.{zeros as zero_words, own_at, tally_at, fresh}
+use Rattle.rmecore.specs.declared.happened.Happened.{Happened}
+use Rattle.rmecore.specs.declared.own.Own.{Own}
+use Rattle.rmecore.specs.declared.refusal.Refusal.{Refusal}
+use Rattle.rmecore.specs.declared.refusal.Refusal.TheVariants.{BadProcs, BadLimit, BadCap, BadWidth}
+use Rattle.rmecore.specs.declared.tally.Tally.{Tally}
+use Rattle.rmecore.specs.declared.word.Word.{Word}
+use Rattle.redomail.specs.declared.deed.Deed.{Deed}
+use Rattle.redomail.specs.declared.layout.Layout.{Layout}
+use Rattle.redomail.specs.Layout.{words_of, size}
+use Rattle.rmeworld.specs.Spot.{Spot, Happening, Moves, next_spot}
+use Rattle.rmeworld.specs.Stand.{Stand, spot_of, resting, crashed}
+use Rattle.rmeworld.specs.declared.image.Image.{Image}
+use Rattle.rmeworld.specs.ImageRules.{layout_of}
+use Rattle.rmeworld.specs.World.{Scene, Can, onward, event_deeds}
+
+pub record WorldState : Type 0 where
+  pub layout : Layout
+  pub limit : ℕ
+  pub words : List Own
+  pub cells : List ℕ
+  pub processes : List Stand
+  pub tallies : List Tally
+  pub history : List Deed
+
+-- what stands for a process that there is not
+abbrev pub absent : Stand
+absent = resting (record { procs = 0; cap = 0; width = 0 }) 0 0
+
+abbrev pub stand_at : List Stand → ℕ → Stand
+stand_at processes p = slice_index_or processes p absent
+
+abbrev pub spot_at : List Stand → ℕ → Spot
+spot_at processes p = spot_of (stand_at processes p)
+
+abbrev pub scene_of : WorldState → Scene
+scene_of s = record { words = own_at s.words; cells = words_of s.cells; spots = spot_at s.processes }
+
+-- process p of a world of this size, with this limit
+abbrev pub HasSeat : Layout → ℕ → ℕ → Stand → Type 0
+HasSeat l limit p s = (s.layout ≡ l) × (s.limit ≡ limit) × (s.index ≡ p)
+
+-- each process has its own words, tally and seat
+pub record IsSeated (l : Layout) (limit : ℕ) (words : List Own) (processes : List Stand) (tallies : List Tally) : Type 0 where
+  pub words_each : length words ≡ l.procs
+  pub processes_each : length processes ≡ l.procs
+  pub tallies_each : length tallies ≡ l.procs
+  pub seats : (p : ℕ) → p < l.procs → HasSeat l limit p (stand_at processes p)
+
+-- The definition allows the happening, just that happens, and the history grows by just its deeds.
+pub record Takes (old : WorldState) (e : Happening) (new : WorldState) : Type 0 where
+  pub can : Can old.layout old.limit (scene_of old) e
+  pub scene : scene_of new ≡ onward old.layout old.limit (scene_of old) e
+  pub history : new.history ≡ old.history ++ event_deeds old.layout (scene_of old) e
+  pub layout : new.layout ≡ old.layout
+  pub limit : new.limit ≡ old.limit
+
+abbrev pub happening_of : ℕ → Happened → Happening
+happening_of p h = Moves p h.kind h.word h.value
+
+-- of the words that the definition leaves to choose from, that of the least process
+abbrev pub ChoosesLeast : WorldState → ℕ → Happened → Type 0
+ChoosesLeast old p h =
+    (word : Word) (v : ℕ) → IsSome (next_spot old.layout old.limit (spot_at old.processes p) (Moves p h.kind word v)) → owner h.word ≤ owner word
+
+-- this many processes at rest, from p on
+abbrev pub at_rest_from : Layout → ℕ → ℕ → ℕ → List Stand
+at_rest_from l limit p zero = []
+at_rest_from l limit p (suc n) = resting l limit p ∷ at_rest_from l limit (p + 1) n
+
+-- a new world: all words are 0, and all processes at rest
+abbrev pub new_world : Layout → ℕ → WorldState
+new_world l limit =
+    record {
+      layout = l;
+      limit = limit;
+      words = replicate l.procs zero_words;
+      cells = replicate (size l) 0;
+      processes = at_rest_from l limit 0 l.procs;
+      tallies = replicate l.procs (fresh zero_words);
+      history = [];
+    }
+
+-- why a world of this size isn't made. Want of memory is no such cause
+abbrev pub new_refusal : Layout → ℕ → Option Refusal
+new_refusal l limit =
+    if nat_lt 0 l.procs && nat_le l.procs 64
+    then (if nat_lt 0 limit && nat_le limit (2 ^ 62)
+    then (if nat_lt 0 l.cap && nat_le l.cap 65536
+    then (if nat_lt 0 l.width && nat_le l.width 8 then None else Some BadWidth)
+    else Some BadCap)
+    else Some BadLimit)
+    else Some BadProcs
+
+-- this many crashed processes, from p on
+abbrev pub crashed_from : Layout → ℕ → ℕ → ℕ → List Stand
+crashed_from l limit p zero = []
+crashed_from l limit p (suc n) = crashed (resting l limit p) ∷ crashed_from l limit (p + 1) n
+
+-- the world of an image: its words, and every process crashed
+abbrev pub image_world : Image → WorldState
+image_world i =
+    record {
+      layout = layout_of i;
+      limit = i.limit;
+      words = i.lock;
+      cells = i.cells;
+      processes = crashed_from (layout_of i) i.limit 0 (length i.lock);
+      tallies = map fresh i.lock;
+      history = [];
+    }

@@ -1,0 +1,42 @@
+//! The data words of an image.
+
+ghost use Rattle.std.specs.Prelude.{◌≡◌};
+
+use std::marker::Model;
+
+/// The data words of a world, by rising index. Contracts see them as a list.
+#[derive(Debug, Drop)]
+pub struct Cells {
+    words: Vec<u64>,
+}
+
+impl Model for Cells {
+    ghost use Rattle.std.specs.Prelude.{ℕ, List};
+
+    ghost Value = { List ℕ };
+
+    ghost view = { λ c. c.words.items };
+}
+
+impl Cells {
+    /// These words. It takes no memory.
+    pub fn new(words: Vec<u64>) -> Cells
+        ensures { result ≡ words.items }
+    {
+        Cells { words }
+    }
+
+    /// The words, to be read.
+    pub fn as_slice(&self) -> &[u64]
+        ensures { result.now ≡ self.now }
+    {
+        self.words.as_slice()
+    }
+
+    /// The words, given back. It takes no memory.
+    pub fn into_vec(self) -> Vec<u64>
+        ensures { result.items ≡ self }
+    {
+        self.words
+    }
+}

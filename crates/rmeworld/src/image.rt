@@ -1,0 +1,21 @@
+//! What outlives a crash of everything.
+
+use crate::cells::Cells;
+use crate::owns::Owns;
+
+/// The words of a world with its sizes: all that outlives a crash of everything.
+#[derive(Debug, Drop)]
+pub struct Image {
+    /// How many messages the mailbox holds.
+    pub cap: u64,
+    /// The data words.
+    pub cells: Cells,
+    /// The greatest number that a process can take.
+    pub limit: u64,
+    /// The lock words, a process after the other.
+    pub lock: Owns,
+    /// The version of the image's text: 2, or 1 of one that was read in that form.
+    pub version: u64,
+    /// How many words a message's value has.
+    pub width: u64,
+}

@@ -1,0 +1,55 @@
+//! Laws over every story of a world: every list of happenings, of any number of processes, in which each may come after
+//! those before it. Each is the contract of a function that does nothing.
+
+ghost use Rattle.std.specs.Prelude.{◌≡◌, ℕ, List, [], ◌∷◌, ◌++◌, length};
+ghost use Rattle.rmecore.specs.Simulated.{own_at};
+ghost use Rattle.redomail.specs.Layout.{words_of};
+ghost use Rattle.judge.specs.Starts.{state_of};
+ghost use Rattle.rmeworld.specs.ImageRules.{layout_of, IsLawfulImage};
+ghost use Rattle.rmeworld.specs.ImageStart.{IsStartOf};
+ghost use Rattle.rmeworld.specs.Law.{IsLater, EveryStoryIsSound, EveryStoryIsLegal, EveryLaterStoryIsSound, EveryStoryEndsLawful};
+ghost use Rattle.rmeworld.specs.Reached.{crashed_scene};
+ghost use Rattle.rmeworld.specs.Spot.{Happening};
+ghost use Rattle.rmeworld.specs.World.{Scene, at_first, Can, onward, Story, last_scene, event_deeds, deeds, own_happenings, spot_after};
+ghost use Rattle.rmeworld.specs.WorldState.{scene_of, new_world, image_world};
+
+use crate::image::Image;
+use judge::Start;
+use redomail::Layout;
+
+/// The lock theorem. The deeds of every story are allowed by the judge, one after another, and so the whole list is legal;
+/// the data words keep their shape; an append that is answered Stored or Already has its number among the messages shown;
+/// and the lock words stay lawful. The same from any lawful words with every process crashed.
+pub fn every_story_is_sound()
+    ensures sound { EveryStoryIsSound }
+    ensures legal { EveryStoryIsLegal }
+    ensures lawful { EveryStoryEndsLawful }
+    ensures later { EveryLaterStoryIsSound }
+{
+    redomail::laws::new_words();
+    rmecore::laws::every_run_is_legal();
+    rmecore::laws::every_later_run_is_legal();
+    rmecore::laws::every_run_ends_lawful();
+}
+
+/// A process's spot is a function of its own happenings.
+pub fn spots_are_own()
+    ensures { (l : Layout) (limit p : ℕ) (w : Scene) (story : List Happening) → (last_scene l limit w story).spots p ≡ spot_after l limit (w.spots p) (own_happenings p story) }
+{}
+
+/// A happening that may come at the end prolongs a story, and its deeds stand behind those of the story. It may come
+/// wherever its process's spot allows it and, where it reads a word, the word stands so: this is all that a load, a store,
+/// a start, a crash or a look has to show.
+pub fn stories_grow()
+    ensures story { (l : Layout) (limit : ℕ) (w : Scene) (story : List Happening) (e : Happening) → Story l limit w story → Can l limit (last_scene l limit w story) e → Story l limit w (story ++ e ∷ []) }
+    ensures deeds { (l : Layout) (limit : ℕ) (w : Scene) (story : List Happening) (e : Happening) → deeds l limit w (story ++ e ∷ []) ≡ deeds l limit w story ++ event_deeds l (last_scene l limit w story) e }
+    ensures scene { (l : Layout) (limit : ℕ) (w : Scene) (story : List Happening) (e : Happening) → last_scene l limit w (story ++ e ∷ []) ≡ onward l limit (last_scene l limit w story) e }
+{}
+
+/// The scene of a new world is the first one, and that of an image has every process crashed. What the judge starts from
+/// there is the state that the image's words tell of.
+pub fn worlds_begin()
+    ensures new { (l : Layout) (limit : ℕ) → scene_of (new_world l limit) ≡ at_first }
+    ensures image { (i : Image) → scene_of (image_world i) ≡ crashed_scene (length i.lock) (own_at i.lock) (words_of i.cells) }
+    ensures judged { (i : Image) (s : Start) → IsLawfulImage i → IsStartOf i s → IsLater (layout_of i) i.limit (own_at i.lock) (words_of i.cells) (state_of s) }
+{}

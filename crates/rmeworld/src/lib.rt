@@ -1,0 +1,37 @@
+//! A whole world: processes over lock words and data words, their calls and answers, the history of deeds, and images.
+#![tactic(auto)]
+
+pub mod answer;
+pub mod call;
+pub mod cells;
+mod errand;
+pub mod image;
+pub mod images;
+pub mod laws;
+pub mod machine;
+pub mod memory;
+pub mod outcome;
+pub mod owns;
+pub mod process;
+pub mod stepped;
+mod why;
+pub mod world;
+
+pub use answer::Answer;
+pub use call::Call;
+pub use cells::Cells;
+pub use image::Image;
+pub use images::beginning::start_of;
+pub use images::reading::read_image;
+pub use images::rules::first_rule;
+pub use images::widening::widen;
+pub use images::writing::write_image;
+pub use machine::Machine;
+pub use outcome::Outcome;
+pub use owns::Owns;
+pub use process::Process;
+pub use stepped::Stepped;
+pub use world::World;
+
+#[cfg(test)]
+mod tests;

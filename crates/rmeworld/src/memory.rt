@@ -1,0 +1,111 @@
+//! Words in plain memory, and the deeds of what is put there.
+
+ghost use Rattle.std.specs.Prelude.{◌≡◌, length, slice_index, slice_set};
+ghost use Rattle.rmecore.specs.Machine.{word_of};
+ghost use Rattle.rmecore.specs.Simulated.{own_at};
+ghost use Rattle.redomail.specs.Deeds.{deeds_of_put};
+ghost use Rattle.redomail.specs.Layout.{IsLayout, words_of, size};
+ghost use Rattle.rmeworld.specs.Stand.{InWords};
+ghost use Rattle.rmeworld.specs.World.{reading_of};
+ghost use Rattle.rmeworld.specs.Replayed.{words_by, cells_by, mail_by, or_else, list_of};
+
+use redomail::contents::value_at;
+use redomail::layout::{ARMED, CLOSED, COUNT, RECORD, RUINED};
+use redomail::{Deed, Layout};
+use rmecore::{Access, Outer, Own, Word};
+
+/// A data word. One past the end is 0.
+fn cell(cells: &[u64], i: u64) -> u64
+    ensures { result ≡ slice_index cells.now i }
+{
+    match cells.get(i as usize) {
+        Some(value) => *value,
+        None => 0,
+    }
+}
+
+/// A word as it stands.
+pub fn load(words: &[Own], cells: &[u64], word: Word) -> u64
+    requires { InWords (length words.now) word }
+    ensures { result ≡ reading_of (own_at words.now) (words_of cells.now) word }
+{
+    match word {
+        Word::Choosing(p) => words[p as usize].choosing,
+        Word::Number(p) => words[p as usize].number,
+        Word::Inside(p) => words[p as usize].inside,
+        Word::Data(i) => cell(cells, i),
+    }
+}
+
+/// Stores what an access stores.
+pub fn store(words: &mut [Own], cells: &mut [u64], access: Access)
+    requires { InWords (length words.old) (word_of access) }
+    ensures words { words.new ≡ words_by words.old access }
+    ensures cells { cells.new ≡ cells_by cells.old access }
+{
+    let Access::Store(_, word, value) = access else {
+        return;
+    };
+    match word {
+        Word::Choosing(p) => words[p as usize].choosing = value,
+        Word::Number(p) => words[p as usize].number = value,
+        Word::Inside(p) => words[p as usize].inside = value,
+        Word::Data(i) => put(cells, i, value),
+    }
+}
+
+/// Writes a data word. One past the end isn't there, and nothing changes.
+fn put(cells: &mut [u64], i: u64, value: u64)
+    ensures { cells.new ≡ slice_set cells.old i value }
+{
+    if i < cells.len() as u64 {
+        cells[i as usize] = value;
+    }
+}
+
+#[tactic(auto, unfolding(redomail::specs::Layout::place_at))]
+/// The deed of a put by process p, if it is one. Commit and Show carry the record as it stands.
+fn put_deed(layout: Layout, p: u64, cells: &[u64], i: u64, value: u64) -> Option<Deed>
+    requires size { IsLayout layout }
+    requires filled { length cells.now ≡ size layout }
+    ensures { deeds_of_put layout p (words_of cells.now) i value ≡ list_of result }
+{
+    if cell(cells, i) == value {
+        return None;
+    }
+    match (i, value) {
+        (ARMED, 1) => Some(Deed::Commit {
+            p,
+            seq: cell(cells, RECORD + 1),
+            v: value_at(cells, RECORD + 2, layout.width),
+        }),
+        (COUNT, _) => Some(Deed::Show {
+            p,
+            at: value.saturating_sub(1),
+            seq: cell(cells, RECORD + 1),
+            v: value_at(cells, RECORD + 2, layout.width),
+        }),
+        (CLOSED, 1) => Some(Deed::Close { p }),
+        (RUINED, 1) => Some(Deed::Ruin { p }),
+        _ => None,
+    }
+}
+
+/// The deed of a step of process p, if it is one: the lock's, or that of a put.
+pub fn deed_of(
+    layout: Layout,
+    p: u64,
+    cells: &[u64],
+    access: Access,
+    outer: Option<Outer>,
+) -> Option<Deed>
+    requires size { IsLayout layout }
+    requires filled { length cells.now ≡ size layout }
+    ensures { or_else outer (mail_by layout p (words_of cells.now) access) ≡ list_of result }
+{
+    match (outer, access) {
+        (Some(outer), _) => Some(Deed::Outer(outer)),
+        (None, Access::Store(_, Word::Data(i), value)) => put_deed(layout, p, cells, i, value),
+        (None, _) => None,
+    }
+}

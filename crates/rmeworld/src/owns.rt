@@ -1,0 +1,44 @@
+//! The lock words of an image.
+
+ghost use Rattle.std.specs.Prelude.{◌≡◌};
+
+use rmecore::Own;
+use std::marker::Model;
+
+/// The lock words of a world, a process after the other. Contracts see them as a list.
+#[derive(Debug, Drop)]
+pub struct Owns {
+    owns: Vec<Own>,
+}
+
+impl Model for Owns {
+    ghost use Rattle.std.specs.Prelude.{List};
+    ghost use Rattle.rmecore.specs.declared.own.Own.{Own as OwnOf};
+
+    ghost Value = { List OwnOf };
+
+    ghost view = { λ o. o.owns.items };
+}
+
+impl Owns {
+    /// These lock words. It takes no memory.
+    pub fn new(owns: Vec<Own>) -> Owns
+        ensures { result ≡ owns.items }
+    {
+        Owns { owns }
+    }
+
+    /// The lock words, to be read.
+    pub fn as_slice(&self) -> &[Own]
+        ensures { result.now ≡ self.now }
+    {
+        self.owns.as_slice()
+    }
+
+    /// The lock words, given back. It takes no memory.
+    pub fn into_vec(self) -> Vec<Own>
+        ensures { result.items ≡ self }
+    {
+        self.owns
+    }
+}

@@ -1,0 +1,470 @@
+//! What one process does, as a machine over its private memory alone: the machine of the lock, with a job on the data
+//! words while it is inside. It knows no shared word: it says which one it loads or stores next, and is fed with what was
+//! read. The world and the running lock run this machine over their words.
+
+ghost use Rattle.std.specs.Prelude.{◌≡◌, ◌==◌, true, false, not, if◌then◌else◌, [], ◌∷◌, Some, None, IfSome, OnOk, OnErr, IfErr, is_none};
+ghost use Rattle.rmecore.specs.Place.{Inside, Leaving, started as lock_started};
+ghost use Rattle.rmecore.specs.Refused.{start_refusal as lock_refusal};
+ghost use Rattle.rmecore.specs.Machine.{after_access, quiet, next_access as lock_access, IsAllowed as IsLockAllowed};
+ghost use Rattle.redomail.specs.Left.{left, begun};
+ghost use Rattle.redomail.specs.Refusals.{refused};
+ghost use Rattle.rmeworld.specs.Answered.{by_lock, by_reply, by_script};
+ghost use Rattle.rmeworld.specs.Spot.{mended_entered};
+ghost use Rattle.rmeworld.specs.Whys.{task_of};
+ghost use Rattle.rmeworld.specs.Entered.{is_entry, mended_done, checks_done};
+ghost use Rattle.rmeworld.specs.Refused.{first_cause, Needs, is_inside, is_waiting};
+
+use crate::answer::Answer;
+use crate::call::Call;
+use crate::errand::Errand;
+use crate::outcome::Outcome;
+use crate::why::Why;
+use redomail::{Job, Layout, Next, Reply, Task};
+use rmecore::{Access, CoreCall, CoreDone, Found, Kind, LockProcess, Progress, Refusal, Word};
+use std::marker::Model;
+
+/// The index of the data word that says whether the lock is ruined.
+const RUINED: u64 = 0;
+
+/// Nothing that others see of the lock.
+const QUIET: Progress = Progress {
+    outer: None,
+    done: None,
+    blocked: false,
+};
+
+/// One process, with its whole private memory. It takes no memory.
+#[derive(Debug, Drop)]
+pub struct Process {
+    lock: LockProcess,
+    layout: Layout,
+    index: u64,
+    mended: bool,
+    barred: bool,
+    errand: Errand,
+}
+
+impl Model for Process {
+    ghost use Rattle.std.specs.Prelude.{◌≡◌, ◌<◌};
+    ghost use Rattle.rmeworld.specs.Stand.{Stand, IsSize};
+    ghost use Rattle.rmeworld.specs.Errands.{Held};
+
+    ghost Value = { Stand };
+
+    ghost view = { λ s. record { layout = s.layout; limit = s.lock.limit; index = s.index; lock = s.lock.place; mended = s.mended; barred = s.barred; errand = s.errand } };
+
+    ghost invariant = { λ s. record { size : IsSize s.layout; procs : s.lock.procs ≡ s.layout.procs; index : s.lock.index ≡ s.index; below : s.index < s.layout.procs; held : Held s.errand s.lock.place } };
+}
+
+impl Process {
+    ghost use Rattle.rmecore.specs.Named.{own_number, own_call};
+    ghost use Rattle.std.specs.Prelude.{◌<◌};
+    ghost use Rattle.rmecore.specs.Machine.{word_of};
+    ghost use Rattle.rmeworld.specs.Spot.{next_spot, Begins};
+    ghost use Rattle.rmeworld.specs.Refused.{start_refusal, is_idle};
+    ghost use Rattle.rmeworld.specs.Stand.{IsSize, Stand, spot_of, resting, crashed, stepped, started, works, ended_by, next_access, spot_after, outcome, IsAllowed, IsLeast, InWords, StoresOwn};
+
+    /// A process at rest, of a world of this size.
+    pub fn new(layout: Layout, limit: u64, index: u64) -> Process
+        requires size { IsSize layout }
+        requires below { index < layout.procs }
+        ensures { result ≡ resting layout limit index }
+    {
+        Process {
+            lock: LockProcess::new(layout.procs, limit, index),
+            layout,
+            index,
+            mended: true,
+            barred: false,
+            errand: Errand::Free,
+        }
+    }
+
+    /// Loses the private memory.
+    pub fn crash(&mut self)
+        ensures { self.new ≡ crashed self.old }
+    {
+        self.lock.crash();
+        self.mended = true;
+        self.barred = false;
+        self.errand = Errand::Free;
+    }
+
+    /// The step that comes next, if a call is under way. It may be taken whatever a load reads, and where the definition
+    /// leaves a choice it has the least process.
+    pub fn next(&self) -> Option<Access>
+        ensures next { result ≡ next_access self.now }
+        ensures allowed { IfSome result (IsAllowed self.now) }
+        ensures least { IfSome result (IsLeast self.now) }
+        ensures within { IfSome result (λ a. InWords self.now.layout.procs (word_of a)) }
+        ensures own { IfSome result (StoresOwn self.now.index) }
+        ensures idle { is_none result ≡ is_idle (spot_of self.now) }
+    {
+        match &self.errand {
+            Errand::Free => self.lock.next(),
+            Errand::Asking(_) => Some(Access::Load(Kind::Get, Word::Data(RUINED))),
+            Errand::Doing(_, job) => match job.next() {
+                Next::Get(i) => Some(Access::Load(Kind::Get, Word::Data(i))),
+                Next::Put(i, v) => Some(Access::Store(Kind::Put, Word::Data(i), v)),
+                Next::Done(_) => None,
+            },
+        }
+    }
+
+    /// What the next step will be with the value that it reads. Nothing is taken yet.
+    pub fn outlook(&self, value: u64) -> Outcome
+        ensures { result ≡ outcome self.now (next_access self.now) value }
+    {
+        match self.errand {
+            Errand::Free => {
+                let progress = self.lock.outlook(value);
+                Outcome {
+                    progress,
+                    answer: self.core_answer(progress.done),
+                }
+            }
+            Errand::Asking(_) => asked(value),
+            Errand::Doing(why, job) => {
+                let mut job = job;
+                job.feed(value);
+                job_outcome(why, self.mended, job)
+            }
+        }
+    }
+
+    /// What is answered where the lock's part ends.
+    fn core_answer(&self, done: Option<CoreDone>) -> Option<Answer>
+        ensures { result ≡ by_lock self.now.barred done }
+    {
+        match done? {
+            CoreDone::In | CoreDone::InAgain => None,
+            CoreDone::Spent => Some(Answer::NumbersSpent),
+            CoreDone::Out if self.barred => Some(Answer::NotRecoverable),
+            CoreDone::Out => Some(Answer::Unlocked),
+            CoreDone::Found(found) => Some(Answer::Found(found)),
+            CoreDone::Withdrawn => Some(Answer::Withdrawn),
+        }
+    }
+
+    /// Takes the next step, with the value that it read. A step that stores ignores the value, and where there is no step
+    /// nothing changes.
+    pub fn feed(&mut self, value: u64) -> Outcome
+        ensures exact { self.new ≡ stepped self.old value }
+        ensures spot { spot_of self.new ≡ spot_after self.old (next_access self.old) value }
+        ensures allowed { IfSome (next_access self.old) (IsAllowed self.old) }
+        ensures outcome { result ≡ outcome self.old (next_access self.old) value }
+    {
+        let outcome = self.outlook(value);
+        let errand = self.errand;
+        match errand {
+            Errand::Free => self.move_on(value),
+            Errand::Asking(job) => self.go_on(value, job),
+            Errand::Doing(why, job) => self.job_step(why, job, value),
+        }
+        outcome
+    }
+
+    /// A step of the lock.
+    fn move_on(&mut self, value: u64)
+        requires { self.old.errand ≡ Errand.Free }
+        ensures exact { self.new ≡ stepped self.old value }
+        ensures spot { spot_of self.new ≡ spot_after self.old (next_access self.old) value }
+        ensures allowed { IfSome (next_access self.old) (IsAllowed self.old) }
+    {
+        let (mended, checks) = lock_step(&mut self.lock, self.mended, value);
+        self.mended = mended;
+        if checks {
+            self.errand = Errand::Doing(Why::Checking, job(self.layout, self.index, Task::Check));
+        }
+    }
+
+    /// The step with which consistent begins: unless the lock is ruined, the repair comes next.
+    fn go_on(&mut self, value: u64, repair: Job)
+        requires { self.old.errand ≡ Errand.Asking repair }
+        ensures exact { self.new ≡ stepped self.old value }
+        ensures spot { spot_of self.new ≡ spot_after self.old (next_access self.old) value }
+    {
+        self.errand = if value == 1 {
+            Errand::Free
+        } else {
+            Errand::Doing(Why::Mending, repair)
+        };
+    }
+
+    /// A step of a job.
+    fn job_step(&mut self, why: Why, job: Job, value: u64)
+        requires { self.old.errand ≡ Errand.Doing why job }
+        ensures exact { self.new ≡ stepped self.old value }
+        ensures spot { spot_of self.new ≡ spot_after self.old (next_access self.old) value }
+    {
+        let _ = &self.errand;
+        let mut job = job;
+        job.feed(value);
+        match job.next() {
+            Next::Done(reply) => self.end(why, reply),
+            Next::Get(_) | Next::Put(..) => self.errand = Errand::Doing(why, job),
+        }
+    }
+
+    /// The end of a script: inside, or at the exit.
+    fn end(&mut self, why: Why, reply: Reply)
+        requires { self.old.lock ≡ Inside }
+        ensures { self.new ≡ ended_by self.old why reply }
+    {
+        self.errand = Errand::Free;
+        match (why, reply) {
+            (Why::Checking, Reply::Ruined(true)) => {
+                leave(&mut self.lock);
+                self.barred = true;
+            }
+            (Why::Ruining, _) => leave(&mut self.lock),
+            (Why::Mending, Reply::Mended(_)) => self.mended = true,
+            _ => {}
+        }
+    }
+
+    /// Which process of its world it is.
+    pub fn index(&self) -> u64
+        ensures index { result ≡ self.now.index }
+        ensures below { result < self.now.layout.procs }
+    {
+        self.index
+    }
+
+    /// The sizes of its world.
+    pub fn layout(&self) -> Layout
+        ensures layout { result ≡ self.now.layout }
+        ensures size { IsSize result }
+    {
+        self.layout
+    }
+
+    /// The own number, where the place of the lock names it.
+    pub fn number(&self) -> Option<u64>
+        ensures { result ≡ own_number self.now.lock }
+    {
+        self.lock.number()
+    }
+
+    /// The call of the lock's part, where the place of the lock names it.
+    pub fn call(&self) -> Option<CoreCall>
+        ensures { result ≡ own_call self.now.lock }
+    {
+        self.lock.call()
+    }
+
+    /// Starts a call. It takes no memory.
+    pub fn start(&mut self, call: Call) -> Result<(), Refusal>
+        ensures accepted { OnOk result (start_refusal self.old.layout (spot_of self.old) call ≡ None) }
+        ensures refused { IfErr result (λ e. start_refusal self.old.layout (spot_of self.old) call ≡ Some e) }
+        ensures exact { OnOk result (self.new ≡ started self.old call) }
+        ensures spot { OnOk result (next_spot self.old.layout self.old.limit (spot_of self.old) (Begins self.old.index call) ≡ Some (spot_of self.new)) }
+        ensures not_allowed { OnErr result (next_spot self.old.layout self.old.limit (spot_of self.old) (Begins self.old.index call) ≡ None) }
+        ensures err { OnErr result (self.new ≡ self.old) }
+    {
+        let _ = &self.errand;
+        self.check(&call)?;
+        self.begin(call);
+        Ok(())
+    }
+
+    /// Why a call can't be started now, if it can't.
+    fn check(&self, call: &Call) -> Result<(), Refusal>
+        ensures accepted { OnOk result (start_refusal self.now.layout (spot_of self.now) call.now ≡ None) }
+        ensures refused { IfErr result (λ e. start_refusal self.now.layout (spot_of self.now) call.now ≡ Some e) }
+    {
+        match *call {
+            Call::Withdraw => self.may_withdraw(),
+            Call::Lock | Call::Recover => self.may_come(),
+            Call::Unlock => self.holds(),
+            Call::Consistent => {
+                self.holds()?;
+                only(!self.mended, Refusal::NotInconsistent)
+            }
+            Call::Append { value, .. } => {
+                self.holds()?;
+                only(self.mended, Refusal::Unmended)?;
+                only(value.width() == self.layout.width, Refusal::BadWidth)
+            }
+            Call::Close => {
+                self.holds()?;
+                only(self.mended, Refusal::Unmended)
+            }
+            Call::Get(i) | Call::Put(i, _) => {
+                self.holds()?;
+                only(i < 4, Refusal::BadIndex)
+            }
+        }
+    }
+
+    /// Inside, and with no call under way.
+    fn holds(&self) -> Result<(), Refusal>
+        ensures accepted { OnOk result ((is_idle (spot_of self.now) ≡ true) × (is_inside self.now.lock ≡ true)) }
+        ensures refused { IfErr result (λ e. (rest : Needs) → first_cause ((is_idle (spot_of self.now), Refusal.CallUnderWay) ∷ (is_inside self.now.lock, Refusal.NotOwner) ∷ rest) ≡ Some e) }
+    {
+        match self.errand {
+            Errand::Free => match self.lock.refusal(CoreCall::Unlock) {
+                Some(refusal) => Err(refusal),
+                None => Ok(()),
+            },
+            Errand::Asking(_) | Errand::Doing(..) => Err(Refusal::CallUnderWay),
+        }
+    }
+
+    /// Not inside, and with no call under way.
+    fn may_come(&self) -> Result<(), Refusal>
+        ensures accepted { OnOk result ((is_idle (spot_of self.now) ≡ true) × (is_inside self.now.lock ≡ false)) }
+        ensures refused { IfErr result (λ e. first_cause ((is_idle (spot_of self.now), Refusal.CallUnderWay) ∷ (not (is_inside self.now.lock), Refusal.AlreadyIn) ∷ []) ≡ Some e) }
+    {
+        match self.errand {
+            Errand::Free => match self.lock.refusal(CoreCall::Lock) {
+                Some(refusal) => Err(refusal),
+                None => Ok(()),
+            },
+            Errand::Asking(_) | Errand::Doing(..) => Err(Refusal::CallUnderWay),
+        }
+    }
+
+    /// In the line.
+    fn may_withdraw(&self) -> Result<(), Refusal>
+        ensures accepted { OnOk result (is_waiting self.now.lock ≡ true) }
+        ensures refused { IfErr result (λ e. first_cause ((is_waiting self.now.lock, Refusal.NotWaiting) ∷ []) ≡ Some e) }
+    {
+        match self.lock.refusal(CoreCall::Withdraw) {
+            Some(refusal) => Err(refusal),
+            None => Ok(()),
+        }
+    }
+
+    /// Takes up a call that may start.
+    fn begin(&mut self, call: Call)
+        requires { start_refusal self.old.layout (spot_of self.old) call ≡ None }
+        ensures { self.new ≡ started self.old call }
+    {
+        self.barred = false;
+        match call {
+            Call::Lock => begin_lock(&mut self.lock, CoreCall::Lock),
+            Call::Recover => begin_lock(&mut self.lock, CoreCall::Recover),
+            Call::Withdraw => begin_lock(&mut self.lock, CoreCall::Withdraw),
+            Call::Unlock if self.mended => begin_lock(&mut self.lock, CoreCall::Unlock),
+            Call::Unlock => self.take_up(Why::Ruining),
+            Call::Consistent => {
+                self.errand = Errand::Asking(job(self.layout, self.index, Task::Repair));
+            }
+            Call::Append { seq, value } => self.take_up(Why::Working(Task::Append { seq, value })),
+            Call::Close => self.take_up(Why::Working(Task::Close)),
+            Call::Get(i) => self.take_up(Why::Working(Task::BoardGet(i))),
+            Call::Put(i, v) => self.take_up(Why::Working(Task::BoardPut(i, v))),
+        }
+    }
+
+    /// Takes up a script.
+    fn take_up(&mut self, why: Why)
+        requires inside { self.old.lock ≡ Inside }
+        requires fits { refused self.old.layout self.old.index (task_of why) ≡ None }
+        ensures { self.new ≡ works self.old why }
+    {
+        let task = why.task();
+        self.errand = Errand::Doing(why, job(self.layout, self.index, task));
+    }
+}
+
+/// Refuses, unless something holds.
+fn only(holds: bool, refusal: Refusal) -> Result<(), Refusal>
+    ensures accepted { OnOk result (holds ≡ true) }
+    ensures refused { IfErr result (λ e. (holds ≡ false) × (e ≡ refusal)) }
+{
+    if holds { Ok(()) } else { Err(refusal) }
+}
+
+/// A task that a process of this size may be given.
+fn job(layout: Layout, sender: u64, task: Task) -> Job
+    requires { refused layout sender task ≡ None }
+    ensures { result ≡ begun layout sender task }
+{
+    match Job::new(layout, sender, task) {
+        Ok(job) => job,
+        Err(_) => unreachable!(),
+    }
+}
+
+/// What the get of ruined with which consistent begins is for its call.
+fn asked(value: u64) -> Outcome
+    ensures { result ≡ record { progress = quiet; answer = if value == 1 then Some Answer.NotRecoverable else None } }
+{
+    Outcome {
+        progress: QUIET,
+        answer: if value == 1 {
+            Some(Answer::NotRecoverable)
+        } else {
+            None
+        },
+    }
+}
+
+/// What a step of a script is for its call, with this job left.
+fn job_outcome(why: Why, mended: bool, job: Job) -> Outcome
+    ensures { result ≡ record { progress = quiet; answer = by_script why mended (left job) } }
+{
+    let answer = match job.next() {
+        Next::Done(reply) => reply_answer(why, mended, reply),
+        Next::Get(_) | Next::Put(..) => None,
+    };
+    Outcome {
+        progress: QUIET,
+        answer,
+    }
+}
+
+/// What is answered where a script ends.
+fn reply_answer(why: Why, mended: bool, reply: Reply) -> Option<Answer>
+    ensures { result ≡ by_reply why mended reply }
+{
+    match (why, reply) {
+        (Why::Checking, Reply::Ruined(true)) | (Why::Ruining, _) => None,
+        (Why::Checking, _) if mended => Some(Answer::Clean),
+        (Why::Checking, _) => Some(Answer::OwnerDied),
+        (Why::Mending, Reply::Ruined(_)) => Some(Answer::NotRecoverable),
+        (Why::Mending | Why::Working(_), _) => Some(Answer::Mail(reply)),
+    }
+}
+
+/// A step of the lock's part: whether the process is mended then, and whether the ruin check comes next. Who enters by a
+/// lock checks, and who enters again is not mended.
+fn lock_step(lock: &mut LockProcess, mended: bool, value: u64) -> (bool, bool)
+    ensures lock { lock.new ≡ record lock.old { place = after_access lock.old (lock_access lock.old) value } }
+    ensures allowed { IfSome (lock_access lock.old) (IsLockAllowed lock.old) }
+    ensures mended { result.0 ≡ mended_entered mended lock.old.place lock.new.place }
+    ensures checks { result.1 ≡ is_entry lock.old.place lock.new.place }
+{
+    entry(lock.feed(value).done, mended)
+}
+
+fn entry(done: Option<CoreDone>, mended: bool) -> (bool, bool)
+    ensures mended { result.0 ≡ mended_done mended done }
+    ensures checks { result.1 ≡ checks_done done }
+{
+    match done {
+        Some(CoreDone::In) => (true, true),
+        Some(CoreDone::InAgain) => (false, true),
+        Some(CoreDone::Found(Found::Inside)) => (false, false),
+        _ => (mended, false),
+    }
+}
+
+/// Starts a call of the lock's part.
+fn begin_lock(lock: &mut LockProcess, call: CoreCall)
+    requires { lock_refusal lock.old.place call ≡ None }
+    ensures same { lock.new ≡ record lock.old { place = lock.new.place } }
+    ensures started { lock_started lock.old.place call ≡ Some lock.new.place }
+{
+    let _ = lock.start(call);
+}
+
+/// Starts the exit.
+fn leave(lock: &mut LockProcess)
+    requires { lock.old.place ≡ Inside }
+    ensures { lock.new ≡ record lock.old { place = Leaving } }
+{
+    let _ = lock.start(CoreCall::Unlock);
+}

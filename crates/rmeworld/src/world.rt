@@ -1,0 +1,430 @@
+//! A whole world in memory, each step taken on request.
+
+ghost use Rattle.std.specs.Prelude.{◌≡◌, ◌<◌, ◌≤◌, ◌⊎◌, ◌++◌, ℕ, map, IfOk, IfErr, OnOk, OnErr, Some, None, vec_len, slice_index_or, slice_get};
+ghost use Rattle.rmecore.specs.Machine.{carried, word_of};
+ghost use Rattle.rmecore.specs.Simulated.{cause, fresh};
+ghost use Rattle.redomail.specs.Layout.{words_of};
+ghost use Rattle.rmeworld.specs.Replayed.{list_of};
+ghost use Rattle.rmeworld.specs.Spot.{Begins, Falls};
+ghost use Rattle.rmeworld.specs.Stand.{IsSize, IsAllowed, IsLeast, InWords, StoresOwn, next_access, outcome, resting, crashed};
+ghost use Rattle.rmeworld.specs.World.{reading};
+ghost use Rattle.rmeworld.specs.WorldState.{absent, stand_at, spot_at, scene_of, Takes, happening_of, ChoosesLeast, new_world, new_refusal, image_world};
+
+use crate::call::Call;
+use crate::cells::Cells;
+use crate::image::Image;
+use crate::images::rules::{MOST_CAP, MOST_WIDTH, first_rule, layout};
+use crate::machine::Machine;
+use crate::memory::{deed_of, load, store};
+use crate::outcome::Outcome;
+use crate::owns::Owns;
+use crate::process::Process;
+use crate::stepped::Stepped;
+use redomail::{Deed, Layout};
+use rmecore::simulated::{MOST_LIMIT, MOST_PROCS};
+use rmecore::{Access, Happened, Outer, Own, Refusal, Tally};
+use std::alloc::Global;
+use std::marker::Model;
+
+const ZEROS: Own = Own {
+    choosing: 0,
+    number: 0,
+    inside: 0,
+};
+
+const UNSTARTED: Tally = Tally {
+    steps: 0,
+    blocked: 0,
+    began: ZEROS,
+};
+
+/// All processes with their private memories, over the words that they share, and the deeds that were done.
+#[derive(Debug, Drop)]
+pub struct World {
+    layout: Layout,
+    limit: u64,
+    words: Vec<Own>,
+    cells: Vec<u64>,
+    processes: Vec<Process>,
+    tallies: Vec<Tally>,
+    history: Vec<Deed>,
+}
+
+impl Model for World {
+    ghost use Rattle.rmeworld.specs.WorldState.{WorldState};
+    ghost use Rattle.rmeworld.specs.Reached.{IsWorld};
+
+    ghost Value = { WorldState };
+
+    ghost view = { λ w. record { layout = w.layout; limit = w.limit; words = w.words.items; cells = w.cells.items; processes = w.processes.items; tallies = w.tallies.items; history = w.history.items } };
+
+    ghost invariant = { λ w. IsWorld (record { layout = w.layout; limit = w.limit; words = w.words.items; cells = w.cells.items; processes = w.processes.items; tallies = w.tallies.items; history = w.history.items }) };
+}
+
+/// A step before it is taken.
+#[derive(Clone, Copy, Debug)]
+struct Prospect {
+    access: Access,
+    /// What the word holds.
+    found: u64,
+    outcome: Outcome,
+    deed: Option<Deed>,
+}
+
+fn all_at_rest(alloc: Global, layout: Layout, limit: u64) -> Result<Vec<Process>, Refusal>
+    requires { IsSize layout }
+    ensures each { IfOk result (λ processes. (p : ℕ) → p < layout.procs → slice_index_or processes.items p absent ≡ resting layout limit p) }
+    ensures length { IfOk result (λ processes. vec_len processes ≡ layout.procs) }
+    ensures memory { IfErr result (λ e. e ≡ Refusal.OutOfMemory) }
+{
+    let mut processes = Vec::with_capacity(alloc, layout.procs as usize)?;
+    for index in 0..layout.procs {
+        processes.push(Process::new(layout, limit, index))?;
+    }
+    Ok(processes)
+}
+
+fn all_crashed(alloc: Global, layout: Layout, limit: u64) -> Result<Vec<Process>, Refusal>
+    requires { IsSize layout }
+    ensures each { IfOk result (λ processes. (p : ℕ) → p < layout.procs → slice_index_or processes.items p absent ≡ crashed (resting layout limit p)) }
+    ensures length { IfOk result (λ processes. vec_len processes ≡ layout.procs) }
+    ensures memory { IfErr result (λ e. e ≡ Refusal.OutOfMemory) }
+{
+    let mut processes = Vec::with_capacity(alloc, layout.procs as usize)?;
+    for index in 0..layout.procs {
+        let mut process = Process::new(layout, limit, index);
+        process.crash();
+        processes.push(process)?;
+    }
+    Ok(processes)
+}
+
+/// No call yet, for each process with its words.
+fn all_unstarted(alloc: Global, words: &[Own]) -> Result<Vec<Tally>, Refusal>
+    ensures ok { IfOk result (λ tallies. tallies.items ≡ map fresh words.now) }
+    ensures memory { IfErr result (λ e. e ≡ Refusal.OutOfMemory) }
+{
+    let mut tallies = Vec::with_capacity(alloc, words.len())?;
+    for own in words {
+        tallies.push(Tally {
+            steps: 0,
+            blocked: 0,
+            began: *own,
+        })?;
+    }
+    Ok(tallies)
+}
+
+/// Writes a deed down, if there is one. Refused, it has changed nothing.
+fn note(history: &mut Vec<Deed>, deed: Option<Deed>) -> Result<(), Refusal>
+    ensures ok { OnOk result (history.new.items ≡ history.old.items ++ list_of deed) }
+    ensures err { OnErr result (history.new.items ≡ history.old.items) }
+    ensures memory { IfErr result (λ e. e ≡ Refusal.OutOfMemory) }
+{
+    if let Some(deed) = deed {
+        history.push(deed)?;
+    }
+    Ok(())
+}
+
+impl World {
+    ghost use Rattle.rmecore.specs.Simulated.{tally_at};
+    ghost use Rattle.rmeworld.specs.Reached.{IsReached, IsLegalHistory};
+    ghost use Rattle.rmeworld.specs.ImageRules.{IsLawfulImage};
+    ghost use Rattle.rmeworld.specs.ImageStart.{IsUnstarted};
+    ghost use Rattle.rmeworld.specs.Replayed.{start_refusal, started, advance_refusal, stepped, advanced, crash_refusal, crash_deed, crashed as world_crashed, image_of, prospect_of};
+
+    /// A new world: all words are 0, and all processes at rest.
+    pub fn new(
+        alloc: Global,
+        procs: u64,
+        limit: u64,
+        cap: u64,
+        width: u64,
+    ) -> Result<World, Refusal>
+        ensures accepted { OnOk result (new_refusal (record { procs = procs; cap = cap; width = width }) limit ≡ None) }
+        ensures refused { IfErr result (λ e. new_refusal (record { procs = procs; cap = cap; width = width }) limit ≡ cause e) }
+        ensures ok { IfOk result (λ world. world ≡ new_world (record { procs = procs; cap = cap; width = width }) limit) }
+    {
+        if procs == 0 || procs > MOST_PROCS {
+            return Err(Refusal::BadProcs);
+        }
+        if limit == 0 || limit > MOST_LIMIT {
+            return Err(Refusal::BadLimit);
+        }
+        if cap == 0 || cap > MOST_CAP {
+            return Err(Refusal::BadCap);
+        }
+        if width == 0 || width > MOST_WIDTH {
+            return Err(Refusal::BadWidth);
+        }
+        let layout = Layout { procs, cap, width };
+        let words = vec![in alloc; ZEROS; procs as usize]?;
+        let cells = vec![in alloc; 0; layout.words() as usize]?;
+        let tallies = vec![in alloc; UNSTARTED; procs as usize]?;
+        let processes = all_at_rest(alloc, layout, limit)?;
+        Ok(World {
+            layout,
+            limit,
+            words,
+            cells,
+            processes,
+            tallies,
+            history: Vec::new(alloc),
+        })
+    }
+
+    /// The world of an image: its words, and every process crashed. The history begins there. `BadImage` names the first
+    /// rule that the image breaks.
+    pub fn from_image(alloc: Global, image: &Image) -> Result<World, Refusal>
+        ensures ok { IfOk result (λ world. world ≡ image_world image.now) }
+        ensures lawful { OnOk result (IsLawfulImage image.now) }
+        ensures refused { IfErr result (IsUnstarted image.now) }
+    {
+        if let Some(rule) = first_rule(image) {
+            return Err(Refusal::BadImage { rule });
+        }
+        World::of_lawful(alloc, image)
+    }
+
+    /// The world of a lawful image.
+    fn of_lawful(alloc: Global, image: &Image) -> Result<World, Refusal>
+        requires { IsLawfulImage image.now }
+        ensures ok { IfOk result (λ world. world ≡ image_world image.now) }
+        ensures err { IfErr result (λ e. e ≡ Refusal.OutOfMemory) }
+    {
+        let layout = layout(image);
+        let words = Vec::from_slice(alloc, image.lock.as_slice())?;
+        let cells = Vec::from_slice(alloc, image.cells.as_slice())?;
+        let tallies = all_unstarted(alloc, image.lock.as_slice())?;
+        let processes = all_crashed(alloc, layout, image.limit)?;
+        Ok(World {
+            layout,
+            limit: image.limit,
+            words,
+            cells,
+            processes,
+            tallies,
+            history: Vec::new(alloc),
+        })
+    }
+
+    /// What the next step of a process will be.
+    fn prospect(&self, p: u64) -> Result<Prospect, Refusal>
+        ensures accepted { OnOk result (advance_refusal self.now p ≡ None) }
+        ensures refused { IfErr result (λ e. advance_refusal self.now p ≡ Some e) }
+        ensures below { OnOk result (p < self.now.layout.procs) }
+        ensures access { IfOk result (λ step. next_access (stand_at self.now.processes p) ≡ Some step.access) }
+        ensures allowed { IfOk result (λ step. IsAllowed (stand_at self.now.processes p) step.access) }
+        ensures least { IfOk result (λ step. IsLeast (stand_at self.now.processes p) step.access) }
+        ensures within { IfOk result (λ step. InWords self.now.layout.procs (word_of step.access)) }
+        ensures own { IfOk result (λ step. StoresOwn (stand_at self.now.processes p).index step.access) }
+        ensures found { IfOk result (λ step. step.found ≡ reading (scene_of self.now) (word_of step.access)) }
+        ensures outcome { IfOk result (λ step. step.outcome ≡ outcome (stand_at self.now.processes p) (Some step.access) step.found) }
+        ensures deed { IfOk result (λ step. list_of step.deed ≡ prospect_of self.now p step.access step.outcome) }
+    {
+        if p >= self.layout.procs {
+            return Err(Refusal::NoSuchProcess);
+        }
+        let process = &self.processes[p as usize];
+        let Some(access) = process.next() else {
+            return Err(Refusal::NothingToDo);
+        };
+        let found = load(&self.words, &self.cells, access.word());
+        let outcome = process.outlook(found);
+        let deed = deed_of(self.layout, p, &self.cells, access, outcome.progress.outer);
+        Ok(Prospect {
+            access,
+            found,
+            outcome,
+            deed,
+        })
+    }
+
+    /// Takes the next step of a process. Refused for want of memory it has changed nothing, and can be taken again. A step
+    /// that is no deed takes no memory.
+    pub fn advance(&mut self, p: u64) -> Result<Stepped, Refusal>
+        ensures accepted { OnOk result (advance_refusal self.old p ≡ None) }
+        ensures refused { IfErr result (λ e. (e ≡ Refusal.OutOfMemory) ⊎ (advance_refusal self.old p ≡ Some e)) }
+        ensures step { IfOk result (λ s. Takes self.old (happening_of p s.happened) self.new) }
+        ensures least { IfOk result (λ s. ChoosesLeast self.old p s.happened) }
+        ensures told { IfOk result (λ s. s ≡ stepped self.old p) }
+        ensures ok { OnOk result (self.new ≡ advanced self.old p) }
+        ensures err { OnErr result (self.new ≡ self.old) }
+    {
+        let step = self.prospect(p)?;
+        note(&mut self.history, step.deed)?;
+        store(&mut self.words, &mut self.cells, step.access);
+        self.processes[p as usize].feed(step.found);
+        self.tallies[p as usize].count(step.outcome.progress.blocked);
+        Ok(step.told())
+    }
+
+    /// Process p loses its private memory, and with it a call that is under way.
+    pub fn crash(&mut self, p: u64) -> Result<Deed, Refusal>
+        ensures accepted { OnOk result (crash_refusal self.old p ≡ None) }
+        ensures refused { IfErr result (λ e. (e ≡ Refusal.OutOfMemory) ⊎ (crash_refusal self.old p ≡ Some e)) }
+        ensures crash { OnOk result (Takes self.old (Falls p) self.new) }
+        ensures told { IfOk result (λ d. d ≡ crash_deed p) }
+        ensures ok { OnOk result (self.new ≡ world_crashed self.old p) }
+        ensures err { OnErr result (self.new ≡ self.old) }
+    {
+        if p >= self.layout.procs {
+            return Err(Refusal::NoSuchProcess);
+        }
+        self.history.push(Deed::Outer(Outer::Crash(p)))?;
+        self.processes[p as usize].crash();
+        Ok(Deed::Outer(Outer::Crash(p)))
+    }
+
+    /// Starts a call of process p. It takes no memory.
+    pub fn start(&mut self, p: u64, call: Call) -> Result<(), Refusal>
+        ensures accepted { OnOk result (start_refusal self.old p call ≡ None) }
+        ensures refused { IfErr result (λ e. start_refusal self.old p call ≡ Some e) }
+        ensures start { OnOk result (Takes self.old (Begins p call) self.new) }
+        ensures ok { OnOk result (self.new ≡ started self.old p call) }
+        ensures err { OnErr result (self.new ≡ self.old) }
+    {
+        if p >= self.layout.procs {
+            return Err(Refusal::NoSuchProcess);
+        }
+        self.processes[p as usize].start(call)?;
+        self.tallies[p as usize] = Tally {
+            steps: 0,
+            blocked: 0,
+            began: self.words[p as usize],
+        };
+        Ok(())
+    }
+
+    /// The deeds that were done, in their order. They are a legal history, and so have the plain properties.
+    pub fn history(&self) -> &[Deed]
+        ensures history { result.now ≡ self.now.history }
+        ensures legal { IsLegalHistory self.now }
+        ensures reached { IsReached self.now.layout self.now.limit (scene_of self.now) self.now.history }
+    {
+        &self.history
+    }
+
+    /// The words that stand, with the sizes.
+    pub fn image(&self) -> Result<Image, Refusal>
+        ensures ok { IfOk result (λ image. image ≡ image_of self.now) }
+        ensures lawful { IfOk result IsLawfulImage }
+        ensures err { IfErr result (λ e. e ≡ Refusal.OutOfMemory) }
+    {
+        let alloc = *self.cells.allocator();
+        let cells = Cells::new(Vec::from_slice(alloc, &self.cells)?);
+        let lock = Owns::new(Vec::from_slice(alloc, &self.words)?);
+        Ok(Image {
+            cap: self.layout.cap,
+            cells,
+            limit: self.limit,
+            lock,
+            version: 2,
+            width: self.layout.width,
+        })
+    }
+
+    /// How many steps the last call of a process has taken.
+    pub fn steps(&self, p: u64) -> Result<u64, Refusal>
+        ensures ok { IfOk result (λ steps. (p < self.now.layout.procs) × (steps ≡ (tally_at self.now.tallies p).steps)) }
+        ensures refused { IfErr result (λ e. (self.now.layout.procs ≤ p) × (e ≡ Refusal.NoSuchProcess)) }
+    {
+        Ok(self.tally(p)?.steps)
+    }
+
+    /// How many of them left the process where it stood.
+    pub fn blocked(&self, p: u64) -> Result<u64, Refusal>
+        ensures ok { IfOk result (λ blocked. (p < self.now.layout.procs) × (blocked ≡ (tally_at self.now.tallies p).blocked)) }
+        ensures refused { IfErr result (λ e. (self.now.layout.procs ≤ p) × (e ≡ Refusal.NoSuchProcess)) }
+    {
+        Ok(self.tally(p)?.blocked)
+    }
+
+    /// The lock words of a process at the start of its last call.
+    pub fn began(&self, p: u64) -> Result<Own, Refusal>
+        ensures ok { IfOk result (λ began. (p < self.now.layout.procs) × (began ≡ (tally_at self.now.tallies p).began)) }
+        ensures refused { IfErr result (λ e. (self.now.layout.procs ≤ p) × (e ≡ Refusal.NoSuchProcess)) }
+    {
+        Ok(self.tally(p)?.began)
+    }
+
+    fn tally(&self, p: u64) -> Result<Tally, Refusal>
+        ensures ok { IfOk result (λ tally. (p < self.now.layout.procs) × (tally ≡ tally_at self.now.tallies p)) }
+        ensures refused { IfErr result (λ e. (self.now.layout.procs ≤ p) × (e ≡ Refusal.NoSuchProcess)) }
+    {
+        match self.tallies.get(p as usize) {
+            Some(tally) => Ok(*tally),
+            None => Err(Refusal::NoSuchProcess),
+        }
+    }
+}
+
+impl Prospect {
+    ghost use Rattle.rmecore.specs.Machine.{kind_of, word_of, carried};
+
+    /// What the step tells, once it is taken.
+    fn told(&self) -> Stepped
+        ensures { result ≡ record { happened = record { kind = kind_of self.now.access; word = word_of self.now.access; value = carried self.now.access self.now.found; outer = self.now.outcome.progress.outer; done = self.now.outcome.progress.done }; deed = self.now.deed; answer = self.now.outcome.answer } }
+    {
+        Stepped {
+            happened: Happened {
+                kind: self.access.kind(),
+                word: self.access.word(),
+                value: self.value(),
+                outer: self.outcome.progress.outer,
+                done: self.outcome.progress.done,
+            },
+            deed: self.deed,
+            answer: self.outcome.answer,
+        }
+    }
+
+    /// What is read or written.
+    fn value(&self) -> u64
+        ensures { result ≡ carried self.now.access self.now.found }
+    {
+        match self.access {
+            Access::Load(..) => self.found,
+            Access::Store(_, _, value) => value,
+        }
+    }
+}
+
+impl Machine for World {
+    ghost use Rattle.rmeworld.specs.Replayed as replayed;
+
+    ghost start_refusal = { replayed.start_refusal };
+
+    ghost started = { replayed.started };
+
+    ghost advance_refusal = { replayed.advance_refusal };
+
+    ghost stepped = { replayed.stepped };
+
+    ghost advanced = { replayed.advanced };
+
+    ghost crash_refusal = { replayed.crash_refusal };
+
+    ghost crash_deed = { λ s p. replayed.crash_deed p };
+
+    ghost crashed = { replayed.crashed };
+
+    ghost image_of = { replayed.image_of };
+
+    fn start(&mut self, p: u64, call: Call) -> Result<(), Refusal> {
+        World::start(self, p, call)
+    }
+
+    fn advance(&mut self, p: u64) -> Result<Stepped, Refusal> {
+        World::advance(self, p)
+    }
+
+    fn crash(&mut self, p: u64) -> Result<Deed, Refusal> {
+        World::crash(self, p)
+    }
+
+    fn image(&self) -> Result<Image, Refusal> {
+        World::image(self)
+    }
+}

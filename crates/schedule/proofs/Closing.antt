@@ -1,0 +1,134 @@
+-- The end of a report, and the whole.
+use Rattle.std.proofs.Common.{◌≡◌, ℕ, ◌+◌, ◌-◌, ◌^◌, min, List, [], ◌++◌, Option, Some, None, Result, Ok, Err, OnOk, IfErr, refl, sym, ap, ◌∙◌, append_assoc, ◌⊎◌, inl, inr}
+use Rattle.std.proofs.lemmas.List.{append-nil}
+use Rattle.rmecore.specs.declared.refusal.Refusal.{Refusal}
+use Rattle.redomail.specs.declared.layout.Layout.{Layout}
+use Rattle.rmeworld.specs.declared.image.Image.{Image}
+use Rattle.judge.specs.Table.{State}
+use Rattle.judge.specs.Stands.{Keeps}
+use Rattle.judge.specs.Kept.{Kept}
+use Rattle.redomail.specs.declared.deed.Deed.{Deed}
+use Rattle.schedule.specs.declared.hearing.Hearing.{Hearing}
+use Rattle.schedule.specs.declared.verdict.Verdict.{Verdict}
+use Rattle.schedule.specs.declared.verdict.Verdict.TheVariants.{Fine, Against}
+use Rattle.schedule.specs.declared.replay_fault.ReplayFault.{ReplayFault}
+use Rattle.schedule.specs.declared.replay_fault.ReplayFault.TheVariants.{Refused, Write, OutOfMemory, Text, Read}
+use Rattle.schedule.specs.Runs.{Part, deeds_of}
+use Rattle.schedule.specs.Verdicts.{verdict_on}
+use Rattle.schedule.specs.Reports.{told_text, owns_text, verdict_line, layout_of, IsMailText, IsEnd}
+use Rattle.schedule.specs.Hearings.{opened, bench, with_more, Hears}
+use Rattle.schedule.specs.Plays.{Tape, Writes, Begins, Ends, IsRefused}
+use Rattle.schedule.specs.Replays.{IsAll, Reported, CutShort, Closes}
+use Rattle.schedule.proofs.Playing.{begins_further, begins_wider, begins_nothing}
+
+-- the mailbox's part of a report is one text
+mail_once : (layout : Layout) (cells one other : List ℕ) → IsMailText layout cells one → IsMailText layout cells other → one ≡ other
+mail_once layout cells one other (inl a) (inl b) = a.1 ∙ sym b.1
+mail_once layout cells one other (inl a) (inr b) = absurd (b.0 a.0)
+mail_once layout cells one other (inr a) (inl b) = absurd (a.0 b.0)
+mail_once layout cells one other (inr a) (inr b) = a.1 ∙ sym b.1
+
+-- and so is the end
+end_once : (image : Image) (verdict : Verdict) (one other : List ℕ) → IsEnd image verdict one → IsEnd image verdict other → one ≡ other
+end_once image verdict one other a b =
+    a.2 ∙ ap (λ (mail : List ℕ). owns_text 0 image.lock ++ mail ++ verdict_line verdict) (mail_once (layout_of image) image.cells a.0 b.0 a.1 b.1) ∙ sym b.2
+
+-- an end that is written as a page
+pub closes : (before now : Tape) (image : Image) (verdict : Verdict) (end : List ℕ) (r : Result (Unit {0}) ReplayFault) → IsEnd image verdict end
+    → OnOk r (Writes before now end)
+    → IfErr r (λ fault. (fault ≡ Write) × Begins before.taken now.taken end × (now.failures ≡ min (before.failures + 1) (2 ^ 64 - 1)))
+    → Closes before now image verdict r
+closes before now image verdict end (Ok x) is written failed = (end, is, written)
+closes before now image verdict end (Err fault) is written failed =
+    rw failed.0 (λ other also. rw (end_once image verdict other end also is) failed.1, failed.2)
+
+-- there is no memory for the page
+pub closes_nothing : (t : Tape) (image : Image) (verdict : Verdict) → ((end : List ℕ) → IsEnd image verdict end → Begins t.taken t.taken end) × (t.failures ≡ t.failures)
+closes_nothing t image verdict = (λ end is. begins_nothing t.taken end, refl)
+
+-- ---- the whole
+
+module _ {S : Type 0} (start : State) (image_of : S → Image) (run : Part S (ℕ × Refusal)) where
+  all_text : (o : Option (ℕ × Refusal)) (text : List ℕ) → IsAll start image_of run o text → (more : List ℕ) × (text ≡ told_text run.told ++ more)
+  all_text None text all = (all.0, all.2)
+  all_text (Some refusal) text all = ([], all ∙ sym (append-nil (told_text run.told)))
+
+  all_begins : (old new : List ℕ) → Begins old new (told_text run.told) → (text : List ℕ) → IsAll start image_of run run.refused text → Begins old new text
+  all_begins old new begins text all =
+      let a = all_text run.refused text all in
+      rw a.1 (begins_wider old new (told_text run.told) a.0 begins)
+
+  all_written : (before now : Tape) → Writes before now (told_text run.told) → Begins before.taken now.taken (told_text run.told)
+  all_written before now writes = ([], record { front = told_text run.told; written = writes.taken; left = sym (append-nil (told_text run.told)) })
+
+  -- the lines were not played to their end
+  pub cut_lines : (before mid now : Tape) (fault : ReplayFault) → Ends before mid run fault → now.taken ≡ mid.taken → now.failures ≡ mid.failures
+      → CutShort before now start image_of run fault
+  cut_lines before mid now (Text line number) ends same fine = ends
+  cut_lines before mid now (Refused line number) ends same fine =
+      (record { taken = same ∙ ends.0.taken; fine = fine ∙ ends.0.fine }, ends.1)
+  cut_lines before mid now Read ends same fine = ends
+  cut_lines before mid now Write ends same fine = (rw same (all_begins before.taken mid.taken ends.0), fine ∙ ends.1)
+  cut_lines before mid now OutOfMemory ends same fine = (rw same (all_begins before.taken mid.taken ends.0), fine ∙ ends.1)
+
+  -- and the sink failed when it was flushed
+  pub cut_flush : (before mid now : Tape) (fault : ReplayFault) → Ends before mid run fault → IsRefused fault → now.taken ≡ mid.taken → now.failures ≡ min (mid.failures + 1) (2 ^ 64 - 1)
+      → CutShort before now start image_of run Write
+  cut_flush before mid now (Text line number) ends is same grown = absurd is
+  cut_flush before mid now (Refused line number) ends is same grown =
+      (rw same (all_begins before.taken mid.taken (all_written before mid ends.0)), rw (← ends.0.fine) grown)
+  cut_flush before mid now Read ends is same grown = absurd is
+  cut_flush before mid now Write ends is same grown = absurd is
+  cut_flush before mid now OutOfMemory ends is same grown = absurd is
+
+  pub settled : (before mid now : Tape) (fault result : ReplayFault) → Ends before mid run fault → now.taken ≡ mid.taken
+      → ((result ≡ fault) × (now.failures ≡ mid.failures)) ⊎ ((result ≡ Write) × (now.failures ≡ min (mid.failures + 1) (2 ^ 64 - 1)) × IsRefused fault)
+      → CutShort before now start image_of run result
+  settled before mid now fault result ends same (inl kept) = rw kept.0 (cut_lines before mid now fault ends same kept.1)
+  settled before mid now fault result ends same (inr failed) = rw failed.0 (cut_flush before mid now fault ends failed.2 same failed.1)
+
+  -- there is no memory for the last words
+  pub cut_image : (before now : Tape) → Writes before now (told_text run.told) → CutShort before now start image_of run OutOfMemory
+  cut_image before now writes = (all_begins before.taken now.taken (all_written before now writes), writes.fine)
+
+  pub cut_end : (before mid now : Tape) (image : Image) (verdict : Verdict) (fault : ReplayFault) → Writes before mid (told_text run.told) → run.refused ≡ None
+      → image ≡ image_of run.left → verdict ≡ verdict_on start (deeds_of run.told) → Closes {A = Unit {0}} mid now image verdict (Err fault)
+      → CutShort before now start image_of run fault
+  cut_end before mid now image verdict (Text line number) writes accepted is ruled h = h
+  cut_end before mid now image verdict (Refused line number) writes accepted is ruled h = absurd h
+  cut_end before mid now image verdict Read writes accepted is ruled h = h
+  cut_end before mid now image verdict Write writes accepted is ruled h = (
+    rw accepted (λ text all. rw all.2 (begins_further before.taken mid.taken now.taken (told_text run.told) all.0 writes.taken (h.0 all.0 (rw (is, ruled) all.1)))),
+    rw (← writes.fine) h.1,
+  )
+  cut_end before mid now image verdict OutOfMemory writes accepted is ruled h = (
+    rw accepted (λ text all. rw all.2 (begins_further before.taken mid.taken now.taken (told_text run.told) all.0 writes.taken (h.0 all.0 (rw (is, ruled) all.1)))),
+    rw (← writes.fine) h.1,
+  )
+
+  pub reported : (before mid now : Tape) (image : Image) (verdict : Verdict) → Writes before mid (told_text run.told) → run.refused ≡ None
+      → image ≡ image_of run.left → verdict ≡ verdict_on start (deeds_of run.told) → (end : List ℕ) × IsEnd image verdict end × Writes mid now end
+      → Reported before now start image_of run verdict
+  reported before mid now image verdict writes accepted is ruled h =
+      record {
+        accepted = accepted;
+        verdict_is = ruled;
+        text = told_text run.told ++ h.0;
+        report = (h.0, rw (← is, ← ruled) h.1, refl);
+        writes = record {
+          taken = h.2.taken ∙ ap (λ (xs : List ℕ). xs ++ h.0) writes.taken ∙ append_assoc before.taken (told_text run.told) h.0;
+          fine = h.2.fine ∙ writes.fine;
+        };
+      }
+
+no_more : (v : Verdict) (k : ℕ) (s : State) → with_more v k s [] ≡ v
+no_more Fine k s = refl
+no_more (Against at fault) k s = refl
+
+-- the verdict of all deeds that were heard
+pub ruled_on : (judge now : Kept) (first hearing : Hearing) (deeds : List Deed) (start : State) → first ≡ opened → Hears (bench judge first) deeds (bench now hearing) → Keeps judge start
+    → hearing.verdict ≡ verdict_on start deeds
+ruled_on judge now first hearing deeds start fresh hears keeps =
+    let h = hears start (λ fine. keeps) in
+    let ruled : with_more first.verdict first.number start (deeds ++ []) ≡ verdict_on start (deeds ++ []) = rw fresh refl in
+    sym (no_more hearing.verdict hearing.number h.0) ∙ sym (h.2 []) ∙ ruled ∙ ap (verdict_on start) (append-nil deeds)

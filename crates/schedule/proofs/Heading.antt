@@ -1,0 +1,53 @@
+-- Where a text is not replayed at all.
+use Rattle.std.proofs.Common.{◌≡◌, ℕ, Option, Some, None, Result, Ok, Err, refl, ◌∙◌, ◌⊎◌, inl, inr}
+use Rattle.rmecore.specs.declared.refusal.Refusal.{Refusal}
+use Rattle.rmecore.specs.declared.refusal.Refusal.TheVariants as refusals
+use Rattle.rmecore.specs.Refused.{number_of}
+use Rattle.rmecore.specs.Simulated.{cause}
+use Rattle.schedule.specs.declared.fault.LineFault.{LineFault}
+use Rattle.schedule.specs.declared.replay_fault.ReplayFault.TheVariants.{OutOfMemory}
+use Rattle.schedule.specs.Schedules.{Scheduled}
+use Rattle.schedule.specs.Plays.{Tape}
+use Rattle.schedule.specs.Wholes.{Silent, header_fault, layout_of, OfSchedule, OfText}
+use Rattle.rmeworld.specs.WorldState.{new_refusal}
+use Rattle.schedule.proofs.Playing.{begins_nothing}
+
+pub silent : (t : Tape) → Silent t t
+silent t = record { taken = refl; fine = refl }
+
+-- there was no memory, and nothing was written
+pub no_memory : (t : Tape) (schedule : Scheduled) (o : Option Refusal) → OfSchedule t t schedule o (Err OutOfMemory)
+no_memory t schedule None = (λ text all. begins_nothing t.taken text, refl)
+no_memory t schedule (Some refusal) = (silent t, inr refl)
+
+pub no_memory_at_all : (t : Tape) (r : Result Scheduled (ℕ × LineFault)) → OfText t t r (Err OutOfMemory)
+no_memory_at_all t (Err fault) = (silent t, inr refl)
+no_memory_at_all t (Ok schedule) = no_memory t schedule (new_refusal (layout_of schedule) schedule.limit)
+
+-- a refusal is a cause, unless memory was wanting
+is_cause : (e : Refusal) → ((e ≡ refusals.OutOfMemory) × (cause e ≡ None)) ⊎ (cause e ≡ Some e)
+is_cause refusals.OutOfMemory = inl (refl, refl)
+is_cause refusals.BadProcs = inr refl
+is_cause refusals.BadLimit = inr refl
+is_cause refusals.NoSuchProcess = inr refl
+is_cause refusals.CallUnderWay = inr refl
+is_cause refusals.NotOwner = inr refl
+is_cause refusals.AlreadyIn = inr refl
+is_cause refusals.NothingToDo = inr refl
+is_cause refusals.BadCap = inr refl
+is_cause (refusals.BadImage rule) = inr refl
+is_cause refusals.NotInconsistent = inr refl
+is_cause refusals.BadShape = inr refl
+is_cause refusals.Unmended = inr refl
+is_cause refusals.BadIndex = inr refl
+is_cause refusals.NotWaiting = inr refl
+is_cause refusals.BadWidth = inr refl
+
+header_by : (t : Tape) (schedule : Scheduled) (e : Refusal) (o : Option Refusal) → o ≡ cause e → ((e ≡ refusals.OutOfMemory) × (cause e ≡ None)) ⊎ (cause e ≡ Some e)
+    → OfSchedule t t schedule o (Err (header_fault (number_of e)))
+header_by t schedule e o is (inl memory) = rw memory.0 (no_memory t schedule o)
+header_by t schedule e o is (inr refused) = rw (is ∙ refused) (silent t, inl refl)
+
+-- the header is refused
+pub header_refused : (t : Tape) (schedule : Scheduled) (e : Refusal) (o : Option Refusal) → o ≡ cause e → OfSchedule t t schedule o (Err (header_fault (number_of e)))
+header_refused t schedule e o is = header_by t schedule e o is (is_cause e)

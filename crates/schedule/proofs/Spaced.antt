@@ -1,0 +1,11 @@
+-- Numbers as words with a space before each.
+use Rattle.std.proofs.Common.{◌≡◌, ℕ, List, [], ◌∷◌, ◌++◌, map, sym, ap, ◌∙◌}
+use Rattle.std.specs.List.{join_with_byte}
+use Rattle.std.specs.Fmt.{decimal}
+use Rattle.std.proofs.lemmas.List.{append-nil}
+use Rattle.std.proofs.lemmas.List.Concat.{flat_map-cons}
+use Rattle.schedule.specs.Words.{spaced}
+
+pub join_spaced : (w : List ℕ) (v : List ℕ) → join_with_byte 32 (w ∷ map decimal v) ≡ w ++ spaced v
+join_spaced w [] = sym (append-nil w)
+join_spaced w (n ∷ v) = ap (λ (t : List ℕ). w ++ 32 ∷ t) (join_spaced (decimal n) v) ∙ ap (λ (t : List ℕ). w ++ t) (sym (flat_map-cons (λ m. 32 ∷ decimal m) n v))

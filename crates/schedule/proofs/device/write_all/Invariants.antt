@@ -1,0 +1,12 @@
+use Rattle.std.proofs.Common.{◌≡◌, length}
+use Rattle.schedule.specs.Pieces.{WritesFront}
+use Rattle.schedule.proofs.device.write_all.Given as goal
+
+abbrev pub invariant-loop-rest : goal.invariant-loop-rest
+invariant-loop-rest g l = record {
+  front : WritesFront (g.W.Sink.taken l.initial.sink) (g.W.Sink.taken l.sink) l.bytes l.rest;
+  fine : g.W.Sink.failures l.sink ≡ g.W.Sink.failures l.initial.sink;
+}
+
+abbrev pub decreases-loop-rest : goal.decreases-loop-rest
+decreases-loop-rest g l = length l.rest

@@ -1,0 +1,11 @@
+use Rattle.schedule.proofs.Schedules.{schedule_takes, schedule_again, schedule_only}
+use Rattle.schedule.proofs.laws.one_spelling.Goals as goal
+
+pub returns-clause-again : goal.returns-clause-again
+returns-clause-again c = schedule_again
+
+pub returns-clause-takes : goal.returns-clause-takes
+returns-clause-takes c = schedule_takes
+
+pub returns-clause-only : goal.returns-clause-only
+returns-clause-only c = schedule_only

@@ -1,0 +1,51 @@
+use Rattle.std.proofs.Common.{◌≡◌, suc, ◌+◌, ◌-◌, ◌++◌, None, [], refl, sym, ap, ◌∙◌, arith}
+use Rattle.std.proofs.lemmas.List.{append-nil}
+use Rattle.std.proofs.lemmas.Result.{err_from_is_err_and}
+use Rattle.schedule.specs.Runs.{told_of}
+use Rattle.schedule.proofs.Playing.{played_none, played_more, halts_here, halts_further, told_is, step_more, step_last, step_begun, step_refused, steps_none, is_refused, plays_all}
+use Rattle.schedule.proofs.play.more_steps.Goals as goal
+
+pub loop-init : goal.loop-init
+loop-init g c =
+    let all : c.args.n - 0 ≡ c.args.n = omega arith in
+    ([], played_none _ _, rw all refl)
+
+pub returns-in_default : goal.returns-in_default
+returns-in_default g c =
+    halts_here _ _ _ _ c.loop.invariant.0 _ _ None c.loop.invariant.1 (told_is _ _ c.loop.invariant.2)
+
+pub returns-in-Refused : goal.returns-in-Refused
+returns-in-Refused g c =
+    let count : c.args.n - c.loop.counter ≡ suc (c.args.n - (c.loop.counter + 1)) = omega (arith, c.loop-test.true) in
+    let refused = is_refused c.in-Err.refusal c.in-Refused.field-0 _ c.in-Err.ensures.refused (sym c.from.ensures ∙ c.in-Refused.is) in
+    plays_all _ _ _ _ _ c.loop.invariant.0 None c.advance.new.self c.loop.invariant.1
+    (rw c.in-Err.ensures.err (step_refused _ c.args.p _ c.loop.invariant.0 _ _ c.loop.machine _ c.loop.invariant.2 count refused)) refl
+
+pub returns-in_err-tell : goal.returns-in_err-tell
+returns-in_err-tell g c =
+    let count : c.args.n - c.loop.counter ≡ suc (c.args.n - (c.loop.counter + 1)) = omega (arith, c.loop-test.true) in
+    let p = err_from_is_err_and c.from_residual.result c.from_residual.ensures.1 in
+    let begun = step_begun _ c.args.p _ c.loop.invariant.0 _ _ c.loop.machine c.in-Ok.stepped c.loop.invariant.2 count c.in-Ok.ensures.accepted c.in-Ok.ensures.told in
+    rw (p.1, p.2) (halts_further _ _ _ _ _ c.loop.invariant.0 (told_of c.args.p c.in-Ok.stepped.deed c.in-Ok.stepped.answer) begun.0 _ None c.in_err-tell.field-0.0 c.loop.invariant.1 begun.1 c.in_err-tell.ensures)
+
+pub returns-then-is_some : goal.returns-then-is_some
+returns-then-is_some g c =
+    let count : c.args.n - c.loop.counter ≡ suc (c.args.n - (c.loop.counter + 1)) = omega (arith, c.loop-test.true) in
+    let told = told_of c.args.p c.in-Ok.stepped.deed c.in-Ok.stepped.answer in
+    plays_all _ _ _ _ _ (c.loop.invariant.0 ++ told) None c.advance.new.self (played_more _ _ _ _ _ _ c.loop.invariant.0 told c.loop.invariant.1 c.in_ok-tell.ensures.0 c.in_ok-tell.ensures.1)
+    (step_last _ c.args.p _ c.loop.invariant.0 _ _ c.loop.machine c.advance.new.self c.in-Ok.stepped c.loop.invariant.2 count c.in-Ok.ensures.accepted c.in-Ok.ensures.told (grind arith) c.in-Ok.ensures.ok) refl
+
+pub loop-preserved : goal.loop-preserved
+loop-preserved g c =
+    let count : c.args.n - c.loop.counter ≡ suc (c.args.n - (c.loop.counter + 1)) = omega (arith, c.loop-test.true) in
+    let told = told_of c.args.p c.in-Ok.stepped.deed c.in-Ok.stepped.answer in (
+      c.loop.invariant.0 ++ told,
+      played_more _ _ _ _ _ _ c.loop.invariant.0 told c.loop.invariant.1 c.in_ok-tell.ensures.0 c.in_ok-tell.ensures.1,
+      step_more _ c.args.p _ c.loop.invariant.0 _ _ c.loop.machine c.advance.new.self c.in-Ok.stepped c.loop.invariant.2 count c.in-Ok.ensures.accepted c.in-Ok.ensures.told (grind arith) c.in-Ok.ensures.ok,
+    )
+
+pub returns : goal.returns
+returns g c =
+    let none : c.args.n - c.loop.counter ≡ 0 = omega (arith, c.loop-test.false) in
+    let told = c.loop.invariant.0 in
+    plays_all _ _ _ _ _ told None c.loop.machine c.loop.invariant.1 (c.loop.invariant.2 ∙ (rw none (rw (steps_none _ c.args.p c.loop.machine) (ap (λ xs. (xs, c.loop.machine)) (append-nil told))))) refl

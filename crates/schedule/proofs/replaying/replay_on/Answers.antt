@@ -1,0 +1,25 @@
+use Rattle.std.proofs.Common.{ap, ◌∙◌}
+use Rattle.std.proofs.lemmas.Result.{err_from_is_err_and}
+use Rattle.schedule.proofs.Closing.{settled, cut_end, reported, ruled_on}
+use Rattle.schedule.proofs.replaying.replay_on.Goals as goal
+
+pub returns-in-Err-clause-replay : goal.returns-in-Err-clause-replay
+returns-in-Err-clause-replay g c start keeps =
+    rw (← c.lines.ensures) (settled start g.M.Machine.image_of _ _ _ _ c.in-Err.fault c.settle.result c.in-Err.ensures c.settle.ensures.taken c.settle.ensures.fault)
+
+pub returns-in_err-close-clause-replay : goal.returns-in_err-close-clause-replay
+returns-in_err-close-clause-replay g c start keeps =
+    let p = err_from_is_err_and c.from_residual.result c.from_residual.ensures.1 in
+    let played = c.in_default.ensures in
+    let ruled = ruled_on c.args.judge.now c.play_lines.new.judge c.new-clerk.result c.play_lines.new.clerk _ start c.new-clerk.ensures played.1 keeps in
+    rw (p.1, p.2, ← c.lines.ensures)
+    (cut_end start g.M.Machine.image_of _ _ _ _ c.in-Ok.image c.verdict-verdict.result c.in_err-close.field-0.0 played.0 played.2
+    (c.in-Ok.ensures.ok ∙ ap g.M.Machine.image_of played.3) (c.verdict-verdict.ensures ∙ ruled) c.in_err-close.ensures)
+
+pub returns-clause-replay : goal.returns-clause-replay
+returns-clause-replay g c start keeps =
+    let played = c.in_default.ensures in
+    let ruled = ruled_on c.args.judge.now c.play_lines.new.judge c.new-clerk.result c.play_lines.new.clerk _ start c.new-clerk.ensures played.1 keeps in
+    rw (← c.lines.ensures)
+    (reported start g.M.Machine.image_of _ _ _ _ c.in-Ok.image c.verdict-verdict.result played.0 played.2
+    (c.in-Ok.ensures.ok ∙ ap g.M.Machine.image_of played.3) (c.verdict-verdict.ensures ∙ ruled) c.in_ok-close.ensures)

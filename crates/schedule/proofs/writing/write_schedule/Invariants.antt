@@ -1,0 +1,9 @@
+use Rattle.std.proofs.Common.{◌≡◌, ◌++◌, take}
+use Rattle.std.specs.List.{flat_map}
+use Rattle.schedule.specs.Commands.{words_of_line}
+use Rattle.schedule.specs.Schedules.{words_of_head, head_of}
+use Rattle.schedule.specs.Texts.{line_of}
+use Rattle.schedule.proofs.writing.write_schedule.Given as goal
+
+abbrev pub invariant-loop-line : goal.invariant-loop-line
+invariant-loop-line l = l.out.items ≡ line_of (words_of_head (head_of l.schedule)) ++ flat_map (λ line. line_of (words_of_line line)) (take l.line-index l.line-items)

@@ -1,0 +1,78 @@
+-- What the functions that play a part of a run do.
+use Rattle.std.specs.Prelude.{◌≡◌, ℕ, ◌+◌, ◌-◌, ◌^◌, min, List, ◌++◌, Option, Some, None, Result, Ok, Err}
+use Rattle.rmecore.specs.declared.refusal.Refusal.{Refusal}
+use Rattle.rmecore.specs.Refused.{number_of}
+use Rattle.schedule.specs.declared.replay_fault.ReplayFault.{ReplayFault}
+use Rattle.schedule.specs.declared.replay_fault.ReplayFault.TheVariants as faults
+use Rattle.schedule.specs.declared.halt.Halt.{Halt}
+use Rattle.schedule.specs.declared.halt.Halt.TheVariants.{Refused, Write, OutOfMemory}
+use Rattle.schedule.specs.Pieces.{WritesFront}
+use Rattle.schedule.specs.Runs.{Told, Part, deeds_of}
+use Rattle.schedule.specs.Reports.{told_text}
+use Rattle.schedule.specs.Hearings.{Bench, Hears}
+
+-- what a sink has taken, and how often it failed
+pub record Tape : Type 0 where
+  pub taken : List ℕ
+  pub failures : ℕ
+
+abbrev pub tape : List ℕ → ℕ → Tape
+tape taken failures = record { taken = taken; failures = failures }
+
+-- all of the text was written
+pub record Writes (before now : Tape) (text : List ℕ) : Type 0 where
+  pub taken : now.taken ≡ before.taken ++ text
+  pub fine : now.failures ≡ before.failures
+
+-- a beginning of the text was written
+abbrev pub Begins : List ℕ → List ℕ → List ℕ → Type 0
+Begins old new text = (rest : List ℕ) × WritesFront old new text rest
+
+-- why a part is not played to its end
+abbrev pub Halts : Tape → Tape → List ℕ → Option Refusal → Halt → Type 0
+Halts before now text refused (Refused number) = Writes before now text × ((refusal : Refusal) × (refused ≡ Some refusal) × (number_of refusal ≡ Some number))
+Halts before now text refused Write = Begins before.taken now.taken text × (now.failures ≡ min (before.failures + 1) (2 ^ 64 - 1))
+Halts before now text refused OutOfMemory = Begins before.taken now.taken text × (now.failures ≡ before.failures)
+
+-- a refusal for want of memory has no number
+abbrev pub halted : Option ℕ → Halt
+halted None = OutOfMemory
+halted (Some number) = Refused number
+
+abbrev pub halt_of : Refusal → Halt
+halt_of refusal = halted (number_of refusal)
+
+-- what is told is written and heard
+abbrev pub Tells : {A : Type 0} → Tape → Tape → Bench → Bench → List Told → Result A Halt → Type 0
+Tells before now bench heard told (Ok x) = Writes before now (told_text told) × Hears bench (deeds_of told) heard
+Tells before now bench heard told (Err halt) = Halts before now (told_text told) None halt
+
+-- a part of the run is played
+abbrev pub Plays : {S A : Type 0} → Tape → Tape → Bench → Bench → List Told → S → Option Refusal → S → Result A Halt → Type 0
+Plays before now bench heard told left refused s (Ok x) =
+    Writes before now (told_text told) × Hears bench (deeds_of told) heard × (refused ≡ None) × (s ≡ left)
+Plays before now bench heard told left refused s (Err halt) = Halts before now (told_text told) refused halt
+
+-- what is answered where line k halts
+abbrev pub fault_at : ℕ → Halt → ReplayFault
+fault_at line (Refused number) = faults.Refused line number
+fault_at line Write = faults.Write
+fault_at line OutOfMemory = faults.OutOfMemory
+
+-- why a run is not played to its end
+abbrev pub Ends : {S : Type 0} → Tape → Tape → Part S (ℕ × Refusal) → ReplayFault → Type 0
+Ends before now run (faults.Refused line number) =
+    Writes before now (told_text run.told) × ((refusal : Refusal) × (run.refused ≡ Some (line, refusal)) × (number_of refusal ≡ Some number))
+Ends before now run faults.Write = Begins before.taken now.taken (told_text run.told) × (now.failures ≡ min (before.failures + 1) (2 ^ 64 - 1))
+Ends before now run faults.OutOfMemory = Begins before.taken now.taken (told_text run.told) × (now.failures ≡ before.failures)
+Ends before now run fault = ⊥
+
+-- the lines of a run are played
+abbrev pub Runs : {S A : Type 0} → Tape → Tape → Bench → Bench → Part S (ℕ × Refusal) → S → Result A ReplayFault → Type 0
+Runs before now bench heard run s (Ok x) =
+    Writes before now (told_text run.told) × Hears bench (deeds_of run.told) heard × (run.refused ≡ None) × (s ≡ run.left)
+Runs before now bench heard run s (Err fault) = Ends before now run fault
+
+abbrev pub IsRefused : ReplayFault → Type 0
+IsRefused (faults.Refused line number) = Unit {0}
+IsRefused fault = ⊥

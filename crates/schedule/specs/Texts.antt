@@ -1,0 +1,48 @@
+-- A text is lines: the first says what the text is of, and each other is an item. The first faulty line gives the fault.
+use Rattle.std.specs.Prelude.{◌≡◌, ℕ, ◌+◌, ◌==◌, List, [], ◌∷◌, ◌++◌, length, Result, Ok, Err, if◌then◌else◌}
+use Rattle.std.specs.List.{slice_split, join_with_byte}
+use Rattle.schedule.specs.declared.fault.LineFault.{LineFault}
+use Rattle.schedule.specs.declared.fault.LineFault.TheVariants.{NoHeader, NoNewline}
+use Rattle.schedule.specs.declared.fault.TextFault.{TextFault}
+use Rattle.schedule.specs.declared.fault.TextFault.TheVariants as faults
+use Rattle.schedule.specs.Words.{words_of, ◌>>=◌}
+
+-- a line of these words, with a space between two, and LF
+abbrev pub line_of : List (List ℕ) → List ℕ
+line_of ws = join_with_byte 32 ws ++ 10 ∷ []
+
+-- the parts of a text, which is cut at every LF: its lines, and what stands after the last LF
+abbrev pub parts_of : List ℕ → List (List ℕ)
+parts_of text = slice_split (λ b. b == 10) text
+
+-- a fault, with the number of its line
+abbrev pub on_line : {A : Type 0} → ℕ → Result A LineFault → Result A (ℕ × LineFault)
+on_line k (Ok x) = Ok x
+on_line k (Err fault) = Err (k, fault)
+
+-- the items of the lines from number k on
+unfoldable pub items_at : {A : Type 0} → (List (List ℕ) → Result A LineFault) → ℕ → List (List ℕ) → Result (List A) (ℕ × LineFault)
+items_at item k [] = Ok []
+items_at item k (rest ∷ []) = if length rest == 0 then Ok [] else Err (k, NoNewline)
+items_at item k (line ∷ next ∷ parts) = do
+  x ← on_line k (item (words_of line))
+  xs ← items_at item (k + 1) (next ∷ parts)
+  Ok (x ∷ xs)
+
+-- a whole text, by its parts
+unfoldable pub text_at : {H A : Type 0} → (List (List ℕ) → Result H LineFault) → (H → List (List ℕ) → Result A LineFault) → List (List ℕ) → Result (H × List A) (ℕ × LineFault)
+text_at head item [] = Err (1, NoHeader)
+text_at head item (rest ∷ []) = if length rest == 0 then Err (1, NoHeader) else Err (1, NoNewline)
+text_at head item (line ∷ next ∷ parts) = do
+  h ← on_line 1 (head (words_of line))
+  xs ← items_at (item h) 2 (next ∷ parts)
+  Ok (h, xs)
+
+-- what a function returned, seen by view, is what reading gives, unless memory ran out
+abbrev pub Fails : {Y : Type 0} → TextFault → Result Y (ℕ × LineFault) → Type 0
+Fails (faults.At line fault) read = read ≡ Err (line, fault)
+Fails faults.OutOfMemory read = Unit {0}
+
+abbrev pub Gives : {X Y : Type 0} → (X → Y) → Result X TextFault → Result Y (ℕ × LineFault) → Type 0
+Gives view (Ok x) read = read ≡ Ok (view x)
+Gives view (Err e) read = Fails e read

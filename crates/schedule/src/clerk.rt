@@ -1,0 +1,105 @@
+//! Who writes down what a run tells, and hears the judge on it.
+
+ghost use Rattle.std.specs.Prelude.{◌≡◌, ◌++◌, ◌∷◌, [], None, IfErr, OnOk};
+ghost use Rattle.schedule.specs.Hearings.{opened, bench, Hears};
+ghost use Rattle.schedule.specs.Plays.{tape, Tells, Writes, Halts};
+ghost use Rattle.schedule.specs.Reports.{told_text};
+ghost use Rattle.schedule.specs.Runs.{deeds_of, did, told_by};
+
+use crate::answer::{put_answer, put_deed};
+use crate::device::{Sink, write_all};
+use crate::halt::Halt;
+use crate::hearing::Hearing;
+use crate::verdict::Verdict;
+use judge::Judge;
+use redomail::Deed;
+use rmeworld::Answer;
+use std::alloc::{AllocError, Global};
+use std::marker::Model;
+
+/// What a step or a crash of p tells.
+#[derive(Clone, Copy, Debug)]
+pub struct Tidings {
+    pub p: u64,
+    pub deed: Option<Deed>,
+    pub answer: Option<Answer>,
+}
+
+/// The hearing of the judge, and a page for lines that are not written yet.
+#[derive(Drop)]
+pub struct Clerk {
+    hearing: Hearing,
+    page: Vec<u8>,
+}
+
+impl Model for Clerk {
+    ghost use Rattle.schedule.specs.declared.hearing.Hearing.{Hearing as HearingOf};
+
+    ghost Value = { HearingOf };
+
+    ghost view = { λ c. c.hearing };
+}
+
+impl Clerk {
+    pub fn new(alloc: Global) -> Clerk
+        ensures { result ≡ opened }
+    {
+        Clerk {
+            hearing: Hearing::OPENED,
+            page: Vec::new(alloc),
+        }
+    }
+
+    pub fn verdict(&self) -> Verdict
+        ensures { result ≡ self.now.verdict }
+    {
+        self.hearing.verdict()
+    }
+
+    /// Hears the judge on a deed, if there is one.
+    fn hear(&mut self, judge: &mut Judge, deed: &Option<Deed>)
+        ensures { Hears (bench judge.old self.old) (deeds_of (did deed.now)) (bench judge.new self.new) }
+    {
+        let Some(deed) = deed else {
+            return;
+        };
+        self.hearing.hear(judge, *deed);
+    }
+
+    /// Writes down all that is told.
+    fn write<W: Sink>(&mut self, w: &mut W, tidings: &Tidings) -> Result<(), Halt>
+        ensures written { OnOk result (Writes (tape (W.taken w.old) (W.failures w.old)) (tape (W.taken w.new) (W.failures w.new)) (told_text (told_by tidings.now))) }
+        ensures halted { IfErr result (λ halt. Halts (tape (W.taken w.old) (W.failures w.old)) (tape (W.taken w.new) (W.failures w.new)) (told_text (told_by tidings.now)) None halt) }
+        ensures same { self.new ≡ self.old }
+    {
+        self.page.clear();
+        put_told(&mut self.page, tidings)?;
+        write_all(w, &self.page)?;
+        Ok(())
+    }
+
+    /// Hears the judge on the deed, and writes down all that is told.
+    pub fn tell<W: Sink>(
+        &mut self,
+        judge: &mut Judge,
+        w: &mut W,
+        tidings: &Tidings,
+    ) -> Result<(), Halt>
+        ensures { Tells (tape (W.taken w.old) (W.failures w.old)) (tape (W.taken w.new) (W.failures w.new)) (bench judge.old self.old) (bench judge.new self.new) (told_by tidings.now) result }
+    {
+        self.hear(judge, &tidings.deed);
+        self.write(w, tidings)
+    }
+}
+
+fn put_told(page: &mut Vec<u8>, tidings: &Tidings) -> Result<(), AllocError>
+    ensures { OnOk result (page.new.items ≡ page.old.items ++ told_text (told_by tidings.now)) }
+{
+    if let Some(deed) = &tidings.deed {
+        put_deed(page, deed)?;
+    }
+    if let Some(answer) = tidings.answer {
+        put_answer(page, tidings.p, answer)?;
+    }
+    Ok(())
+}

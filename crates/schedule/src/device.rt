@@ -1,0 +1,160 @@
+//! Bytes that come and bytes that go.
+
+ghost use Rattle.std.specs.Prelude.{◌≡◌, ◌+◌, ◌-◌, ◌^◌, ◌<◌, ◌≤◌, ◌++◌, List, ℕ, Bool, true, false, [], length, take, OnOk, OnErr, IfOk, IfErr, min};
+ghost use Rattle.schedule.specs.Pieces.{WritesFront};
+
+use std::alloc::{AllocError, Global};
+use thiserror::Error;
+
+/// A device failed: it read or wrote nothing.
+#[derive(Clone, Copy, Debug, PartialEq, Eq, Error)]
+#[error("the device failed")]
+pub struct Failed;
+
+/// Bytes that come, a piece at a time.
+pub trait Source {
+    /// the bytes that it has given so far
+    ghost given: { Self → List ℕ };
+
+    /// whether it has told its end
+    ghost ended: { Self → Bool };
+
+    /// how often it failed, held at 2^64 - 1
+    ghost failures: { Self → ℕ };
+
+    /// Reads into the front of the buffer. 0 at a buffer that is not empty tells the end.
+    fn read(&mut self, buf: &mut [u8]) -> Result<usize, Failed>
+        ensures bound { IfOk result (λ n. n ≤ length buf.new) }
+        ensures given { IfOk result (λ n. given self.new ≡ given self.old ++ take n buf.new) }
+        ensures end { IfOk result (λ n. n ≡ 0 → 0 < length buf.new → ended self.new ≡ true) }
+        ensures fine { OnOk result (failures self.new ≡ failures self.old) }
+        ensures failed { OnErr result (failures self.new ≡ min (failures self.old + 1) (2 ^ 64 - 1)) }
+        ensures kept { OnErr result (given self.new ≡ given self.old) }
+        // What it gives is finite.
+        ensures finite { OnOk result (length (given self.new) ≤ 2 ^ 63) };
+}
+
+/// Bytes that go.
+pub trait Sink {
+    /// the bytes that it has taken
+    ghost taken: { Self → List ℕ };
+
+    /// how often it failed, held at 2^64 - 1
+    ghost failures: { Self → ℕ };
+
+    /// Takes some of the front of the bytes, at least one unless there is none.
+    fn write(&mut self, bytes: &[u8]) -> Result<usize, Failed>
+        ensures bound { IfOk result (λ n. n ≤ length bytes.now) }
+        ensures moves { IfOk result (λ n. 0 < length bytes.now → 0 < n) }
+        ensures taken { IfOk result (λ n. taken self.new ≡ taken self.old ++ take n bytes.now) }
+        ensures fine { OnOk result (failures self.new ≡ failures self.old) }
+        ensures failed { OnErr result (failures self.new ≡ min (failures self.old + 1) (2 ^ 64 - 1)) }
+        ensures kept { OnErr result (taken self.new ≡ taken self.old) };
+
+    fn flush(&mut self) -> Result<(), Failed>
+        ensures taken { taken self.new ≡ taken self.old }
+        ensures fine { OnOk result (failures self.new ≡ failures self.old) }
+        ensures failed { OnErr result (failures self.new ≡ min (failures self.old + 1) (2 ^ 64 - 1)) };
+}
+
+/// Bytes in memory as a source, in pieces of a length.
+#[derive(Drop)]
+pub struct Text<'a> {
+    all: &'a [u8],
+    at: usize,
+    piece: usize,
+    ended: bool,
+    ghost within: { at ≤ length all.now },
+}
+
+impl<'a> Text<'a> {
+    pub fn new(all: &'a [u8], piece: usize) -> Text<'a>
+        ensures { result.at ≡ 0 }
+    {
+        Text {
+            all,
+            at: 0,
+            piece,
+            ended: false,
+        }
+    }
+}
+
+impl<'a> Source for Text<'a> {
+    ghost given = { λ s. take s.at s.all.now };
+
+    ghost ended = { λ s. s.ended };
+
+    ghost failures = { λ _. 0 };
+
+    fn read(&mut self, buf: &mut [u8]) -> Result<usize, Failed> {
+        let left = self.all.len() - self.at;
+        let n = left.min(buf.len()).min(self.piece.max(1));
+        buf[..n].copy_from_slice(&self.all[self.at..self.at + n]);
+        self.at += n;
+        if n == 0 {
+            self.ended = true;
+        }
+        Ok(n)
+    }
+}
+
+/// Bytes in memory as a sink. It fails where memory does.
+#[derive(Drop)]
+pub struct Page {
+    bytes: Vec<u8>,
+    failures: u64,
+}
+
+impl Page {
+    pub fn new(alloc: Global) -> Page
+        ensures bytes { result.bytes.items ≡ [] }
+        ensures failures { result.failures ≡ 0 }
+    {
+        Page {
+            bytes: Vec::new(alloc),
+            failures: 0,
+        }
+    }
+
+    pub fn as_slice(&self) -> &[u8]
+        ensures { result.now ≡ self.now.bytes.items }
+    {
+        self.bytes.as_slice()
+    }
+}
+
+impl Sink for Page {
+    ghost taken = { λ s. s.bytes.items };
+
+    ghost failures = { λ s. s.failures };
+
+    fn write(&mut self, bytes: &[u8]) -> Result<usize, Failed> {
+        match self.bytes.extend_from_slice(bytes) {
+            Ok(()) => Ok(bytes.len()),
+            Err(AllocError) => {
+                self.failures = self.failures.saturating_add(1);
+                Err(Failed)
+            }
+        }
+    }
+
+    fn flush(&mut self) -> Result<(), Failed> {
+        Ok(())
+    }
+}
+
+/// Writes all of the bytes.
+pub fn write_all<W: Sink>(sink: &mut W, bytes: &[u8]) -> Result<(), Failed>
+    ensures all { OnOk result (W.taken sink.new ≡ W.taken sink.old ++ bytes.now) }
+    ensures beginning { OnErr result ((rest : List ℕ) × WritesFront (W.taken sink.old) (W.taken sink.new) bytes.now rest) }
+    ensures fine { OnOk result (W.failures sink.new ≡ W.failures sink.old) }
+    ensures failed { OnErr result (W.failures sink.new ≡ min (W.failures sink.old + 1) (2 ^ 64 - 1)) }
+{
+    let mut rest = bytes;
+    while !rest.is_empty() {
+        let n = sink.write(rest)?;
+        rest = &rest[n..];
+    }
+    Ok(())
+}

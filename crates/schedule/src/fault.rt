@@ -1,0 +1,85 @@
+//! Why a text could not be read.
+
+ghost use Rattle.std.specs.Prelude.{◌≡◌};
+ghost use Rattle.schedule.specs.declared.fault.TextFault.TheVariants.{OutOfMemory as TextOutOfMemory};
+
+use std::alloc::{AllocError, AllocFailed};
+use thiserror::Error;
+
+/// What is wrong with a line.
+#[derive(Clone, Copy, Debug, PartialEq, Eq, Error)]
+pub enum LineFault {
+    /// There is no line, or a word of the first one is missing or another.
+    #[error("no header")]
+    NoHeader,
+    /// The first word is no command.
+    #[error("no command")]
+    BadWord,
+    /// There is no number in its place, or it is spelled otherwise, or too small.
+    #[error("no number")]
+    BadNumber,
+    /// The number is too great.
+    #[error("too great a number")]
+    TooBig,
+    /// The line is not ended.
+    #[error("no newline")]
+    NoNewline,
+    /// The line goes on behind its last word.
+    #[error("trailing text")]
+    TrailingText,
+}
+
+impl LineFault {
+    ghost use Rattle.schedule.specs.Numbers.{number_of};
+
+    /// Its number, from 1 to 6.
+    pub fn number(self) -> u64
+        ensures { result ≡ number_of self }
+    {
+        match self {
+            LineFault::NoHeader => 1,
+            LineFault::BadWord => 2,
+            LineFault::BadNumber => 3,
+            LineFault::TooBig => 4,
+            LineFault::NoNewline => 5,
+            LineFault::TrailingText => 6,
+        }
+    }
+}
+
+/// Why a text could not be read.
+#[derive(Clone, Copy, Debug, PartialEq, Eq, Error)]
+pub enum TextFault {
+    /// The first faulty line, counted from 1.
+    #[error("line {line}: {fault}")]
+    At { line: u64, fault: LineFault },
+    #[error("out of memory")]
+    OutOfMemory,
+}
+
+impl From<AllocError> for TextFault {
+    ghost from_gives = { λ _ e. e ≡ TextOutOfMemory };
+
+    fn from(_e: AllocError) -> TextFault {
+        TextFault::OutOfMemory
+    }
+}
+
+impl<T: Drop> From<AllocFailed<T>> for TextFault {
+    ghost from_gives = { λ _ e. e ≡ TextOutOfMemory };
+
+    fn from(_e: AllocFailed<T>) -> TextFault {
+        TextFault::OutOfMemory
+    }
+}
+
+/// There was no memory for a text.
+#[derive(Clone, Copy, Debug, PartialEq, Eq, Error)]
+#[error("out of memory")]
+pub struct OutOfMemory;
+
+impl From<AllocError> for OutOfMemory {
+    fn from(_e: AllocError) -> OutOfMemory {
+        OutOfMemory
+    }
+}

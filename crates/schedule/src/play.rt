@@ -1,0 +1,119 @@
+//! The lines of a schedule, played on a machine.
+
+ghost use Rattle.std.specs.Prelude.{◌≡◌, ◌≤◌, None, Some};
+ghost use Rattle.schedule.specs.Hearings.{bench};
+ghost use Rattle.schedule.specs.Plays.{tape, Plays, Runs};
+ghost use Rattle.schedule.specs.Runs.{behaviour, steps, line_on, run_on};
+
+use crate::clerk::{Clerk, Tidings};
+use crate::device::Sink;
+use crate::halt::Halt;
+use crate::line::Line;
+use crate::replay_fault::ReplayFault;
+use judge::Judge;
+use rmeworld::Machine;
+
+/// At most n steps of p, until its call is answered.
+fn more_steps<M: Machine, W: Sink>(
+    machine: &mut M,
+    judge: &mut Judge,
+    clerk: &mut Clerk,
+    w: &mut W,
+    p: u64,
+    n: u64,
+) -> Result<(), Halt>
+    ensures { Plays (tape (W.taken w.old) (W.failures w.old)) (tape (W.taken w.new) (W.failures w.new)) (bench judge.old clerk.old) (bench judge.new clerk.new) (steps (behaviour M.start_refusal M.started M.advance_refusal M.stepped M.advanced M.crash_refusal M.crash_deed M.crashed) p n machine.old).0 (steps (behaviour M.start_refusal M.started M.advance_refusal M.stepped M.advanced M.crash_refusal M.crash_deed M.crashed) p n machine.old).1 None machine.new result }
+{
+    for _ in 0..n {
+        let stepped = match machine.advance(p) {
+            Ok(stepped) => stepped,
+            Err(refusal) => match Halt::from(refusal) {
+                Halt::Refused(_) => return Ok(()),
+                _ => return Err(Halt::OutOfMemory),
+            },
+        };
+        let tidings = Tidings {
+            p,
+            deed: stepped.deed,
+            answer: stepped.answer,
+        };
+        clerk.tell(judge, w, &tidings)?;
+        if stepped.answer.is_some() {
+            return Ok(());
+        }
+    }
+    Ok(())
+}
+
+/// One step of p, and then at most n more until its call is answered.
+fn take_steps<M: Machine, W: Sink>(
+    machine: &mut M,
+    judge: &mut Judge,
+    clerk: &mut Clerk,
+    w: &mut W,
+    p: u64,
+    n: u64,
+) -> Result<(), Halt>
+    requires { 1 ≤ n }
+    ensures { Plays (tape (W.taken w.old) (W.failures w.old)) (tape (W.taken w.new) (W.failures w.new)) (bench judge.old clerk.old) (bench judge.new clerk.new) (steps (behaviour M.start_refusal M.started M.advance_refusal M.stepped M.advanced M.crash_refusal M.crash_deed M.crashed) p n machine.old).0 (steps (behaviour M.start_refusal M.started M.advance_refusal M.stepped M.advanced M.crash_refusal M.crash_deed M.crashed) p n machine.old).1 (M.advance_refusal machine.old p) machine.new result }
+{
+    let stepped = machine.advance(p)?;
+    let tidings = Tidings {
+        p,
+        deed: stepped.deed,
+        answer: stepped.answer,
+    };
+    clerk.tell(judge, w, &tidings)?;
+    if stepped.answer.is_some() {
+        return Ok(());
+    }
+    more_steps(machine, judge, clerk, w, p, n - 1)
+}
+
+/// One line.
+fn play_line<M: Machine, W: Sink>(
+    machine: &mut M,
+    judge: &mut Judge,
+    clerk: &mut Clerk,
+    w: &mut W,
+    line: &Line,
+) -> Result<(), Halt>
+    ensures { let part = line_on (behaviour M.start_refusal M.started M.advance_refusal M.stepped M.advanced M.crash_refusal M.crash_deed M.crashed) machine.old line.now in Plays (tape (W.taken w.old) (W.failures w.old)) (tape (W.taken w.new) (W.failures w.new)) (bench judge.old clerk.old) (bench judge.new clerk.new) part.told part.left part.refused machine.new result }
+{
+    match *line {
+        Line::Start(p, call) => {
+            machine.start(p, call)?;
+            Ok(())
+        }
+        Line::Step(p, count) => take_steps(machine, judge, clerk, w, p, count.get()),
+        Line::Crash(p) => {
+            let deed = machine.crash(p)?;
+            let tidings = Tidings {
+                p,
+                deed: Some(deed),
+                answer: None,
+            };
+            clerk.tell(judge, w, &tidings)
+        }
+    }
+}
+
+/// The lines of a schedule, of which the first has number 2.
+pub fn play_lines<M: Machine, W: Sink>(
+    machine: &mut M,
+    judge: &mut Judge,
+    clerk: &mut Clerk,
+    w: &mut W,
+    lines: &[Line],
+) -> Result<(), ReplayFault>
+    ensures { Runs (tape (W.taken w.old) (W.failures w.old)) (tape (W.taken w.new) (W.failures w.new)) (bench judge.old clerk.old) (bench judge.new clerk.new) (run_on (behaviour M.start_refusal M.started M.advance_refusal M.stepped M.advanced M.crash_refusal M.crash_deed M.crashed) 2 machine.old lines.now) machine.new result }
+{
+    let mut number = 2;
+    for line in lines {
+        if let Err(halt) = play_line(machine, judge, clerk, w, line) {
+            return Err(halt.at(number));
+        }
+        number += 1;
+    }
+    Ok(())
+}

@@ -1,0 +1,68 @@
+//! What is known of a trace after some of its lines.
+
+ghost use Rattle.std.specs.Prelude.{◌≡◌, ℕ, ◌+◌, ◌<◌, ◌≤◌, ◌^◌, List, [], ◌∷◌, ◌++◌, length, OnOk, IfOk};
+ghost use Rattle.schedule.specs.Trials.{IsStage, Stands};
+
+use crate::deed::read_deed;
+use crate::fault::LineFault;
+use crate::hearing::Hearing;
+use crate::item::Heading;
+use crate::trace::TraceHead;
+use judge::Judge;
+use std::alloc::{AllocError, Global};
+
+/// What is known of a trace after some of its lines.
+#[derive(Drop)]
+pub enum Stage {
+    /// Not even the first line is known.
+    First,
+    /// The header is refused with this number; later lines may still have a fault.
+    Refused(TraceHead, u64),
+    /// The deeds so far were heard.
+    Judging(TraceHead, Judge, Hearing),
+    /// The first faulty line.
+    Faulty(u64, LineFault),
+}
+
+/// After the first line.
+fn begin(alloc: Global, line: &[u8]) -> Result<Stage, AllocError>
+    ensures stage { IfOk result (λ stage. IsStage stage) }
+    ensures stands { IfOk result (λ stage. Stands stage (line.now ∷ [])) }
+{
+    let head = match TraceHead::read(line) {
+        Ok(head) => head,
+        Err(fault) => return Ok(Stage::Faulty(1, fault)),
+    };
+    match Judge::new(alloc, head.procs, head.cap) {
+        Ok(judge) => Ok(Stage::Judging(head, judge, Hearing::OPENED)),
+        Err(refusal) => match refusal.number() {
+            Some(number) => Ok(Stage::Refused(head, number)),
+            None => Err(AllocError),
+        },
+    }
+}
+
+impl Stage {
+    /// After one more line, which has this number.
+    pub fn next(self, alloc: Global, number: u64, line: &[u8]) -> Result<Stage, AllocError>
+        requires { IsStage self }
+        ensures stage { IfOk result (λ stage. IsStage stage) }
+        ensures stands { (lines : List (List ℕ)) → Stands self lines → number ≡ length lines + 1 → IfOk result (λ stage. Stands stage (lines ++ line.now ∷ [])) }
+    {
+        match self {
+            Stage::First => begin(alloc, line),
+            Stage::Refused(head, refusal) => match read_deed(head.width, line) {
+                Ok(_) => Ok(Stage::Refused(head, refusal)),
+                Err(fault) => Ok(Stage::Faulty(number, fault)),
+            },
+            Stage::Judging(head, mut judge, mut hearing) => match read_deed(head.width, line) {
+                Ok(deed) => {
+                    hearing.hear(&mut judge, deed);
+                    Ok(Stage::Judging(head, judge, hearing))
+                }
+                Err(fault) => Ok(Stage::Faulty(number, fault)),
+            },
+            Stage::Faulty(line, fault) => Ok(Stage::Faulty(line, fault)),
+        }
+    }
+}

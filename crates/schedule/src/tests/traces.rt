@@ -1,0 +1,93 @@
+//! Traces, whole and in pieces.
+
+use super::check;
+use crate::device::Text;
+use crate::replay_fault::ReplayFault;
+use crate::trial::judge_trace;
+use crate::verdict::Verdict;
+use rmecore::Fault;
+use std::test::Fail;
+
+const OVERTAKEN: &[u8] = b"trace 1 procs 2 cap 1
+begin 0
+ready 0
+begin 1
+ready 1
+enter 1
+";
+
+const IN_ORDER: &[u8] = b"trace 1 procs 2 cap 1
+begin 0
+ready 0
+begin 1
+ready 1
+enter 0
+";
+
+const WITHDRAWN: &[u8] = b"trace 1 procs 2 cap 1
+begin 0
+ready 0
+begin 1
+ready 1
+quit 0
+enter 1
+";
+
+/// The answer is this one, in pieces of every length.
+fn judges(rt: &HostRuntime, text: &[u8], answer: Result<Verdict, ReplayFault>) -> Result<(), Fail> {
+    for piece in [1usize, 2, 7, 1000] {
+        let got = judge_trace(rt.alloc(), &mut Text::new(text, piece));
+        check(got == answer, "an answer")?;
+    }
+    Ok(())
+}
+
+#[test]
+fn trace(rt: HostRuntime) -> Result<(), Fail> {
+    let fault = Fault::Overtaken { by: 1, of: 0 };
+    judges(&rt, OVERTAKEN, Ok(Verdict::Against { at: 5, fault }))?;
+    judges(&rt, IN_ORDER, Ok(Verdict::Fine))?;
+    judges(&rt, WITHDRAWN, Ok(Verdict::Fine))?;
+    judges(
+        &rt,
+        b"trace 1 procs 1 cap 1\ncommit 0 1 5\n",
+        Ok(Verdict::Against {
+            at: 1,
+            fault: Fault::NotInside,
+        }),
+    )
+}
+
+#[test]
+fn a_fault_of_the_text_comes_first(rt: HostRuntime) -> Result<(), Fail> {
+    let mut text = Vec::new(rt.alloc());
+    text.extend_from_slice(OVERTAKEN)?;
+    text.extend_from_slice(b"entr 1\n")?;
+    judges(&rt, &text, Err(ReplayFault::Text { line: 7, number: 2 }))?;
+    judges(
+        &rt,
+        b"trace 1 procs 65 cap 1\nbegin 0\nbegin 01\n",
+        Err(ReplayFault::Text { line: 3, number: 3 }),
+    )?;
+    judges(
+        &rt,
+        b"trace 1 procs 65 cap 1\nbegin 0\n",
+        Err(ReplayFault::Refused { line: 1, number: 1 }),
+    )?;
+    judges(
+        &rt,
+        b"trace 1 procs 2 cap 65537\n",
+        Err(ReplayFault::Refused { line: 1, number: 8 }),
+    )?;
+    judges(
+        &rt,
+        &OVERTAKEN[..27],
+        Err(ReplayFault::Text { line: 2, number: 5 }),
+    )?;
+    judges(&rt, b"", Err(ReplayFault::Text { line: 1, number: 1 }))?;
+    judges(
+        &rt,
+        b"trace 2 procs 1 cap 1 width 1\n",
+        Err(ReplayFault::Text { line: 1, number: 3 }),
+    )
+}

@@ -1,0 +1,172 @@
+//! Writes lines at the end of a text.
+
+ghost use Rattle.std.specs.Prelude.{◌≡◌, ◌++◌, ◌∷◌, ◌==◌, [], List, ℕ, OnOk, IfOk, codes, if◌then◌else◌, map};
+ghost use Rattle.std.specs.List.{flat_map, join_with_byte};
+ghost use Rattle.std.specs.Fmt.{decimal};
+ghost use Rattle.schedule.specs.Words.{spaced};
+ghost use Rattle.schedule.specs.Commands.{words_of_line};
+ghost use Rattle.schedule.specs.Schedules.{words_of_head, head_of, spelling};
+ghost use Rattle.schedule.specs.Texts.{line_of};
+
+use crate::fault::OutOfMemory;
+use crate::head::Head;
+use crate::line::Line;
+use crate::schedule::Schedule;
+use rmecore::Body;
+use rmeworld::Call;
+use std::alloc::{AllocError, Global};
+
+/// Writes one more word of a line: a space and the number.
+pub fn put_number(out: &mut Vec<u8>, number: u64) -> Result<(), AllocError>
+    ensures { OnOk result (out.new.items ≡ out.old.items ++ 32 ∷ decimal number) }
+{
+    out.push(b' ')?;
+    let digits = number.to_string(*out.allocator())?;
+    out.extend_from_slice(digits.as_bytes())
+}
+
+/// Writes one more word of a line for each word of the value.
+pub fn put_body(out: &mut Vec<u8>, body: &Body) -> Result<(), AllocError>
+    ensures { OnOk result (out.new.items ≡ out.old.items ++ spaced body.now) }
+{
+    for word in body.as_slice() {
+        put_number(out, *word)?;
+    }
+    Ok(())
+}
+
+/// Writes the first words of a line: a name and a process.
+pub fn put_start(out: &mut Vec<u8>, name: &[u8], p: u64) -> Result<(), AllocError>
+    ensures { OnOk result (out.new.items ≡ out.old.items ++ name.now ++ 32 ∷ decimal p) }
+{
+    out.extend_from_slice(name)?;
+    put_number(out, p)
+}
+
+/// Writes a name, a process, a number and a value.
+#[tactic(auto, using(crate::proofs::Spaced::join_spaced))]
+pub fn put_message(
+    out: &mut Vec<u8>,
+    name: &[u8],
+    p: u64,
+    seq: u64,
+    value: &Body,
+) -> Result<(), AllocError>
+    ensures { OnOk result (out.new.items ≡ out.old.items ++ join_with_byte 32 (name.now ∷ decimal p ∷ decimal seq ∷ map decimal value.now)) }
+{
+    put_start(out, name, p)?;
+    put_number(out, seq)?;
+    put_body(out, value)?;
+    Ok(())
+}
+
+/// Writes a name, three numbers and a value.
+#[tactic(auto, using(crate::proofs::Spaced::join_spaced))]
+pub fn put_placed(
+    out: &mut Vec<u8>,
+    name: &[u8],
+    first: u64,
+    second: u64,
+    seq: u64,
+    value: &Body,
+) -> Result<(), AllocError>
+    ensures { OnOk result (out.new.items ≡ out.old.items ++ join_with_byte 32 (name.now ∷ decimal first ∷ decimal second ∷ decimal seq ∷ map decimal value.now)) }
+{
+    put_start(out, name, first)?;
+    put_number(out, second)?;
+    put_number(out, seq)?;
+    put_body(out, value)?;
+    Ok(())
+}
+
+fn put_words(out: &mut Vec<u8>, line: &Line) -> Result<(), AllocError>
+    ensures { OnOk result (out.new.items ≡ out.old.items ++ join_with_byte 32 (words_of_line line.now)) }
+{
+    match *line {
+        Line::Start(p, call) => match call {
+            Call::Lock => put_start(out, b"lock", p),
+            Call::Unlock => put_start(out, b"unlock", p),
+            Call::Consistent => put_start(out, b"consistent", p),
+            Call::Recover => put_start(out, b"recover", p),
+            Call::Append { seq, value } => put_message(out, b"append", p, seq, &value),
+            Call::Close => put_start(out, b"close", p),
+            Call::Put(i, v) => {
+                put_start(out, b"put", p)?;
+                put_number(out, i)?;
+                put_number(out, v)
+            }
+            Call::Get(i) => {
+                put_start(out, b"get", p)?;
+                put_number(out, i)
+            }
+            Call::Withdraw => put_start(out, b"withdraw", p),
+        },
+        Line::Step(p, k) => {
+            put_start(out, b"step", p)?;
+            if k.get() != 1 {
+                put_number(out, k.get())?;
+            }
+            Ok(())
+        }
+        Line::Crash(p) => put_start(out, b"crash", p),
+    }
+}
+
+/// Writes a line of a schedule.
+pub fn put_line(out: &mut Vec<u8>, line: &Line) -> Result<(), AllocError>
+    ensures { OnOk result (out.new.items ≡ out.old.items ++ line_of (words_of_line line.now)) }
+{
+    put_words(out, line)?;
+    out.push(b'\n')?;
+    Ok(())
+}
+
+pub fn put_named(out: &mut Vec<u8>, name: &[u8], number: u64) -> Result<(), AllocError>
+    ensures { OnOk result (out.new.items ≡ out.old.items ++ 32 ∷ (name.now ++ 32 ∷ decimal number)) }
+{
+    out.push(b' ')?;
+    out.extend_from_slice(name)?;
+    put_number(out, number)
+}
+
+fn put_sizes(out: &mut Vec<u8>, head: &Head) -> Result<(), AllocError>
+    ensures { OnOk result (out.new.items ≡ out.old.items ++ 32 ∷ join_with_byte 32
+        (codes "procs" ∷ decimal head.now.procs ∷ codes "limit" ∷ decimal head.now.limit ∷ codes "cap" ∷ decimal head.now.cap ∷ [])) }
+{
+    put_named(out, b"procs", head.procs)?;
+    put_named(out, b"limit", head.limit)?;
+    put_named(out, b"cap", head.cap)
+}
+
+fn put_head_words(out: &mut Vec<u8>, head: &Head) -> Result<(), AllocError>
+    ensures { OnOk result (out.new.items ≡ out.old.items ++ join_with_byte 32 (words_of_head head.now)) }
+{
+    if head.width == 1 {
+        out.extend_from_slice(b"rme 1")?;
+        put_sizes(out, head)
+    } else {
+        out.extend_from_slice(b"rme 2")?;
+        put_sizes(out, head)?;
+        put_named(out, b"width", head.width)
+    }
+}
+
+fn put_head(out: &mut Vec<u8>, head: &Head) -> Result<(), AllocError>
+    ensures { OnOk result (out.new.items ≡ out.old.items ++ line_of (words_of_head head.now)) }
+{
+    put_head_words(out, head)?;
+    out.push(b'\n')?;
+    Ok(())
+}
+
+/// The one spelling of the schedule.
+pub fn write_schedule(alloc: Global, schedule: &Schedule) -> Result<Vec<u8>, OutOfMemory>
+    ensures { IfOk result (λ text. text.items ≡ spelling schedule.now) }
+{
+    let mut out = Vec::new(alloc);
+    put_head(&mut out, &schedule.head())?;
+    for line in schedule.lines() {
+        put_line(&mut out, line)?;
+    }
+    Ok(out)
+}

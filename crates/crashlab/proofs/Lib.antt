@@ -1,0 +1,4 @@
+pub mod Seats
+pub mod Rests
+pub mod LockWorlds
+pub mod Lines

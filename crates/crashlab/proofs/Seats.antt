@@ -1,0 +1,188 @@
+-- A world of a variant stays seated.
+use Rattle.std.proofs.Common.{◌≡◌, ◌≢◌, ℕ, ◌<◌, ◌==◌, ◌⊎◌, Bool, true, false, if◌then◌else◌, List, [], ◌∷◌, length, slice_index_or, slice_set, Option, Some, None, IfSome, Result, Ok, Err, OnOk, OnErr, refl, sym, ap, ◌∙◌, subst, inl, inr}
+use Rattle.std.proofs.lemmas.Bool.{cases_eq, cond_both}
+use Rattle.std.proofs.lemmas.List.{get_or-set_same, get_or-set_other, get_or_default, length-set}
+use Rattle.rmecore.specs.declared.access.Access.{Access}
+use Rattle.rmecore.specs.declared.access.Access.TheVariants.{Load, Store}
+use Rattle.rmecore.specs.declared.kind.Kind.TheVariants.{Take as Takes, Shut as Shuts, Look as Looks}
+use Rattle.rmecore.specs.declared.own.Own.{Own}
+use Rattle.rmecore.specs.declared.refusal.Refusal.{Refusal}
+use Rattle.rmecore.specs.Machine.{word_of}
+use Rattle.rmecore.specs.Named.{own_call}
+use Rattle.rmecore.specs.declared.word.Word.{Word}
+use Rattle.rmecore.specs.declared.word.Word.TheVariants.{Choosing as ChoosingOf, Number as NumberOf, Inside as InsideOf, Data as DataAt}
+use Rattle.redomail.specs.declared.layout.Layout.{Layout}
+use Rattle.redomail.specs.declared.reply.Reply.{Reply}
+use Rattle.redomail.specs.Left.{Pending, left, fed}
+use Rattle.redomail.specs.Script.{Script, Get as Asks, Put as Writes, Done}
+use Rattle.rmeworld.specs.declared.answer.Answer.{Answer}
+use Rattle.rmeworld.specs.declared.call.Call.{Call}
+use Rattle.rmeworld.specs.declared.call.Call.TheVariants as call
+use Rattle.rmeworld.specs.declared.errand.Errand.{Errand as Chore}
+use Rattle.rmeworld.specs.declared.errand.Errand.TheVariants.{Free as IsFree, Asking, Doing as Does}
+use Rattle.rmeworld.specs.declared.why.Why.{Why}
+use Rattle.rmeworld.specs.declared.why.Why.TheVariants.{Mending}
+use Rattle.rmeworld.specs.Replayed.{words_by, cells_by}
+use Rattle.rmeworld.specs.Stand.{Stand, crashed, next_access, stepped, stepped_by, job_left, started, InWords}
+use Rattle.crashlab.specs.declared.change.Change.{Change}
+use Rattle.crashlab.specs.declared.change.Change.TheVariants.{Nothing, LeavesOut, Counts, Counted}
+use Rattle.crashlab.specs.declared.detour.Detour.{Detour}
+use Rattle.crashlab.specs.declared.detour.Detour.TheVariants.{Straight, Dropping, Over}
+use Rattle.crashlab.specs.declared.variant.Variant.{Variant}
+use Rattle.crashlab.specs.declared.variant.Variant.TheVariants.{Right, NoLook, NoTies, Renumber, ExitOnCrash, CountUp, LastSkipped}
+use Rattle.crashlab.specs.VariantStands.{VariantStand, variant_stepped, stepped_beside, variant_started, is_of, reread_as, past_look, untied, scans_over, scanned_again, finds_inside, call_again, gone_out, is_put, counted_up, last_put_next, left_out}
+use Rattle.crashlab.specs.VariantWorlds.{VariantState, absent, stand_at, HasSeat, IsSeated}
+
+-- the process at p, where p is one of n
+pub stand_here : (processes : List VariantStand) (p n : ℕ) (s : VariantStand) → s ≡ slice_index_or processes p s → p < n → length processes ≡ n → stand_at processes p ≡ s
+stand_here processes p n s is below each = get_or_default processes p _ s (rw each below) ∙ sym is
+
+pub seated : (s : VariantState) (words : List Own) (cells : List ℕ) (p : ℕ) (t : VariantStand) → IsSeated s → length words ≡ length s.words → length cells ≡ length s.cells → p < s.layout.procs → HasSeat s.variant s.layout s.limit p t → IsSeated (record s { words = words; cells = cells; processes = slice_set s.processes p t })
+seated s words cells p t h words_stay cells_stay below seat =
+    record {
+      sized = h.sized;
+      words_each = words_stay ∙ h.words_each;
+      cells_each = cells_stay ∙ h.cells_each;
+      processes_each = length-set s.processes p t ∙ h.processes_each;
+      seats = λ q less. each q less (cases_eq q p);
+    }
+  where
+    each : (q : ℕ) → q < s.layout.procs → (q ≡ p) ⊎ (q ≢ p) → HasSeat s.variant s.layout s.limit q (stand_at (slice_set s.processes p t) q)
+    each q less (inl e) =
+        subst (λ r. HasSeat s.variant s.layout s.limit r (stand_at (slice_set s.processes p t) r)) (sym e) (subst (HasSeat s.variant s.layout s.limit p) (sym (get_or-set_same s.processes p t _ (rw h.processes_each below))) seat)
+    each q less (inr ne) = subst (HasSeat s.variant s.layout s.limit q) (sym (get_or-set_other s.processes p q t _ ne)) (h.seats q less)
+
+-- the words stay as many
+
+pub words_stay : (words : List Own) (a : Access) → length (words_by words a) ≡ length words
+words_stay words (Load kind word) = refl
+words_stay words (Store kind (ChoosingOf p) v) = length-set words p _
+words_stay words (Store kind (NumberOf p) v) = length-set words p _
+words_stay words (Store kind (InsideOf p) v) = length-set words p _
+words_stay words (Store kind (DataAt i) v) = refl
+
+pub cells_stay : (cells : List ℕ) (a : Access) → length (cells_by cells a) ≡ length cells
+cells_stay cells (Load kind word) = refl
+cells_stay cells (Store kind (ChoosingOf p) v) = refl
+cells_stay cells (Store kind (NumberOf p) v) = refl
+cells_stay cells (Store kind (InsideOf p) v) = refl
+cells_stay cells (Store kind (DataAt i) v) = length-set cells i v
+
+-- a process keeps its seat
+
+pub record SameSeat (s t : Stand) : Type 0 where
+  pub layout : t.layout ≡ s.layout
+  pub limit : t.limit ≡ s.limit
+  pub index : t.index ≡ s.index
+
+pub record SameVariant (s t : VariantStand) : Type 0 where
+  pub variant : t.variant ≡ s.variant
+  pub seat : SameSeat s.stand t.stand
+
+same_by : {s t : Stand} → t.layout ≡ s.layout → t.limit ≡ s.limit → t.index ≡ s.index → SameSeat s t
+same_by layout limit index = record { layout = layout; limit = limit; index = index }
+
+then_same : {s t u : Stand} → SameSeat s t → SameSeat t u → SameSeat s u
+then_same a b = record { layout = b.layout ∙ a.layout; limit = b.limit ∙ a.limit; index = b.index ∙ a.index }
+
+with_seat : {s t : VariantStand} → t.variant ≡ s.variant → SameSeat s.stand t.stand → SameVariant s t
+with_seat variant seat = record { variant = variant; seat = seat }
+
+job_stays : (s : Stand) (why : Why) (job : Pending) (script : Script Reply) → SameSeat s (job_left s why job script)
+job_stays s why job (Done reply) = (same_by refl refl refl)
+job_stays s why job (Asks i rest) = (same_by refl refl refl)
+job_stays s why job (Writes i v rest) = (same_by refl refl refl)
+
+steps_stay : (s : Stand) (c : Chore) (v : ℕ) → SameSeat s (stepped_by s c v)
+steps_stay s IsFree v = (same_by refl refl refl)
+steps_stay s (Asking job) v = cond_both (v == 1) (record s { errand = IsFree }) (record s { errand = Does Mending job }) (SameSeat s) (λ _. (same_by refl refl refl)) (λ _. (same_by refl refl refl))
+steps_stay s (Does why job) v = job_stays s why (fed job v) (left (fed job v))
+
+pub step_stays : (s : Stand) (v : ℕ) → SameSeat s (stepped s v)
+step_stays s v = steps_stay s s.errand v
+
+start_stays : (s : Stand) (c : Call) → SameSeat s (started s c)
+start_stays s call.Lock = (same_by refl refl refl)
+start_stays s call.Recover = (same_by refl refl refl)
+start_stays s call.Withdraw = (same_by refl refl refl)
+start_stays s call.Unlock = cond_both s.mended _ _ (SameSeat s) (λ _. (same_by refl refl refl)) (λ _. (same_by refl refl refl))
+start_stays s call.Consistent = (same_by refl refl refl)
+start_stays s (call.Append seq value) = (same_by refl refl refl)
+start_stays s call.Close = (same_by refl refl refl)
+start_stays s (call.Get i) = (same_by refl refl refl)
+start_stays s (call.Put i v) = (same_by refl refl refl)
+
+reread_stays : (s : Stand) (call : Call) (c k i : ℕ) → SameSeat s (reread_as s call c k i)
+reread_stays s call c k i = then_same (then_same (then_same (then_same (same_by refl refl refl) (start_stays (crashed s) call)) (step_stays _ c)) (step_stays _ k)) (step_stays _ i)
+
+past_stays : (s t : Stand) → SameSeat s t → SameSeat s (past_look t)
+past_stays s t h = cond_both (is_of Looks (next_access t)) (stepped t 0) t (SameSeat s) (λ _. then_same h (step_stays t 0)) (λ _. h)
+
+scans_stay : (s : VariantStand) (t : Stand) → SameSeat s.stand t → (o : Option ℕ) → SameVariant s (scans_over s t o)
+scans_stay s t h None = (with_seat refl (h))
+scans_stay s t h (Some k) = (with_seat refl (then_same h (reread_stays t call.Lock 1 0 0)))
+
+again_stays : (s : VariantStand) (k v : ℕ) → SameVariant s (scanned_again s k v)
+again_stays s k v =
+    cond_both (is_of Shuts (next_access s.stand)) _ _ (SameVariant s) (λ _. (with_seat refl (reread_stays s.stand call.Lock 0 k 0)))
+    (λ _. cond_both (is_of Takes (next_access s.stand)) _ _ (SameVariant s) (λ _. (with_seat refl (step_stays s.stand v))) (λ _. (with_seat refl (step_stays s.stand v))))
+
+out_stays : (s : VariantStand) (v : ℕ) → SameVariant s (gone_out s v)
+out_stays s v =
+    cond_both (finds_inside s.stand v) _ _ (SameVariant s) (λ _. (with_seat refl (reread_stays s.stand (call_again (own_call s.stand.lock)) 0 0 1))) (λ _. (with_seat refl (step_stays s.stand v)))
+
+count_stays : (s : VariantStand) (change : Change) (v : ℕ) → SameVariant s (counted_up s change v)
+count_stays s Counts v = cond_both (is_put 2 (next_access s.stand)) _ _ (SameVariant s) (λ _. (with_seat refl ((same_by refl refl refl)))) (λ _. (with_seat refl (step_stays s.stand v)))
+count_stays s Nothing v = (with_seat refl (step_stays s.stand v))
+count_stays s LeavesOut v = (with_seat refl (step_stays s.stand v))
+count_stays s (Counted n) v = (with_seat refl (step_stays s.stand v))
+
+leave_stays : (s : VariantStand) (change : Change) (v : ℕ) → SameVariant s (left_out s change v)
+leave_stays s LeavesOut v =
+    cond_both (last_put_next (stepped s.stand v)) _ _ (SameVariant s) (λ _. (with_seat refl (then_same (step_stays s.stand v) (step_stays (stepped s.stand v) 0)))) (λ _. (with_seat refl (step_stays s.stand v)))
+leave_stays s Nothing v = (with_seat refl (step_stays s.stand v))
+leave_stays s Counts v = (with_seat refl (step_stays s.stand v))
+leave_stays s (Counted n) v = (with_seat refl (step_stays s.stand v))
+
+beside_stays : (variant : Variant) (d : Detour) (s : VariantStand) (v : ℕ) → SameVariant s (stepped_beside variant d s v)
+beside_stays NoLook d s v = (with_seat refl (past_stays s.stand (stepped s.stand v) (step_stays s.stand v)))
+beside_stays NoTies d s v = (with_seat refl (step_stays s.stand (untied s.stand v)))
+beside_stays Renumber (Over k) s v = again_stays s k v
+beside_stays Renumber Straight s v = scans_stay s (stepped s.stand v) (step_stays s.stand v) _
+beside_stays Renumber Dropping s v = scans_stay s (stepped s.stand v) (step_stays s.stand v) _
+beside_stays ExitOnCrash Dropping s v = (with_seat refl ((same_by refl refl refl)))
+beside_stays ExitOnCrash Straight s v = out_stays s v
+beside_stays ExitOnCrash (Over k) s v = out_stays s v
+beside_stays CountUp d s v = count_stays s s.change v
+beside_stays LastSkipped d s v = leave_stays s s.change v
+beside_stays Right d s v = (with_seat refl (step_stays s.stand v))
+
+pub variant_step_stays : (s : VariantStand) (v : ℕ) → SameVariant s (variant_stepped s v)
+variant_step_stays s v = beside_stays s.variant s.detour s v
+
+pub variant_start_stays : (s : VariantStand) (c : Call) → SameVariant s (variant_started s c)
+variant_start_stays s c = (with_seat refl (start_stays s.stand c))
+
+pub seat_stays : {variant : Variant} {l : Layout} {limit p : ℕ} (s t : VariantStand) → SameVariant s t → HasSeat variant l limit p s → HasSeat variant l limit p t
+seat_stays s t a h = (a.variant ∙ h.0, a.seat.layout ∙ h.1, a.seat.limit ∙ h.2, a.seat.index ∙ h.3)
+
+-- the seat of the process that an index gives
+pub seat_here : (s : VariantState) (p : ℕ) (t : VariantStand) → IsSeated s → t ≡ slice_index_or s.processes p t → p < s.layout.procs → HasSeat s.variant s.layout s.limit p t
+seat_here s p t h is below = subst (HasSeat s.variant s.layout s.limit p) (stand_here s.processes p s.layout.procs t is below h.processes_each) (h.seats p below)
+
+-- a start that is refused changes nothing
+pub start_keeps :
+    {variant : Variant} {l : Layout} {limit p : ℕ} (r : Result Unit Refusal) (s t : VariantStand) (c : Call) → OnOk r (t ≡ variant_started s c) → OnErr r (t ≡ s)
+    → HasSeat variant l limit p s → HasSeat variant l limit p t
+start_keeps (Ok done) s t c ok err seat = seat_stays s t (subst (SameVariant s) (sym ok) (variant_start_stays s c)) seat
+start_keeps (Err e) s t c ok err seat = subst (HasSeat _ _ _ _) (sym err) seat
+
+-- the word of a step that comes next
+pub in_words :
+    (s : VariantState) (p : ℕ) (t : VariantStand) → IsSeated s → t ≡ slice_index_or s.processes p t → p < s.layout.procs → (o : Option Access) (a : Access) (word : Word)
+    → IfSome o (λ a. InWords t.stand.layout.procs (word_of a)) → o ≡ Some a → word ≡ word_of a → (n : ℕ) → n ≡ s.layout.procs → InWords n word
+in_words s p t h is below o a word within some e n each =
+    let seat = seat_here s p t h is below in
+    let here : InWords t.stand.layout.procs (word_of a) = subst (λ o. IfSome o (λ a. InWords t.stand.layout.procs (word_of a))) some within in
+    let procs : t.stand.layout.procs ≡ n = ap (λ l. l.procs) seat.1 ∙ sym each in
+    subst (InWords n) (sym e) (subst (λ m. InWords m (word_of a)) procs here)

@@ -1,0 +1,37 @@
+use Rattle.std.proofs.Common.{[], ◌≡◌, ℕ, ◌+◌, replicate, sym, ap, ◌∙◌, subst, rules, arith}
+use Rattle.std.proofs.lemmas.Grind.{common_steps}
+use Rattle.rmecore.specs.Simulated.{zeros}
+use Rattle.redomail.specs.declared.layout.Layout.{Layout}
+use Rattle.redomail.specs.Layout.{size}
+use Rattle.rmeworld.specs.Stand.{IsSize}
+use Rattle.rmeworld.proofs.Worlds.{size_held}
+use Rattle.crashlab.specs.VariantWorlds.{IsSeated, new_world}
+use Rattle.crashlab.specs.LockWorlds.{IsLockWorld}
+use Rattle.crashlab.proofs.LockWorlds.{lock_new}
+use Rattle.crashlab.proofs.Rests.{seated_new}
+use Rattle.crashlab.proofs.variant_world.VariantWorld.new.Goals as goal
+
+abbrev layout : goal.In_ok-processes → Layout
+layout c = record { procs = c.args.procs; cap = c.args.cap; width = c.args.width }
+
+sized : (c : goal.In_ok-processes) → IsSize (layout c)
+sized c = record { layout = record { few = c.if-procs-gt-MOST_PROCS.false; small = c.if-cap-gt-MOST_CAP.false; least = omega arith; most = c.if-width-gt-MOST_WIDTH.false }; procs = omega arith; cap = omega arith }
+
+is :
+    (c : goal.In_ok-processes)
+    → record { variant = c.args.variant; layout = layout c; limit = c.args.limit; words = c.in_ok-words.words.items; cells = c.in_ok-cells.cells.items; processes = c.in_ok-processes.processes.items } ≡ new_world c.args.variant (layout c) c.args.limit
+is c =
+    let words : c.in_ok-words.words.items ≡ replicate c.args.procs zeros = search rules in
+    let room : c.in_ok-cells.cells.items ≡ replicate c.words.result 0 = search rules in
+    let cells : c.in_ok-cells.cells.items ≡ replicate (size (layout c)) 0 = room ∙ ap (λ n. replicate n 0) (c.words.ensures ∙ size_held (layout c) (sized c).layout) in
+    λ i. record { variant = c.args.variant; layout = layout c; limit = c.args.limit; words = words i; cells = cells i; processes = c.in_ok-processes.ensures.rest i }
+
+pub invariant_of-result : goal.invariant_of-result
+invariant_of-result c = subst IsSeated (sym (is c)) (seated_new c.args.variant (layout c) c.args.limit (sized c))
+
+pub returns-clause-ok : goal.returns-clause-ok
+returns-clause-ok c = is c
+
+pub returns-clause-lock : goal.returns-clause-lock
+returns-clause-lock c =
+    λ right. subst (λ x. IsLockWorld x []) (sym (is c)) (subst (λ variant. IsLockWorld (new_world variant (layout c) c.args.limit) []) (sym right) (lock_new (layout c) c.args.limit (sized c)))

@@ -1,0 +1,53 @@
+-- What comes of a move of a hunt.
+use Rattle.crashlab.specs.declared.moves.Made.{Made}
+use Rattle.crashlab.specs.declared.moves.Made.TheVariants.{On, Caught}
+use Rattle.crashlab.specs.declared.variant.Variant.{Variant}
+use Rattle.std.specs.Prelude.{◌≡◌, List, [], ◌∷◌, ◌++◌, Option, Some, Err}
+use Rattle.rmecore.specs.declared.fault.Fault.{Fault}
+use Rattle.redomail.specs.declared.deed.Deed.{Deed}
+use Rattle.judge.specs.Kept.{Kept}
+use Rattle.judge.specs.Legal.{judged_all}
+use Rattle.judge.specs.Stands.{StandsAfter}
+use Rattle.judge.specs.Table.{empty}
+use Rattle.rmeworld.specs.Replayed.{list_of}
+use Rattle.schedule.specs.declared.line.Line.{Line}
+use Rattle.schedule.specs.declared.line.Line.TheVariants as line
+use Rattle.crashlab.specs.declared.moves.Move.{Move}
+use Rattle.crashlab.specs.declared.moves.Move.TheVariants.{Start, Step, Crash}
+use Rattle.schedule.specs.Schedules.{Scheduled}
+use Rattle.rmeworld.specs.Law.{EveryStoryIsLegal}
+use Rattle.crashlab.specs.declared.variant.Variant.TheVariants.{Right}
+use Rattle.crashlab.specs.Hunts.{IsFound, IsPlayed}
+use Rattle.crashlab.specs.VariantWorlds.{VariantState}
+
+-- a schedule that is found, and never under the lock, by its theorem
+pub record IsCaught (variant : Variant) (schedule : Scheduled) : Type 0 where
+  pub found : IsFound variant schedule
+  pub wrong : EveryStoryIsLegal → variant ≡ Right → ⊥
+
+-- the round goes on, or its schedule is found
+abbrev pub Ends : Variant → Scheduled → VariantState → Kept → Made → Type 0
+Ends variant schedule world judge (On answer) = IsPlayed variant schedule world judge
+Ends variant schedule world judge Caught = IsCaught variant schedule
+
+-- with one more line
+abbrev pub with_line : Scheduled → Line → Scheduled
+with_line schedule line = record schedule { lines = schedule.lines ++ line ∷ [] }
+
+-- a deed that the judge refuses after this history
+pub record IsRefused (history : List Deed) (deed : Option Deed) : Type 0 where
+  pub last : Deed
+  pub is : deed ≡ Some last
+  pub fault : Fault
+  pub refused : judged_all (empty 3 64) (history ++ last ∷ []) ≡ Err fault
+
+-- the line is written, and the deed of the move, if it has one, is told to the judge
+abbrev pub Told : List Deed → Option Deed → Kept → Made → Type 0
+Told history deed judge (On answer) = StandsAfter (empty 3 64) (history ++ list_of deed) judge
+Told history deed judge Caught = IsRefused history deed
+
+-- a move as a line
+abbrev pub line_by : Move → Line
+line_by (Start p call) = line.Start p call
+line_by (Step p) = line.Step p 1
+line_by (Crash p) = line.Crash p

@@ -1,0 +1,102 @@
+-- What a hunt finds: a schedule whose deeds, in a new world of the variant, are legal but for the last.
+use Rattle.std.specs.Prelude.{◌≡◌, ℕ, zero, suc, ◌≤◌, Bool, true, false, if◌then◌else◌, List, [], ◌∷◌, ◌++◌, Option, None, is_some, Err}
+use Rattle.rmecore.specs.declared.fault.Fault.{Fault}
+use Rattle.redomail.specs.declared.deed.Deed.{Deed}
+use Rattle.redomail.specs.declared.layout.Layout.{Layout}
+use Rattle.judge.specs.Table.{empty}
+use Rattle.judge.specs.Legal.{judged_all, IsLegal}
+use Rattle.judge.specs.Kept.{Kept}
+use Rattle.judge.specs.Stands.{StandsAfter}
+use Rattle.rmeworld.specs.Replayed.{list_of}
+use Rattle.schedule.specs.declared.line.Line.{Line}
+use Rattle.schedule.specs.declared.line.Line.TheVariants.{Start, Step, Crash}
+use Rattle.schedule.specs.Schedules.{Scheduled}
+use Rattle.crashlab.specs.declared.variant.Variant.{Variant}
+use Rattle.crashlab.specs.declared.variant.Variant.TheVariants.{Right}
+use Rattle.crashlab.specs.LockWorlds.{IsLockWorld}
+use Rattle.crashlab.specs.VariantWorlds.{VariantState, new_world, start_refusal, started, advance_refusal, stepped, advanced, crash_refusal, crash_deed, crashed}
+
+-- the world of a hunt
+abbrev pub hunt_layout : Layout
+hunt_layout = record { procs = 3; cap = 64; width = 1 }
+
+abbrev pub first_world : Variant → VariantState
+first_world variant = new_world variant hunt_layout 1000000
+
+abbrev pub is_answered : VariantState → ℕ → Bool
+is_answered s p = is_some (stepped s p).answer
+
+-- what a line leaves in a world: steps end with the answer of their call
+abbrev pub after_steps : VariantState → ℕ → ℕ → VariantState
+after_steps s p zero = s
+after_steps s p (suc k) = if is_answered s p then advanced s p else after_steps (advanced s p) p k
+
+abbrev pub after_line : VariantState → Line → VariantState
+after_line s (Start p call) = started s p call
+after_line s (Step p k) = after_steps s p k
+after_line s (Crash p) = crashed s p
+
+-- the deeds that it does
+abbrev pub deeds_of_steps : VariantState → ℕ → ℕ → List Deed
+deeds_of_steps s p zero = []
+deeds_of_steps s p (suc k) = list_of (stepped s p).deed ++ (if is_answered s p then [] else deeds_of_steps (advanced s p) p k)
+
+abbrev pub deeds_of_line : VariantState → Line → List Deed
+deeds_of_line s (Start p call) = []
+deeds_of_line s (Step p k) = deeds_of_steps s p k
+deeds_of_line s (Crash p) = crash_deed p ∷ []
+
+-- and that nothing of it is refused
+abbrev pub Unless : Bool → Type 0 → Type 0
+Unless true P = Unit {0}
+Unless false P = P
+
+abbrev pub MaySteps : VariantState → ℕ → ℕ → Type 0
+MaySteps s p zero = Unit {0}
+MaySteps s p (suc k) = (advance_refusal s p ≡ None) × Unless (is_answered s p) (MaySteps (advanced s p) p k)
+
+abbrev pub MayLine : VariantState → Line → Type 0
+MayLine s (Start p call) = start_refusal s p call ≡ None
+MayLine s (Step p k) = MaySteps s p k
+MayLine s (Crash p) = crash_refusal s p ≡ None
+
+-- the same of a list of lines, one after another
+abbrev pub after_lines : VariantState → List Line → VariantState
+after_lines s [] = s
+after_lines s (line ∷ lines) = after_lines (after_line s line) lines
+
+abbrev pub deeds_of_lines : VariantState → List Line → List Deed
+deeds_of_lines s [] = []
+deeds_of_lines s (line ∷ lines) = deeds_of_line s line ++ deeds_of_lines (after_line s line) lines
+
+abbrev pub MayLines : VariantState → List Line → Type 0
+MayLines s [] = Unit {0}
+MayLines s (line ∷ lines) = MayLine s line × MayLines (after_line s line) lines
+
+-- a schedule of a hunt's world
+pub record IsOfHunt (schedule : Scheduled) : Type 0 where
+  pub procs : schedule.procs ≡ 3
+  pub limit : schedule.limit ≡ 1000000
+  pub cap : schedule.cap ≡ 64
+  pub width : schedule.width ≡ 1
+
+-- The schedule runs in a new world of the variant, and its deeds are legal but for the last, which the judge refuses.
+pub record IsFound (variant : Variant) (schedule : Scheduled) : Type 0 where
+  pub size : IsOfHunt schedule
+  pub runs : MayLines (first_world variant) schedule.lines
+  pub before : List Deed
+  pub last : Deed
+  pub fault : Fault
+  pub deeds : deeds_of_lines (first_world variant) schedule.lines ≡ before ++ last ∷ []
+  pub legal : IsLegal 3 64 before
+  pub refused : judged_all (empty 3 64) (before ++ last ∷ []) ≡ Err fault
+
+-- A round so far: the world is what the schedule leaves, and the judge stands after its deeds.
+pub record IsPlayed (variant : Variant) (schedule : Scheduled) (world : VariantState) (judge : Kept) : Type 0 where
+  pub size : IsOfHunt schedule
+  pub runs : MayLines (first_world variant) schedule.lines
+  pub reached : world ≡ after_lines (first_world variant) schedule.lines
+  pub layout : world.layout ≡ hunt_layout
+  -- the lock's world is what a story comes to
+  pub lock : variant ≡ Right → IsLockWorld world (deeds_of_lines (first_world variant) schedule.lines)
+  pub stands : StandsAfter (empty 3 64) (deeds_of_lines (first_world variant) schedule.lines) judge

@@ -1,0 +1,9 @@
+pub mod Plans
+pub mod Variants
+pub mod VariantScripts
+pub mod VariantSpots
+pub mod VariantStands
+pub mod VariantWorlds
+pub mod LockWorlds
+pub mod Hunts
+pub mod Found

@@ -1,0 +1,33 @@
+-- What contracts see of a plan of crashes.
+use Rattle.std.specs.Prelude.{ℕ, ◌+◌, ◌-◌, ◌^◌, nat_lt, if◌then◌else◌, Option, Some, None}
+use Rattle.rand_pcg.specs.Lcg.{Lcg}
+
+-- how often a plan was asked, and how often it fell, each held at 2 ^ 64 - 1
+pub record Count : Type 0 where
+  pub asked : ℕ
+  pub fallen : ℕ
+
+-- the number of the asking that comes next, from 1. Past 2 ^ 64 - 1 askings none has a number
+abbrev pub next_asking : Count → Option ℕ
+next_asking count = if nat_lt count.asked (2 ^ 64 - 1) then Some (count.asked + 1) else None
+
+-- before the first asking
+abbrev pub unasked : Count
+unasked = record { asked = 0; fallen = 0 }
+
+-- a plan that falls at one asking
+pub record One : Type 0 where
+  pub place : ℕ
+  pub count : Count
+
+-- a plan that falls at an asking, and again so many askings later
+pub record Two : Type 0 where
+  pub place : ℕ
+  pub later : ℕ
+  pub count : Count
+
+-- a plan that draws
+pub record Drawing : Type 0 where
+  pub generator : Lcg
+  pub per_mille : ℕ
+  pub count : Count

@@ -1,0 +1,66 @@
+-- Where a process of a variant stands, and the spot that follows from its own happenings alone.
+use Rattle.std.specs.Prelude.{ℕ, Bool, true, false, Option, Some, None}
+use Rattle.rmecore.specs.Place.{Place}
+use Rattle.rmecore.specs.declared.kind.Kind.{Kind}
+use Rattle.rmecore.specs.declared.outer.Outer.{Outer}
+use Rattle.rmecore.specs.declared.outer.Outer.TheVariants.{Crash}
+use Rattle.rmecore.specs.declared.word.Word.{Word}
+use Rattle.redomail.specs.declared.layout.Layout.{Layout}
+use Rattle.rmeworld.specs.declared.call.Call.{Call}
+use Rattle.rmeworld.specs.declared.call.Call.TheVariants.{Consistent}
+use Rattle.rmeworld.specs.declared.why.Why.TheVariants.{Mending}
+use Rattle.rmeworld.specs.Spot.{Errand, Free, Doing, Spot, dead, Happening, Begins, Falls, Moves, Glances, at_lock, moved_by, inside_only, begun_from}
+use Rattle.crashlab.specs.declared.detour.Detour.{Detour}
+use Rattle.crashlab.specs.declared.detour.Detour.TheVariants.{Straight}
+use Rattle.crashlab.specs.declared.variant.Variant.{Variant}
+use Rattle.crashlab.specs.Variants.{variant_next, variant_deed}
+use Rattle.crashlab.specs.VariantScripts.{variant_consistent}
+
+pub record VariantSpot : Type 0 where
+  pub spot : Spot
+  pub detour : Detour
+
+-- this spot, on this detour
+abbrev pub beside : Detour → Option Spot → Option VariantSpot
+beside d None = None
+beside d (Some spot) = Some (record { spot = spot; detour = d })
+
+-- a spot outside the section, where nothing is to be mended
+abbrev pub outside : Place → Spot
+outside place = record { lock = place; mended = true; barred = false; errand = Free }
+
+-- where the lock's part of a variant goes on from a place to a place. A detour begins and ends outside
+abbrev pub at_detour : Layout → ℕ → Place → Bool → Bool → Detour → Place → Detour → Option VariantSpot
+at_detour l p s b c Straight t Straight = beside Straight (at_lock l p s b c (Some t))
+at_detour l p s b c d t e = Some (record { spot = outside t; detour = e })
+
+abbrev pub at_variant : Layout → ℕ → Place → Bool → Bool → Detour → Option (Place × Detour) → Option VariantSpot
+at_variant l p s b c d None = None
+at_variant l p s b c d (Some at) = at_detour l p s b c d at.0 at.1
+
+-- a step of the variant's lock, or one of a script, as in the world
+abbrev pub variant_moved : Variant → Layout → ℕ → ℕ → Place → Bool → Bool → Errand → Detour → Kind → Word → ℕ → Option VariantSpot
+variant_moved variant l limit p s b c Free d kind word v = at_variant l p s b c d (variant_next variant l.procs limit p s d kind word v)
+variant_moved variant l limit p s b c (Doing why left) d kind word v = beside d (moved_by l limit p s b c (Doing why left) kind word v)
+
+-- a start as in the world, but that consistent runs the variant's repair
+abbrev pub variant_begun : Variant → Layout → ℕ → Place → Bool → Errand → Call → Option Spot
+variant_begun variant l p s false Free Consistent = inside_only s false true Mending (variant_consistent variant l p)
+variant_begun variant l p s b errand call = begun_from l p s b errand call
+
+abbrev pub variant_spot : Variant → Layout → ℕ → VariantSpot → Happening → Option VariantSpot
+variant_spot variant l limit s (Begins p call) = beside s.detour (variant_begun variant l p s.spot.lock s.spot.mended s.spot.errand call)
+variant_spot variant l limit s (Falls p) = beside Straight (Some dead)
+variant_spot variant l limit s (Moves p kind word v) = variant_moved variant l limit p s.spot.lock s.spot.mended s.spot.barred s.spot.errand s.detour kind word v
+variant_spot variant l limit s (Glances p word v) = Some s
+
+-- the deed of the lock, from the process's spot before it
+abbrev pub variant_outer_by : Variant → ℕ → Place → Errand → Detour → Kind → ℕ → Option Outer
+variant_outer_by variant p s Free d kind v = variant_deed variant p s d kind v
+variant_outer_by variant p s _ d kind v = None
+
+abbrev pub variant_outer : Variant → VariantSpot → Happening → Option Outer
+variant_outer variant s (Begins p call) = None
+variant_outer variant s (Falls p) = Some (Crash p)
+variant_outer variant s (Moves p kind word v) = variant_outer_by variant p s.spot.lock s.spot.errand s.detour kind v
+variant_outer variant s (Glances p word v) = None

@@ -1,0 +1,90 @@
+-- The wrong variants of the lock: the rows of its definition that each of them changes. Right changes none.
+use Rattle.std.specs.Prelude.{ℕ, zero, suc, Bool, ◌&&◌, ◌||◌, ◌==◌, if◌then◌else◌, List, [], ◌∷◌, Option, Some, None}
+use Rattle.rmecore.specs.Place.{Place, Reread, Door, Wait, Unmarking, has, without, others, is_before, only, next}
+use Rattle.rmecore.specs.World.{step_deed}
+use Rattle.rmecore.specs.Machine.{access, answer}
+use Rattle.rmecore.specs.declared.access.Access.{Access}
+use Rattle.rmecore.specs.declared.access.Access.TheVariants.{Load, Store}
+use Rattle.rmecore.specs.declared.core_call.CoreCall.{CoreCall}
+use Rattle.rmecore.specs.declared.core_call.CoreCall.TheVariants.{Lock, Recover}
+use Rattle.rmecore.specs.declared.core_done.CoreDone.{CoreDone}
+use Rattle.rmecore.specs.declared.kind.Kind.{Kind}
+use Rattle.rmecore.specs.declared.kind.Kind.TheVariants.{Reread as Rereads, Take as Takes, Shut as Shuts, Look as Looks, Weigh as Weighs, Mark as Marks, Drop as Drops}
+use Rattle.rmecore.specs.declared.outer.Outer.{Outer}
+use Rattle.rmecore.specs.declared.word.Word.{Word}
+use Rattle.rmecore.specs.declared.word.Word.TheVariants.{Number as NumberOf, Inside as InsideOf}
+use Rattle.crashlab.specs.declared.detour.Detour.{Detour}
+use Rattle.crashlab.specs.declared.detour.Detour.TheVariants.{Straight, Dropping, Over}
+use Rattle.crashlab.specs.declared.variant.Variant.{Variant}
+use Rattle.crashlab.specs.declared.variant.Variant.TheVariants.{NoLook, NoTies, Renumber, ExitOnCrash}
+
+abbrev pub and_detour : Detour → Option Place → Option (Place × Detour)
+and_detour d None = None
+and_detour d (Some place) = Some (place, d)
+
+abbrev pub only_at : Bool → Place × Detour → Option (Place × Detour)
+only_at b at = if b then Some at else None
+
+-- this, where the lock has any step
+abbrev pub instead : Option Place → Place × Detour → Option (Place × Detour)
+instead None at = None
+instead (Some place) at = Some at
+
+-- no look: waiting is `weigh` alone, of any process that was not passed
+abbrev pub no_look : ℕ → ℕ → ℕ → Place → Kind → Word → ℕ → Option Place
+no_look n limit p (Wait k unpassed None) Looks word v = None
+no_look n limit p (Wait k unpassed None) Weighs (NumberOf j) v =
+    only (has unpassed j) (if (v == 0) || is_before k p v j then Wait k (without j unpassed) None else Wait k unpassed None)
+no_look n limit p place kind word v = next n limit p place kind word v
+
+-- no ties: `weigh` passes where the numbers are equal
+abbrev pub no_ties : ℕ → ℕ → ℕ → Place → Kind → Word → ℕ → Option Place
+no_ties n limit p (Wait k unpassed (Some i)) Weighs (NumberOf j) v =
+    only (j == i) (if (k == v) || ((v == 0) || is_before k p v j) then Wait k (without j unpassed) None else Wait k unpassed (Some i))
+no_ties n limit p place kind word v = next n limit p place kind word v
+
+-- renumber: a lock that finds a number taken in the doorway scans again and takes a new one. Where the numbers are spent
+-- it waits with the number that stands
+abbrev pub renumber : ℕ → ℕ → ℕ → Place → Detour → Kind → Word → ℕ → Option (Place × Detour)
+renumber n limit p (Reread Lock (suc c ∷ suc k ∷ [])) Straight Rereads (InsideOf q) v = only_at (q == p) (Door (others n p) 0, Over (suc k))
+renumber n limit p place (Over k) Takes word v = and_detour Straight (next n limit p place Takes word v)
+renumber n limit p place (Over k) Shuts word v = instead (next n limit p place Shuts word v) (Wait k (others n p) None, Straight)
+renumber n limit p place detour kind word v = and_detour detour (next n limit p place kind word v)
+
+abbrev pub lock_or_recover : CoreCall → CoreCall
+lock_or_recover Lock = Lock
+lock_or_recover _ = Recover
+
+-- exit on crash: a lock or recover that finds the process inside drops the number, and then goes on as one that has found
+-- it leaving
+abbrev pub exit_on_crash : ℕ → ℕ → ℕ → Place → Detour → Kind → Word → ℕ → Option (Place × Detour)
+exit_on_crash n limit p (Reread call (zero ∷ suc k ∷ [])) Straight Rereads (InsideOf q) (suc i) = only_at (q == p) (Unmarking (lock_or_recover call), Dropping)
+exit_on_crash n limit p place Dropping Drops (NumberOf q) v = only_at ((q == p) && (v == 0)) (place, Straight)
+exit_on_crash n limit p place Dropping Marks word v = None
+exit_on_crash n limit p place detour kind word v = and_detour detour (next n limit p place kind word v)
+
+-- the place after one step of process p of this variant, as `next` gives that of the lock
+abbrev pub variant_next : Variant → ℕ → ℕ → ℕ → Place → Detour → Kind → Word → ℕ → Option (Place × Detour)
+variant_next NoLook n limit p place detour kind word v = and_detour detour (no_look n limit p place kind word v)
+variant_next NoTies n limit p place detour kind word v = and_detour detour (no_ties n limit p place kind word v)
+variant_next Renumber n limit p place detour kind word v = renumber n limit p place detour kind word v
+variant_next ExitOnCrash n limit p place detour kind word v = exit_on_crash n limit p place detour kind word v
+variant_next _ n limit p place detour kind word v = and_detour detour (next n limit p place kind word v)
+
+-- the deed of a step: none on a detour, nor where the exit of one that was found inside begins
+abbrev pub variant_deed : Variant → ℕ → Place → Detour → Kind → ℕ → Option Outer
+variant_deed ExitOnCrash p (Reread call seen) detour kind v = None
+variant_deed variant p place Straight kind v = step_deed p place kind v
+variant_deed variant p place detour kind v = None
+
+-- the answer of the lock's part at this step: none on a detour, nor where that exit begins
+abbrev pub variant_answer : Variant → Place → Detour → Kind → ℕ → Option CoreDone
+variant_answer ExitOnCrash (Reread call (zero ∷ suc k ∷ [])) Straight Rereads (suc i) = None
+variant_answer variant place Straight kind v = answer place kind v
+variant_answer variant place detour kind v = None
+
+-- the step that comes next. A scan takes the first of its list
+abbrev pub variant_access : Variant → ℕ → ℕ → Place → Detour → Option Access
+variant_access NoLook limit p (Wait k (j ∷ js) None) detour = Some (Load Weighs (NumberOf j))
+variant_access variant limit p place Dropping = Some (Store Drops (NumberOf p) 0)
+variant_access variant limit p place detour = access limit p place

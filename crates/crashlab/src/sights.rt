@@ -1,0 +1,137 @@
+//! What a hunt sees of the processes, and the move that it makes of a draw.
+
+use crate::moves::Move;
+use redomail::Reply;
+use rmecore::Body;
+use rmeworld::{Answer, Call};
+
+/// What a process is at.
+#[derive(Clone, Copy, Debug, PartialEq, Eq)]
+enum Stage {
+    /// Outside, at rest or dead.
+    Outside,
+    /// In a call.
+    Calling(Call),
+    /// Inside, with no call under way.
+    Inside,
+}
+
+/// What is seen of one process.
+#[derive(Clone, Copy, Debug, PartialEq, Eq)]
+struct Sight {
+    stage: Stage,
+    mended: bool,
+    /// Whether an append was answered since it came in.
+    appended: bool,
+    /// The number of its next message.
+    next: u64,
+}
+
+const UNSEEN: Sight = Sight {
+    stage: Stage::Outside,
+    mended: true,
+    appended: false,
+    next: 1,
+};
+
+impl Sight {
+    /// The call that a process takes up that is in none.
+    fn call(&self) -> Call {
+        if self.stage == Stage::Outside {
+            Call::Lock
+        } else if !self.mended {
+            Call::Consistent
+        } else if !self.appended {
+            Call::Append {
+                seq: self.next,
+                value: body(self.next),
+            }
+        } else {
+            Call::Unlock
+        }
+    }
+
+    /// The call under way was answered.
+    fn answered(&mut self, call: Call, answer: Answer) {
+        self.stage = Stage::Inside;
+        match answer {
+            Answer::Clean => {
+                self.mended = true;
+                self.appended = false;
+            }
+            Answer::OwnerDied => {
+                self.mended = false;
+                self.appended = false;
+            }
+            Answer::Mail(Reply::Mended(_)) => self.mended = true,
+            Answer::Mail(reply) => {
+                self.appended = true;
+                if reply == Reply::Stored || reply == Reply::Already {
+                    self.next = self.next.saturating_add(1);
+                }
+            }
+            Answer::NotRecoverable if call == Call::Consistent => {}
+            _ => self.stage = Stage::Outside,
+        }
+    }
+}
+
+/// A value of one word.
+fn body(word: u64) -> Body {
+    match Body::new(&[word]) {
+        Ok(body) => body,
+        Err(_) => unreachable!(),
+    }
+}
+
+/// What is seen of all processes.
+#[derive(Debug, Drop)]
+pub struct Sights {
+    sights: [Sight; 3],
+}
+
+impl Sights {
+    /// In a new world.
+    pub fn new() -> Sights {
+        Sights {
+            sights: [UNSEEN; 3],
+        }
+    }
+
+    /// The move of a draw: of its process a crash, a step, or the call that is due.
+    pub fn draw(&self, word: u32) -> Move {
+        let p = word % 3;
+        let sight = &self.sights[p as usize];
+        let p = u64::from(p);
+        if word / 64 % 16 == 0 {
+            return Move::Crash(p);
+        }
+        match sight.stage {
+            Stage::Calling(_) => Move::Step(p),
+            Stage::Outside | Stage::Inside => Move::Start(p, sight.call()),
+        }
+    }
+
+    /// A move was made, with this answer.
+    pub fn see(&mut self, made: &Move, answer: Option<Answer>) {
+        match *made {
+            Move::Crash(p) => {
+                if let Some(sight) = self.sights.get_mut(p as usize) {
+                    sight.stage = Stage::Outside;
+                }
+            }
+            Move::Start(p, call) => {
+                if let Some(sight) = self.sights.get_mut(p as usize) {
+                    sight.stage = Stage::Calling(call);
+                }
+            }
+            Move::Step(p) => {
+                if let Some(sight) = self.sights.get_mut(p as usize) {
+                    if let (Stage::Calling(call), Some(answer)) = (sight.stage, answer) {
+                        sight.answered(call, answer);
+                    }
+                }
+            }
+        }
+    }
+}

@@ -1,0 +1,5 @@
+//! What no contract says, by example.
+
+mod hunts;
+mod plans;
+mod rows;

@@ -1,0 +1,310 @@
+//! What one process of a variant does, as a machine over its private memory alone: the world's process, with what the
+//! variant changes.
+
+ghost use Rattle.std.specs.Prelude.{◌≡◌, ◌<◌, ◌⊎◌, if◌then◌else◌, OnOk, OnErr, IfErr, IfSome, Some, None};
+ghost use Rattle.crashlab.specs.VariantScripts.{raised as raised_to};
+ghost use Rattle.crashlab.specs.VariantStands.{change_of, is_put, shutting as shutting_of, reread_as};
+
+use crate::change::Change;
+use crate::detour::Detour;
+use crate::variant::Variant;
+use redomail::Layout;
+use redomail::layout::COUNT;
+use rmecore::{Access, CoreCall, Kind, Outer, Progress, Refusal, Word};
+use rmeworld::{Call, Outcome, Process};
+use std::marker::Model;
+
+/// A step that is nothing for others and ends no call.
+const SILENT: Outcome = Outcome {
+    progress: Progress {
+        outer: None,
+        done: None,
+        blocked: false,
+    },
+    answer: None,
+};
+
+/// One process of a variant. It takes no memory.
+#[derive(Debug, Drop)]
+pub struct VariantProcess {
+    variant: Variant,
+    process: Process,
+    detour: Detour,
+    change: Change,
+}
+
+impl Model for VariantProcess {
+    ghost use Rattle.crashlab.specs.VariantStands.{VariantStand};
+
+    ghost Value = { VariantStand };
+
+    ghost view = { λ s. record { variant = s.variant; stand = s.process; detour = s.detour; change = s.change } };
+}
+
+impl VariantProcess {
+    ghost use Rattle.rmeworld.specs.Spot.{Begins, next_spot};
+    ghost use Rattle.rmecore.specs.Machine.{word_of};
+    ghost use Rattle.rmeworld.specs.Stand.{IsSize, InWords, IsAllowed, StoresOwn, spot_of, next_access, spot_after};
+    ghost use Rattle.rmeworld.specs.Refused.{start_refusal};
+    ghost use Rattle.crashlab.specs.VariantStands.{IsPlain, variant_resting, variant_crashed, variant_next_access, variant_stepped, variant_outcome, variant_started};
+
+    /// A process at rest, of a world of this size.
+    pub fn new(variant: Variant, layout: Layout, limit: u64, index: u64) -> VariantProcess
+        requires size { IsSize layout }
+        requires below { index < layout.procs }
+        ensures { result ≡ variant_resting variant layout limit index }
+    {
+        VariantProcess {
+            variant,
+            process: Process::new(layout, limit, index),
+            detour: Detour::Straight,
+            change: Change::Nothing,
+        }
+    }
+
+    /// Loses the private memory.
+    pub fn crash(&mut self)
+        ensures { self.new ≡ variant_crashed self.old }
+    {
+        self.process.crash();
+        self.detour = Detour::Straight;
+        self.change = Change::Nothing;
+    }
+
+    /// The step that comes next, if a call is under way.
+    pub fn next(&self) -> Option<Access>
+        ensures next { result ≡ variant_next_access self.now }
+        ensures within { IfSome result (λ a. InWords self.now.stand.layout.procs (word_of a)) }
+        ensures allowed { IsPlain self.now → IfSome result (IsAllowed self.now.stand) }
+        ensures own { IsPlain self.now → IfSome result (StoresOwn self.now.stand.index) }
+    {
+        if self.detour == Detour::Dropping {
+            return Some(Access::Store(Kind::Drop, Word::Number(self.process.index()), 0));
+        }
+        match (self.change, self.process.next()) {
+            (Change::Counts, Some(Access::Store(Kind::Put, Word::Data(COUNT), _))) => {
+                Some(Access::Load(Kind::Get, Word::Data(COUNT)))
+            }
+            (Change::Counted(count), Some(Access::Store(Kind::Put, Word::Data(COUNT), _))) => {
+                Some(Access::Store(Kind::Put, Word::Data(COUNT), count))
+            }
+            (_, next) => next,
+        }
+    }
+
+    /// Starts a call, as the world's process does.
+    pub fn start(&mut self, call: Call) -> Result<(), Refusal>
+        ensures accepted { OnOk result (start_refusal self.old.stand.layout (spot_of self.old.stand) call ≡ None) }
+        ensures refused { IfErr result (λ e. start_refusal self.old.stand.layout (spot_of self.old.stand) call ≡ Some e) }
+        ensures ok { OnOk result (self.new ≡ variant_started self.old call) }
+        ensures spot { OnOk result (next_spot self.old.stand.layout self.old.stand.limit (spot_of self.old.stand) (Begins self.old.stand.index call) ≡ Some (spot_of self.new.stand)) }
+        ensures err { OnErr result (self.new ≡ self.old) }
+    {
+        let change = change_by(self.variant, &call);
+        self.process.start(call)?;
+        self.change = change;
+        Ok(())
+    }
+
+    /// Takes the next step, with the value that it read. A step that stores ignores the value, and where there is no step
+    /// nothing changes.
+    pub fn feed(&mut self, value: u64) -> Outcome
+        ensures exact { self.new ≡ variant_stepped self.old value }
+        ensures outcome { result ≡ variant_outcome self.old value }
+        ensures plain { IsPlain self.old → spot_of self.new.stand ≡ spot_after self.old.stand (next_access self.old.stand) value }
+    {
+        match (self.variant, self.detour) {
+            (Variant::Right, _) => self.process.feed(value),
+            (Variant::NoLook, _) => self.weigh_alone(value),
+            (Variant::NoTies, _) => self.pass_ties(value),
+            (Variant::Renumber, Detour::Over(number)) => self.scan_again(number, value),
+            (Variant::Renumber, _) => self.find_number(value),
+            (Variant::ExitOnCrash, Detour::Dropping) => {
+                self.detour = Detour::Straight;
+                SILENT
+            }
+            (Variant::ExitOnCrash, _) => self.go_out(value),
+            (Variant::CountUp, _) => self.count_up(value),
+            (Variant::LastSkipped, _) => self.leave_out(value),
+        }
+    }
+}
+
+impl VariantProcess {
+    ghost use Rattle.crashlab.specs.VariantStands.{past_look, untied, scanned_again, number_found, gone_out, finds_inside, counted_up, left_out, silent, plain_outcome, counting_outcome, leaving_outcome};
+    ghost use Rattle.rmeworld.specs.Stand.{stepped};
+
+    /// A step of one that doesn't look: each look that would come next is passed over.
+    fn weigh_alone(&mut self, value: u64) -> Outcome
+        ensures exact { self.new ≡ record self.old { stand = past_look (stepped self.old.stand value) } }
+        ensures outcome { result ≡ plain_outcome self.old.stand value }
+    {
+        let outcome = self.process.feed(value);
+        if let Some(Access::Load(Kind::Look, _)) = self.process.next() {
+            self.process.feed(0);
+        }
+        outcome
+    }
+
+    /// A step of one that goes past an equal number, as if it were none.
+    fn pass_ties(&mut self, value: u64) -> Outcome
+        ensures exact { self.new ≡ record self.old { stand = stepped self.old.stand (untied self.old.stand value) } }
+        ensures outcome { result ≡ plain_outcome self.old.stand (untied self.old.stand value) }
+    {
+        let weighs = matches!(self.process.next(), Some(Access::Load(Kind::Weigh, _)));
+        let ties = weighs && self.process.number().unwrap_or(0) == value;
+        self.process.feed(if ties { 0 } else { value })
+    }
+
+    /// A step of one that scans again where its third reread finds a number taken.
+    fn find_number(&mut self, value: u64) -> Outcome
+        ensures exact { self.new ≡ number_found self.old value }
+        ensures outcome { result ≡ plain_outcome self.old.stand value }
+    {
+        let rereads = matches!(self.process.next(), Some(Access::Load(Kind::Reread, _)));
+        let outcome = self.process.feed(value);
+        if rereads {
+            if let Some(number) = shutting(&self.process) {
+                reread(&mut self.process, Call::Lock, 1, 0, 0);
+                self.detour = Detour::Over(number);
+            }
+        }
+        outcome
+    }
+
+    /// A step of one that scans again, beside a number that stands.
+    fn scan_again(&mut self, number: u64, value: u64) -> Outcome
+        ensures exact { self.new ≡ scanned_again self.old number value }
+        ensures outcome { result ≡ silent }
+    {
+        match self.process.next() {
+            Some(Access::Store(Kind::Shut, _, _)) => {
+                reread(&mut self.process, Call::Lock, 0, number, 0);
+                self.detour = Detour::Straight;
+            }
+            Some(Access::Store(Kind::Take, _, _)) => {
+                self.process.feed(value);
+                self.detour = Detour::Straight;
+            }
+            _ => {
+                self.process.feed(value);
+            }
+        }
+        SILENT
+    }
+
+    /// A step of one that leaves where its third reread finds it inside.
+    fn go_out(&mut self, value: u64) -> Outcome
+        ensures exact { self.new ≡ gone_out self.old value }
+        ensures outcome { result ≡ (if finds_inside self.old.stand value then silent else plain_outcome self.old.stand value) }
+    {
+        let outlook = self.process.outlook(value);
+        if let Some(Outer::Reenter(_)) = outlook.progress.outer {
+            let call = match self.process.call() {
+                Some(CoreCall::Lock) => Call::Lock,
+                _ => Call::Recover,
+            };
+            reread(&mut self.process, call, 0, 0, 1);
+            self.detour = Detour::Dropping;
+            return SILENT;
+        }
+        self.process.feed(value)
+    }
+
+    /// A step of one whose repair counts up from the count that stands.
+    fn count_up(&mut self, value: u64) -> Outcome
+        ensures exact { self.new ≡ counted_up self.old self.old.change value }
+        ensures outcome { result ≡ counting_outcome self.old self.old.change value }
+    {
+        if self.change != Change::Counts {
+            self.change = Change::Nothing;
+            return self.process.feed(value);
+        }
+        if puts(self.process.next(), COUNT) {
+            self.change = Change::Counted(raised(self.process.layout().cap, value));
+            return SILENT;
+        }
+        let outcome = self.process.feed(value);
+        if outcome.answer.is_some() {
+            self.change = Change::Nothing;
+        }
+        outcome
+    }
+
+    /// A step of one whose repair leaves out the sender's last number.
+    fn leave_out(&mut self, value: u64) -> Outcome
+        ensures exact { self.new ≡ left_out self.old self.old.change value }
+        ensures outcome { result ≡ leaving_outcome self.old self.old.change value }
+    {
+        if self.change != Change::LeavesOut {
+            self.change = Change::Nothing;
+            return self.process.feed(value);
+        }
+        let outcome = self.process.feed(value);
+        if puts(
+            self.process.next(),
+            self.process.layout().last(self.process.index()),
+        ) {
+            self.change = Change::Nothing;
+            return self.process.feed(0);
+        }
+        if outcome.answer.is_some() {
+            self.change = Change::Nothing;
+        }
+        outcome
+    }
+}
+
+/// One more than the count that stands, or the same at the capacity.
+fn raised(cap: u64, count: u64) -> u64
+    ensures { result ≡ raised_to cap count }
+{
+    if count == cap {
+        count
+    } else {
+        count.saturating_add(1)
+    }
+}
+
+/// What the variant changes of a call's script.
+fn change_by(variant: Variant, call: &Call) -> Change
+    ensures { result ≡ change_of variant call.now }
+{
+    match (variant, *call) {
+        (Variant::CountUp, Call::Consistent) => Change::Counts,
+        (Variant::LastSkipped, Call::Consistent) => Change::LeavesOut,
+        _ => Change::Nothing,
+    }
+}
+
+/// Whether this is a put of the data word i.
+fn puts(access: Option<Access>, i: u64) -> bool
+    ensures { result ≡ is_put i access }
+{
+    match access {
+        Some(Access::Store(Kind::Put, Word::Data(j), _)) => j == i,
+        _ => false,
+    }
+}
+
+/// The number with which a lock is about to shut.
+fn shutting(process: &Process) -> Option<u64>
+    ensures { result ≡ shutting_of process.now }
+{
+    match (process.call(), process.next()) {
+        (Some(CoreCall::Lock), Some(Access::Store(Kind::Shut, _, _))) => process.number(),
+        _ => None,
+    }
+}
+
+/// The rereads of a call over again, as if they read these words.
+fn reread(process: &mut Process, call: Call, choosing: u64, number: u64, inside: u64)
+    requires { (call ≡ Call.Lock) ⊎ (call ≡ Call.Recover) }
+    ensures { process.new ≡ reread_as process.old call choosing number inside }
+{
+    process.crash();
+    let _ = process.start(call);
+    process.feed(choosing);
+    process.feed(number);
+    process.feed(inside);
+}

@@ -1,0 +1,235 @@
+//! A whole world of a variant in memory, each step taken on request.
+
+ghost use Rattle.std.specs.Prelude.{◌≡◌, ◌<◌, ◌⊎◌, ℕ, IfOk, IfErr, OnOk, OnErr, Some, None, vec_len};
+ghost use Rattle.rmecore.specs.Machine.{carried};
+ghost use Rattle.rmecore.specs.Simulated.{cause};
+ghost use Rattle.rmeworld.specs.Stand.{IsSize};
+ghost use Rattle.rmeworld.specs.WorldState.{new_refusal};
+ghost use Rattle.crashlab.specs.VariantWorlds.{at_rest_from, new_world};
+ghost use Rattle.rmecore.specs.declared.refusal.Refusal.TheVariants.{OutOfMemory};
+
+use crate::variant::Variant;
+use crate::variant_process::VariantProcess;
+use redomail::{Deed, Layout};
+use rmecore::simulated::{MOST_LIMIT, MOST_PROCS};
+use rmecore::{Access, Happened, Outer, Own, Refusal};
+use rmeworld::images::rules::{MOST_CAP, MOST_WIDTH};
+use rmeworld::memory::{deed_of, load, store};
+use rmeworld::{Call, Cells, Image, Machine, Owns, Stepped};
+use std::alloc::Global;
+use std::marker::Model;
+
+const ZEROS: Own = Own {
+    choosing: 0,
+    number: 0,
+    inside: 0,
+};
+
+/// All processes of a variant with their private memories, over the words that they share.
+#[derive(Debug, Drop)]
+pub struct VariantWorld {
+    variant: Variant,
+    layout: Layout,
+    limit: u64,
+    words: Vec<Own>,
+    cells: Vec<u64>,
+    processes: Vec<VariantProcess>,
+}
+
+impl Model for VariantWorld {
+    ghost use Rattle.crashlab.specs.VariantWorlds.{VariantState, IsSeated};
+
+    ghost Value = { VariantState };
+
+    ghost view = { λ w. record { variant = w.variant; layout = w.layout; limit = w.limit; words = w.words.items; cells = w.cells.items; processes = w.processes.items } };
+
+    ghost invariant = { λ w. IsSeated (record { variant = w.variant; layout = w.layout; limit = w.limit; words = w.words.items; cells = w.cells.items; processes = w.processes.items }) };
+}
+
+fn all_at_rest(
+    alloc: Global,
+    variant: Variant,
+    layout: Layout,
+    limit: u64,
+) -> Result<Vec<VariantProcess>, Refusal>
+    requires { IsSize layout }
+    ensures rest { IfOk result (λ processes. processes.items ≡ at_rest_from variant layout limit 0 layout.procs) }
+    ensures memory { IfErr result (λ e. e ≡ Refusal.OutOfMemory) }
+{
+    let mut processes = Vec::with_capacity(alloc, layout.procs as usize)?;
+    for index in 0..layout.procs {
+        processes.push(VariantProcess::new(variant, layout, limit, index))?;
+    }
+    Ok(processes)
+}
+
+impl VariantWorld {
+    ghost use Rattle.std.specs.Prelude.{[]};
+    ghost use Rattle.crashlab.specs.LockWorlds.{IsLockWorld};
+
+    /// A new world: all words are 0, and all processes at rest. Refused in this order: `BadProcs` (not 1 to 64),
+    /// `BadLimit` (not 1 to 2^62), `BadCap` (not 1 to 65,536), `BadWidth` (not 1 to 8), `OutOfMemory`.
+    pub fn new(
+        alloc: Global,
+        variant: Variant,
+        procs: u64,
+        limit: u64,
+        cap: u64,
+        width: u64,
+    ) -> Result<VariantWorld, Refusal>
+        ensures accepted { OnOk result (new_refusal (record { procs = procs; cap = cap; width = width }) limit ≡ None) }
+        ensures refused { IfErr result (λ e. new_refusal (record { procs = procs; cap = cap; width = width }) limit ≡ cause e) }
+        ensures ok { IfOk result (λ world. world ≡ new_world variant (record { procs = procs; cap = cap; width = width }) limit) }
+        ensures lock { IfOk result (λ world. variant ≡ Variant.Right → IsLockWorld world []) }
+    {
+        if procs == 0 || procs > MOST_PROCS {
+            return Err(Refusal::BadProcs);
+        }
+        if limit == 0 || limit > MOST_LIMIT {
+            return Err(Refusal::BadLimit);
+        }
+        if cap == 0 || cap > MOST_CAP {
+            return Err(Refusal::BadCap);
+        }
+        if width == 0 || width > MOST_WIDTH {
+            return Err(Refusal::BadWidth);
+        }
+        let layout = Layout { procs, cap, width };
+        let words = vec![in alloc; ZEROS; procs as usize]?;
+        let cells = vec![in alloc; 0; layout.words() as usize]?;
+        let processes = all_at_rest(alloc, variant, layout, limit)?;
+        Ok(VariantWorld {
+            variant,
+            layout,
+            limit,
+            words,
+            cells,
+            processes,
+        })
+    }
+}
+
+impl VariantWorld {
+    ghost use Rattle.std.specs.Prelude.{List, [], ◌∷◌, ◌++◌};
+    ghost use Rattle.redomail.specs.declared.deed.Deed.{Deed as DeedOf};
+    ghost use Rattle.rmeworld.specs.Replayed.{list_of};
+    ghost use Rattle.crashlab.specs.VariantWorlds.{start_refusal, started, advance_refusal, stepped, advanced, crash_refusal, crash_deed, crashed};
+    ghost use Rattle.crashlab.specs.LockWorlds.{IsLockWorld};
+
+    /// Starts a call of process p.
+    pub(crate) fn take_start(&mut self, p: u64, call: Call) -> Result<(), Refusal>
+        ensures accepted { OnOk result (start_refusal self.old p call ≡ None) }
+        ensures refused { IfErr result (λ e. start_refusal self.old p call ≡ Some e) }
+        ensures ok { OnOk result (self.new ≡ started self.old p call) }
+        ensures err { OnErr result (self.new ≡ self.old) }
+        ensures lock { OnOk result ((history : List DeedOf) → IsLockWorld self.old history → IsLockWorld self.new history) }
+    {
+        if p >= self.layout.procs {
+            return Err(Refusal::NoSuchProcess);
+        }
+        self.processes[p as usize].start(call)
+    }
+
+    /// Takes the next step of process p.
+    pub(crate) fn take_step(&mut self, p: u64) -> Result<Stepped, Refusal>
+        ensures accepted { OnOk result (advance_refusal self.old p ≡ None) }
+        ensures refused { IfErr result (λ e. advance_refusal self.old p ≡ Some e) }
+        ensures told { IfOk result (λ s. s ≡ stepped self.old p) }
+        ensures ok { OnOk result (self.new ≡ advanced self.old p) }
+        ensures err { OnErr result (self.new ≡ self.old) }
+        ensures lock { IfOk result (λ s. (history : List DeedOf) → IsLockWorld self.old history → IsLockWorld self.new (history ++ list_of s.deed)) }
+    {
+        if p >= self.layout.procs {
+            return Err(Refusal::NoSuchProcess);
+        }
+        let Some(access) = self.processes[p as usize].next() else {
+            return Err(Refusal::NothingToDo);
+        };
+        let found = load(&self.words, &self.cells, access.word());
+        let outcome = self.processes[p as usize].feed(found);
+        let deed = deed_of(self.layout, p, &self.cells, access, outcome.progress.outer);
+        store(&mut self.words, &mut self.cells, access);
+        Ok(Stepped {
+            happened: Happened {
+                kind: access.kind(),
+                word: access.word(),
+                value: carried_by(access, found),
+                outer: outcome.progress.outer,
+                done: outcome.progress.done,
+            },
+            deed,
+            answer: outcome.answer,
+        })
+    }
+
+    /// Crashes process p.
+    pub(crate) fn take_crash(&mut self, p: u64) -> Result<Deed, Refusal>
+        ensures accepted { OnOk result (crash_refusal self.old p ≡ None) }
+        ensures refused { IfErr result (λ e. crash_refusal self.old p ≡ Some e) }
+        ensures told { IfOk result (λ d. d ≡ crash_deed p) }
+        ensures ok { OnOk result (self.new ≡ crashed self.old p) }
+        ensures err { OnErr result (self.new ≡ self.old) }
+        ensures lock { OnOk result ((history : List DeedOf) → IsLockWorld self.old history → IsLockWorld self.new (history ++ crash_deed p ∷ [])) }
+    {
+        if p >= self.layout.procs {
+            return Err(Refusal::NoSuchProcess);
+        }
+        self.processes[p as usize].crash();
+        Ok(Deed::Outer(Outer::Crash(p)))
+    }
+}
+
+/// The value of a step: what it read, or what it writes.
+fn carried_by(access: Access, found: u64) -> u64
+    ensures { result ≡ carried access found }
+{
+    match access {
+        Access::Load(_, _) => found,
+        Access::Store(_, _, value) => value,
+    }
+}
+
+impl Machine for VariantWorld {
+    ghost use Rattle.crashlab.specs.VariantWorlds.{start_refusal as refusal_of_start, started as started_by, advance_refusal as refusal_of_advance, stepped as stepped_by, advanced as advanced_by, crash_refusal as refusal_of_crash, crash_deed as deed_of_crash, crashed as crashed_by, image_of as image_by};
+
+    ghost start_refusal = { refusal_of_start };
+
+    ghost started = { started_by };
+
+    ghost advance_refusal = { refusal_of_advance };
+
+    ghost stepped = { stepped_by };
+
+    ghost advanced = { advanced_by };
+
+    ghost crash_refusal = { refusal_of_crash };
+
+    ghost crash_deed = { λ _ p. deed_of_crash p };
+
+    ghost crashed = { crashed_by };
+
+    ghost image_of = { image_by };
+
+    fn start(&mut self, p: u64, call: Call) -> Result<(), Refusal> {
+        self.take_start(p, call)
+    }
+
+    fn advance(&mut self, p: u64) -> Result<Stepped, Refusal> {
+        self.take_step(p)
+    }
+
+    fn crash(&mut self, p: u64) -> Result<Deed, Refusal> {
+        self.take_crash(p)
+    }
+
+    fn image(&self) -> Result<Image, Refusal> {
+        Ok(Image {
+            cap: self.layout.cap,
+            cells: Cells::new(self.cells.clone()?),
+            limit: self.limit,
+            lock: Owns::new(self.words.clone()?),
+            version: 2,
+            width: self.layout.width,
+        })
+    }
+}

@@ -1,0 +1,13 @@
+pub mod Runs
+pub mod Keeps
+pub mod Leads
+pub mod Opens
+pub mod Lasting
+pub mod Running
+pub mod Under
+pub mod Goes
+pub mod Taken
+pub mod Begun
+pub mod Called
+pub mod Turned
+pub mod OneLockStories

@@ -1,0 +1,15 @@
+use Rattle.std.proofs.Common.{◌≡◌, ◌*◌, [], map}
+use Rattle.std.specs.Arc.{arc_value}
+use Rattle.robust.specs.Rule.{count_from}
+use Rattle.robust.specs.Runs.{word_count}
+use Rattle.robust.specs.Pass.{rest_known}
+use Rattle.robust.specs.Making.{fresh_member}
+use Rattle.robust.proofs.arena.made.Given as goal
+
+abbrev pub invariant-loop-p : goal.invariant-loop-p
+invariant-loop-p l = record {
+  table : l.seat.table_id ≡ (arc_value l.board).shared.table_id;
+  words : l.seat.table_id.words ≡ word_count l.setup;
+  seat : l.seat.me ≡ (rest_known l.setup l.p, []);
+  made : l.members.items ≡ map (fresh_member l.seat.table_id l.setup) (count_from 0 l.p);
+}

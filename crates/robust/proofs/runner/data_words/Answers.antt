@@ -1,0 +1,5 @@
+use Rattle.robust.proofs.Running.{size_is}
+use Rattle.robust.proofs.runner.data_words.Goals as goal
+
+pub returns : goal.returns
+returns c = size_is c.args.layout.now

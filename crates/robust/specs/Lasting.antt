@@ -1,0 +1,61 @@
+-- How long a call can go on: the most steps that are left of it beside the blocked ones, at each spot.
+use Rattle.std.specs.Prelude.{ℕ, zero, suc, ◌+◌, ◌*◌, ◌≡◌, ◌≤◌, true, List, [], ◌∷◌, length, Option, Some, None}
+use Rattle.rmecore.specs.Place.{Place, Rest, Dead, Reread, Opening, Door, Shutting, Wait, Inside, Leaving, Withdrawing, Unmarking, has}
+use Rattle.rmecore.specs.declared.core_call.CoreCall.TheVariants.{Lock}
+use Rattle.redomail.specs.Script.{Script, Get, Put, Done}
+use Rattle.redomail.specs.declared.reply.Reply.{Reply}
+use Rattle.rmeworld.specs.declared.why.Why.{Why}
+use Rattle.rmeworld.specs.declared.why.Why.TheVariants.{Checking, Ruining, Mending, Working}
+use Rattle.rmeworld.specs.Spot.{Errand, Free, Doing, Spot}
+
+-- a script ends within so many steps, whatever it reads
+abbrev pub Within : ℕ → Script Reply → Type 0
+Within k (Done reply) = Unit {0}
+Within zero (Get i rest) = ⊥
+Within zero (Put i v rest) = ⊥
+Within (suc k) (Get i rest) = (x : ℕ) → Within k (rest x)
+Within (suc k) (Put i v rest) = Within k rest
+
+-- the most steps of a lock among n processes that are left at a place. An entry has three more: the ruin check, and the exit
+-- where the lock is ruined
+abbrev pub lock_left : ℕ → Place → ℕ
+lock_left n Rest = 0
+lock_left n Dead = 0
+lock_left n Inside = 3
+lock_left n (Wait k unpassed None) = 2 * length unpassed + 4
+lock_left n (Wait k unpassed (Some j)) = 2 * length unpassed + 3
+lock_left n (Shutting call k) = 2 * n + 5
+lock_left n (Door unread m) = length unread + 2 * n + 6
+lock_left n Opening = 3 * n + 7
+lock_left n (Unmarking Lock) = 3 * n + 8
+lock_left n (Unmarking call) = 1
+lock_left n Leaving = 2
+lock_left n Withdrawing = 1
+lock_left n (Reread call []) = 3 * n + 11
+lock_left n (Reread call (c ∷ [])) = 3 * n + 10
+lock_left n (Reread call (c ∷ k ∷ rest)) = 3 * n + 9
+
+-- who was looked at is one of those not yet passed
+abbrev pub IsFair : Place → Type 0
+IsFair (Wait k unpassed (Some j)) = has unpassed j ≡ true
+IsFair place = Unit {0}
+
+-- the steps of the exit behind a script
+abbrev pub exit_of : Why → ℕ
+exit_of Checking = 2
+exit_of Ruining = 2
+exit_of Mending = 0
+exit_of (Working task) = 0
+
+abbrev pub HasStep : Script Reply → Type 0
+HasStep (Done reply) = ⊥
+HasStep (Get i rest) = Unit {0}
+HasStep (Put i v rest) = Unit {0}
+
+abbrev pub LastsBy : ℕ → ℕ → Place → Errand → Type 0
+LastsBy n k place Free = IsFair place × (lock_left n place ≤ k)
+LastsBy n k place (Doing why left) = (m : ℕ) × Within m left × (m + exit_of why ≤ k) × HasStep left
+
+-- at most k steps are left at this spot, beside blocked ones
+abbrev pub Lasts : ℕ → ℕ → Spot → Type 0
+Lasts n k spot = LastsBy n k spot.lock spot.errand

@@ -1,0 +1,11 @@
+pub mod Runs
+pub mod Rule
+pub mod Pass
+pub mod Lasting
+pub mod Running
+pub mod Calls
+pub mod Under
+pub mod Faults
+pub mod Making
+pub mod OneLockStory
+pub mod OneLockMember

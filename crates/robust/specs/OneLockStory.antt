@@ -1,0 +1,27 @@
+-- One world under one lock: what is known whenever the lock is free.
+use Rattle.std.specs.Prelude.{◌≡◌, ℕ, suc, List, [], ◌∷◌}
+use Rattle.rmeworld.specs.Spot.{Happening, Begins, Falls, Moves, Glances}
+use Rattle.rmeworld.specs.World.{at_first, Story, last_scene, deeds}
+use Rattle.rmeworld.specs.WorldState.{WorldState, scene_of}
+
+-- how many of the happenings are steps, loads or stores of one word
+abbrev pub steps_of : List Happening → ℕ
+steps_of [] = 0
+steps_of (Begins p call ∷ es) = steps_of es
+steps_of (Falls p ∷ es) = steps_of es
+steps_of (Moves p kind word v ∷ es) = suc (steps_of es)
+steps_of (Glances p word v ∷ es) = suc (steps_of es)
+
+-- The history under one lock: some run from all words 0 has this many steps, has the history as its deeds and ends in the
+-- world that is held.
+pub record IsTold (s : WorldState) (steps : ℕ) : Type 0 where
+  pub story : List Happening
+  pub told : Story s.layout s.limit at_first story
+  pub last : last_scene s.layout s.limit at_first story ≡ scene_of s
+  pub done : deeds s.layout s.limit at_first story ≡ s.history
+  pub counted : steps_of story ≡ steps
+
+-- what contracts see of the state under the lock: the world, and the total of the ledger's book
+pub record Held : Type 0 where
+  pub world : WorldState
+  pub total : ℕ

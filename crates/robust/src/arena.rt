@@ -1,0 +1,80 @@
+//! The making of a running lock.
+ghost use Rattle.std.specs.Prelude.{◌≡◌, ℕ, ◌<◌, ◌≤◌, ◌⊎◌, Some, None, IfOk, IfErr, OnOk};
+ghost use Rattle.redomail.specs.Layout.{size};
+ghost use Rattle.rmeworld.specs.Stand.{IsSize};
+ghost use Rattle.atomic_table.specs.Seated.{TableId};
+ghost use Rattle.robust.specs.Runs.{word_count};
+ghost use Rattle.robust.specs.Making.{making_refusal, fresh_members};
+
+use crate::member::Member;
+use crate::runner::data_words;
+use crate::setup::Setup;
+use crate::walker::{Board, Walker};
+use redomail::Layout;
+use rmecore::Refusal;
+use std::alloc::{AllocError, Global};
+use std::sync::Arc;
+
+/// Makes the members of a running lock with its mailbox.
+pub struct Arena;
+
+impl Arena {
+    /// All members of a new table: member p belongs to process p, and all passes are empty. The limits are those of the
+    /// whole house: 1 to 64 processes, numbers up to 2^62, 1 to 65,536 messages of 1 to 8 words.
+    pub fn new<R>(
+        _rt: &R,
+        alloc: Global,
+        procs: u64,
+        limit: u64,
+        cap: u64,
+        width: u64,
+    ) -> Result<Vec<Member>, Refusal>
+        ensures made { IfOk result (λ v. (t : TableId) × (v.items ≡ fresh_members t (record { layout = record { procs = procs; cap = cap; width = width }; limit = limit }))) }
+        ensures accepted { OnOk result (making_refusal procs limit cap width ≡ None) }
+        ensures refused { IfErr result (λ e. (making_refusal procs limit cap width ≡ Some e) ⊎ ((e ≡ Refusal.OutOfMemory) × (making_refusal procs limit cap width ≡ None))) }
+    {
+        check(procs, limit, cap, width)?;
+        let layout = Layout { procs, cap, width };
+        match made(alloc, Setup { layout, limit }) {
+            Ok(members) => Ok(members),
+            Err(_) => Err(Refusal::OutOfMemory),
+        }
+    }
+}
+
+/// Refuses sizes outside the limits, with the first cause.
+fn check(procs: u64, limit: u64, cap: u64, width: u64) -> Result<(), Refusal>
+    ensures accepted { OnOk result (making_refusal procs limit cap width ≡ None) }
+    ensures refused { IfErr result (λ e. making_refusal procs limit cap width ≡ Some e) }
+{
+    if procs == 0 || procs > 64 {
+        return Err(Refusal::BadProcs);
+    }
+    if limit == 0 || limit > 1 << 62 {
+        return Err(Refusal::BadLimit);
+    }
+    if cap == 0 || cap > 65536 {
+        return Err(Refusal::BadCap);
+    }
+    if width == 0 || width > 8 {
+        return Err(Refusal::BadWidth);
+    }
+    Ok(())
+}
+
+fn made(alloc: Global, setup: Setup) -> Result<Vec<Member>, AllocError>
+    requires { IsSize setup.layout }
+    ensures { IfOk result (λ v. (t : TableId) × (v.items ≡ fresh_members t setup)) }
+{
+    let count = 3 * setup.layout.procs + data_words(&setup.layout);
+    let words = Vec::from_elem(alloc, 0u64, count as usize)?;
+    let (board, mut seat) = Board::of_words(alloc, words.as_slice(), &setup)?;
+    let board = Arc::new(alloc, board)?;
+    let procs = setup.layout.procs;
+    let mut members = Vec::with_capacity(alloc, procs as usize)?;
+    for p in 0..procs {
+        let walker = Walker::first(&board, &mut seat, setup, p)?;
+        members.push(Member::new(walker))?;
+    }
+    Ok(members)
+}

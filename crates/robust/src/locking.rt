@@ -1,0 +1,72 @@
+//! A lock that may be blocked, and calls that set out from anywhere outside the section.
+ghost use Rattle.std.specs.Prelude.{◌≡◌, ◌⊎◌, ℕ, ◌≤◌, ◌+◌, List, length, Some, None, true, false, IfOk, IfErr, IfSome, OnOk, OnErr};
+ghost use Rattle.rmecore.specs.declared.refusal.Refusal.{Refusal as RefusalOf};
+ghost use Rattle.rmeworld.specs.declared.call.Call.TheVariants.{Lock, Recover};
+ghost use Rattle.robust.specs.Pass.{IsPass, spot_now};
+ghost use Rattle.robust.specs.Running.{began};
+ghost use Rattle.robust.specs.Under.{Begun, Fits};
+ghost use Rattle.robust.specs.Faults.{refusal_now, ready, CutIn, LockEnds};
+
+use crate::lock_fault::LockFault;
+use crate::runner::Runner;
+use crashlab::CrashPlan;
+use crossbeam_utils::Backoff;
+use rmecore::Refusal;
+use rmeworld::{Answer, Call};
+
+impl Runner {
+    /// Starts a lock or a recovery, unless the process is in the section. Where a lock still waits, its process crashes
+    /// first: it has given up its call, and its words stay.
+    pub fn set_out(&mut self, call: &Call) -> Result<(), LockFault>
+        requires idle { self.old.pass.start ≡ None }
+        requires comes { (call.now ≡ Lock) ⊎ (call.now ≡ Recover) }
+        ensures out { OnOk result ((self.new ≡ began (ready self.old) call.now) × Begun call.now self.new.pass.setup.layout.procs (spot_now self.new.pass) × IsPass self.new.pass) }
+        ensures accepted { OnOk result (refusal_now (ready self.old) call.now ≡ None) }
+        ensures refused { OnErr result ((self.new ≡ self.old) × (refusal_now self.old call.now ≡ Some Refusal.AlreadyIn)) }
+        ensures fault { IfErr result (λ e. e ≡ LockFault.AlreadyIn) }
+    {
+        match self.begin(call) {
+            Ok(()) => Ok(()),
+            Err(Refusal::AlreadyIn) => Err(LockFault::AlreadyIn),
+            Err(_) => {
+                self.crash();
+                match self.begin(call) {
+                    Ok(()) => Ok(()),
+                    Err(_) => unreachable!(),
+                }
+            }
+        }
+    }
+
+    /// Takes the steps of a lock up to its answer, or until it has been blocked once more than it was given turns. Between
+    /// two blocked readings it rests.
+    pub fn wait_turns<C: CrashPlan>(
+        &mut self,
+        plan: &mut C,
+        turns: u64,
+    ) -> Result<Option<Answer>, LockFault>
+        requires begun { Begun Lock self.old.pass.setup.layout.procs (spot_now self.old.pass) }
+        requires pass { IsPass self.old.pass }
+        requires start { (self.old.pass.start ≡ Some Lock) × (self.old.steps ≡ 0) }
+        ensures ends { IfOk result (λ o. LockEnds self.old turns o self.new (C.asked plan.old) (C.asked plan.new) (C.fallen plan.old) (C.fallen plan.new)) }
+        ensures fits { IfOk result (λ o. IfSome o (Fits Lock)) }
+        ensures crashed { IfErr result (λ e. e ≡ LockFault.Crashed) }
+        ensures cut { OnErr result (CutIn self.old Lock self.new (C.asked plan.old) (C.asked plan.new) (C.fallen plan.old) (C.fallen plan.new)) }
+        ensures idle { self.new.pass.start ≡ None }
+    {
+        let backoff = Backoff::new();
+        let mut left = turns;
+        loop {
+            if let Some(answer) = self.run(plan, &Call::Lock)? {
+                self.ask(plan)?;
+                return Ok(Some(answer));
+            }
+            if left == 0 {
+                self.ask(plan)?;
+                return Ok(None);
+            }
+            left -= 1;
+            backoff.snooze();
+        }
+    }
+}

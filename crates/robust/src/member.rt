@@ -1,0 +1,170 @@
+//! A process of the running lock.
+ghost use Rattle.std.specs.Prelude.{◌≡◌, ◌≢◌, ℕ, ◌+◌, ◌⊎◌, List, [], ◌∷◌, length, Some, None, IfOk, IfErr, OnOk};
+ghost use Rattle.redomail.specs.declared.reply.Reply.{Reply as ReplyOf};
+ghost use Rattle.robust.specs.declared.entry.Entry.{Entry as EntryOf};
+ghost use Rattle.robust.specs.Pass.{fresh, spot_now, IsPass};
+ghost use Rattle.robust.specs.Running.{Seated, began};
+ghost use Rattle.robust.specs.Calls.{Served, Calm};
+ghost use Rattle.robust.specs.Under.{Fits};
+ghost use Rattle.robust.specs.Faults.{refusal_now, ready, Fails, FailsOut, AnsweredIn, LockEnds, LockFails, answer_of};
+
+use crate::entry_kind::Entry;
+use crate::lock_fault::LockFault;
+use crate::runner::Runner;
+use crate::walker::Walker;
+use crashlab::CrashPlan;
+use redomail::Reply;
+use rmecore::Found;
+use rmeworld::{Answer, Call};
+use std::marker::Model;
+
+/// A process of the running lock. It owns a seat at the table and may move to a thread. Contracts see it as its pass, a
+/// beginning of the one run, with the own steps of its last call.
+#[derive(Drop)]
+pub struct Member {
+    runner: Runner,
+}
+
+impl Model for Member {
+    ghost use Rattle.std.specs.Prelude.{◌≡◌, None};
+    ghost use Rattle.robust.specs.Running.{Seated};
+
+    ghost Value = { Seated };
+
+    ghost view = { λ m. m.runner };
+
+    ghost invariant = { λ m. m.runner.pass.start ≡ None };
+}
+
+impl Member {
+    pub(crate) fn new(walker: Walker) -> Member
+        requires { walker ≡ fresh walker.table walker.setup walker.by }
+        ensures { result ≡ record { pass = walker; steps = 0 } }
+    {
+        Member {
+            runner: Runner::new(walker),
+        }
+    }
+
+    /// Which process it is.
+    pub fn number(&self) -> u64
+        ensures is { result ≡ self.now.pass.by }
+        ensures pass { IsPass self.now.pass }
+    {
+        self.runner.by()
+    }
+
+    /// The own steps of the last call that was started, held at the greatest u64; 0 before any call.
+    pub fn steps(&self) -> u64
+        ensures { result ≡ self.now.steps }
+    {
+        self.runner.steps()
+    }
+
+    /// Leaves the section. A holder that came in again and has not mended ruins the lock.
+    pub fn unlock<C: CrashPlan>(&mut self, plan: &mut C) -> Result<(), LockFault>
+        ensures accepted { OnOk result (refusal_now self.old Call.Unlock ≡ None) }
+        ensures served { OnOk result ((mine : List EntryOf) × Served (began self.old Call.Unlock) Call.Unlock (Answer.Unlocked ∷ []) 0 self.new mine × Calm (length mine + 1) (C.asked plan.old) (C.asked plan.new) (C.fallen plan.old) (C.fallen plan.new)) }
+        ensures fails { IfErr result (Fails self.old Call.Unlock self.new (C.asked plan.old) (C.asked plan.new) (C.fallen plan.old) (C.fallen plan.new)) }
+    {
+        match self.runner.call(plan, &Call::Unlock)? {
+            Answer::Unlocked => Ok(()),
+            _ => unreachable!(),
+        }
+    }
+
+    /// Gives up the place in the line, after a call that answered NotYet.
+    pub fn withdraw<C: CrashPlan>(&mut self, plan: &mut C) -> Result<(), LockFault>
+        ensures accepted { OnOk result (refusal_now self.old Call.Withdraw ≡ None) }
+        ensures served { OnOk result ((mine : List EntryOf) × Served (began self.old Call.Withdraw) Call.Withdraw (Answer.Withdrawn ∷ []) 0 self.new mine × Calm (length mine + 1) (C.asked plan.old) (C.asked plan.new) (C.fallen plan.old) (C.fallen plan.new)) }
+        ensures fails { IfErr result (Fails self.old Call.Withdraw self.new (C.asked plan.old) (C.asked plan.new) (C.fallen plan.old) (C.fallen plan.new)) }
+    {
+        match self.runner.call(plan, &Call::Withdraw)? {
+            Answer::Withdrawn => Ok(()),
+            _ => unreachable!(),
+        }
+    }
+
+    /// Reads a word of the board, 0 to 3, as a holder.
+    pub fn get<C: CrashPlan>(&mut self, i: u64, plan: &mut C) -> Result<u64, LockFault>
+        ensures accepted { OnOk result (refusal_now self.old (Call.Get i) ≡ None) }
+        ensures served { IfOk result (λ v. (mine : List EntryOf) × Served (began self.old (Call.Get i)) (Call.Get i) (Answer.Mail (Reply.Word v) ∷ []) 0 self.new mine × Calm (length mine + 1) (C.asked plan.old) (C.asked plan.new) (C.fallen plan.old) (C.fallen plan.new)) }
+        ensures fails { IfErr result (Fails self.old (Call.Get i) self.new (C.asked plan.old) (C.asked plan.new) (C.fallen plan.old) (C.fallen plan.new)) }
+    {
+        match self.runner.call(plan, &Call::Get(i))? {
+            Answer::Mail(Reply::Word(value)) => Ok(value),
+            _ => unreachable!(),
+        }
+    }
+
+    /// Writes a word of the board, 0 to 3, as a holder.
+    pub fn put<C: CrashPlan>(&mut self, i: u64, value: u64, plan: &mut C) -> Result<(), LockFault>
+        ensures accepted { OnOk result (refusal_now self.old (Call.Put i value) ≡ None) }
+        ensures served { OnOk result ((reply : ReplyOf) × (mine : List EntryOf) × Served (began self.old (Call.Put i value)) (Call.Put i value) (Answer.Mail reply ∷ []) 0 self.new mine × Calm (length mine + 1) (C.asked plan.old) (C.asked plan.new) (C.fallen plan.old) (C.fallen plan.new)) }
+        ensures fails { IfErr result (Fails self.old (Call.Put i value) self.new (C.asked plan.old) (C.asked plan.new) (C.fallen plan.old) (C.fallen plan.new)) }
+    {
+        match self.runner.call(plan, &Call::Put(i, value))? {
+            Answer::Mail(_) => Ok(()),
+            _ => unreachable!(),
+        }
+    }
+
+    /// Mends what a crash inside has left, as a holder that came in again. Answers whether there was something to mend.
+    pub fn consistent<C: CrashPlan>(&mut self, plan: &mut C) -> Result<bool, LockFault>
+        ensures accepted { OnOk result (refusal_now self.old Call.Consistent ≡ None) }
+        ensures served { IfOk result (λ mended. (mine : List EntryOf) × Served (began self.old Call.Consistent) Call.Consistent (Answer.Mail (Reply.Mended mended) ∷ []) 0 self.new mine × Calm (length mine + 1) (C.asked plan.old) (C.asked plan.new) (C.fallen plan.old) (C.fallen plan.new)) }
+        ensures fails { IfErr result (λ e. Fails self.old Call.Consistent self.new (C.asked plan.old) (C.asked plan.new) (C.fallen plan.old) (C.fallen plan.new) e ⊎ (e ≡ LockFault.NotRecoverable) × ((mine : List EntryOf) × Served (began self.old Call.Consistent) Call.Consistent (Answer.NotRecoverable ∷ []) 0 self.new mine × Calm (length mine + 1) (C.asked plan.old) (C.asked plan.new) (C.fallen plan.old) (C.fallen plan.new))) }
+    {
+        match self.runner.call(plan, &Call::Consistent)? {
+            Answer::Mail(Reply::Mended(mended)) => Ok(mended),
+            Answer::NotRecoverable => Err(LockFault::NotRecoverable),
+            _ => unreachable!(),
+        }
+    }
+
+    /// Finds out where a crash has left the process, and goes no further than it must. Found inside, the process is a holder
+    /// that has to mend, or ruins the lock at its unlock.
+    pub fn recover<C: CrashPlan>(&mut self, plan: &mut C) -> Result<Found, LockFault>
+        ensures accepted { OnOk result (refusal_now (ready self.old) Call.Recover ≡ None) }
+        ensures served { IfOk result (λ found. AnsweredIn (began (ready self.old) Call.Recover) Call.Recover (Answer.Found found ∷ []) 0 self.new (C.asked plan.old) (C.asked plan.new) (C.fallen plan.old) (C.fallen plan.new)) }
+        ensures fails { IfErr result (FailsOut self.old Call.Recover self.new (C.asked plan.old) (C.asked plan.new) (C.fallen plan.old) (C.fallen plan.new)) }
+    {
+        self.runner.set_out(&Call::Recover)?;
+        match self.runner.serve(plan, &Call::Recover)? {
+            Answer::Found(found) => Ok(found),
+            _ => unreachable!(),
+        }
+    }
+
+    /// Enters the section, also after a crash, unless it is blocked once more than it was given turns.
+    pub fn lock_within<C: CrashPlan>(
+        &mut self,
+        plan: &mut C,
+        turns: u64,
+    ) -> Result<Entry, LockFault>
+        ensures accepted { OnOk result (refusal_now (ready self.old) Call.Lock ≡ None) }
+        ensures entered { IfOk result (λ entry. LockEnds (began (ready self.old) Call.Lock) turns (Some (answer_of entry)) self.new (C.asked plan.old) (C.asked plan.new) (C.fallen plan.old) (C.fallen plan.new)) }
+        ensures fails { IfErr result (LockFails self.old turns self.new (C.asked plan.old) (C.asked plan.new) (C.fallen plan.old) (C.fallen plan.new)) }
+    {
+        self.runner.set_out(&Call::Lock)?;
+        match self.runner.wait_turns(plan, turns)? {
+            Some(answer) => entered(answer),
+            None => Err(LockFault::NotYet),
+        }
+    }
+}
+
+/// What the answer of a lock is to its caller.
+fn entered(answer: Answer) -> Result<Entry, LockFault>
+    requires { Fits Call.Lock answer }
+    ensures inside { IfOk result (λ entry. answer ≡ answer_of entry) }
+    ensures out { IfErr result (λ e. ((e ≡ LockFault.NumbersSpent) × (answer ≡ Answer.NumbersSpent)) ⊎ ((e ≡ LockFault.NotRecoverable) × (answer ≡ Answer.NotRecoverable))) }
+{
+    match answer {
+        Answer::Clean => Ok(Entry::Clean),
+        Answer::OwnerDied => Ok(Entry::OwnerDied),
+        Answer::NumbersSpent => Err(LockFault::NumbersSpent),
+        Answer::NotRecoverable => Err(LockFault::NotRecoverable),
+        _ => unreachable!(),
+    }
+}

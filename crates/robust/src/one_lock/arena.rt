@@ -1,0 +1,65 @@
+//! The making of members, and taking them back.
+
+ghost use Rattle.std.specs.Prelude.{◌≡◌, ◌≢◌, ℕ, ◌<◌, ◌⊎◌, IfOk, IfErr, OnOk, IsErrOf, None, Some, vec_len, slice_get, All};
+ghost use Rattle.rmecore.specs.Simulated.{cause};
+ghost use Rattle.rmeworld.specs.WorldState.{new_refusal};
+ghost use Rattle.robust.specs.OneLockMember.{new_seats};
+
+use crate::one_lock::member::Member;
+use crate::one_lock::shared::Shared;
+use redomail::Layout;
+use rmecore::Refusal;
+use rmeworld::World;
+use std::alloc::Global;
+use std::sync::ledger::{Blank, Ledger, Share};
+use std::sync::{Arc, Mutex};
+
+/// A world and its members.
+pub struct Arena;
+
+impl Arena {
+    /// One member for each process, over a new world. The blank is of the ledger that counts the steps, with one part for
+    /// each process.
+    pub fn new<L: Ledger>(
+        alloc: Global,
+        procs: u64,
+        limit: u64,
+        cap: u64,
+        width: u64,
+        blank: Blank,
+    ) -> Result<Vec<Member<L>>, Refusal>
+        requires name { blank.name ≡ L.name }
+        requires parts { blank.parts ≡ L.parts }
+        requires each { blank.parts ≡ procs }
+        ensures accepted { OnOk result (new_refusal (record { procs = procs; cap = cap; width = width }) limit ≡ None) }
+        ensures refused { IfErr result (λ e. new_refusal (record { procs = procs; cap = cap; width = width }) limit ≡ cause e) }
+        ensures ok { IfOk result (λ members. members.items ≡ new_seats (record { procs = procs; cap = cap; width = width }) procs) }
+    {
+        let world = World::new(alloc, procs, limit, cap, width)?;
+        let layout = Layout { procs, cap, width };
+        let (book, all) = blank.open::<L>();
+        let shared = Arc::new(alloc, Mutex::new(Shared::new(world, book)))?;
+        members_of(alloc, layout, shared, all)
+    }
+}
+
+/// One member for each process, each with one part of the ledger.
+fn members_of<L: Ledger>(
+    alloc: Global,
+    layout: Layout,
+    shared: Arc<Mutex<Shared<L>>>,
+    mut all: Share<L>,
+) -> Result<Vec<Member<L>>, Refusal>
+    requires parts { all.parts ≡ layout.procs }
+    requires none { all.amount ≡ 0 }
+    ensures memory { IfErr result (λ e. e ≡ Refusal.OutOfMemory) }
+    ensures ok { IfOk result (λ members. members.items ≡ new_seats layout layout.procs) }
+{
+    let mut members = Vec::new(alloc);
+    for process in 0..layout.procs {
+        let share = all.split_off(1, 0);
+        let shared = Arc::try_clone(&shared)?;
+        members.push(Member::new(process, layout, shared, share))?;
+    }
+    Ok(members)
+}

@@ -1,0 +1,171 @@
+//! A process's way to the world.
+
+ghost use Rattle.std.specs.Prelude.{◌≡◌, ℕ, ◌<◌, ◌≤◌, ◌+◌, IfOk, IfErr, OnOk, OnErr, IsNone, IsSome};
+ghost use Rattle.rmecore.specs.Simulated.{one_more};
+ghost use Rattle.robust.specs.OneLockMember.{Goes, AskedEach, AskedOnceMore, falls_by};
+
+use crate::lock_fault::LockFault;
+use crate::one_lock::opening::Opening;
+use crate::one_lock::shared::{Shared, Turn};
+use crate::one_lock::standing::Standing;
+use crashlab::CrashPlan;
+use crossbeam_utils::Backoff;
+use redomail::Layout;
+use rmeworld::{Answer, Call};
+use std::marker::Model;
+use std::sync::ledger::{Ledger, Share};
+use std::sync::{Arc, Mutex, Wait};
+
+/// One process's way to the world. It may move to a thread. Its share of the ledger counts its own steps.
+#[derive(Drop)]
+pub struct Member<L: Ledger> {
+    pub(super) process: u64,
+    pub(super) layout: Layout,
+    pub(super) standing: Standing,
+    pub(super) shared: Arc<Mutex<Shared<L>>>,
+    pub(super) share: Share<L>,
+}
+
+impl<L: Ledger> Model for Member<L> {
+    ghost use Rattle.std.specs.Prelude.{◌≡◌};
+    ghost use Rattle.robust.specs.OneLockMember.{Seat};
+
+    ghost Value = { Seat };
+
+    ghost view = { λ m. record { process = m.process; layout = m.layout; standing = m.standing; steps = m.share.amount } };
+
+    ghost invariant = { λ m. m.share.parts ≡ 1 };
+}
+
+impl<L: Ledger> Member<L> {
+    ghost use Rattle.std.specs.Prelude.{Err, ◌⊎◌};
+
+    /// A member whose process is at rest.
+    pub(super) fn new(
+        process: u64,
+        layout: Layout,
+        shared: Arc<Mutex<Shared<L>>>,
+        share: Share<L>,
+    ) -> Member<L>
+        requires { share.parts ≡ 1 }
+        ensures { result ≡ record { process = process; layout = layout; standing = Standing.Out; steps = share.amount } }
+    {
+        Member {
+            process,
+            layout,
+            standing: Standing::Out,
+            shared,
+            share,
+        }
+    }
+
+    /// Its process.
+    pub fn process(&self) -> u64
+        ensures { result ≡ self.now.process }
+    {
+        self.process
+    }
+
+    /// Where it stands between its calls.
+    pub fn standing(&self) -> Standing
+        ensures { result ≡ self.now.standing }
+    {
+        self.standing
+    }
+
+    /// One step of its process: it asks the plan, and then takes the lock for one step of the world. A step that the world
+    /// refuses leaves the member lost; its process can do what the member asks for, so that memory was wanting.
+    fn step<R: Wait, P: CrashPlan>(
+        &mut self,
+        rt: &R,
+        plan: &mut P,
+        opening: Opening,
+    ) -> Result<Turn, LockFault>
+        ensures asked { P.asked plan.new ≡ one_more (P.asked plan.old) }
+        ensures fallen { P.fallen plan.new ≡ falls_by result (P.fallen plan.old) }
+        ensures ok { OnOk result (self.new ≡ record self.old { steps = self.old.steps + 1 }) }
+        ensures err { OnErr result (self.new ≡ record self.old { standing = Standing.Lost }) }
+        ensures only { IfErr result (λ e. (e ≡ LockFault.Crashed) ⊎ (e ≡ LockFault.OutOfMemory)) }
+    {
+        if plan.falls() {
+            self.standing = Standing::Lost;
+            return Err(LockFault::Crashed);
+        }
+        let turn = self
+            .shared
+            .lock(rt)
+            .step(&mut self.share, self.process, opening);
+        match turn {
+            Ok(turn) => Ok(turn),
+            Err(_) => {
+                self.standing = Standing::Lost;
+                Err(LockFault::OutOfMemory)
+            }
+        }
+    }
+
+    /// Takes a call to its answer, or until one blocked reading more than it has turns; with no turns it waits as long as
+    /// it has to. The asking before the answer is left to the caller.
+    pub(super) fn pursue<R: Wait, P: CrashPlan>(
+        &mut self,
+        rt: &R,
+        plan: &mut P,
+        call: Call,
+        turns: Option<u64>,
+    ) -> Result<Option<Answer>, LockFault>
+        ensures goes { Goes self.old self.new }
+        ensures asked { OnOk result (AskedEach self.old self.new (P.asked plan.old) (P.asked plan.new)) }
+        ensures ended { OnErr result (AskedOnceMore self.old self.new (P.asked plan.old) (P.asked plan.new)) }
+        ensures fallen { P.fallen plan.new ≡ falls_by result (P.fallen plan.old) }
+        ensures kept { OnOk result (self.new.standing ≡ self.old.standing) }
+        ensures lost { OnErr result (self.new.standing ≡ Standing.Lost) }
+        ensures only { IfErr result (λ e. (e ≡ LockFault.Crashed) ⊎ (e ≡ LockFault.OutOfMemory)) }
+        ensures patient { IsNone turns → IfOk result (λ answer. IsSome answer) }
+    {
+        let mut left = turns;
+        let mut opening = Opening {
+            crash: self.standing == Standing::Lost,
+            call: Some(call),
+        };
+        let backoff = Backoff::new();
+        for _ in rt.forever() {
+            let turn = self.step(rt, plan, opening)?;
+            if turn.answer.is_some() {
+                return Ok(turn.answer);
+            }
+            opening = Opening {
+                crash: false,
+                call: None,
+            };
+            if turn.blocked {
+                match left {
+                    Some(0) => return Ok(None),
+                    Some(more) => left = Some(more - 1),
+                    None => {}
+                }
+                backoff.snooze();
+            }
+        }
+        unreachable!()
+    }
+
+    /// The last asking of a call, before its answer; and where the answer leaves the member.
+    pub(super) fn conclude<P: CrashPlan, T: Copy>(
+        &mut self,
+        plan: &mut P,
+        answer: Result<T, LockFault>,
+        standing: Standing,
+    ) -> Result<T, LockFault>
+        requires { (f : ℕ) → falls_by answer f ≡ f }
+        ensures asked { P.asked plan.new ≡ one_more (P.asked plan.old) }
+        ensures fallen { P.fallen plan.new ≡ falls_by result (P.fallen plan.old) }
+        ensures answer { ((result ≡ answer) × (self.new ≡ record self.old { standing = standing })) ⊎ ((result ≡ Err LockFault.Crashed) × (self.new ≡ record self.old { standing = Standing.Lost })) }
+    {
+        if plan.falls() {
+            self.standing = Standing::Lost;
+            return Err(LockFault::Crashed);
+        }
+        self.standing = standing;
+        answer
+    }
+}

@@ -1,0 +1,11 @@
+//! What comes before a step of a world.
+
+use rmeworld::Call;
+
+/// What comes before a step of a process, in the same hold of the lock: its crash, if its private memory is lost, and the
+/// start of its call, if this is the call's first step. Neither touches a word.
+#[derive(Clone, Copy, Debug)]
+pub struct Opening {
+    pub crash: bool,
+    pub call: Option<Call>,
+}

@@ -1,0 +1,209 @@
+//! A process's seat at the table, with its pass. Each method takes at most one step.
+ghost use Rattle.std.specs.Prelude.{◌≡◌, ℕ, ◌<◌, ◌+◌, ◌^◌, true, false, [], Some, None, IsSome, IfOk, OnOk};
+ghost use Rattle.std.specs.Arc.{arc_value};
+ghost use Rattle.rmecore.specs.World.{is_store};
+ghost use Rattle.rmeworld.specs.Spot.{next_spot, Begins};
+ghost use Rattle.rmeworld.specs.Stand.{IsSize};
+ghost use Rattle.robust.specs.Runs.{InTable, IsBeyond, index as index_of, word_count, IsRun};
+ghost use Rattle.robust.specs.Pass.{Pass, Advances, Looks, IsPass, alone, rest_known, fresh, spot_now, moved_spot};
+
+use crate::entry::{Known, Step};
+use crate::rule::{Cut, OneRun};
+use crate::setup::Setup;
+use crate::steps;
+use atomic_table::{Seat, Table};
+use rmecore::{Kind, Word};
+use rmeworld::Call;
+use std::alloc::{AllocError, Global};
+use std::marker::Model;
+use std::sync::Arc;
+
+/// The table: three lock words a process, then the data words.
+pub type Board = Table<(), Known, Setup, OneRun, Global>;
+
+/// A seat at the table. Contracts see it as its pass.
+#[derive(Drop)]
+pub struct Walker {
+    board: Arc<Board, Global>,
+    seat: Seat<(), Known>,
+    setup: Setup,
+    by: u64,
+    fallen: bool,
+    start: Option<Call>,
+}
+
+impl Model for Walker {
+    ghost use Rattle.std.specs.Prelude.{◌≡◌, []};
+    ghost use Rattle.std.specs.Arc.{arc_value};
+    ghost use Rattle.robust.specs.Pass.{Pass, IsPass, alone};
+
+    ghost Value = { Pass };
+
+    ghost view = { λ w. record { table = w.seat.table_id; setup = w.setup; by = w.by; fallen = w.fallen; start = w.start; seen = w.seat.me.0.view.seen } };
+
+    ghost invariant = { λ w. record { table : w.seat.table_id ≡ (arc_value w.board).shared.table_id; seat : w.seat.me ≡ (alone w.setup w.by w.seat.me.0.view.seen, []); pass : IsPass (record { table = w.seat.table_id; setup = w.setup; by = w.by; fallen = w.fallen; start = w.start; seen = w.seat.me.0.view.seen }) } };
+}
+
+/// Where a word of the world stands in the table.
+pub fn index(setup: &Setup, word: Word) -> u64
+    requires size { IsSize setup.now.layout }
+    requires table { InTable setup.now word }
+    ensures index { result ≡ index_of setup.now word }
+    ensures within { result < word_count setup.now }
+{
+    match word {
+        Word::Choosing(p) => 3 * p,
+        Word::Number(p) => 3 * p + 1,
+        Word::Inside(p) => 3 * p + 2,
+        Word::Data(i) => 3 * setup.layout.procs + i,
+    }
+}
+
+impl Walker {
+    /// The seat of the next process is cut off.
+    pub fn first(
+        board: &Arc<Board, Global>,
+        seat: &mut Seat<(), Known>,
+        setup: Setup,
+        by: u64,
+    ) -> Result<Walker, AllocError>
+        requires table { (seat.old.table_id ≡ (arc_value board.now).shared.table_id) × (seat.old.table_id.words ≡ word_count setup) }
+        requires seat { seat.old.me ≡ (rest_known setup by, []) }
+        requires within { (by < setup.layout.procs) × IsSize setup.layout }
+        ensures rest { OnOk result ((seat.new.table_id ≡ seat.old.table_id) × (seat.new.me ≡ (rest_known setup (by + 1), []))) }
+        ensures walker { IfOk result (λ w. w ≡ fresh seat.old.table_id setup by) }
+    {
+        let board = Arc::try_clone(board)?;
+        let own = board.shared.split_seat::<Cut>(seat);
+        Ok(Walker {
+            board,
+            seat: own,
+            setup,
+            by,
+            fallen: false,
+            start: None,
+        })
+    }
+
+    /// Its process.
+    pub fn by(&self) -> u64
+        ensures is { result ≡ self.now.by }
+        ensures pass { IsPass self.now }
+    {
+        self.by
+    }
+
+    /// The sizes of the arena.
+    pub fn setup(&self) -> Setup
+        ensures is { result ≡ self.now.setup }
+        ensures pass { IsPass self.now }
+    {
+        self.setup
+    }
+
+    /// One load, which carries the crash and the start that are owed.
+    pub fn load(&mut self, kind: Kind, word: Word) -> u64
+        requires table { InTable self.old.setup word }
+        requires kind { is_store kind ≡ false }
+        requires may { (found : ℕ) → found < 2 ^ 64 → IsSome (moved_spot self.old kind word found) }
+        ensures { Advances self.old kind word result self.new }
+    {
+        let step = Step {
+            crashed: self.fallen,
+            start: self.start,
+            kind,
+            word,
+        };
+        let at = index(&self.setup, word);
+        let found = steps::load(&self.board.shared, &mut self.seat, step, at as usize);
+        self.fallen = false;
+        self.start = None;
+        found
+    }
+
+    /// One store, which carries the crash and the start that are owed.
+    pub fn store(&mut self, kind: Kind, word: Word, new: u64)
+        requires table { InTable self.old.setup word }
+        requires kind { is_store kind ≡ true }
+        requires may { IsSome (moved_spot self.old kind word new) }
+        ensures { Advances self.old kind word new self.new }
+    {
+        let step = Step {
+            crashed: self.fallen,
+            start: self.start,
+            kind,
+            word,
+        };
+        let at = index(&self.setup, word);
+        steps::store(&self.board.shared, &mut self.seat, step, at as usize, new);
+        self.fallen = false;
+        self.start = None;
+    }
+
+    /// A step at a data word that there is not: no word changes, and a load reads 0. It loads a word for nothing.
+    pub fn pass(&mut self, kind: Kind, word: Word, value: u64)
+        requires beyond { IsBeyond self.old.setup word }
+        requires zero { is_store kind ≡ false → value ≡ 0 }
+        requires may { IsSome (moved_spot self.old kind word value) }
+        ensures { Advances self.old kind word value self.new }
+    {
+        let step = Step {
+            crashed: self.fallen,
+            start: self.start,
+            kind,
+            word,
+        };
+        steps::pass(&self.board.shared, &mut self.seat, step, value);
+        self.fallen = false;
+        self.start = None;
+    }
+
+    /// Reads any word, wherever the process stands. What is owed stays owed.
+    pub fn glance(&mut self, word: Word) -> u64
+        requires { InTable self.old.setup word }
+        ensures { Looks self.old word result self.new }
+    {
+        let step = Step {
+            crashed: false,
+            start: None,
+            kind: Kind::Glance,
+            word,
+        };
+        let at = index(&self.setup, word);
+        steps::load(&self.board.shared, &mut self.seat, step, at as usize)
+    }
+
+    /// The process loses its private memory. The words stay.
+    pub fn crash(&mut self)
+        ensures { self.new ≡ record self.old { fallen = true; start = None } }
+    {
+        self.fallen = true;
+        self.start = None;
+    }
+
+    /// The process starts a call.
+    pub fn begin(&mut self, call: Call)
+        requires none { self.old.start ≡ None }
+        requires may { IsSome (next_spot self.old.setup.layout self.old.setup.limit (spot_now self.old) (Begins self.old.by call)) }
+        ensures { self.new ≡ record self.old { start = Some call } }
+    {
+        self.start = Some(call);
+    }
+
+    /// The table and the seat.
+    pub fn into_parts(self) -> (Arc<Board, Global>, Seat<(), Known>)
+        ensures table { (result.1.table_id ≡ self.table) × ((arc_value result.0).shared.table_id ≡ self.table) }
+        ensures seat { result.1.me ≡ (alone self.setup self.by self.seen, []) }
+        ensures pass { IsPass self }
+    {
+        let Walker {
+            board,
+            seat,
+            setup: _,
+            by: _,
+            fallen: _,
+            start: _,
+        } = self;
+        (board, seat)
+    }
+}

@@ -1,0 +1,74 @@
+//! The commands, over a reader and two writers.
+
+use crate::ending::{Ending, status_after_verdict};
+use crate::fault::Fault;
+use crate::order::{Command, HuntOrder};
+use crate::replaying::replay_order;
+use crashlab::hunt::hunt;
+use schedule::device::write_all;
+use schedule::{Sink, Source, judge_trace, put_verdict, write_schedule};
+use std::alloc::Global;
+
+/// The verdict line of a trace.
+fn judge_order<R: Source, W: Sink>(alloc: Global, r: &mut R, w: &mut W) -> Result<Ending, Fault> {
+    let verdict = judge_trace(alloc, r)?;
+    let mut line = Vec::new(alloc);
+    put_verdict(&mut line, verdict)?;
+    if write_all(w, &line).is_err() {
+        return Err(Fault::Write);
+    }
+    Ok(Ending {
+        status: status_after_verdict(verdict),
+        save: None,
+    })
+}
+
+/// The schedule that a hunt finds, or that it finds none.
+fn hunt_order<W: Sink>(alloc: Global, order: &HuntOrder, w: &mut W) -> Result<Ending, Fault> {
+    let found = hunt(alloc, order.variant, order.seed, order.rounds, order.steps)?;
+    let status = if found.is_some() { 1 } else { 0 };
+    let text = match &found {
+        Some(schedule) => write_schedule(alloc, schedule)?,
+        None => Vec::from_slice(alloc, b"nothing found\n")?,
+    };
+    if write_all(w, &text).is_err() {
+        return Err(Fault::Write);
+    }
+    Ok(Ending { status, save: None })
+}
+
+/// Writes the one line of a fault.
+fn tell<E: Sink>(alloc: Global, fault: Fault, e: &mut E) -> Result<(), Fault> {
+    let line = format!(in alloc; "{fault}\n")?;
+    if write_all(e, line.as_bytes()).is_err() {
+        return Err(Fault::Write);
+    }
+    Ok(())
+}
+
+/// Does what a command says: it reads the schedule or the trace from `r`, writes what it prints to `w`, and the one line of
+/// a fault to `e`. The image is the text of the file that `--image` names.
+pub fn command<R: Source, W: Sink, E: Sink>(
+    alloc: Global,
+    command: &Command,
+    image: Option<&[u8]>,
+    r: &mut R,
+    w: &mut W,
+    e: &mut E,
+) -> Ending {
+    let ended = match command {
+        Command::Replay(order) => replay_order(alloc, order, image, r, w),
+        Command::Judge(_) => judge_order(alloc, r, w),
+        Command::Hunt(order) => hunt_order(alloc, order, w),
+    };
+    match ended {
+        Ok(ending) => ending,
+        Err(fault) => {
+            let _ = tell(alloc, fault, e);
+            Ending {
+                status: fault.status(),
+                save: None,
+            }
+        }
+    }
+}

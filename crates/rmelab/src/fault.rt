@@ -1,0 +1,108 @@
+//! Why a command came to no verdict.
+
+ghost use Rattle.std.specs.Prelude.{◌≡◌};
+ghost use Rattle.rmelab.specs.declared.fault.Fault.TheVariants.{OutOfMemory};
+
+use crashlab::HuntFault;
+use schedule::{OutOfMemory as NoMemory, ReplayFault, TextFault};
+use std::alloc::{AllocError, AllocFailed};
+use thiserror::Error;
+
+/// Why a command came to no verdict. Its text is the one line on standard error.
+#[derive(Clone, Copy, Debug, PartialEq, Eq, Error)]
+pub enum Fault {
+    /// The text has no reading; lines count from 1.
+    #[error("rmelab: line {line}: fault {number}")]
+    Text { line: u64, number: u64 },
+    /// The world refuses the line, for the cause with this number.
+    #[error("rmelab: line {line}: refused {number}")]
+    Refused { line: u64, number: u64 },
+    /// The image breaks this rule.
+    #[error("rmelab: image: rule {rule}")]
+    Image { rule: u64 },
+    /// No such variant, or one other than `right` together with an image.
+    #[error("rmelab: bad variant")]
+    BadVariant,
+    /// A number outside its range.
+    #[error("rmelab: bad size")]
+    BadSize,
+    #[error("rmelab: read failed")]
+    Read,
+    #[error("rmelab: write failed")]
+    Write,
+    #[error("rmelab: out of memory")]
+    OutOfMemory,
+}
+
+impl Fault {
+    ghost use Rattle.rmelab.specs.Statuses.{status_of};
+
+    /// The exit status: 2 for a fault of the input, 3 for one of a device or of memory.
+    pub fn status(self) -> u8
+        ensures { result ≡ status_of self }
+    {
+        match self {
+            Fault::Text { .. }
+            | Fault::Refused { .. }
+            | Fault::Image { .. }
+            | Fault::BadVariant
+            | Fault::BadSize => 2,
+            Fault::Read | Fault::Write | Fault::OutOfMemory => 3,
+        }
+    }
+}
+
+impl From<AllocError> for Fault {
+    ghost from_gives = { λ _ e. e ≡ OutOfMemory };
+
+    fn from(_e: AllocError) -> Fault {
+        Fault::OutOfMemory
+    }
+}
+
+impl<T: Drop> From<AllocFailed<T>> for Fault {
+    ghost from_gives = { λ _ e. e ≡ OutOfMemory };
+
+    fn from(_e: AllocFailed<T>) -> Fault {
+        Fault::OutOfMemory
+    }
+}
+
+impl From<TextFault> for Fault {
+    fn from(fault: TextFault) -> Fault {
+        match fault {
+            TextFault::At { line, fault } => Fault::Text {
+                line,
+                number: fault.number(),
+            },
+            TextFault::OutOfMemory => Fault::OutOfMemory,
+        }
+    }
+}
+
+impl From<ReplayFault> for Fault {
+    fn from(fault: ReplayFault) -> Fault {
+        match fault {
+            ReplayFault::Text { line, number } => Fault::Text { line, number },
+            ReplayFault::Refused { line, number } => Fault::Refused { line, number },
+            ReplayFault::Read => Fault::Read,
+            ReplayFault::Write => Fault::Write,
+            ReplayFault::OutOfMemory => Fault::OutOfMemory,
+        }
+    }
+}
+
+impl From<HuntFault> for Fault {
+    fn from(fault: HuntFault) -> Fault {
+        match fault {
+            HuntFault::BadRounds | HuntFault::BadSteps => Fault::BadSize,
+            HuntFault::OutOfMemory => Fault::OutOfMemory,
+        }
+    }
+}
+
+impl From<NoMemory> for Fault {
+    fn from(_fault: NoMemory) -> Fault {
+        Fault::OutOfMemory
+    }
+}

@@ -1,0 +1,128 @@
+//! `rmelab`: a laboratory of recoverable first-come first-served locks.
+#![tactic(auto)]
+
+mod command;
+mod ending;
+mod fault;
+mod json;
+mod order;
+mod parser;
+mod replaying;
+#[cfg(test)]
+mod tests;
+mod words;
+
+use crate::command::command;
+use crate::ending::Ending;
+use crate::fault::Fault;
+use crate::order::Command;
+use crate::words::{WordsFault, read_words};
+use schedule::{FromReader, Page, ToWriter};
+use std::alloc::Global;
+use std::io::BufReader;
+use std::process::ExitCode;
+use std::rt::{Env, Files};
+use std::{fs, io};
+
+fn words_given<R: Env + Alloc<A = Global>>(rt: &R) -> io::Result<Vec<String>> {
+    Ok(std::env::args(rt)?.collect(rt.alloc())?)
+}
+
+/// Prints the line of a fault that `main` itself meets.
+fn told<R: Eprint>(rt: &R, fault: Fault) -> ExitCode {
+    let _ = eprintln!(rt; "{fault}");
+    ExitCode::from(fault.status())
+}
+
+/// Prints what is wrong with the words, or the help that they ask for.
+fn told_words<R: Print + Eprint>(rt: &R, fault: WordsFault) -> ExitCode {
+    match fault {
+        WordsFault::Refused { text, status } if status == 0 => {
+            let _ = print!(rt; "{text}");
+            ExitCode::from(0)
+        }
+        WordsFault::Refused { text, status } => {
+            let _ = eprint!(rt; "{text}");
+            ExitCode::from(status)
+        }
+        WordsFault::BadVariant => told(rt, Fault::BadVariant),
+        WordsFault::BadSize => told(rt, Fault::BadSize),
+        WordsFault::OutOfMemory => told(rt, Fault::OutOfMemory),
+    }
+}
+
+/// The file that a command reads.
+fn input_of(words: &Command) -> Option<&str> {
+    match words {
+        Command::Replay(order) => order.file.as_deref(),
+        Command::Judge(file) => file.as_deref(),
+        _ => None,
+    }
+}
+
+/// Runs a command over the file that it names, or over standard input.
+fn run<R: Files + Print + Eprint + Input>(
+    rt: &R,
+    alloc: Global,
+    words: &Command,
+    image: Option<&[u8]>,
+) -> io::Result<Ending> {
+    let mut out = ToWriter::new(io::writer(rt));
+    let mut err = Page::new(alloc);
+    let ending = match input_of(words) {
+        Some(path) => {
+            let mut input = FromReader::new(BufReader::new(alloc, fs::open(rt, path)?)?);
+            command(alloc, words, image, &mut input, &mut out, &mut err)
+        }
+        None => {
+            let mut input = FromReader::new(BufReader::new(alloc, rt.reader())?);
+            command(alloc, words, image, &mut input, &mut out, &mut err)
+        }
+    };
+    if let Ok(line) = str::from_utf8(err.as_slice()) {
+        let _ = eprint!(rt; "{line}");
+    }
+    Ok(ending)
+}
+
+/// The text of the image's file, where the command names one.
+fn image_text<R: Files + AllocGlobal>(rt: &R, words: &Command) -> io::Result<Option<Vec<u8>>> {
+    match words {
+        Command::Replay(order) => match &order.image {
+            Some(path) => Ok(Some(fs::read(rt, path)?)),
+            None => Ok(None),
+        },
+        _ => Ok(None),
+    }
+}
+
+/// Writes the saved image, where the command names a file for it.
+fn save<R: Files>(rt: &R, words: &Command, ending: &Ending) -> io::Result<()> {
+    if let (Command::Replay(order), Some(text)) = (words, &ending.save) {
+        if let Some(path) = &order.save {
+            fs::write(rt, path, text)?;
+        }
+    }
+    Ok(())
+}
+
+fn main(rt: HostRuntime) -> ExitCode {
+    let alloc = rt.alloc();
+    let Ok(given) = words_given(&rt) else {
+        return told(&rt, Fault::Read);
+    };
+    let words = match read_words(alloc, &given) {
+        Ok(words) => words,
+        Err(fault) => return told_words(&rt, fault),
+    };
+    let Ok(image) = image_text(&rt, &words) else {
+        return told(&rt, Fault::Read);
+    };
+    let Ok(ending) = run(&rt, alloc, &words, image.as_deref()) else {
+        return told(&rt, Fault::Read);
+    };
+    if save(&rt, &words, &ending).is_err() {
+        return told(&rt, Fault::Write);
+    }
+    ExitCode::from(ending.status)
+}

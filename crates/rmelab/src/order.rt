@@ -1,0 +1,36 @@
+//! What the program is asked to do.
+
+use crashlab::Variant;
+
+/// `replay`: a schedule is run, and its report is printed.
+#[derive(Debug, Drop, PartialEq, Eq)]
+pub struct ReplayOrder {
+    /// Print one JSON object of the report's lines.
+    pub json: bool,
+    pub variant: Variant,
+    /// The file of the image that the world begins with.
+    pub image: Option<String>,
+    /// The file that the last image is written to.
+    pub save: Option<String>,
+    /// The schedule's file; none is standard input.
+    pub file: Option<String>,
+}
+
+/// `hunt`: schedules are drawn until one goes wrong.
+#[derive(Clone, Copy, Debug, PartialEq, Eq)]
+pub struct HuntOrder {
+    pub variant: Variant,
+    pub seed: u64,
+    pub rounds: u64,
+    /// How many moves a round has.
+    pub steps: u64,
+}
+
+/// What the program is asked to do.
+#[derive(Debug, Drop, PartialEq, Eq)]
+pub enum Command {
+    Replay(ReplayOrder),
+    Hunt(HuntOrder),
+    /// The verdict of a trace in a file, or on standard input.
+    Judge(Option<String>),
+}

@@ -1,0 +1,95 @@
+//! The program's words, as `clap` reads them: its commands, their options and their help.
+
+use clap::{Arg, ArgAction, Command as Parser, value_parser};
+use std::alloc::{AllocError, Global};
+
+const STATUSES: &str =
+    "Exit status: 0 fine, 1 a verdict against, a schedule found, 2 a fault of the \
+input, 3 a fault of a device or of memory.";
+
+const REPLAY_HELP: &str =
+    "In: a schedule, as `rme 1 procs 2 limit 10 cap 1`, then lines such as `lock 0`, `step 0 5`, \
+`crash 0`, each ended by a line feed.\nOut: its report: the deeds and answers of each step, the last words, the mailbox and \
+the verdict.\n\nExample: rmelab replay examples/tie.rme";
+
+const HUNT_HELP: &str =
+    "In: nothing.\nOut: the schedule found, which `rmelab replay --variant V` replays to its fault, or `nothing \
+found`.\n\nExample: rmelab hunt --variant no-look --seed 1 --rounds 10000 --steps 1000";
+
+const JUDGE_HELP: &str =
+    "In: a trace, as `trace 1 procs 2 cap 1`, then deeds such as `begin 0`, `ready 0`, `enter 0`.\nOut: the verdict \
+line.\n\nExample: rmelab judge examples/overtaken.trace";
+
+fn option<'a>(alloc: Global, name: &'a str, value: &'a str, help: &'a str) -> Arg<'a> {
+    Arg::new(alloc, name)
+        .long(name)
+        .value_name(value)
+        .help(help)
+        .action(ArgAction::Set)
+}
+
+fn number<'a>(alloc: Global, name: &'a str, value: &'a str, help: &'a str) -> Arg<'a> {
+    option(alloc, name, value, help).value_parser(value_parser!(u64))
+}
+
+fn file<'a>(alloc: Global, help: &'a str) -> Arg<'a> {
+    Arg::new(alloc, "FILE").help(help).action(ArgAction::Set)
+}
+
+fn variant<'a>(alloc: Global) -> Arg<'a> {
+    option(
+        alloc,
+        "variant",
+        "V",
+        "right, no-look, no-ties, renumber, exit-on-crash, count-up or last-skipped",
+    )
+}
+
+fn replay<'a>(alloc: Global) -> Result<Parser<'a>, AllocError> {
+    Parser::new(alloc, "replay")
+        .about("Runs a schedule of steps and crashes, and prints its report")
+        .after_help(REPLAY_HELP)
+        .arg(
+            Arg::new(alloc, "json")
+                .long("json")
+                .help("Print one JSON object of the report's lines")
+                .action(ArgAction::SetTrue),
+        )?
+        .arg(variant(alloc))?
+        .arg(option(
+            alloc,
+            "image",
+            "FILE",
+            "Begin with the words of this image, every process crashed",
+        ))?
+        .arg(option(alloc, "save", "FILE", "Write the last image to this file"))?
+        .arg(file(alloc, "The schedule; without it, standard input is read"))
+}
+
+fn hunt<'a>(alloc: Global) -> Result<Parser<'a>, AllocError> {
+    Parser::new(alloc, "hunt")
+        .about("Draws schedules until a variant of the lock goes wrong")
+        .after_help(HUNT_HELP)
+        .arg(variant(alloc).required(true))?
+        .arg(number(alloc, "seed", "S", "The seed of the moves").required(true))?
+        .arg(number(alloc, "rounds", "R", "1 to 10000 rounds").required(true))?
+        .arg(number(alloc, "steps", "K", "1 to 10000 moves a round").required(true))
+}
+
+fn judge<'a>(alloc: Global) -> Result<Parser<'a>, AllocError> {
+    Parser::new(alloc, "judge")
+        .about("Judges a trace of deeds, and prints the verdict")
+        .after_help(JUDGE_HELP)
+        .arg(file(alloc, "The trace; without it, standard input is read"))
+}
+
+/// The whole command line.
+pub fn parser<'a>(alloc: Global) -> Result<Parser<'a>, AllocError> {
+    Parser::new(alloc, "rmelab")
+        .about("A laboratory of recoverable first-come first-served locks")
+        .after_help(STATUSES)
+        .subcommand_required(true)
+        .subcommand(replay(alloc)?)?
+        .subcommand(hunt(alloc)?)?
+        .subcommand(judge(alloc)?)
+}

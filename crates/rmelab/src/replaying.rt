@@ -1,0 +1,207 @@
+//! The command `replay`.
+
+use crate::ending::{Ending, status_after_verdict};
+use crate::fault::Fault;
+use crate::json::json_report;
+use crate::order::ReplayOrder;
+use crashlab::{Variant, VariantWorld};
+use judge::Judge;
+use rmecore::Refusal;
+use rmeworld::{Image, Machine, World, read_image, start_of, widen, write_image};
+use schedule::device::write_all;
+use schedule::head::Head;
+use schedule::{Page, Schedule, Sink, Source, Verdict, read_schedule, replay, replay_on};
+use std::alloc::Global;
+
+/// What the first line of a schedule is refused with, where the world or the image can't be had.
+fn refused_header(refusal: Refusal) -> Fault {
+    match refusal.number() {
+        Some(number) => Fault::Refused { line: 1, number },
+        None => Fault::OutOfMemory,
+    }
+}
+
+/// The rule that an image breaks, or want of memory.
+fn refused_image(refusal: Refusal) -> Fault {
+    match refusal {
+        Refusal::BadImage { rule } => Fault::Image { rule },
+        _ => Fault::OutOfMemory,
+    }
+}
+
+/// Plays the schedule, to the writer or, as JSON, to a page first.
+fn play<M: Machine, W: Sink>(
+    alloc: Global,
+    machine: &mut M,
+    judge: &mut Judge,
+    schedule: &Schedule,
+    json: bool,
+    w: &mut W,
+) -> Result<Verdict, Fault> {
+    if !json {
+        return Ok(replay_on(alloc, machine, judge, schedule, w)?);
+    }
+    let mut page = Page::new(alloc);
+    let verdict = replay_on(alloc, machine, judge, schedule, &mut page)?;
+    let Ok(report) = str::from_utf8(page.as_slice()) else {
+        return Err(Fault::Write);
+    };
+    let object = json_report(alloc, report)?;
+    if write_all(w, &object).is_err() {
+        return Err(Fault::Write);
+    }
+    Ok(verdict)
+}
+
+/// The last image as text, where it is to be saved.
+fn saved<M: Machine>(alloc: Global, machine: &M, save: bool) -> Result<Option<Vec<u8>>, Fault> {
+    if !save {
+        return Ok(None);
+    }
+    let Ok(image) = machine.image() else {
+        return Err(Fault::OutOfMemory);
+    };
+    match write_image(alloc, &image) {
+        Ok(text) => Ok(Some(text)),
+        Err(_) => Err(Fault::OutOfMemory),
+    }
+}
+
+/// Plays the schedule on a machine, and says how the command ends.
+fn replay_machine<M: Machine, W: Sink>(
+    alloc: Global,
+    machine: &mut M,
+    judge: &mut Judge,
+    schedule: &Schedule,
+    order: &ReplayOrder,
+    w: &mut W,
+) -> Result<Ending, Fault> {
+    let verdict = play(alloc, machine, judge, schedule, order.json, w)?;
+    let save = saved(alloc, machine, order.save.is_some())?;
+    Ok(Ending {
+        status: status_after_verdict(verdict),
+        save,
+    })
+}
+
+/// A judge of a new lock with the schedule's sizes.
+fn new_judge(alloc: Global, schedule: &Schedule) -> Result<Judge, Fault> {
+    let head = schedule.head();
+    Judge::new(alloc, head.procs, head.cap).map_err(refused_header)
+}
+
+/// The schedule on a new world of the right lock.
+fn replay_new<W: Sink>(
+    alloc: Global,
+    schedule: &Schedule,
+    order: &ReplayOrder,
+    w: &mut W,
+) -> Result<Ending, Fault> {
+    let head = schedule.head();
+    let mut world = match World::new(alloc, head.procs, head.limit, head.cap, head.width) {
+        Ok(world) => world,
+        Err(refusal) => return Err(refused_header(refusal)),
+    };
+    let mut judge = new_judge(alloc, schedule)?;
+    replay_machine(alloc, &mut world, &mut judge, schedule, order, w)
+}
+
+/// The image, as wide as the schedule says. The header has to name the image's other sizes.
+fn fitting(alloc: Global, image: Image, schedule: &Schedule) -> Result<Image, Fault> {
+    let head = schedule.head();
+    let same = image.lock.as_slice().len() as u64 == head.procs
+        && image.limit == head.limit
+        && image.cap == head.cap;
+    if !same || image.width > head.width {
+        return Err(Fault::Refused { line: 1, number: 9 });
+    }
+    if image.width == head.width {
+        return Ok(image);
+    }
+    widen(alloc, &image, head.width).map_err(refused_header)
+}
+
+/// The schedule on a world that goes on from an image.
+fn replay_image<W: Sink>(
+    alloc: Global,
+    image: Image,
+    schedule: &Schedule,
+    order: &ReplayOrder,
+    w: &mut W,
+) -> Result<Ending, Fault> {
+    let image = fitting(alloc, image, schedule)?;
+    let mut world = match World::from_image(alloc, &image) {
+        Ok(world) => world,
+        Err(refusal) => return Err(refused_header(refusal)),
+    };
+    let start = match start_of(alloc, &image) {
+        Ok(start) => start,
+        Err(refusal) => return Err(refused_header(refusal)),
+    };
+    let mut judge = Judge::from_start(alloc, &start).map_err(refused_header)?;
+    replay_machine(alloc, &mut world, &mut judge, schedule, order, w)
+}
+
+/// The schedule on a new world of a variant of the lock.
+fn replay_variant<W: Sink>(
+    alloc: Global,
+    schedule: &Schedule,
+    order: &ReplayOrder,
+    w: &mut W,
+) -> Result<Ending, Fault> {
+    let Head {
+        procs,
+        limit,
+        cap,
+        width,
+    } = schedule.head();
+    let mut world = match VariantWorld::new(alloc, order.variant, procs, limit, cap, width) {
+        Ok(world) => world,
+        Err(refusal) => return Err(refused_header(refusal)),
+    };
+    let mut judge = new_judge(alloc, schedule)?;
+    replay_machine(alloc, &mut world, &mut judge, schedule, order, w)
+}
+
+/// All bytes of the reader.
+fn read_text<R: Source>(alloc: Global, r: &mut R) -> Result<Vec<u8>, Fault> {
+    let mut text = Vec::new(alloc);
+    let mut piece = [0u8; 4096];
+    for _ in 0..u64::MAX {
+        match r.read(&mut piece) {
+            Ok(0) => return Ok(text),
+            Ok(n) => text.extend_from_slice(&piece[..n])?,
+            Err(_) => return Err(Fault::Read),
+        }
+    }
+    Err(Fault::Read)
+}
+
+/// Runs `replay`: the image is read first, then the schedule; then it is played to its verdict.
+pub fn replay_order<R: Source, W: Sink>(
+    alloc: Global,
+    order: &ReplayOrder,
+    image: Option<&[u8]>,
+    r: &mut R,
+    w: &mut W,
+) -> Result<Ending, Fault> {
+    let plain = order.variant == Variant::Right && !order.json && order.save.is_none();
+    if image.is_none() && plain {
+        let verdict = replay(alloc, r, w)?;
+        return Ok(Ending {
+            status: status_after_verdict(verdict),
+            save: None,
+        });
+    }
+    let image = match image {
+        Some(text) => Some(read_image(alloc, text).map_err(refused_image)?),
+        None => None,
+    };
+    let text = read_text(alloc, r)?;
+    let schedule = read_schedule(alloc, &text)?;
+    match (image, order.variant) {
+        (Some(image), _) => replay_image(alloc, image, &schedule, order, w),
+        (None, Variant::Right) => replay_new(alloc, &schedule, order, w),
+        (None, _) => replay_variant(alloc, &schedule, order, w),
+    }
+}

@@ -1,0 +1,117 @@
+//! Replays that save an image, and replays that go on from one.
+
+use super::{prints, ran};
+use std::alloc::Global;
+use std::process::Abort;
+use std::test::Fail;
+
+const SMALLEST: &str = "rme 1 procs 1 limit 10 cap 1\nlock 0\nstep 0 8\n";
+
+const SMALLEST_IMAGE: &str =
+    "{\"cap\":1,\"data\":[0,0,0,0,0,0,0,0,0,0,0,0,0,0,0],\"limit\":10,\"lock\":[[0,1,1]],\"version\":2,\"width\":1}\n";
+
+const TORN: &str =
+    "rme 1 procs 1 limit 10 cap 2\nlock 0\nstep 0 8\nappend 0 1 77\nstep 0 7\ncrash 0\n";
+
+const TORN_IMAGE: &str =
+    "{\"cap\":2,\"data\":[0,0,0,1,0,1,77,0,0,0,0,0,0,0,0,0,0,0],\"limit\":10,\"lock\":[[0,1,1]],\"version\":2,\"width\":1}\n";
+
+const MENDED: (&str, &str) = (
+    "rme 1 procs 1 limit 10 cap 2\nlock 0\nstep 0 4\nconsistent 0\nstep 0 11\n",
+    "reenter 0\nanswer 0 owner-died\nshow 0 0 1 77\nanswer 0 mended\nwords 0 0 1 1\nmail 1 closed 0 ruined 0\nmessage 0 0 1 77\nverdict fine\n",
+);
+
+/// Replays a schedule from an image, and compares what it prints.
+fn goes_on(
+    rt: &impl Abort,
+    alloc: Global,
+    image: &str,
+    input: &str,
+    out: &str,
+    err: &str,
+) -> Result<(), Fail> {
+    let line = "rmelab replay --image a.json";
+    let printed = ran(rt, alloc, line, Some(image.as_bytes()), input)?;
+    assert_eq!(rt; printed.out.as_slice(), out.as_bytes());
+    assert_eq!(rt; printed.err.as_slice(), err.as_bytes());
+    assert_eq!(rt; printed.status, if err.is_empty() { 0 } else { 2 });
+    Ok(())
+}
+
+/// Replays a schedule, and compares the image that it saves.
+fn saves(rt: &impl Abort, alloc: Global, schedule: &str, image: &str) -> Result<(), Fail> {
+    let printed = ran(rt, alloc, "rmelab replay --save a.json", None, schedule)?;
+    let text = match &printed.save {
+        Some(text) => text.as_slice(),
+        None => b"",
+    };
+    assert_eq!(rt; text, image.as_bytes());
+    Ok(())
+}
+
+#[test]
+fn images_saved(rt: HostRuntime) -> Result<(), Fail> {
+    saves(&rt, rt.alloc(), SMALLEST, SMALLEST_IMAGE)?;
+    saves(&rt, rt.alloc(), TORN, TORN_IMAGE)
+}
+
+#[test]
+fn nothing_saved(rt: HostRuntime) -> Result<(), Fail> {
+    let printed = ran(&rt, rt.alloc(), "rmelab replay", None, SMALLEST)?;
+    assert_eq!(rt; printed.save.is_none(), true);
+    Ok(())
+}
+
+#[test]
+fn torn_image(rt: HostRuntime) -> Result<(), Fail> {
+    let (schedule, report) = MENDED;
+    goes_on(&rt, rt.alloc(), TORN_IMAGE, schedule, report, "")
+}
+
+/// The header has to name the image's sizes, a wider width makes the image wider, and a broken image is named by its rule.
+#[test]
+fn images_and_headers(rt: HostRuntime) -> Result<(), Fail> {
+    let alloc = rt.alloc();
+    let refused = "rmelab: line 1: refused 9\n";
+    for header in [
+        "rme 1 procs 2 limit 10 cap 2\n",
+        "rme 1 procs 1 limit 11 cap 2\n",
+        "rme 1 procs 1 limit 10 cap 1\n",
+        "rme 1 procs 65 limit 0 cap 0\n",
+    ] {
+        goes_on(&rt, alloc, TORN_IMAGE, header, "", refused)?;
+    }
+    let wide = "rme 2 procs 1 limit 10 cap 2 width 2\nlock 0\nstep 0 4\nconsistent 0\nstep 0 13\n";
+    let report =
+        "reenter 0\nanswer 0 owner-died\nshow 0 0 1 77 0\nanswer 0 mended\nwords 0 0 1 1\nmail 1 closed 0 ruined 0\nmessage 0 0 1 77 0\nverdict fine\n";
+    goes_on(&rt, alloc, TORN_IMAGE, wide, report, "")?;
+    goes_on(&rt, alloc, "[]", SMALLEST, "", "rmelab: image: rule 1\n")?;
+    goes_on(&rt, alloc, "[]", "", "", "rmelab: image: rule 1\n")
+}
+
+#[test]
+fn json_reports(rt: HostRuntime) -> Result<(), Fail> {
+    let object =
+        "{\"report\":[\"begin 0\",\"ready 0\",\"enter 0\",\"answer 0 clean\",\"words 0 0 1 1\",\"mail 0 closed 0 ruined 0\",\"verdict fine\"]}\n";
+    prints(
+        &rt,
+        rt.alloc(),
+        "rmelab replay --json",
+        SMALLEST,
+        object,
+        "",
+        0,
+    )?;
+    let refused = "rme 1 procs 1 limit 10 cap 1\nlock 0\nstep 0 8\nconsistent 0\n";
+    let line = "rmelab: line 4: refused 10\n";
+    prints(
+        &rt,
+        rt.alloc(),
+        "rmelab replay --json",
+        refused,
+        "",
+        line,
+        2,
+    )?;
+    Ok(())
+}

@@ -1,0 +1,88 @@
+//! The words of the command line.
+
+use super::words_of;
+use crate::fault::Fault;
+use crate::order::{Command, HuntOrder, ReplayOrder};
+use crate::words::{WordsFault, read_words};
+use crashlab::Variant;
+use std::test::Fail;
+
+#[test]
+fn a_replay_of_standard_input(rt: HostRuntime) -> Result<(), Fail> {
+    let words = words_of(rt.alloc(), "rmelab replay")?;
+    let Ok(Command::Replay(order)) = read_words(rt.alloc(), &words) else {
+        panic!(&rt; "no replay");
+    };
+    let plain = ReplayOrder {
+        json: false,
+        variant: Variant::Right,
+        image: None,
+        save: None,
+        file: None,
+    };
+    assert_eq!(rt; order, plain);
+    Ok(())
+}
+
+#[test]
+fn a_hunt(rt: HostRuntime) -> Result<(), Fail> {
+    let line = "rmelab hunt --variant last-skipped --seed 1 --rounds 10000 --steps 10000";
+    let words = words_of(rt.alloc(), line)?;
+    let Ok(Command::Hunt(order)) = read_words(rt.alloc(), &words) else {
+        panic!(&rt; "no hunt");
+    };
+    let longest = HuntOrder {
+        variant: Variant::LastSkipped,
+        seed: 1,
+        rounds: 10_000,
+        steps: 10_000,
+    };
+    assert_eq!(rt; order, longest);
+    Ok(())
+}
+
+#[test]
+fn refused_words(rt: HostRuntime) -> Result<(), Fail> {
+    for (line, fault) in [
+        ("rmelab replay --variant none", Fault::BadVariant),
+        (
+            "rmelab replay --variant no-look --image a.json",
+            Fault::BadVariant,
+        ),
+        (
+            "rmelab hunt --variant wrong --seed 1 --rounds 0 --steps 1",
+            Fault::BadVariant,
+        ),
+        (
+            "rmelab hunt --variant right --seed 1 --rounds 0 --steps 1",
+            Fault::BadSize,
+        ),
+    ] {
+        let words = words_of(rt.alloc(), line)?;
+        let found = match read_words(rt.alloc(), &words) {
+            Err(WordsFault::BadVariant) => Some(Fault::BadVariant),
+            Err(WordsFault::BadSize) => Some(Fault::BadSize),
+            _ => None,
+        };
+        assert_eq!(rt; found, Some(fault), "{line}");
+    }
+    Ok(())
+}
+
+#[test]
+fn what_clap_refuses(rt: HostRuntime) -> Result<(), Fail> {
+    for (line, wanted) in [
+        ("rmelab", 2u8),
+        ("rmelab hunt --seed 1", 2),
+        ("rmelab replay a b", 2),
+        ("rmelab --help", 0),
+        ("rmelab hunt --help", 0),
+    ] {
+        let words = words_of(rt.alloc(), line)?;
+        let Err(WordsFault::Refused { status, .. }) = read_words(rt.alloc(), &words) else {
+            panic!(&rt; "read: {line}");
+        };
+        assert_eq!(rt; status, wanted, "{line}");
+    }
+    Ok(())
+}

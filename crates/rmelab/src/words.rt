@@ -1,0 +1,135 @@
+//! The words of the command line, read.
+
+ghost use Rattle.std.specs.Prelude.{◌≡◌, ◌↔◌, IfOk, IsOk, OnErr, IsErrOf};
+ghost use Rattle.rmelab.specs.Sizes.{IsSized, HuntFits};
+
+use crate::order::{Command, HuntOrder, ReplayOrder};
+use crate::parser::parser;
+use clap::error::ErrorKind;
+use clap::{ArgMatches, Error};
+use crashlab::Variant;
+use std::alloc::{AllocError, Global};
+
+/// Why the words are no command, in the order in which it is found.
+#[derive(Debug, Drop)]
+pub enum WordsFault {
+    /// What `clap` says, on standard error with status 2, or its help, on standard output with status 0.
+    Refused { text: String, status: u8 },
+    /// No such variant, or one other than `right` together with an image.
+    BadVariant,
+    /// A number of `hunt` outside its range.
+    BadSize,
+    OutOfMemory,
+}
+
+impl From<AllocError> for WordsFault {
+    fn from(_e: AllocError) -> WordsFault {
+        WordsFault::OutOfMemory
+    }
+}
+
+/// The variant of this name.
+fn variant_named(name: &str) -> Option<Variant> {
+    match name {
+        "right" => Some(Variant::Right),
+        "no-look" => Some(Variant::NoLook),
+        "no-ties" => Some(Variant::NoTies),
+        "renumber" => Some(Variant::Renumber),
+        "exit-on-crash" => Some(Variant::ExitOnCrash),
+        "count-up" => Some(Variant::CountUp),
+        "last-skipped" => Some(Variant::LastSkipped),
+        _ => None,
+    }
+}
+
+fn text_of(
+    alloc: Global,
+    matches: &ArgMatches<'_>,
+    name: &str,
+) -> Result<Option<String>, AllocError> {
+    match matches.get_str(name) {
+        Some(text) => Ok(Some(String::from_str(alloc, text)?)),
+        None => Ok(None),
+    }
+}
+
+fn number_of(matches: &ArgMatches<'_>, name: &str) -> u64 {
+    matches.get_one::<u64>(name).unwrap_or(0)
+}
+
+fn replay_words(alloc: Global, matches: &ArgMatches<'_>) -> Result<ReplayOrder, WordsFault> {
+    let variant = variant_named(matches.get_str("variant").unwrap_or("right"));
+    let image = text_of(alloc, matches, "image")?;
+    let Some(variant) = variant else {
+        return Err(WordsFault::BadVariant);
+    };
+    if variant != Variant::Right && image.is_some() {
+        return Err(WordsFault::BadVariant);
+    }
+    Ok(ReplayOrder {
+        json: matches.get_flag("json"),
+        variant,
+        image,
+        save: text_of(alloc, matches, "save")?,
+        file: text_of(alloc, matches, "FILE")?,
+    })
+}
+
+/// The order of a hunt, where its numbers are in their ranges.
+fn hunt_of(order: HuntOrder) -> Result<HuntOrder, WordsFault>
+    ensures fits { IsOk result ↔ HuntFits order }
+    ensures same { IfOk result (λ sized. sized ≡ order) }
+    ensures size { OnErr result (IsErrOf result WordsFault.BadSize) }
+{
+    let fits = (1..=10_000).contains(&order.rounds) && (1..=10_000).contains(&order.steps);
+    if fits {
+        Ok(order)
+    } else {
+        Err(WordsFault::BadSize)
+    }
+}
+
+fn hunt_words(matches: &ArgMatches<'_>) -> Result<HuntOrder, WordsFault>
+    ensures { IfOk result HuntFits }
+{
+    let Some(variant) = variant_named(matches.get_str("variant").unwrap_or("")) else {
+        return Err(WordsFault::BadVariant);
+    };
+    hunt_of(HuntOrder {
+        variant,
+        seed: number_of(matches, "seed"),
+        rounds: number_of(matches, "rounds"),
+        steps: number_of(matches, "steps"),
+    })
+}
+
+fn command_of(alloc: Global, matches: &ArgMatches<'_>) -> Result<Command, WordsFault>
+    ensures { IfOk result IsSized }
+{
+    match matches.subcommand() {
+        Some(("replay", inner)) => Ok(Command::Replay(replay_words(alloc, inner)?)),
+        Some(("hunt", inner)) => Ok(Command::Hunt(hunt_words(inner)?)),
+        Some((_, inner)) => Ok(Command::Judge(text_of(alloc, inner, "FILE")?)),
+        None => Err(WordsFault::BadVariant),
+    }
+}
+
+fn refused(alloc: Global, error: &Error) -> Result<WordsFault, AllocError> {
+    if error.kind() == ErrorKind::OutOfMemory {
+        return Ok(WordsFault::OutOfMemory);
+    }
+    let text = format!(in alloc; "{error}")?;
+    let status = if error.use_stderr() { 2 } else { 0 };
+    Ok(WordsFault::Refused { text, status })
+}
+
+/// Reads the words of a command line, of which the first is the program's name. What `clap` refuses is found first, then
+/// a bad variant, then a bad size.
+pub fn read_words(alloc: Global, words: &[String]) -> Result<Command, WordsFault>
+    ensures sized { IfOk result IsSized }
+{
+    match parser(alloc)?.try_get_matches_from(words) {
+        Ok(matches) => command_of(alloc, &matches),
+        Err(error) => Err(refused(alloc, &error)?),
+    }
+}

@@ -16,3 +16,4 @@ pub mod Among
 pub mod Stands
 pub mod Endings
 pub mod Owns
+pub mod Feeding

@@ -34,7 +34,7 @@ answer-gets : (i n : ℕ) (read : List ℕ) (next : List ℕ → Script Reply) (
 answer-gets i zero read next w a h = h read
 answer-gets i (suc n) read next w a h = answer-gets (i + 1) n (read ++ w i ∷ []) next w a h
 
-length-apply_steps : (l : Layout) (p : ℕ) (r : Record) → length (apply_steps l p r) ≡ 5 + length r.value
+pub length-apply_steps : (l : Layout) (p : ℕ) (r : Record) → length (apply_steps l p r) ≡ 5 + length r.value
 length-apply_steps l p r =
     let last3 : List (ℕ × ℕ) = (last_at l p, r.seq) ∷ (2, held (r.at + 1)) ∷ (3, 0) ∷ [] in
     omega (

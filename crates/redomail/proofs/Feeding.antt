@@ -1,0 +1,144 @@
+-- A job that was given one more word: it fits its layout still, and what is left of it is the tail of its script.
+use Rattle.std.proofs.Common.{◌≡◌, ℕ, ◌+◌, ◌-◌, ◌*◌, ◌<◌, ◌≤◌, Bool, true, false, ◌==◌, nat_lt, nat_le, if◌then◌else◌, List, length, take, drop, slice_set, refl, sym, ap, ◌∙◌, inl, inr, arith, length-take, length-set}
+use Rattle.std.proofs.lemmas.Bool.{cases_Bool, ltb-true, ltb-false}
+use Rattle.redomail.specs.declared.layout.Layout.{Layout}
+use Rattle.redomail.specs.declared.record.Record.{Record}
+use Rattle.redomail.specs.declared.reply.Reply.{Reply}
+use Rattle.redomail.specs.declared.reply.Reply.TheVariants as reply
+use Rattle.redomail.specs.declared.stage.Stage.{Stage}
+use Rattle.redomail.specs.declared.stage.Stage.TheVariants as stage
+use Rattle.redomail.specs.declared.task.Task.{Task}
+use Rattle.redomail.specs.declared.task.Task.TheVariants as task
+use Rattle.redomail.specs.Layout.{IsLayout}
+use Rattle.redomail.specs.Jobs.{left_at, value_width, buffer_width, words_read, steps_done, board_index, FitsStage}
+use Rattle.redomail.specs.Script.{Script, Done, tail, puts}
+use Rattle.redomail.specs.Stages.{first_stage, stage_after, decided_stage, read_stage}
+use Rattle.redomail.specs.Tasks.{store_steps, decided, redo, record_of}
+use Rattle.redomail.proofs.Scripts.{store-on, store-end, store-redo, read-on, read-end}
+
+module _ (l : Layout) (lawful : IsLayout l) where
+  -- a stage that holds nothing but a value of the layout's width
+  fits : (x : Stage) → value_width l x ≡ l.width → buffer_width x ≡ 8 → words_read x ≡ 0 → steps_done x ≡ 0 → board_index x ≡ 0 → FitsStage l x
+  fits x value buffer read step board =
+      let least = lawful.least in
+      record { value = value; buffer = buffer; read = omega (arith, read, least); step = omega (arith, step); board = omega (arith, board) }
+
+  fits_ended : (a : Reply) → FitsStage l (stage.Ended a)
+  fits_ended a = fits (stage.Ended a) refl refl refl refl refl
+
+  -- a task that no job is refused for its index or its value
+  abbrev pub FitsTask : Task → Type 0
+  FitsTask (task.Append seq value) = length value ≡ l.width
+  FitsTask (task.BoardGet i) = i < 4
+  FitsTask (task.BoardPut i v) = i < 4
+  FitsTask t = Unit {0}
+
+  pub fits_first : (t : Task) → FitsTask t → FitsStage l (first_stage t)
+  fits_first (task.Append seq value) h = fits (stage.AskClosed seq value) h refl refl refl refl
+  fits_first task.Close h = fits stage.AskOpen refl refl refl refl refl
+  fits_first task.Repair h = fits stage.AskArmed refl refl refl refl refl
+  fits_first (task.BoardGet i) h = record { value = refl; buffer = refl; read = (fits stage.AskAt refl refl refl refl refl).read; step = omega arith; board = h }
+  fits_first (task.BoardPut i v) h = record { value = refl; buffer = refl; read = (fits stage.AskAt refl refl refl refl refl).read; step = omega arith; board = h }
+  fits_first task.Ruin h = fits stage.PutRuined refl refl refl refl refl
+  fits_first task.Check h = fits stage.AskRuined refl refl refl refl refl
+
+  -- an append that knows the three words
+  fits_decided : (seq : ℕ) (value : List ℕ) (closed count last : ℕ) → length value ≡ l.width → FitsStage l (decided_stage l seq value closed count last)
+  fits_decided seq value closed count last wide = by (seq == 0) (nat_le seq last) (nat_lt (last + 1) seq) (closed == 1) (count == l.cap)
+    where
+      by : (a b c d e : Bool)
+          → FitsStage l (if a then stage.Ended reply.OutOfOrder else if b then stage.Ended reply.Already else if c then stage.Ended reply.OutOfOrder else if d then stage.Ended reply.Closed else if e then stage.Ended reply.Full else stage.Write (record_of count seq value) 0 reply.Stored)
+      by true b c d e = fits_ended _
+      by false true c d e = fits_ended _
+      by false false true d e = fits_ended _
+      by false false false true e = fits_ended _
+      by false false false false true = fits_ended _
+      by false false false false false = fits (stage.Write (record_of count seq value) 0 reply.Stored) wide refl refl refl refl
+
+  left_decided : (p seq : ℕ) (value : List ℕ) (closed count last : ℕ) → left_at l p (decided_stage l seq value closed count last) ≡ decided l p seq value closed count last
+  left_decided p seq value closed count last = by (seq == 0) (nat_le seq last) (nat_lt (last + 1) seq) (closed == 1) (count == l.cap)
+    where
+      by : (a b c d e : Bool)
+          → left_at l p (if a then stage.Ended reply.OutOfOrder else if b then stage.Ended reply.Already else if c then stage.Ended reply.OutOfOrder else if d then stage.Ended reply.Closed else if e then stage.Ended reply.Full else stage.Write (record_of count seq value) 0 reply.Stored)
+          ≡ (if a then Done reply.OutOfOrder else if b then Done reply.Already else if c then Done reply.OutOfOrder else if d then Done reply.Closed else if e then Done reply.Full else puts (store_steps l p (record_of count seq value)) (Done reply.Stored))
+      by true b c d e = refl
+      by false true c d e = refl
+      by false false true d e = refl
+      by false false false true e = refl
+      by false false false false true = refl
+      by false false false false false = refl
+
+  -- a repair that was given one more word of the record's value
+  fits_read : (at seq : ℕ) (words : List ℕ) (read word : ℕ) → length words ≡ 8 → read < l.width → FitsStage l (read_stage l at seq (slice_set words read word) (read + 1))
+  fits_read at seq words read word room within =
+      let most = lawful.most in
+      let len = length-set words read word in
+      elim (cases_Bool (nat_lt (read + 1) l.width)) [
+        | inl e ↦ let less : read + 1 < l.width = ltb-true _ _ e in rw e (record { value = refl; buffer = len ∙ room; read = less; step = omega arith; board = omega arith })
+        | inr e ↦
+            let past : l.width ≤ read + 1 = ltb-false _ _ e in
+            let all : length (take (read + 1) (slice_set words read word)) ≡ l.width = omega (arith, length-take (read + 1) (slice_set words read word), len, room, within, most, past) in
+            rw e (record { value = all; buffer = refl; read = omega (arith, within); step = omega (arith, within); board = omega arith })
+      ]
+
+  left_read : (p at seq : ℕ) (words : List ℕ) (read word : ℕ) → length words ≡ 8 → read < l.width
+      → left_at l p (read_stage l at seq (slice_set words read word) (read + 1)) ≡ tail (left_at l p (stage.AskValue at seq words read)) word
+  left_read p at seq words read word room within =
+      let most = lawful.most in
+      let len = length-set words read word in
+      elim (cases_Bool (nat_lt (read + 1) l.width)) [
+        | inl e ↦ let less : read + 1 < l.width = ltb-true _ _ e in rw e (read-on l.width read words word (redo l p at seq) (omega (arith, less)) (omega (arith, within, most, room)))
+        | inr e ↦
+            let past : l.width ≤ read + 1 = ltb-false _ _ e in
+            let value : List ℕ = take (read + 1) (slice_set words read word) in
+            let all : length value ≡ read + 1 = omega (arith, length-take (read + 1) (slice_set words read word), len, room, within, most) in
+            rw e (ap (λ xs. puts xs (Done (reply.Mended true))) (store-redo l p (record_of at seq value) (3 + (read + 1)) (omega (arith, all))) ∙ read-end l.width read words word (redo l p at seq) (omega (arith, past, within)) (omega (arith, within, most, room)))
+      ]
+
+  fits_if : (b : Bool) (x y : Stage) → FitsStage l x → FitsStage l y → FitsStage l (if b then x else y)
+  fits_if true x y h k = h
+  fits_if false x y h k = k
+
+  pub fits_after : (x : Stage) (word : ℕ) → FitsStage l x → FitsStage l (stage_after l x word)
+  fits_after (stage.AskClosed seq value) word h = fits (stage.AskCount seq value word) h.value refl refl refl refl
+  fits_after (stage.AskCount seq value closed) word h = fits (stage.AskLast seq value closed word) h.value refl refl refl refl
+  fits_after (stage.AskLast seq value closed count) word h = fits_decided seq value closed count word h.value
+  fits_after stage.AskArmed word h = fits_if (word == 0) _ _ (fits_ended _) (fits stage.AskAt refl refl refl refl refl)
+  fits_after stage.AskAt word h = fits (stage.AskSeq word) refl refl refl refl refl
+  fits_after (stage.AskSeq at) word h = fits (stage.AskValue at word _ 0) refl refl refl refl refl
+  fits_after (stage.AskValue at seq words read) word h = fits_read at seq words read word h.buffer h.read
+  fits_after (stage.Write r step a) word h =
+      elim (cases_Bool (nat_lt (step + 1) (8 + 2 * l.width))) [
+        | inl e ↦ let less : step + 1 < 8 + 2 * l.width = ltb-true _ _ e in rw e (record { value = h.value; buffer = refl; read = h.read; step = less; board = omega arith })
+        | inr e ↦ rw e (fits_ended a)
+      ]
+  fits_after stage.AskOpen word h = fits_if (word == 1) _ _ (fits_ended _) (fits stage.PutClosed refl refl refl refl refl)
+  fits_after stage.PutClosed word h = fits_ended _
+  fits_after (stage.GetBoard i) word h = fits_ended _
+  fits_after (stage.PutBoard i v) word h = fits_ended _
+  fits_after stage.PutRuined word h = fits_ended _
+  fits_after stage.AskRuined word h = fits_ended _
+  fits_after (stage.Ended a) word h = fits_ended a
+
+  pub left_after : (p : ℕ) (x : Stage) (word : ℕ) → FitsStage l x → left_at l p (stage_after l x word) ≡ tail (left_at l p x) word
+  left_after p (stage.AskClosed seq value) word h = refl
+  left_after p (stage.AskCount seq value closed) word h = refl
+  left_after p (stage.AskLast seq value closed count) word h = left_decided p seq value closed count word
+  left_after p stage.AskArmed word h = elim (cases_Bool (word == 0)) [ inl e ↦ rw e refl | inr e ↦ rw e refl ]
+  left_after p stage.AskAt word h = refl
+  left_after p (stage.AskSeq at) word h = let whole : l.width - 0 ≡ l.width = omega arith in rw whole refl
+  left_after p (stage.AskValue at seq words read) word h = left_read p at seq words read word h.buffer h.read
+  left_after p (stage.Write r step a) word h =
+      let wide = h.value in
+      let within = h.step in
+      elim (cases_Bool (nat_lt (step + 1) (8 + 2 * l.width))) [
+        | inl e ↦ let less : step + 1 < 8 + 2 * l.width = ltb-true _ _ e in rw e (sym (store-on l p r (Done a) word step (omega (arith, wide, within))))
+        | inr e ↦ let past : 8 + 2 * l.width ≤ step + 1 = ltb-false _ _ e in rw e (sym (store-end l p r (Done a) word step (omega (arith, wide, within, past))))
+      ]
+  left_after p stage.AskOpen word h = elim (cases_Bool (word == 1)) [ inl e ↦ rw e refl | inr e ↦ rw e refl ]
+  left_after p stage.PutClosed word h = refl
+  left_after p (stage.GetBoard i) word h = refl
+  left_after p (stage.PutBoard i v) word h = refl
+  left_after p stage.PutRuined word h = refl
+  left_after p stage.AskRuined word h = refl
+  left_after p (stage.Ended a) word h = refl

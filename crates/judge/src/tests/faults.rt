@@ -9,12 +9,14 @@ use std::process::Abort;
 
 #[test]
 fn each_fault(rt: HostRuntime) {
-    faults_of(&rt, rt.alloc(), 0, 63);
-    faults_of(&rt, rt.alloc(), 63, 0);
+    for (p, q) in [(0, 63), (63, 0)] {
+        lock_faults(&rt, rt.alloc(), p, q);
+        mail_faults(&rt, rt.alloc(), p);
+    }
 }
 
-// The faults of p, where q is another process.
-fn faults_of(rt: &impl Abort, alloc: Global, p: u64, q: u64) {
+// The faults of the lock that p makes, where q is another process.
+fn lock_faults(rt: &impl Abort, alloc: Global, p: u64, q: u64) {
     let outside = [ready(p)];
     assert_eq!(rt;
         verdict(rt, alloc, 64, &outside),
@@ -51,6 +53,10 @@ fn faults_of(rt: &impl Abort, alloc: Global, p: u64, q: u64) {
         verdict(rt, alloc, 64, &overtaken),
         Some((5, Fault::Overtaken { by: p, of: q }))
     );
+}
+
+// The faults of the mailbox that p makes.
+fn mail_faults(rt: &impl Abort, alloc: Global, p: u64) {
     let not_inside = [begin(p), ready(p), Deed::Close { p }];
     assert_eq!(rt;
         verdict(rt, alloc, 64, &not_inside),

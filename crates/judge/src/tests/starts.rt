@@ -152,6 +152,13 @@ fn bad_phases(rt: HostRuntime) -> Result<(), AllocError> {
         bad,
         "two dead in"
     );
+    Ok(())
+}
+
+#[test]
+fn too_few(rt: HostRuntime) -> Result<(), AllocError> {
+    let alloc = rt.alloc();
+    let bad = Some(Refusal::BadShape);
     let few = start(alloc, &[Phase::Out], &[])?;
     assert_eq!(rt;
         refused(

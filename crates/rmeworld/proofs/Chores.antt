@@ -113,16 +113,16 @@ lock_allowed s h = by (lock_access (standing s)) h
     by (Some a) h = λ v. at_lock_some s.layout s.index s.lock s.mended s.barred _ (h v)
 
 -- and so is a script's
+pub doing_allowed : (s : Stand) (why : Why) (x : Script Reply) → IfSome (access_by s.limit s.index s.lock (Doing why x)) (λ a. (v : ℕ) → IsSome (moved_by s.layout s.limit s.index s.lock s.mended s.barred (Doing why x) (kind_of a) (word_of a) (carried a v)))
+doing_allowed s why (Asks i rest) = λ v. let own : (i == i) ≡ true = eq-eqb i i refl in rw own refl
+doing_allowed s why (Writes i x rest) = λ v.
+    let own : (i == i) ≡ true = eq-eqb i i refl in
+    let same : (x == x) ≡ true = eq-eqb x x refl in
+    rw (own, same) refl
+doing_allowed s why (Done reply) = tt
+
 pub script_allowed : (s : Stand) (why : Why) (job : Pending) → IfSome (next_access (with s (Does why job))) (IsAllowed (with s (Does why job)))
-script_allowed s why job = by (left job)
-  where
-    by : (x : Script Reply) → IfSome (access_by s.limit s.index s.lock (Doing why x)) (λ a. (v : ℕ) → IsSome (moved_by s.layout s.limit s.index s.lock s.mended s.barred (Doing why x) (kind_of a) (word_of a) (carried a v)))
-    by (Asks i rest) = λ v. let own : (i == i) ≡ true = eq-eqb i i refl in rw own refl
-    by (Writes i x rest) = λ v.
-        let own : (i == i) ≡ true = eq-eqb i i refl in
-        let same : (x == x) ≡ true = eq-eqb x x refl in
-        rw (own, same) refl
-    by (Done reply) = tt
+script_allowed s why job = doing_allowed s why (left job)
 
 -- what a step of the lock's part is
 pub lock_outcome : (s : Stand) (v : ℕ)

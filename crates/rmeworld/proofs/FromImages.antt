@@ -26,6 +26,7 @@ use Rattle.rmeworld.specs.Stand.{Stand, spot_of, resting, crashed}
 use Rattle.rmeworld.specs.WorldState.{absent, stand_at, spot_at, scene_of, HasSeat, crashed_from, image_world}
 use Rattle.rmeworld.proofs.LawfulNow.{find_in}
 use Rattle.rmeworld.proofs.WorldSteps.{le-ltb}
+use Rattle.rmeworld.proofs.WorldTallies.{unstarted}
 use Rattle.rmeworld.proofs.ImageJudged.{alone}
 use Rattle.rmeworld.proofs.ImageStarts.{lawful_content}
 
@@ -119,7 +120,7 @@ length-crashed : (l : Layout) (limit p n : ℕ) → length (crashed_from l limit
 length-crashed l limit p zero = refl
 length-crashed l limit p (suc n) = ap suc (length-crashed l limit (p + 1) n)
 
-crashed-at : (l : Layout) (limit p n q : ℕ) → q < n → stand_at (crashed_from l limit p n) q ≡ crashed (resting l limit (p + q))
+pub crashed-at : (l : Layout) (limit p n q : ℕ) → q < n → stand_at (crashed_from l limit p n) q ≡ crashed (resting l limit (p + q))
 crashed-at l limit p zero q h = absurd (omega arith)
 crashed-at l limit p (suc n) zero h = let e : p ≡ p + 0 = omega arith in ap (λ x. crashed (resting l limit x)) e
 crashed-at l limit p (suc n) (suc q) h = let e : p + 1 + q ≡ p + suc q = omega arith in crashed-at l limit (p + 1) n q (omega arith) ∙ ap (λ x. crashed (resting l limit x)) e
@@ -194,4 +195,5 @@ image_world_is i k =
         last = sym (image_scene i);
         done = refl;
       };
+      tallied = λ p below. unstarted l (own_at i.lock p) (spot_at (crashed_from l i.limit 0 n) p) i.lock p (ap spot_of (crashed-at l i.limit 0 n p below));
     }

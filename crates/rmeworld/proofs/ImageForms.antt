@@ -76,11 +76,11 @@ more_than_width es rest n first some false w e =
     let all = ap members_len first in
     absurd (omega (arith, none, all, members_len-members_view rest))
 
-abbrev rest_of_members : Members → Members
+abbrev pub rest_of_members : Members → Members
 rest_of_members no_members = no_members
 rest_of_members (member k d ms) = ms
 
-abbrev members_or : Data → Members
+abbrev pub members_or : Data → Members
 members_or (object ms) = ms
 members_or d = no_members
 

@@ -3,6 +3,8 @@ pub mod ImageJudged
 pub mod ImageRules
 pub mod ImageStarts
 pub mod ImageTexts
+pub mod LineFeeds
+pub mod ImageSpelt
 pub mod Entries
 pub mod Chores
 pub mod ImageWidens
@@ -15,5 +17,15 @@ pub mod WorldSteps
 pub mod StoryGrows
 pub mod Worlds
 pub mod Reaching
+pub mod Holders
 pub mod LawfulNow
 pub mod FromImages
+pub mod CallParts
+pub mod Costs
+pub mod CallBounds
+pub mod CallSteps
+pub mod CallWalks
+pub mod Ordered
+pub mod Following
+pub mod Beginning
+pub mod WorldTallies

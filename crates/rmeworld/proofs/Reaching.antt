@@ -41,7 +41,7 @@ use Rattle.rmeworld.proofs.Stories.{goes_on, sound, first, state_is, later}
 
 -- the judge's lock after a story's deeds
 
-all_after-append : (s : State) (ds es : List Deed) → all_after s (ds ++ es) ≡ all_after (all_after s ds) es
+pub all_after-append : (s : State) (ds es : List Deed) → all_after s (ds ++ es) ≡ all_after (all_after s ds) es
 all_after-append s [] es = refl
 all_after-append s (d ∷ ds) es = all_after-append (after s d) ds es
 
@@ -59,7 +59,7 @@ put_own l p cells (ChoosingOf q) v = tt
 put_own l p cells (NumberOf q) v = tt
 put_own l p cells (InsideOf q) v = tt
 
-mail_own : (l : Layout) (cells : Words) (e : Happening) → AreOwn (who e) (mail_deeds l cells e)
+pub mail_own : (l : Layout) (cells : Words) (e : Happening) → AreOwn (who e) (mail_deeds l cells e)
 mail_own l cells (Begins p call) = tt
 mail_own l cells (Falls p) = tt
 mail_own l cells (Glances p word v) = tt
@@ -70,7 +70,7 @@ outer_led : (s : State) (o : Option Outer) → (all_after s (outer_deeds o)).loc
 outer_led s None = refl
 outer_led s (Some d) = refl
 
-done-and_then : (a : Abstract) (o : Option Outer) (ds : List Outer) → all_done a (and_then o ds) ≡ all_done (done_by a o) ds
+pub done-and_then : (a : Abstract) (o : Option Outer) (ds : List Outer) → all_done a (and_then o ds) ≡ all_done (done_by a o) ds
 done-and_then a None ds = refl
 done-and_then a (Some d) ds = refl
 
@@ -85,7 +85,7 @@ lock_led l limit w (e ∷ es) s =
     ∙ ap (λ a. all_done a (outers l limit (onward l limit w e) es)) here ∙ sym (done-and_then s.lock o (outers l limit (onward l limit w e) es))
 
 -- where a sound story ends
-sound_ends : (l : Layout) (limit : ℕ) (w : Scene) (s : State) (es : List Happening) → Sound l limit w s es → (t : State) × Leads s (deeds l limit w es) t × Sits l (last_scene l limit w es).cells t
+pub sound_ends : (l : Layout) (limit : ℕ) (w : Scene) (s : State) (es : List Happening) → Sound l limit w s es → (t : State) × Leads s (deeds l limit w es) t × Sits l (last_scene l limit w es).cells t
 sound_ends l limit w s [] h = (s, refl, h)
 sound_ends l limit w s (e ∷ es) h =
     let g = h.1 in
@@ -175,7 +175,7 @@ pub record Arrived (l : Layout) (limit : ℕ) (s : State) (w : Scene) (history :
   pub lawful : IsLawful l.procs limit w.words
   pub who_is_in : (p : ℕ) → p < l.procs → IsIn (now.lock.phase p) → (0 < (w.words p).number) × (0 < (w.words p).inside)
 
-arrives : (l : Layout) (limit : ℕ) (w : Scene) (s : State) (story : List Happening) → IsLayout l → Origin l limit w s → Story l limit w story → Arrived l limit s (last_scene l limit w story) (deeds l limit w story)
+pub arrives : (l : Layout) (limit : ℕ) (w : Scene) (s : State) (story : List Happening) → IsLayout l → Origin l limit w s → Story l limit w story → Arrived l limit s (last_scene l limit w story) (deeds l limit w story)
 arrives l limit w s story layout o told =
     let n : ℕ = l.procs in
     let r = projected l limit w story o.held told in

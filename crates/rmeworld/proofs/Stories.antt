@@ -72,7 +72,7 @@ goes_on s t (d ∷ ds) es e = go (judged s d) (λ u. goes_on u t ds es) e
 
 module _ (l : Layout) (limit : ℕ) (layout : IsLayout l) where
   -- what one happening leaves, and what its answer tells
-  abbrev Left : Scene → Abstract → Mailbox → Happening → Spot → Type 0
+  abbrev pub Left : Scene → Abstract → Mailbox → Happening → Spot → Type 0
   Left w a m e s' =
       (o : Outcome l a w.cells m (who e) (outer (w.spots (who e)) e) (mail_deeds l w.cells e) (cells_after l w.cells e) s') × Tells w e o.mail.shown
 
@@ -109,7 +109,7 @@ module _ (l : Layout) (limit : ℕ) (layout : IsLayout l) where
       subst (λ i'. P i' v (put_cell l w.cells (DataAt i') v)) (sym at) (subst (λ v'. P j v' (put_cell l w.cells (DataAt j) v')) (sym value) there)
   moves w a m p below k lock b c _ _ _ v s' e reads may h = absurd (cc)
 
-  happens : (w : Scene) (a : Abstract) (m : Mailbox) (e : Happening) (s' : Spot) → who e < l.procs → Kept l a w.cells m → next_spot l limit (w.spots (who e)) e ≡ Some s' → Scene-Reads w e → AllowsBy l.procs a (outer (w.spots (who e)) e)
+  pub happens : (w : Scene) (a : Abstract) (m : Mailbox) (e : Happening) (s' : Spot) → who e < l.procs → Kept l a w.cells m → next_spot l limit (w.spots (who e)) e ≡ Some s' → Scene-Reads w e → AllowsBy l.procs a (outer (w.spots (who e)) e)
       → PostAt l (who e) (a.phase (who e)) w.cells m (w.spots (who e)) → Left w a m e s'
   happens w a m (Begins p call) s' below k e reads may h =
       let x = w.spots p in (begins l a w.cells m p layout below k x.lock x.mended x.errand call s' e h, tt)
@@ -125,14 +125,14 @@ module _ (l : Layout) (limit : ℕ) (layout : IsLayout l) where
   sits : (a : Abstract) (w : Words) (m : Mailbox) → Kept l a w m → Sits l w (judge_of l a m)
   sits a w m k = record { shape = k.shape; rest = k.rest }
 
-  head : (a : Abstract) (d : Option Outer) (ds : List Outer) → Legal l.procs a (and_then d ds) → AllowsBy l.procs a d × Legal l.procs (done_by a d) ds
+  pub head : (a : Abstract) (d : Option Outer) (ds : List Outer) → Legal l.procs a (and_then d ds) → AllowsBy l.procs a d × Legal l.procs (done_by a d) ds
   head a None ds h = (tt, h)
   head a (Some d) ds h = h
 
-  abbrev AllPosts : Abstract → Words → Mailbox → (ℕ → Spot) → Type 0
+  abbrev pub AllPosts : Abstract → Words → Mailbox → (ℕ → Spot) → Type 0
   AllPosts a w m spots = (q : ℕ) → q < l.procs → PostAt l q (a.phase q) w m (spots q)
 
-  posts : (w : Scene) (a : Abstract) (m : Mailbox) (e : Happening) (s' : Spot) (o : Outcome l a w.cells m (who e) (outer (w.spots (who e)) e) (mail_deeds l w.cells e) (cells_after l w.cells e) s') → AllPosts a w.cells m w.spots
+  pub posts : (w : Scene) (a : Abstract) (m : Mailbox) (e : Happening) (s' : Spot) (o : Outcome l a w.cells m (who e) (outer (w.spots (who e)) e) (mail_deeds l w.cells e) (cells_after l w.cells e) s') → AllPosts a w.cells m w.spots
       → AllPosts (done_by a (outer (w.spots (who e)) e)) (cells_after l w.cells e) o.mail (put w.spots (who e) s')
   posts w a m e s' o all q lt =
       let a' : Abstract = done_by a (outer (w.spots (who e)) e) in

@@ -21,17 +21,26 @@ module _ (l : Layout) (limit : ℕ) where
   deeds_more w [] e = append-nil (event_deeds l w e)
   deeds_more w (x ∷ es) e = ap (λ ds. event_deeds l w x ++ ds) (deeds_more (onward l limit w x) es e) ∙ sym (append_assoc (event_deeds l w x) _ _)
 
+  -- the scene is the last of a story from a first one, and the history is the story's deeds
+  pub record Comes (first w : Scene) (history : List Deed) : Type 0 where
+    pub story : List Happening
+    pub told : Story l limit first story
+    pub last : last_scene l limit first story ≡ w
+    pub done : deeds l limit first story ≡ history
+
+  pub comes_more : (first w : Scene) (history : List Deed) (e : Happening) → Comes first w history → Can l limit w e → Comes first (onward l limit w e) (history ++ event_deeds l w e)
+  comes_more first w history e r can =
+      record {
+        story = r.story ++ e ∷ [];
+        told = story_more first r.story e r.told (subst (λ x. Can l limit x e) (sym r.last) can);
+        last = last_more first r.story e ∙ ap (λ x. onward l limit x e) r.last;
+        done = deeds_more first r.story e ∙ (λ i. r.done i ++ event_deeds l (r.last i) e);
+      }
+
   pub reached_more : (w : Scene) (history : List Deed) (e : Happening) → IsReached l limit w history → Can l limit w e → IsReached l limit (onward l limit w e) (history ++ event_deeds l w e)
   reached_more w history e r can =
-      record {
-        first = r.first;
-        state = r.state;
-        origin = r.origin;
-        story = r.story ++ e ∷ [];
-        told = story_more r.first r.story e r.told (subst (λ x. Can l limit x e) (sym r.last) can);
-        last = last_more r.first r.story e ∙ ap (λ x. onward l limit x e) r.last;
-        done = deeds_more r.first r.story e ∙ (λ i. r.done i ++ event_deeds l (r.last i) e);
-      }
+      let c = comes_more r.first w history e (record { story = r.story; told = r.told; last = r.last; done = r.done }) can in
+      record { first = r.first; state = r.state; origin = r.origin; story = c.story; told = c.told; last = c.last; done = c.done }
 
   pub spots_are_own : (p : ℕ) (w : Scene) (es : List Happening) → (last_scene l limit w es).spots p ≡ spot_after l limit (w.spots p) (own_happenings p es)
   spots_are_own p w [] = refl

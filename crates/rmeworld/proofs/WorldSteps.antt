@@ -25,7 +25,7 @@ use Rattle.redomail.specs.declared.layout.Layout.{Layout}
 use Rattle.redomail.specs.Layout.{words_of, size}
 use Rattle.rmeworld.specs.Replayed.{value_of, words_set, cells_set, words_by, cells_by, advanced_by, crashed}
 use Rattle.rmeworld.specs.Spot.{Happening, Begins, Falls, Moves, who, next_spot}
-use Rattle.rmeworld.specs.Stand.{Stand, stepped_by, job_left, started as stand_started, crashed as stand_crashed, spot_of, next_access, spot_after, stepped as stand_stepped, IsAllowed, InWords, StoresOwn}
+use Rattle.rmeworld.specs.Stand.{Stand, stepped_by, job_left, started as stand_started, crashed as stand_crashed, spot_of, next_access, spot_after, stepped as stand_stepped, IsAllowed, InWords, IsOwnWord, StoresOwn}
 use Rattle.rmeworld.specs.World.{reading, Reads, event_deeds, words_after, put_cell, cells_after}
 use Rattle.rmeworld.specs.WorldState.{WorldState, absent, stand_at, spot_at, scene_of, HasSeat, IsSeated, Takes}
 
@@ -77,9 +77,16 @@ cell_set_is l cells i v filled =
     ]
 
 -- the words after an access
-pub words_by_is : (words : List Own) (p q : ℕ) (a : Access) (v : ℕ) → InWords (length words) (word_of a) → StoresOwn q a → own_at (words_by words a) ≡ words_after (own_at words) (Moves p (kind_of a) (word_of a) (carried a v))
-words_by_is words p q (Load kind word) v within own = rw own refl
-words_by_is words p q (Store kind word x) v within own = rw (own.0) (words_set_is words word x within)
+-- an own word is one of the world's
+own_within : (n q : ℕ) (word : Word) → q < n → IsOwnWord q word → InWords n word
+own_within n q (ChoosingOf r) below own = subst (λ i. i < n) (sym own) below
+own_within n q (NumberOf r) below own = subst (λ i. i < n) (sym own) below
+own_within n q (InsideOf r) below own = subst (λ i. i < n) (sym own) below
+own_within n q (DataAt i) below own = tt
+
+pub words_by_is : (words : List Own) (p q : ℕ) (a : Access) (v : ℕ) → q < length words → StoresOwn q a → own_at (words_by words a) ≡ words_after (own_at words) (Moves p (kind_of a) (word_of a) (carried a v))
+words_by_is words p q (Load kind word) v below own = rw own refl
+words_by_is words p q (Store kind word x) v below own = rw (own.0) (words_set_is words word x (own_within (length words) q word below own.1))
 
 pub cells_by_is : (l : Layout) (cells : List ℕ) (p q : ℕ) (a : Access) (v : ℕ) → length cells ≡ size l → StoresOwn q a → words_of (cells_by cells a) ≡ cells_after l (words_of cells) (Moves p (kind_of a) (word_of a) (carried a v))
 cells_by_is l cells p q (Load kind word) v filled own = rw own refl
@@ -97,7 +104,6 @@ module _ (s : WorldState) (p : ℕ) (a : Access) where
     pub below : p < s.layout.procs
     pub next : next_access (stand_at s.processes p) ≡ Some a
     pub allowed : IsAllowed (stand_at s.processes p) a
-    pub within : InWords s.layout.procs (word_of a)
     pub own : StoresOwn (stand_at s.processes p).index a
     pub goes : spot_of (stand_stepped (stand_at s.processes p) (reading (scene_of s) (word_of a))) ≡ spot_after (stand_at s.processes p) (next_access (stand_at s.processes p)) (reading (scene_of s) (word_of a))
 
@@ -114,12 +120,12 @@ step_takes s p a h =
     let v : ℕ = reading (scene_of s) (word_of a) in
     let x : ℕ = carried a v in
     let seat = h.seated.seats p h.below in
-    let words_within : InWords (length s.words) (word_of a) = subst (λ n. InWords n (word_of a)) (sym h.seated.words_each) h.within in
+    let has_words : st.index < length s.words = subst (λ n. n < length s.words) (sym seat.2) (subst (λ n. p < n) (sym h.seated.words_each) h.below) in
     let same : next_spot st.layout st.limit (spot_of st) (Moves st.index (kind_of a) (word_of a) x) ≡ next_spot s.layout s.limit (spot_of st) (Moves p (kind_of a) (word_of a) x) = λ i. next_spot (seat.0 i) (seat.1 i) (spot_of st) (Moves (seat.2 i) (kind_of a) (word_of a) x) in
     let to : spot_of (stand_stepped st v) ≡ unwrap_or (next_spot s.layout s.limit (spot_of st) (Moves p (kind_of a) (word_of a) x)) (spot_of st) =
     h.goes ∙ ap (λ o. spot_after st o v) h.next ∙ ap (λ o. unwrap_or o (spot_of st)) same in
     let spots = spot_at-set s.processes p (stand_stepped st v) (subst (λ n. p < n) (sym h.seated.processes_each) h.below) ∙ ap (put (spot_at s.processes) p) to in
-    let words = words_by_is s.words p st.index a v words_within h.own in
+    let words = words_by_is s.words p st.index a v has_words h.own in
     let cells = cells_by_is s.layout s.cells p st.index a v h.filled h.own in
     record {
       can = (h.below, subst IsSome same (h.allowed v), reads_so s p st.index a h.own);

@@ -26,6 +26,8 @@ use Rattle.rmeworld.specs.Stand.{Stand, spot_of, resting, IsSize, access_by, nex
 use Rattle.rmeworld.specs.World.{at_first, onward, reading, outer_deeds, mail_deeds, event_deeds}
 use Rattle.rmeworld.specs.WorldState.{WorldState, absent, stand_at, spot_at, scene_of, HasSeat, IsSeated, Takes, at_rest_from, new_world}
 use Rattle.rmeworld.proofs.StoryGrows.{reached_more}
+use Rattle.rmeworld.specs.Tallied.{IsTallied}
+use Rattle.rmeworld.proofs.WorldTallies.{tallied_step, tallied_start, tallied_crash}
 use Rattle.rmeworld.proofs.WorldSteps.{IsStep, step_takes, seated_set, words_by_length, cells_by_length, keeps_stepped, keeps_started, start_takes, crash_takes}
 
 pub reached_by : (s : WorldState) (e : Happening) (new : WorldState) → Takes s e new → IsReached s.layout s.limit (scene_of s) s.history → IsReached s.layout s.limit (scene_of new) new.history
@@ -37,7 +39,7 @@ length-rest : (l : Layout) (limit p n : ℕ) → length (at_rest_from l limit p 
 length-rest l limit p zero = refl
 length-rest l limit p (suc n) = ap suc (length-rest l limit (p + 1) n)
 
-rest-at : (l : Layout) (limit p n q : ℕ) → q < n → stand_at (at_rest_from l limit p n) q ≡ resting l limit (p + q)
+pub rest-at : (l : Layout) (limit p n q : ℕ) → q < n → stand_at (at_rest_from l limit p n) q ≡ resting l limit (p + q)
 rest-at l limit p zero q h = absurd (omega arith)
 rest-at l limit p (suc n) zero h = let e : p ≡ p + 0 = omega arith in ap (resting l limit) e
 rest-at l limit p (suc n) (suc q) h = let e : p + 1 + q ≡ p + suc q = omega arith in rest-at l limit (p + 1) n q (omega arith) ∙ ap (resting l limit) e
@@ -103,6 +105,11 @@ world_new l limit sized limited =
         last = sym (new_scene l limit);
         done = refl;
       };
+      tallied = λ p below.
+          let spot : spot_at (at_rest_from l limit 0 l.procs) p ≡ at_rest = ap spot_of (rest-at l limit 0 l.procs p below) in
+          let tally : tally_at (replicate l.procs (fresh zeros)) p ≡ fresh zeros = get_or-replicate l.procs p (fresh zeros) _ below in
+          subst (λ x. IsTallied l (own_at (replicate l.procs zeros) p) x (tally_at (replicate l.procs (fresh zeros)) p)) (sym spot)
+          (subst (IsTallied l (own_at (replicate l.procs zeros) p) at_rest) (sym tally) (record { began = λ h. absurd h; taking = λ exact. (0, tt, refl) }));
     }
 
 pub world_step : (s : WorldState) (p : ℕ) (a : Access) → IsWorld s → IsStep s p a → IsWorld (advanced_by s p a)
@@ -116,6 +123,7 @@ world_step s p a world step =
       filled = cells_by_length s.cells a ∙ world.filled;
       seated = seated_set step.seated step.below _ _ _ (words_by_length s.words a) (length-set s.tallies p _) (keeps.0 ∙ seat.0, keeps.1 ∙ seat.1, keeps.2 ∙ seat.2);
       reached = reached_by s _ (advanced_by s p a) (step_takes s p a step) world.reached;
+      tallied = tallied_step s p a step world.tallied;
     }
 
 pub refill : {A : Type 0} (len : ℕ) (ws rest : List A) → length ws ≡ len → take len (ws ++ rest) ≡ ws
@@ -209,6 +217,7 @@ world_start s p call world below to =
       filled = world.filled;
       seated = seated_set world.seated below _ _ _ refl (length-set s.tallies p _) (keeps.0 ∙ seat.0, keeps.1 ∙ seat.1, keeps.2 ∙ seat.2);
       reached = reached_by s (Begins p call) (started s p call) (start_takes s p call (stand_started st call) (started s p call).tallies world.seated below to) world.reached;
+      tallied = tallied_start s p call world.seated below (start_takes s p call (stand_started st call) (started s p call).tallies world.seated below to) world.tallied;
     }
 
 pub world_crash : (s : WorldState) (p : ℕ) → IsWorld s → p < s.layout.procs → IsWorld (crashed s p)
@@ -219,6 +228,7 @@ world_crash s p world below =
       filled = world.filled;
       seated = seated_set world.seated below _ _ _ refl refl (world.seated.seats p below);
       reached = reached_by s (Falls p) (crashed s p) (crash_takes s p world.seated below) world.reached;
+      tallied = tallied_crash s p below (crash_takes s p world.seated below) world.tallied;
     }
 
 size_small : (l : Layout) → IsLayout l → size l ≤ 900000

@@ -12,6 +12,12 @@ pub mod World
 pub mod ImageWiden
 pub mod WideWords
 pub mod Law
+pub mod Holders
 pub mod WorldState
 pub mod Replayed
 pub mod Reached
+pub mod UnderWay
+pub mod OwnSteps
+pub mod Paid
+pub mod CallWalk
+pub mod Tallied

@@ -9,6 +9,7 @@ use Rattle.judge.specs.Table.{State, empty}
 use Rattle.rmeworld.specs.Law.{IsLater}
 use Rattle.rmeworld.specs.Spot.{Happening, at_rest, dead}
 use Rattle.rmeworld.specs.Stand.{IsSize}
+use Rattle.rmeworld.specs.Tallied.{AllTallied}
 use Rattle.rmeworld.specs.World.{Scene, at_first, Story, last_scene, deeds}
 use Rattle.rmeworld.specs.WorldState.{WorldState, IsSeated, scene_of}
 
@@ -39,6 +40,7 @@ pub record IsWorld (s : WorldState) : Type 0 where
   pub filled : length s.cells ≡ size s.layout
   pub seated : IsSeated s.layout s.limit s.words s.processes s.tallies
   pub reached : IsReached s.layout s.limit (scene_of s) s.history
+  pub tallied : AllTallied s.layout (scene_of s) s.tallies
 
 -- The history is legal by the whole judge table, from the state where the world began.
 pub record IsLegalHistory (s : WorldState) : Type 0 where

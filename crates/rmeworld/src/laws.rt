@@ -7,6 +7,8 @@ ghost use Rattle.redomail.specs.Layout.{words_of};
 ghost use Rattle.judge.specs.Starts.{state_of};
 ghost use Rattle.rmeworld.specs.ImageRules.{layout_of, IsLawfulImage};
 ghost use Rattle.rmeworld.specs.ImageStart.{IsStartOf};
+ghost use Rattle.rmeworld.specs.CallWalk.{CallsTakeTheirSteps, NoCallTakesMore};
+ghost use Rattle.rmeworld.specs.Holders.{OnlyHoldersPut};
 ghost use Rattle.rmeworld.specs.Law.{IsLater, EveryStoryIsSound, EveryStoryIsLegal, EveryLaterStoryIsSound, EveryStoryEndsLawful};
 ghost use Rattle.rmeworld.specs.Reached.{crashed_scene};
 ghost use Rattle.rmeworld.specs.Spot.{Happening};
@@ -52,4 +54,19 @@ pub fn worlds_begin()
     ensures new { (l : Layout) (limit : ℕ) → scene_of (new_world l limit) ≡ at_first }
     ensures image { (i : Image) → scene_of (image_world i) ≡ crashed_scene (length i.lock) (own_at i.lock) (words_of i.cells) }
     ensures judged { (i : Image) (s : Start) → IsLawfulImage i → IsStartOf i s → IsLater (layout_of i) i.limit (own_at i.lock) (words_of i.cells) (state_of s) }
+{}
+
+/// Only a process that is inside puts a data word. So from its Enter on, crashes and re-entries or not, no other puts one
+/// until it leaves.
+pub fn only_holders_put()
+    ensures { OnlyHoldersPut }
+{}
+
+/// A process that starts a call where it may and then takes steps, whatever it reads, but own words as they were at the
+/// start: while the call is under way it has taken fewer steps than such a call takes at most, and with its answer, which
+/// comes once, just the steps of the table, each beside those that were blocked. Neither other processes nor stored words
+/// appear.
+pub fn calls_take_their_steps()
+    ensures told { CallsTakeTheirSteps }
+    ensures most { NoCallTakesMore }
 {}

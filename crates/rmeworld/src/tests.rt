@@ -4,6 +4,7 @@ mod lock;
 mod mail;
 mod refusals;
 mod steps;
+mod torn;
 
 use crate::answer::Answer;
 use crate::call::Call;

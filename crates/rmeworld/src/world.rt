@@ -1,6 +1,6 @@
 //! A whole world in memory, each step taken on request.
 
-ghost use Rattle.std.specs.Prelude.{◌≡◌, ◌<◌, ◌≤◌, ◌⊎◌, ◌++◌, ℕ, map, IfOk, IfErr, OnOk, OnErr, Some, None, vec_len, slice_index_or, slice_get};
+ghost use Rattle.std.specs.Prelude.{◌≡◌, ◌<◌, ◌≤◌, ◌⊎◌, ◌++◌, ℕ, map, is_some, true, IfOk, IfErr, OnOk, OnErr, IsErrOf, Some, None, vec_len, slice_index_or, slice_get};
 ghost use Rattle.rmecore.specs.Machine.{carried, word_of};
 ghost use Rattle.rmecore.specs.Simulated.{cause, fresh};
 ghost use Rattle.redomail.specs.Layout.{words_of};
@@ -119,6 +119,7 @@ fn all_unstarted(alloc: Global, words: &[Own]) -> Result<Vec<Tally>, Refusal>
 fn note(history: &mut Vec<Deed>, deed: Option<Deed>) -> Result<(), Refusal>
     ensures ok { OnOk result (history.new.items ≡ history.old.items ++ list_of deed) }
     ensures err { OnErr result (history.new.items ≡ history.old.items) }
+    ensures some { OnErr result (is_some deed ≡ true) }
     ensures memory { IfErr result (λ e. e ≡ Refusal.OutOfMemory) }
 {
     if let Some(deed) = deed {
@@ -128,7 +129,13 @@ fn note(history: &mut Vec<Deed>, deed: Option<Deed>) -> Result<(), Refusal>
 }
 
 impl World {
-    ghost use Rattle.rmecore.specs.Simulated.{tally_at};
+    ghost use Rattle.std.specs.Prelude.{◌+◌, false, IfSome};
+    ghost use Rattle.rmecore.specs.Paid.{is_glance};
+    ghost use Rattle.rmecore.specs.Simulated.{own_at, tally_at};
+    ghost use Rattle.rmecore.specs.Tallied.{IsExact, IsRereading};
+    ghost use Rattle.rmeworld.specs.OwnSteps.{most_steps};
+    ghost use Rattle.rmeworld.specs.Tallied.{HasTaken, IsTaking};
+    ghost use Rattle.rmeworld.specs.UnderWay.{call_at};
     ghost use Rattle.rmeworld.specs.Reached.{IsReached, IsLegalHistory};
     ghost use Rattle.rmeworld.specs.ImageRules.{IsLawfulImage};
     ghost use Rattle.rmeworld.specs.ImageStart.{IsUnstarted};
@@ -213,6 +220,7 @@ impl World {
     fn prospect(&self, p: u64) -> Result<Prospect, Refusal>
         ensures accepted { OnOk result (advance_refusal self.now p ≡ None) }
         ensures refused { IfErr result (λ e. advance_refusal self.now p ≡ Some e) }
+        ensures named { IsErrOf result Refusal.OutOfMemory → ⊥ }
         ensures below { OnOk result (p < self.now.layout.procs) }
         ensures access { IfOk result (λ step. next_access (stand_at self.now.processes p) ≡ Some step.access) }
         ensures allowed { IfOk result (λ step. IsAllowed (stand_at self.now.processes p) step.access) }
@@ -246,10 +254,13 @@ impl World {
     pub fn advance(&mut self, p: u64) -> Result<Stepped, Refusal>
         ensures accepted { OnOk result (advance_refusal self.old p ≡ None) }
         ensures refused { IfErr result (λ e. (e ≡ Refusal.OutOfMemory) ⊎ (advance_refusal self.old p ≡ Some e)) }
+        ensures memory { IsErrOf result Refusal.OutOfMemory → (advance_refusal self.old p ≡ None) × (is_some (stepped self.old p).deed ≡ true) }
         ensures step { IfOk result (λ s. Takes self.old (happening_of p s.happened) self.new) }
+        ensures kind { IfOk result (λ s. is_glance s.happened.kind ≡ false) }
         ensures least { IfOk result (λ s. ChoosesLeast self.old p s.happened) }
         ensures told { IfOk result (λ s. s ≡ stepped self.old p) }
         ensures ok { OnOk result (self.new ≡ advanced self.old p) }
+        ensures taken { IfOk result (λ s. IfSome s.answer (λ a. IsExact (tally_at self.new.tallies p) → HasTaken self.old.layout (spot_at self.old.processes p) (tally_at self.new.tallies p) a)) }
         ensures err { OnErr result (self.new ≡ self.old) }
     {
         let step = self.prospect(p)?;
@@ -264,6 +275,7 @@ impl World {
     pub fn crash(&mut self, p: u64) -> Result<Deed, Refusal>
         ensures accepted { OnOk result (crash_refusal self.old p ≡ None) }
         ensures refused { IfErr result (λ e. (e ≡ Refusal.OutOfMemory) ⊎ (crash_refusal self.old p ≡ Some e)) }
+        ensures memory { IsErrOf result Refusal.OutOfMemory → crash_refusal self.old p ≡ None }
         ensures crash { OnOk result (Takes self.old (Falls p) self.new) }
         ensures told { IfOk result (λ d. d ≡ crash_deed p) }
         ensures ok { OnOk result (self.new ≡ world_crashed self.old p) }
@@ -325,15 +337,18 @@ impl World {
         })
     }
 
-    /// How many steps the last call of a process has taken.
+    /// How many steps the last call of a process has taken, the blocked ones among them, held at the greatest u64. Before
+    /// any call it is 0; a withdraw is a call of its own.
     pub fn steps(&self, p: u64) -> Result<u64, Refusal>
         ensures ok { IfOk result (λ steps. (p < self.now.layout.procs) × (steps ≡ (tally_at self.now.tallies p).steps)) }
+        ensures taking { IsExact (tally_at self.now.tallies p) → p < self.now.layout.procs → IsTaking self.now.layout (spot_at self.now.processes p) (tally_at self.now.tallies p) }
+        ensures most { IsExact (tally_at self.now.tallies p) → p < self.now.layout.procs → IfSome (call_at (spot_at self.now.processes p)) (λ call. (tally_at self.now.tallies p).steps < most_steps self.now.layout call + (tally_at self.now.tallies p).blocked) }
         ensures refused { IfErr result (λ e. (self.now.layout.procs ≤ p) × (e ≡ Refusal.NoSuchProcess)) }
     {
         Ok(self.tally(p)?.steps)
     }
 
-    /// How many of them left the process where it stood.
+    /// How many of these steps were looks and weighs that left the process where it stood, held at the greatest u64.
     pub fn blocked(&self, p: u64) -> Result<u64, Refusal>
         ensures ok { IfOk result (λ blocked. (p < self.now.layout.procs) × (blocked ≡ (tally_at self.now.tallies p).blocked)) }
         ensures refused { IfErr result (λ e. (self.now.layout.procs ≤ p) × (e ≡ Refusal.NoSuchProcess)) }
@@ -341,9 +356,10 @@ impl World {
         Ok(self.tally(p)?.blocked)
     }
 
-    /// The lock words of a process at the start of its last call.
+    /// The lock words of a process at the start of its last call. While it reads its own words again they still stand.
     pub fn began(&self, p: u64) -> Result<Own, Refusal>
         ensures ok { IfOk result (λ began. (p < self.now.layout.procs) × (began ≡ (tally_at self.now.tallies p).began)) }
+        ensures rereading { p < self.now.layout.procs → IsRereading (spot_at self.now.processes p).lock → (tally_at self.now.tallies p).began ≡ own_at self.now.words p }
         ensures refused { IfErr result (λ e. (self.now.layout.procs ≤ p) × (e ≡ Refusal.NoSuchProcess)) }
     {
         Ok(self.tally(p)?.began)
@@ -351,6 +367,9 @@ impl World {
 
     fn tally(&self, p: u64) -> Result<Tally, Refusal>
         ensures ok { IfOk result (λ tally. (p < self.now.layout.procs) × (tally ≡ tally_at self.now.tallies p)) }
+        ensures taking { IsExact (tally_at self.now.tallies p) → p < self.now.layout.procs → IsTaking self.now.layout (spot_at self.now.processes p) (tally_at self.now.tallies p) }
+        ensures most { IsExact (tally_at self.now.tallies p) → p < self.now.layout.procs → IfSome (call_at (spot_at self.now.processes p)) (λ call. (tally_at self.now.tallies p).steps < most_steps self.now.layout call + (tally_at self.now.tallies p).blocked) }
+        ensures rereading { p < self.now.layout.procs → IsRereading (spot_at self.now.processes p).lock → (tally_at self.now.tallies p).began ≡ own_at self.now.words p }
         ensures refused { IfErr result (λ e. (self.now.layout.procs ≤ p) × (e ≡ Refusal.NoSuchProcess)) }
     {
         match self.tallies.get(p as usize) {

@@ -1,8 +1,8 @@
 //! Images written as text.
 
-ghost use Rattle.std.specs.Prelude.{◌≡◌, IfOk, IfErr};
+ghost use Rattle.std.specs.Prelude.{◌≡◌, IfOk, IfErr, true};
 ghost use Rattle.rmecore.specs.declared.refusal.Refusal.TheVariants.{OutOfMemory};
-ghost use Rattle.rmeworld.specs.ImageText.{list_data, own_data, lock_data, written_data, image_line};
+ghost use Rattle.rmeworld.specs.ImageText.{list_data, own_data, lock_data, written_data, image_line, Spells};
 ghost use Rattle.serde_json.specs.View.{view};
 
 use crate::image::Image;
@@ -14,6 +14,7 @@ use std::alloc::{AllocError, Global};
 /// whatever the image was read from. It checks no rule.
 pub fn write_image(alloc: Global, image: &Image) -> Result<Vec<u8>, Refusal>
     ensures ok { IfOk result (λ text. text.items ≡ image_line image.now) }
+    ensures spelled { IfOk result (λ text. Spells text.items true (record image.now { version = 2 })) }
     ensures err { IfErr result (λ e. e ≡ OutOfMemory) }
 {
     let value = image_value(alloc, image)?;

@@ -6,33 +6,47 @@ use crate::answer::Answer;
 use crate::call::Call;
 use crate::world::World;
 use redomail::{Deed, Reply};
-use rmecore::{Found, Outer};
+use rmecore::{Found, Outer, Refusal};
+use std::alloc::Global;
 use std::test::Fail;
+
+/// One process that is cut off behind so many steps of an append, enters again, and then takes so many steps of a repair
+/// and of the same append.
+fn cut_off(alloc: Global, sent: u64, mended: u64, again: u64) -> Result<Told, Fail> {
+    let mut told = Told::new(alloc, 1, 10, 2)?;
+    for line in [
+        LOCK,
+        Step(0, 8),
+        append(0, 1, 77)?,
+        Step(0, sent),
+        Crash(0),
+        LOCK,
+        Step(0, 4),
+        CONSISTENT,
+        Step(0, mended),
+        append(0, 1, 77)?,
+        Step(0, again),
+    ] {
+        told.line(line)?;
+    }
+    Ok(told)
+}
+
+/// The deed that shows the message.
+fn showing() -> Result<Deed, Refusal> {
+    Ok(Deed::Show {
+        p: 0,
+        at: 0,
+        seq: 1,
+        v: body(77)?,
+    })
+}
 
 #[test]
 fn torn_before_the_commit(rt: HostRuntime) -> Result<(), Fail> {
-    let send = append(0, 1, 77)?;
-    let told = after(
-        rt.alloc(),
-        1,
-        10,
-        2,
-        &[
-            LOCK,
-            Step(0, 8),
-            send,
-            Step(0, 6),
-            Crash(0),
-            LOCK,
-            Step(0, 4),
-            CONSISTENT,
-            Step(0, 2),
-            send,
-            Step(0, 13),
-            UNLOCK,
-            Step(0, 2),
-        ],
-    )?;
+    let mut told = cut_off(rt.alloc(), 6, 2, 13)?;
+    told.line(UNLOCK)?;
+    told.line(Step(0, 2))?;
     assert_eq!(rt;
         &told.answers[..],
         &[
@@ -48,16 +62,10 @@ fn torn_before_the_commit(rt: HostRuntime) -> Result<(), Fail> {
         seq: 1,
         v: body(77)?,
     };
-    let show = Deed::Show {
-        p: 0,
-        at: 0,
-        seq: 1,
-        v: body(77)?,
-    };
     assert_eq!(rt; told.deed(3), Some(Deed::Outer(Outer::Crash(0))));
     assert_eq!(rt; told.deed(4), Some(Deed::Outer(Outer::Reenter(0))));
     assert_eq!(rt; told.deed(5), Some(commit));
-    assert_eq!(rt; told.deed(6), Some(show));
+    assert_eq!(rt; told.deed(6), Some(showing()?));
     assert_eq!(rt; told.deed(7), Some(Deed::Outer(Outer::Leave(0))));
     assert_eq!(rt; told.world.history().len(), 8);
     Ok(())
@@ -65,26 +73,7 @@ fn torn_before_the_commit(rt: HostRuntime) -> Result<(), Fail> {
 
 #[test]
 fn torn_after_the_commit(rt: HostRuntime) -> Result<(), Fail> {
-    let send = append(0, 1, 77)?;
-    let told = after(
-        rt.alloc(),
-        1,
-        10,
-        2,
-        &[
-            LOCK,
-            Step(0, 8),
-            send,
-            Step(0, 7),
-            Crash(0),
-            LOCK,
-            Step(0, 4),
-            CONSISTENT,
-            Step(0, 11),
-            send,
-            Step(0, 3),
-        ],
-    )?;
+    let told = cut_off(rt.alloc(), 7, 11, 3)?;
     assert_eq!(rt;
         &told.answers[..],
         &[
@@ -94,51 +83,20 @@ fn torn_after_the_commit(rt: HostRuntime) -> Result<(), Fail> {
             (0, Answer::Mail(Reply::Already)),
         ][..]
     );
-    let message = Deed::Show {
-        p: 0,
-        at: 0,
-        seq: 1,
-        v: body(77)?,
-    };
-    assert_eq!(rt; told.deed(6), Some(message));
+    assert_eq!(rt; told.deed(6), Some(showing()?));
     assert_eq!(rt; told.world.history().len(), 7);
     Ok(())
 }
 
 #[test]
 fn repair_of_what_is_done(rt: HostRuntime) -> Result<(), Fail> {
-    let send = append(0, 1, 77)?;
-    let told = after(
-        rt.alloc(),
-        1,
-        10,
-        2,
-        &[
-            LOCK,
-            Step(0, 8),
-            send,
-            Step(0, 12),
-            Crash(0),
-            LOCK,
-            Step(0, 4),
-            CONSISTENT,
-            Step(0, 11),
-            send,
-            Step(0, 3),
-        ],
-    )?;
+    let told = cut_off(rt.alloc(), 12, 11, 3)?;
     assert_eq!(rt;
         told.answer(2),
         Some((0, Answer::Mail(Reply::Mended(true))))
     );
     assert_eq!(rt; told.answer(3), Some((0, Answer::Mail(Reply::Already))));
-    let message = Deed::Show {
-        p: 0,
-        at: 0,
-        seq: 1,
-        v: body(77)?,
-    };
-    assert_eq!(rt; told.deed(4), Some(message));
+    assert_eq!(rt; told.deed(4), Some(showing()?));
     assert_eq!(rt; told.world.history().len(), 7);
     let image = told.world.image()?;
     assert_eq!(rt; image.cells.as_slice().get(2), Some(&1));

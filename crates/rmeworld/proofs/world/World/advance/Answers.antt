@@ -1,17 +1,24 @@
-use Rattle.std.proofs.Common.{◌≡◌, ◌++◌, ℕ, length, take, drop, slice_index_or, slice_set, Some, sym, ap, ◌∙◌, subst}
+use Rattle.std.proofs.Common.{◌≡◌, ◌++◌, ℕ, length, take, drop, slice_index_or, slice_set, Option, Some, IfSome, sym, ap, ◌∙◌, subst}
 use Rattle.rmecore.specs.Machine.{kind_of, word_of, carried}
+use Rattle.rmecore.specs.Paid.{is_glance}
 use Rattle.rmecore.specs.Simulated.{counted, tally_at}
+use Rattle.rmecore.specs.Tallied.{IsExact}
 use Rattle.rmecore.specs.declared.access.Access.{Access}
+use Rattle.rmeworld.specs.declared.answer.Answer.{Answer}
 use Rattle.rmeworld.specs.declared.outcome.Outcome.{Outcome}
+use Rattle.rmeworld.specs.Answered.{answer_at}
+use Rattle.rmeworld.specs.Errands.{errand_of}
+use Rattle.rmeworld.specs.Tallied.{HasTaken}
 use Rattle.rmeworld.specs.declared.stepped.Stepped.{Stepped}
-use Rattle.rmeworld.specs.Replayed.{happening, words_by, cells_by, advanced_if, stepped_if, list_of, the_deed, prospect_of}
+use Rattle.rmeworld.specs.Replayed.{value_of, happening, words_by, cells_by, advanced_if, stepped_if, list_of, the_deed, prospect_of}
 use Rattle.rmeworld.specs.Spot.{Moves}
 use Rattle.rmeworld.specs.Reached.{IsWorld}
-use Rattle.rmeworld.specs.Stand.{spot_of, outcome, next_access, spot_after, stepped as stand_stepped}
+use Rattle.rmeworld.specs.Stand.{Stand, spot_of, outcome, next_access, spot_after, stepped as stand_stepped}
 use Rattle.rmeworld.specs.World.{reading, event_deeds}
-use Rattle.rmeworld.specs.WorldState.{WorldState, stand_at, scene_of, Takes, happening_of}
+use Rattle.rmeworld.specs.WorldState.{WorldState, stand_at, spot_at, scene_of, Takes, happening_of}
 use Rattle.rmeworld.proofs.Worlds.{refill, found, tally_found, Made, made_is, deeds_are, the_one, world_step}
 use Rattle.rmeworld.proofs.WorldSteps.{IsStep, step_takes}
+use Rattle.rmeworld.proofs.WorldTallies.{no_glance, answered_step}
 use Rattle.rmeworld.proofs.world.World.advance.Goals as goal
 
 world : (c : goal.After-told) → IsWorld c.args.self.now
@@ -43,7 +50,6 @@ step c =
       below = c.in_ok-step.ensures.below;
       next = c.in_ok-step.ensures.access;
       allowed = c.in_ok-step.ensures.allowed;
-      within = c.in_ok-step.ensures.within;
       own = c.in_ok-step.ensures.own;
       goes = ap spot_of (sym (fed c)) ∙ c.feed.ensures.spot ∙ (λ i. spot_after (sym (stand c) i) (next_access (sym (stand c) i)) (c.in_ok-step.ensures.found i));
     }
@@ -96,3 +102,18 @@ returns-clause-told c =
       deed = deed i;
       answer = (what c i).answer;
     }) ∙ ap (stepped_if c.args.self.now c.args.p) (sym c.in_ok-step.ensures.access)
+
+pub returns-clause-kind : goal.returns-clause-kind
+returns-clause-kind c =
+    let a : Access = c.in_ok-step.step.access in
+    let stand : Stand = stand_at c.args.self.now.processes c.args.p in
+    ap (λ (s : Stepped). is_glance s.happened.kind) c.told.ensures ∙ no_glance stand.limit stand.index stand.lock (errand_of stand.errand) a c.in_ok-step.ensures.access
+
+pub returns-clause-taken : goal.returns-clause-taken
+returns-clause-taken c =
+    let a : Access = c.in_ok-step.step.access in
+    let s : WorldState = c.args.self.now in
+    let p : ℕ = c.args.p in
+    let Taken : Option Answer → WorldState → Type 0 = λ o. λ after. IfSome o (λ x. IsExact (tally_at after.tallies p) → HasTaken s.layout (spot_at s.processes p) (tally_at after.tallies p) x) in
+    let is = ap (λ (x : Stepped). x.answer) c.told.ensures ∙ ap (λ (x : Outcome). x.answer) (what c) in
+    subst (λ o. Taken o (new c)) (sym is) (subst (Taken (answer_at (spot_at s.processes p) (kind_of a) (value_of s a))) (sym (made_is (made c))) (answered_step s p a (step c) (world c).tallied))

@@ -1,0 +1,144 @@
+-- What the machine that a world is does, over all its calls: it follows a story from where it began, and tells its deeds.
+use Rattle.std.proofs.Common.{◌≡◌, ℕ, ◌+◌, ◌<◌, ◌≤◌, ◌^◌, Bool, true, false, ◌&&◌, ◌==◌, nat_lt, if◌then◌else◌, List, [], ◌∷◌, ◌++◌, length, slice_set, Option, Some, None, IfSome, refl, sym, ap, ◌∙◌, subst, inl, inr, arith, append-nil, ltb-true}
+use Rattle.std.proofs.lemmas.Bool.{cases_Bool, cases_eq}
+use Rattle.std.proofs.lemmas.List.{get_or-set_same, get_or-set_other}
+use Rattle.rmecore.specs.Machine.{word_of}
+use Rattle.rmecore.specs.declared.access.Access.{Access}
+use Rattle.rmecore.specs.declared.access.Access.TheVariants.{Load, Store}
+use Rattle.rmecore.specs.declared.outer.Outer.{Outer}
+use Rattle.rmecore.specs.declared.refusal.Refusal.{Refusal}
+use Rattle.rmecore.specs.declared.refusal.Refusal.TheVariants.{NoSuchProcess}
+use Rattle.rmecore.specs.declared.word.Word.{Word}
+use Rattle.rmecore.specs.declared.word.Word.TheVariants.{Choosing as ChoosingOf, Number as NumberOf, Inside as InsideOf, Data as DataAt}
+use Rattle.redomail.specs.declared.deed.Deed.{Deed}
+use Rattle.redomail.specs.declared.layout.Layout.{Layout}
+use Rattle.redomail.specs.Layout.{IsLayout, Words, words_of}
+use Rattle.redomail.specs.Deeds.{deeds_of_put}
+use Rattle.rmeworld.specs.declared.call.Call.{Call}
+use Rattle.rmeworld.specs.declared.image.Image.{Image}
+use Rattle.rmeworld.specs.ImageRules.{IsLawfulImage}
+use Rattle.rmeworld.specs.Reached.{IsWorld}
+use Rattle.rmeworld.specs.Refused.{start_refusal as spot_refusal}
+use Rattle.rmeworld.specs.Replayed.{start_refusal, started, advance_refusal, stepped, advanced, crash_refusal, crash_deed, crashed, happening, list_of, the_deed, or_else, mail_by, prospect_of, stepped_if, advanced_if, advanced_by}
+use Rattle.rmeworld.specs.Spot.{Happening, Begins, Falls, next_spot}
+use Rattle.rmeworld.specs.Stand.{Stand, spot_of, next_access, IsAllowed, StoresOwn, outcome, started as stand_started, stepped as stand_stepped, crashed as stand_crashed}
+use Rattle.rmeworld.specs.World.{Scene, Can, put_deeds, event_deeds, reading, onward}
+use Rattle.rmeworld.specs.WorldState.{WorldState, absent, stand_at, scene_of, Takes}
+use Rattle.rmeworld.proofs.Ordered.{IsOrdered, ordered_crashed, ordered_stepped, goes, allowed, owns, begins}
+use Rattle.rmeworld.proofs.StoryGrows.{Comes, comes_more}
+use Rattle.rmeworld.proofs.WorldSteps.{IsStep, step_takes, start_takes, crash_takes}
+use Rattle.rmeworld.proofs.Worlds.{world_start, world_step, world_crash, deeds_are}
+
+-- The world is where a story from this scene has come, its deeds are these, and its processes are in order.
+pub record Follows (first : Scene) (s : WorldState) (history : List Deed) : Type 0 where
+  pub world : IsWorld s
+  pub ordered : (p : ℕ) → p < s.layout.procs → IsOrdered (stand_at s.processes p)
+  pub comes : Comes s.layout s.limit first (scene_of s) history
+
+ordered_set : (s : WorldState) (p : ℕ) (t : Stand) → length s.processes ≡ s.layout.procs → p < s.layout.procs → IsOrdered t → ((q : ℕ) → q < s.layout.procs → IsOrdered (stand_at s.processes q))
+    → (q : ℕ) → q < s.layout.procs → IsOrdered (stand_at (slice_set s.processes p t) q)
+ordered_set s p t each below new all q less =
+    elim (cases_eq q p) [
+      | inl e ↦ subst (λ r. IsOrdered (stand_at (slice_set s.processes p t) r)) (sym e) (subst IsOrdered (sym (get_or-set_same s.processes p t absent (subst (λ n. p < n) (sym each) below))) new)
+      | inr ne ↦ subst IsOrdered (sym (get_or-set_other s.processes p q t absent ne)) (all q less)
+    ]
+
+comes_by : {s new : WorldState} {e : Happening} (l : Layout) (limit : ℕ) (first : Scene) (history : List Deed) → s.layout ≡ l → s.limit ≡ limit → Takes s e new → Comes l limit first (scene_of s) history → Comes l limit first (scene_of new) (history ++ event_deeds l (scene_of s) e)
+comes_by {s = s} {new = new} {e = e} l limit first history layout limited takes comes =
+    let can = subst (λ x. Can x limit (scene_of s) e) layout (subst (λ x. Can s.layout x (scene_of s) e) limited takes.can) in
+    let scene : scene_of new ≡ onward l limit (scene_of s) e = takes.scene ∙ (λ i. onward (layout i) (limited i) (scene_of s) e) in
+    subst (λ w. Comes l limit first w (history ++ event_deeds l (scene_of s) e)) (sym scene) (comes_more l limit first (scene_of s) history e comes can)
+
+below_if : (p n : ℕ) (o : Option Refusal) → (if nat_lt p n then o else Some NoSuchProcess) ≡ None → (p < n) × (o ≡ None)
+below_if p n o h = elim (cases_Bool (nat_lt p n)) [
+  | inl e ↦ (ltb-true p n e, rw e at h)
+  | inr e ↦ let is : Some NoSuchProcess ≡ None = rw e at h in absurd (apart is)
+]
+  where
+    apart : Some NoSuchProcess ≡ None → ⊥
+    apart is = cc
+
+pub follows_started : {first : Scene} {history : List Deed} (s : WorldState) (p : ℕ) (call : Call) → Follows first s history → start_refusal s p call ≡ None → Follows first (started s p call) history
+follows_started {first = first} {history = history} s p call h may =
+    let has = below_if p s.layout.procs _ may in
+    let t : Stand = stand_at s.processes p in
+    let seat = h.world.seated.seats p has.0 in
+    let lawful = subst IsLayout (sym seat.0) h.world.sized.layout in
+    let begun = begins t call lawful (h.ordered p has.0) (subst (λ l. spot_refusal l (spot_of t) call ≡ None) (sym seat.0) has.1) in
+    let takes = start_takes s p call (stand_started t call) (started s p call).tallies h.world.seated has.0 begun.0 in
+    record {
+      world = world_start s p call h.world has.0 begun.0;
+      ordered = ordered_set s p (stand_started t call) h.world.seated.processes_each has.0 begun.1 h.ordered;
+      comes = subst (Comes s.layout s.limit first (scene_of (started s p call))) (append-nil history) (comes_by s.layout s.limit first history refl refl takes h.comes);
+    }
+
+pub follows_crashed : {first : Scene} {history : List Deed} (s : WorldState) (p : ℕ) → Follows first s history → crash_refusal s p ≡ None → Follows first (crashed s p) (history ++ crash_deed p ∷ [])
+follows_crashed {first = first} {history = history} s p h may =
+    let has = below_if p s.layout.procs None may in
+    record {
+      world = world_crash s p h.world has.0;
+      ordered = ordered_set s p (stand_crashed (stand_at s.processes p)) h.world.seated.processes_each has.0 (ordered_crashed (stand_at s.processes p)) h.ordered;
+      comes = comes_by s.layout s.limit first history refl refl (crash_takes s p h.world.seated has.0) h.comes;
+    }
+
+-- a step has one deed at most
+
+abbrev Single : List Deed → Type 0
+Single ds = list_of (the_deed ds) ≡ ds
+
+single_if : (b : Bool) (x y : List Deed) → Single x → Single y → Single (if b then x else y)
+single_if true x y h k = h
+single_if false x y h k = k
+
+single_put : (l : Layout) (p : ℕ) (w : Words) (i v : ℕ) → Single (deeds_of_put l p w i v)
+single_put l p w i v =
+    single_if (w i == v) _ _ refl
+    (single_if ((i == 3) && (v == 1)) _ _ refl (single_if (i == 2) _ _ refl (single_if ((i == 1) && (v == 1)) _ _ refl (single_if ((i == 0) && (v == 1)) _ _ refl refl))))
+
+single_word : (l : Layout) (p : ℕ) (w : Words) (word : Word) (v : ℕ) → Single (put_deeds l p w word v)
+single_word l p w (DataAt i) v = single_put l p w i v
+single_word l p w (ChoosingOf q) v = refl
+single_word l p w (NumberOf q) v = refl
+single_word l p w (InsideOf q) v = refl
+
+single_mail : (l : Layout) (p : ℕ) (w : Words) (a : Access) → Single (mail_by l p w a)
+single_mail l p w (Load kind word) = refl
+single_mail l p w (Store kind word v) = single_word l p w word v
+
+single_or : (o : Option Outer) (ds : List Deed) → Single ds → Single (or_else o ds)
+single_or None ds h = h
+single_or (Some d) ds h = refl
+
+pub follows_advanced : {first : Scene} {history : List Deed} (s : WorldState) (p : ℕ) → Follows first s history → advance_refusal s p ≡ None → Follows first (advanced s p) (history ++ list_of (stepped s p).deed)
+follows_advanced {first = first} {history = history} s p h may = by (next_access t) refl
+  where
+    t : Stand
+    t = stand_at s.processes p
+
+    below : p < s.layout.procs
+    below = (below_if p s.layout.procs _ may).0
+
+    by : (o : Option Access) → next_access t ≡ o → Follows first (advanced_if s p o) (history ++ list_of (stepped_if s p o).deed)
+    by None is = subst (Follows first s) (sym (append-nil history)) h
+    by (Some a) is =
+        let seat = h.world.seated.seats p below in
+        let v : ℕ = reading (scene_of s) (word_of a) in
+        let lawful = subst IsLayout (sym seat.0) h.world.sized.layout in
+        let own : StoresOwn t.index a = subst (λ o. IfSome o (StoresOwn t.index)) is (owns t) in
+        let step : IsStep s p a =
+        record {
+          filled = h.world.filled;
+          seated = h.world.seated;
+          below = below;
+          next = is;
+          allowed = subst (λ o. IfSome o (IsAllowed t)) is (allowed t);
+          own = own;
+          goes = goes t v lawful (h.ordered p below);
+        } in
+        let deeds = deeds_are s p a t.index h.world.seated below own is in
+        let one : Single (event_deeds s.layout (scene_of s) (happening s p a)) = subst Single deeds (single_or (outcome t (Some a) v).progress.outer _ (single_mail s.layout p (words_of s.cells) a)) in
+        record {
+          world = world_step s p a h.world step;
+          ordered = ordered_set s p (stand_stepped t v) h.world.seated.processes_each below (ordered_stepped t v lawful (h.ordered p below)) h.ordered;
+          comes = subst (Comes s.layout s.limit first (scene_of (advanced_by s p a))) (ap (λ ds. history ++ ds) (sym one)) (comes_by s.layout s.limit first history refl refl (step_takes s p a step) h.comes);
+        }

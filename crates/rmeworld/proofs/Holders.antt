@@ -1,0 +1,181 @@
+-- Who puts a data word is in, and who has entered stays in until it leaves.
+use Rattle.std.proofs.Common.{◌≡◌, ◌≢◌, ℕ, ◌<◌, Bool, true, false, List, [], ◌∷◌, ◌++◌, Option, Some, None, IsSome, All, refl, sym, ap, ◌∙◌, subst, inl, inr}
+use Rattle.std.proofs.lemmas.Bool.{cases_eq}
+use Rattle.std.proofs.lemmas.List.Elements.{All-head, All-tail}
+use Rattle.rmecore.specs.AbstractLock.{Abstract, nobody, Legal, needs, done}
+use Rattle.rmecore.specs.Needs.{AllHold, put}
+use Rattle.rmecore.specs.Place.{Place, next}
+use Rattle.rmecore.specs.Sole.{IsIn, all_done}
+use Rattle.rmecore.specs.World.{is_store, and_then}
+use Rattle.rmecore.specs.declared.kind.Kind.{Kind}
+use Rattle.rmecore.specs.declared.outer.Outer.{Outer}
+use Rattle.rmecore.specs.declared.outer.Outer.TheVariants.{Begin, Ready, Enter, Crash, Reenter, Leave, Quit}
+use Rattle.rmecore.specs.declared.phase.Phase.TheVariants.{Out as IsOut, Inside as Within}
+use Rattle.rmecore.specs.declared.word.Word.TheVariants.{Data as DataAt}
+use Rattle.rmecore.proofs.Allowing.{allows_from}
+use Rattle.rmecore.proofs.Invariant.{put_same, put_other}
+use Rattle.rmecore.proofs.Runs.{legal}
+use Rattle.rmecore.proofs.Soles.{in_after}
+use Rattle.rmecore.proofs.Turns.{not_data}
+use Rattle.redomail.specs.Layout.{Words, IsLayout}
+use Rattle.redomail.specs.Leads.{AreOwn}
+use Rattle.redomail.specs.Mailbox.{Mailbox}
+use Rattle.redomail.specs.declared.deed.Deed.{Deed}
+use Rattle.redomail.specs.declared.deed.Deed.TheVariants as deed
+use Rattle.redomail.specs.declared.layout.Layout.{Layout}
+use Rattle.judge.specs.Halves.{outers as lock_deeds}
+use Rattle.judge.specs.Plain.{IsEndOf}
+use Rattle.judge.specs.Table.{empty}
+use Rattle.rmeworld.specs.Holders.{puts_data, AllPutBy, NoEndOf, OnlyHoldersPut}
+use Rattle.rmeworld.specs.Spot.{Errand, Free, Doing, Spot, Happening, Begins, Falls, Moves, Glances, who, moved_by, next_spot, at_lock, outer}
+use Rattle.rmeworld.specs.World.{Scene, at_first, Story, onward, last_scene, outer_deeds, mail_deeds, event_deeds, deeds}
+use Rattle.rmeworld.proofs.Projection.{outers, projected, core_of, some_of}
+use Rattle.rmeworld.proofs.Happenings.{done_by, AllowsBy, Kept}
+use Rattle.rmeworld.proofs.Knowing.{Post, PostAt}
+use Rattle.rmeworld.proofs.Stories.{AllPosts, happens, head, posts}
+use Rattle.rmeworld.proofs.Reaching.{mail_own, done-and_then, origin}
+
+-- the lock's deeds among those of a story
+own_none : (p : ℕ) (ds : List Deed) → AreOwn p ds → lock_deeds ds ≡ []
+own_none p [] h = refl
+own_none p (deed.Outer d ∷ ds) h = absurd h.0
+own_none p (deed.Commit q seq v ∷ ds) h = own_none p ds h.1
+own_none p (deed.Show q at seq v ∷ ds) h = own_none p ds h.1
+own_none p (deed.Close q ∷ ds) h = own_none p ds h.1
+own_none p (deed.Ruin q ∷ ds) h = own_none p ds h.1
+
+lock_deeds-append : (ds es : List Deed) → lock_deeds (ds ++ es) ≡ lock_deeds ds ++ lock_deeds es
+lock_deeds-append [] es = refl
+lock_deeds-append (deed.Outer d ∷ ds) es = ap (λ (xs : List Outer). d ∷ xs) (lock_deeds-append ds es)
+lock_deeds-append (deed.Commit q seq v ∷ ds) es = lock_deeds-append ds es
+lock_deeds-append (deed.Show q at seq v ∷ ds) es = lock_deeds-append ds es
+lock_deeds-append (deed.Close q ∷ ds) es = lock_deeds-append ds es
+lock_deeds-append (deed.Ruin q ∷ ds) es = lock_deeds-append ds es
+
+one_lock_deed : (o : Option Outer) (ms : List Deed) (xs : List Outer) → lock_deeds ms ≡ [] → lock_deeds (outer_deeds o ++ ms) ++ xs ≡ and_then o xs
+one_lock_deed None ms xs none = ap (λ (ds : List Outer). ds ++ xs) none
+one_lock_deed (Some d) ms xs none = ap (λ (ds : List Outer). d ∷ (ds ++ xs)) none
+
+pub lock_deeds_are : (l : Layout) (limit : ℕ) (w : Scene) (es : List Happening) → lock_deeds (deeds l limit w es) ≡ outers l limit w es
+lock_deeds_are l limit w [] = refl
+lock_deeds_are l limit w (e ∷ es) =
+    lock_deeds-append (event_deeds l w e) (deeds l limit (onward l limit w e) es) ∙ ap (λ (xs : List Outer). lock_deeds (event_deeds l w e) ++ xs) (lock_deeds_are l limit (onward l limit w e) es)
+    ∙ one_lock_deed (outer (w.spots (who e)) e) (mail_deeds l w.cells e) (outers l limit (onward l limit w e) es) (own_none (who e) (mail_deeds l w.cells e) (mail_own l w.cells e))
+
+-- a deed that isn't p's Leave leaves p in
+abbrev Stays : ℕ → List Outer → Type 0
+Stays p [] = Unit {0}
+Stays p (d ∷ ds) = (d ≡ Leave p → ⊥) × Stays p ds
+
+stays_in : (n : ℕ) (a : Abstract) (d : Outer) (p : ℕ) → AllHold (needs n a d) → (d ≡ Leave p → ⊥) → IsIn (a.phase p) → IsIn ((done a d).phase p)
+stays_in n a (Begin q) p h ne i = in_after n a (Begin q) p (allows_from n a (Begin q) h) (λ x. x) i
+stays_in n a (Ready q) p h ne i = in_after n a (Ready q) p (allows_from n a (Ready q) h) (λ x. x) i
+stays_in n a (Enter q) p h ne i = in_after n a (Enter q) p (allows_from n a (Enter q) h) (λ x. x) i
+stays_in n a (Crash q) p h ne i = in_after n a (Crash q) p (allows_from n a (Crash q) h) (λ x. x) i
+stays_in n a (Reenter q) p h ne i = in_after n a (Reenter q) p (allows_from n a (Reenter q) h) (λ x. x) i
+stays_in n a (Quit q) p h ne i = in_after n a (Quit q) p (allows_from n a (Quit q) h) (λ x. x) i
+stays_in n a (Leave q) p h ne i = elim (cases_eq p q) [ inl e ↦ absurd (ne (ap Leave (sym e))) | inr other ↦ subst IsIn (sym (put_other a.phase q IsOut p other)) i ]
+
+stays_by : (n : ℕ) (a : Abstract) (o : Option Outer) (ds : List Outer) (p : ℕ) → AllowsBy n a o → Stays p (and_then o ds) → IsIn (a.phase p) → IsIn ((done_by a o).phase p) × Stays p ds
+stays_by n a None ds p h s i = (i, s)
+stays_by n a (Some d) ds p h s i = (stays_in n a d p h s.0 i, s.1)
+
+none_ends : (p : ℕ) (ds : List Deed) → NoEndOf p ds → Stays p (lock_deeds ds)
+none_ends p [] h = tt
+none_ends p (deed.Outer d ∷ ds) h = (λ e. (let no : IsEndOf p (deed.Outer d) → ⊥ = All-head (λ (x : Deed). IsEndOf p x → ⊥) (deed.Outer d) ds h in no (inl (ap deed.Outer e))), none_ends p ds (All-tail (λ (x : Deed). IsEndOf p x → ⊥) (deed.Outer d) ds h))
+none_ends p (deed.Commit q seq v ∷ ds) h = none_ends p ds (All-tail (λ (x : Deed). IsEndOf p x → ⊥) (deed.Commit q seq v) ds h)
+none_ends p (deed.Show q at seq v ∷ ds) h = none_ends p ds (All-tail (λ (x : Deed). IsEndOf p x → ⊥) (deed.Show q at seq v) ds h)
+none_ends p (deed.Close q ∷ ds) h = none_ends p ds (All-tail (λ (x : Deed). IsEndOf p x → ⊥) (deed.Close q) ds h)
+none_ends p (deed.Ruin q ∷ ds) h = none_ends p ds (All-tail (λ (x : Deed). IsEndOf p x → ⊥) (deed.Ruin q) ds h)
+
+-- whose deeds end with an Enter is in
+entered_in : (a : Abstract) (ds : List Outer) (p : ℕ) → IsIn ((all_done a (ds ++ Enter p ∷ [])).phase p)
+entered_in a [] p = subst IsIn (sym (put_same a.phase p Within)) tt
+entered_in a (d ∷ ds) p = entered_in (done a d) ds p
+
+legal_back : (n : ℕ) (a : Abstract) (ds es : List Outer) → Legal n a (ds ++ es) → Legal n (all_done a ds) es
+legal_back n a [] es h = h
+legal_back n a (d ∷ ds) es h = legal_back n (done a d) ds es h.1
+
+legal_front : (n : ℕ) (a : Abstract) (ds es : List Outer) → Legal n a (ds ++ es) → Legal n a ds
+legal_front n a [] es h = tt
+legal_front n a (d ∷ ds) es h = (h.0, legal_front n (done a d) ds es h.1)
+
+and_then-append : (o : Option Outer) (ds es : List Outer) → and_then o (ds ++ es) ≡ and_then o ds ++ es
+and_then-append None ds es = refl
+and_then-append (Some d) ds es = refl
+
+module _ (l : Layout) (limit : ℕ) where
+  outers-append : (w : Scene) (xs ys : List Happening) → outers l limit w (xs ++ ys) ≡ outers l limit w xs ++ outers l limit (last_scene l limit w xs) ys
+  outers-append w [] ys = refl
+  outers-append w (x ∷ xs) ys = ap (and_then (outer (w.spots (who x)) x)) (outers-append (onward l limit w x) xs ys) ∙ and_then-append (outer (w.spots (who x)) x) (outers l limit (onward l limit w x) xs) (outers l limit (last_scene l limit (onward l limit w x) xs) ys)
+
+  pub story_front : (w : Scene) (xs ys : List Happening) → Story l limit w (xs ++ ys) → Story l limit w xs
+  story_front w [] ys h = tt
+  story_front w (x ∷ xs) ys h = (h.0, story_front (onward l limit w x) xs ys h.1)
+
+  pub story_back : (w : Scene) (xs ys : List Happening) → Story l limit w (xs ++ ys) → Story l limit (last_scene l limit w xs) ys
+  story_back w [] ys h = h
+  story_back w (x ∷ xs) ys h = story_back (onward l limit w x) xs ys h.1
+
+  -- who stores in a data word is inside
+  putter : (cells : Words) (a : Abstract) (m : Mailbox) (p : ℕ) (lock : Place) (b c : Bool) (errand : Errand) (kind : Kind) (i v : ℕ) → IsSome (moved_by l limit p lock b c errand kind (DataAt i) v) → Post l p (a.phase p) cells m b errand lock → is_store kind ≡ true → a.phase p ≡ Within
+  putter cells a m p lock b c Free kind i v some post stores = absurd (not_data l.procs limit p lock kind i v (some_place (next l.procs limit p lock kind (DataAt i) v) some))
+    where
+      some_place : (o : Option Place) → IsSome (at_lock l p lock b c o) → IsSome o
+      some_place None h = absurd (cc)
+      some_place (Some t) h = refl
+  putter cells a m p lock b c (Doing why left) kind i v some post stores = post.1
+
+  putter_in : (w : Scene) (a : Abstract) (m : Mailbox) (e : Happening) → IsSome (next_spot l limit (w.spots (who e)) e) → PostAt l (who e) (a.phase (who e)) w.cells m (w.spots (who e)) → puts_data e ≡ true → a.phase (who e) ≡ Within
+  putter_in w a m (Moves p kind (DataAt i) v) some post puts = let x = w.spots p in putter w.cells a m p x.lock x.mended x.barred x.errand kind i v some post puts
+  putter_in w a m _ some post puts = absurd (cc)
+
+  module _ (layout : IsLayout l) where
+    -- everything that stands at a scene
+    record At (w : Scene) (a : Abstract) : Type 0 where
+      pub mail : Mailbox
+      pub kept : Kept l a w.cells mail
+      pub posts : AllPosts l limit layout a w.cells mail w.spots
+
+    one : (w : Scene) (a : Abstract) (e : Happening) (es : List Happening) → At w a → Story l limit w (e ∷ es) → Legal l.procs a (outers l limit w (e ∷ es)) → At (onward l limit w e) (done_by a (outer (w.spots (who e)) e))
+    one w a e es at story legal =
+        let o = outer (w.spots (who e)) e in
+        let x = some_of l limit (next_spot l limit (w.spots (who e)) e) (w.spots (who e)) story.0.1 in
+        let r = head l limit layout a o (outers l limit (onward l limit w e) es) legal in
+        let left = happens l limit layout w a at.mail e x.0 story.0.0 at.kept x.1 story.0.2 r.0 (at.posts (who e) story.0.0) in
+        record {
+          mail = left.0.mail;
+          kept = left.0.kept;
+          posts = subst (λ z. AllPosts l limit layout (done_by a o) (onward l limit w e).cells left.0.mail (put w.spots (who e) z)) (sym x.2) (posts l limit layout w a at.mail e x.0 left.0 at.posts);
+        }
+
+    comes_to : (w : Scene) (a : Abstract) (es : List Happening) → At w a → Story l limit w es → Legal l.procs a (outers l limit w es) → At (last_scene l limit w es) (all_done a (outers l limit w es))
+    comes_to w a [] at story legal = at
+    comes_to w a (e ∷ es) at story legal =
+        let o = outer (w.spots (who e)) e in
+        let r = head l limit layout a o (outers l limit (onward l limit w e) es) legal in
+        subst (At (last_scene l limit (onward l limit w e) es)) (sym (done-and_then a o (outers l limit (onward l limit w e) es))) (comes_to (onward l limit w e) (done_by a o) es (one w a e es at story legal) story.1 r.1)
+
+    only_puts : (w : Scene) (a : Abstract) (es : List Happening) (p : ℕ) → p < l.procs → At w a → Story l limit w es → Legal l.procs a (outers l limit w es) → IsIn (a.phase p) → Stays p (outers l limit w es) → AllPutBy p es
+    only_puts w a [] p below at story legal i stays = tt
+    only_puts w a (e ∷ es) p below at story legal i stays =
+        let o = outer (w.spots (who e)) e in
+        let r = head l limit layout a o (outers l limit (onward l limit w e) es) legal in
+        let s = stays_by l.procs a o (outers l limit (onward l limit w e) es) p r.0 stays i in (
+          λ puts. sym (at.kept.sole p (who e) below story.0.0 i (subst IsIn (sym (putter_in w a at.mail e story.0.1 (at.posts (who e) story.0.0) puts)) tt)),
+          only_puts (onward l limit w e) (done_by a o) es p below (one w a e es at story legal) story.1 r.1 s.0 s.1,
+        )
+
+pub holders_put : OnlyHoldersPut
+holders_put l limit p before since earlier layout below story entered none =
+    let n = l.procs in
+    let o = origin l limit at_first (empty n l.cap) layout (inl (refl, refl)) in
+    let r = projected l limit at_first (before ++ since) o.held story in
+    let all : Legal n nobody (outers l limit at_first before ++ outers l limit (last_scene l limit at_first before) since) =
+    subst (Legal n nobody) (r.same ∙ outers-append l limit at_first before since) (legal n limit (core_of at_first) nobody r.events o.tied r.run) in
+    let there = comes_to l limit layout at_first nobody before (record { mail = (empty n l.cap).mail; kept = o.kept; posts = o.posts }) (story_front l limit at_first before since story) (legal_front n nobody _ _ all) in
+    let is : outers l limit at_first before ≡ lock_deeds earlier ++ Enter p ∷ [] = sym (lock_deeds_are l limit at_first before) ∙ ap lock_deeds entered ∙ lock_deeds-append earlier (deed.Outer (Enter p) ∷ []) in
+    let within : IsIn ((all_done nobody (outers l limit at_first before)).phase p) = subst (λ (ds : List Outer). IsIn ((all_done nobody ds).phase p)) (sym is) (entered_in nobody (lock_deeds earlier) p) in
+    only_puts l limit layout (last_scene l limit at_first before) (all_done nobody (outers l limit at_first before)) since p below there (story_back l limit at_first before since story) (legal_back n nobody _ _ all) within
+    (subst (Stays p) (lock_deeds_are l limit (last_scene l limit at_first before) since) (none_ends p (deeds l limit (last_scene l limit at_first before) since) none))

@@ -1,0 +1,204 @@
+-- What each process of a world keeps in its private memory, so that whatever its machine does is the definition's step.
+use Rattle.std.proofs.Common.{◌≡◌, ℕ, ◌<◌, Bool, true, false, ◌&&◌, ◌==◌, nat_lt, if◌then◌else◌, List, [], ◌∷◌, length, Option, Some, None, IfSome, refl, sym, ap, ◌∙◌, subst, inl, inr, arith, eqb-true, ltb-true}
+use Rattle.std.proofs.lemmas.Bool.{cases_Bool}
+use Rattle.rmecore.specs.Place.{Place, Rest, Dead, Reread, Wait, Inside, started as lock_started}
+use Rattle.rmecore.specs.Machine.{after_access, next_access as lock_access, StoresOwn as IsLockOwn}
+use Rattle.rmecore.specs.declared.access.Access.{Access}
+use Rattle.rmecore.specs.declared.access.Access.TheVariants.{Load, Store}
+use Rattle.rmecore.specs.declared.word.Word.TheVariants.{Choosing as ChoosingOf, Number as NumberOf, Inside as InsideOf, Data as DataAt}
+use Rattle.rmecore.proofs.Accesses.{all_allowed, stores_own}
+use Rattle.rmecore.specs.declared.refusal.Refusal.{Refusal}
+use Rattle.rmecore.specs.declared.refusal.Refusal.TheVariants.{Unmended, BadIndex, BadWidth}
+use Rattle.redomail.specs.declared.layout.Layout.{Layout}
+use Rattle.redomail.specs.declared.reply.Reply.{Reply}
+use Rattle.redomail.specs.declared.reply.Reply.TheVariants.{Ruined}
+use Rattle.redomail.specs.declared.stage.Stage.{Stage}
+use Rattle.redomail.specs.declared.task.Task.{Task}
+use Rattle.redomail.specs.declared.task.Task.TheVariants as task
+use Rattle.redomail.specs.Jobs.{FitsStage}
+use Rattle.redomail.specs.Layout.{IsLayout}
+use Rattle.redomail.specs.Left.{Pending, left, begun, fed}
+use Rattle.redomail.specs.Script.{Script, Get as Asks, Put as Writes, Done, tail}
+use Rattle.redomail.specs.Stages.{stage_after}
+use Rattle.redomail.proofs.Feeding.{fits_first, fits_after, left_after, FitsTask}
+use Rattle.rmeworld.specs.declared.call.Call.{Call}
+use Rattle.rmeworld.specs.declared.call.Call.TheVariants.{Lock, Unlock, Consistent, Recover, Append, Close, Get, Put, Withdraw}
+use Rattle.rmeworld.specs.declared.errand.Errand.{Errand as Chore}
+use Rattle.rmeworld.specs.declared.errand.Errand.TheVariants.{Free as IsFree, Asking, Doing as Does}
+use Rattle.rmeworld.specs.declared.why.Why.{Why}
+use Rattle.rmeworld.specs.declared.why.Why.TheVariants.{Checking, Mending}
+use Rattle.rmeworld.specs.Entered.{is_entry}
+use Rattle.rmeworld.specs.Errands.{errand_of, HasStep, Held}
+use Rattle.rmeworld.specs.Refused.{first_cause, start_refusal}
+use Rattle.rmeworld.specs.Spot.{Spot, Free, Doing, Begins, next_spot, begun_from, only_spot}
+use Rattle.rmeworld.specs.Stand.{Stand, spot_of, standing, resting, crashed, job_left, lock_moved, access_by, next_access, spot_after, IsAllowed, StoresOwn, started, stepped, stepped_by}
+use Rattle.rmeworld.proofs.Chores.{with, lock_goes, ask_goes, job_goes, Goes, lock_allowed, doing_allowed, script_allowed}
+
+-- a job of this layout
+abbrev pub FitsChore : Layout → Chore → Type 0
+FitsChore l IsFree = Unit {0}
+FitsChore l (Asking job) = (job.layout ≡ l) × FitsStage l job.stage
+FitsChore l (Does why job) = (job.layout ≡ l) × FitsStage l job.stage
+
+pub record IsOrdered (s : Stand) : Type 0 where
+  pub held : Held s.errand s.lock
+  pub fits : FitsChore s.layout s.errand
+
+pub ordered_rest : (l : Layout) (limit p : ℕ) → IsOrdered (resting l limit p)
+ordered_rest l limit p = record { held = tt; fits = tt }
+
+pub ordered_crashed : (s : Stand) → IsOrdered (crashed s)
+ordered_crashed s = record { held = tt; fits = tt }
+
+-- the next step
+
+job_left_after : (l : Layout) (job : Pending) (v : ℕ) → IsLayout l → job.layout ≡ l → FitsStage l job.stage → left (fed job v) ≡ tail (left job) v
+job_left_after l job v lawful is fits = left_after job.layout (subst IsLayout (sym is) lawful) job.sender job.stage v (subst (λ x. FitsStage x job.stage) (sym is) fits)
+
+pub goes : (s : Stand) (v : ℕ) → IsLayout s.layout → IsOrdered s → spot_of (stepped s v) ≡ spot_after s (next_access s) v
+goes s v lawful h = by s.errand h.held h.fits
+  where
+    by : (e : Chore) → Held e s.lock → FitsChore s.layout e → Goes s e v
+    by IsFree held fits = lock_goes s v (all_allowed (standing s))
+    by (Asking job) held fits = ask_goes s job v held
+    by (Does why job) held fits = job_goes s why job (fed job v) v held (job_left_after s.layout job v lawful fits.0 fits.1)
+
+pub allowed : (s : Stand) → IfSome (next_access s) (IsAllowed s)
+allowed s = by s.errand
+  where
+    by : (e : Chore) → IfSome (next_access (with s e)) (IsAllowed (with s e))
+    by IsFree = lock_allowed s (all_allowed (standing s))
+    by (Asking job) = doing_allowed s Mending (Asks 0 (λ x. if x == 1 then Done (Ruined true) else left job))
+    by (Does why job) = script_allowed s why job
+
+-- a store of the lock's is one of the process
+lock_owns : (p : ℕ) (a : Access) → IsLockOwn p a → StoresOwn p a
+lock_owns p (Load kind word) own = own
+lock_owns p (Store kind (ChoosingOf q) x) own = own
+lock_owns p (Store kind (NumberOf q) x) own = own
+lock_owns p (Store kind (InsideOf q) x) own = own
+lock_owns p (Store kind (DataAt i) x) own = (own.0, tt)
+
+pub owns : (s : Stand) → IfSome (next_access s) (StoresOwn s.index)
+owns s = by s.errand
+  where
+    lifted : (o : Option Access) → IfSome o (IsLockOwn s.index) → IfSome o (StoresOwn s.index)
+    lifted None h = tt
+    lifted (Some a) h = lock_owns s.index a h
+
+    doing : (why : Why) (x : Script Reply) → IfSome (access_by s.limit s.index s.lock (Doing why x)) (StoresOwn s.index)
+    doing why (Asks i rest) = refl
+    doing why (Writes i x rest) = (refl, tt)
+    doing why (Done reply) = tt
+
+    by : (e : Chore) → IfSome (next_access (with s e)) (StoresOwn s.index)
+    by IsFree = lifted (lock_access (standing s)) (stores_own s.limit s.index s.lock)
+    by (Asking job) = refl
+    by (Does why job) = doing why (left job)
+
+entry_inside : (t s : Place) → is_entry s t ≡ true → t ≡ Inside
+entry_inside Inside s e = refl
+entry_inside _ s e = cc
+
+pub ordered_stepped : (s : Stand) (v : ℕ) → IsLayout s.layout → IsOrdered s → IsOrdered (stepped s v)
+ordered_stepped s v lawful h = by s.errand h.held h.fits
+  where
+    moved : (t : Place) → IsOrdered (lock_moved s t)
+    moved t = elim (cases_Bool (is_entry s.lock t)) [
+      | inl e ↦ rw e (record { held = (entry_inside t s.lock e, tt); fits = (refl, fits_first s.layout lawful task.Check tt) })
+      | inr e ↦ rw e (record { held = tt; fits = tt })
+    ]
+
+    on : (why : Why) (job : Pending) → s.lock ≡ Inside → FitsChore s.layout (Does why job) → (x : Script Reply) → left job ≡ x → IsOrdered (job_left s why job x)
+    on why job inside fits (Done reply) is = record { held = tt; fits = tt }
+    on why job inside fits (Asks i rest) is = record { held = (inside, subst HasStep (sym is) tt); fits = fits }
+    on why job inside fits (Writes i x rest) is = record { held = (inside, subst HasStep (sym is) tt); fits = fits }
+
+    by : (e : Chore) → Held e s.lock → FitsChore s.layout e → IsOrdered (stepped_by s e v)
+    by IsFree held fits = moved (after_access (standing s) (lock_access (standing s)) v)
+    by (Asking job) held fits = elim (cases_Bool (v == 1)) [
+      | inl e ↦ rw e (record { held = tt; fits = tt })
+      | inr e ↦ rw e (record { held = held; fits = fits })
+    ]
+    by (Does why job) held fits =
+        let stage = fits_after s.layout lawful job.stage v fits.1 in
+        let next : FitsChore s.layout (Does why (fed job v)) = (fits.0, subst (λ l. FitsStage s.layout (stage_after l job.stage v)) (sym fits.0) stage) in
+        on why (fed job v) held.0 next (left (fed job v)) refl
+
+-- a start that is not refused
+fits_only : (b : Bool) (x : Spot) → b ≡ true → only_spot b x ≡ Some x
+fits_only true x e = refl
+fits_only false x e = cc
+
+unless_cause : (b : Bool) (r : Refusal) → first_cause ((b, r) ∷ []) ≡ None → b ≡ true
+unless_cause true r h = refl
+unless_cause false r h = cc
+
+both_causes : (b c : Bool) (q r : Refusal) → first_cause ((b, q) ∷ (c, r) ∷ []) ≡ None → (b ≡ true) × (c ≡ true)
+both_causes true c q r h = (refl, unless_cause c r h)
+both_causes false c q r h = cc
+
+refused : {r : Refusal} → Some r ≡ None → ⊥
+refused h = cc
+
+module _ (l : Layout) (limit p : ℕ) (lawful : IsLayout l) (barred : Bool) where
+  abbrev at : Place → Bool → Stand
+  at lock mended = record { layout = l; limit = limit; index = p; lock = lock; mended = mended; barred = barred; errand = IsFree }
+
+  abbrev Starts : Stand → Call → Type 0
+  Starts s call = (begun_from l p s.lock s.mended (errand_of s.errand) call ≡ Some (spot_of (started s call))) × IsOrdered (started s call)
+
+  idle : {s : Stand} → Held s.errand s.lock → FitsChore s.layout s.errand → IsOrdered s
+  idle held fits = record { held = held; fits = fits }
+
+  starts : (lock : Place) (mended : Bool) (call : Call) → start_refusal l (spot_of (at lock mended)) call ≡ None → Starts (at lock mended) call
+  starts Rest b Lock h = (refl, idle tt tt)
+  starts Dead b Lock h = (refl, idle tt tt)
+  starts Rest b Recover h = (refl, idle tt tt)
+  starts Dead b Recover h = (refl, idle tt tt)
+  starts (Wait k unpassed looked) b Withdraw h = (refl, idle tt tt)
+  starts Inside true Unlock h = (refl, idle tt tt)
+  starts Inside false Unlock h = (refl, idle (refl, tt) (refl, fits_first l lawful task.Ruin tt))
+  starts Inside false Consistent h = (refl, idle (refl, tt) (refl, fits_first l lawful task.Repair tt))
+  starts Inside b (Append seq value) h =
+      let both = both_causes b (length value == l.width) Unmended BadWidth h in
+      let may : (b && (length value == l.width)) ≡ true = rw (both.0, both.1) refl in
+      (fits_only _ _ may, idle (refl, tt) (refl, fits_first l lawful (task.Append seq value) (eqb-true _ _ both.1)))
+  starts Inside b Close h = (fits_only b _ (unless_cause b Unmended h), idle (refl, tt) (refl, fits_first l lawful task.Close tt))
+  starts Inside b (Get i) h = let less = unless_cause (nat_lt i 4) BadIndex h in (fits_only _ _ less, idle (refl, tt) (refl, fits_first l lawful (task.BoardGet i) (ltb-true i 4 less)))
+  starts Inside b (Put i v) h = let less = unless_cause (nat_lt i 4) BadIndex h in (fits_only _ _ less, idle (refl, tt) (refl, fits_first l lawful (task.BoardPut i v) (ltb-true i 4 less)))
+  starts _ _ Lock h = absurd (refused h)
+  starts _ _ Recover h = absurd (refused h)
+  starts _ _ Withdraw h = absurd (refused h)
+  starts _ _ Unlock h = absurd (refused h)
+  starts _ _ Consistent h = absurd (refused h)
+  starts _ _ (Append seq value) h = absurd (refused h)
+  starts _ _ Close h = absurd (refused h)
+  starts _ _ (Get i) h = absurd (refused h)
+  starts _ _ (Put i v) h = absurd (refused h)
+
+-- a process with a script is inside, and starts nothing
+busy : (l : Layout) (lock : Place) (b c : Bool) (why : Why) (e : Script Reply) (call : Call) → lock ≡ Inside → start_refusal l (record { lock = lock; mended = b; barred = c; errand = Doing why e }) call ≡ None → ⊥
+busy l lock b c why e Withdraw inside h = let no : start_refusal l (record { lock = Inside; mended = b; barred = c; errand = Doing why e }) Withdraw ≡ None = subst (λ x. start_refusal l (record { lock = x; mended = b; barred = c; errand = Doing why e }) Withdraw ≡ None) inside h in cc
+busy l lock b c why e Lock inside h = refused h
+busy l lock b c why e Recover inside h = refused h
+busy l lock b c why e Unlock inside h = refused h
+busy l lock b c why e Consistent inside h = refused h
+busy l lock b c why e (Append seq value) inside h = refused h
+busy l lock b c why e Close inside h = refused h
+busy l lock b c why e (Get i) inside h = refused h
+busy l lock b c why e (Put i v) inside h = refused h
+
+pub begins :
+    (s : Stand) (call : Call) → IsLayout s.layout → IsOrdered s → start_refusal s.layout (spot_of s) call ≡ None
+    → (next_spot s.layout s.limit (spot_of s) (Begins s.index call) ≡ Some (spot_of (started s call))) × IsOrdered (started s call)
+begins s call lawful h may = by s.errand refl h.held may
+  where
+    by : (e : Chore) → s.errand ≡ e → Held e s.lock → start_refusal s.layout (record { lock = s.lock; mended = s.mended; barred = s.barred; errand = errand_of e }) call ≡ None
+        → (next_spot s.layout s.limit (spot_of s) (Begins s.index call) ≡ Some (spot_of (started s call))) × IsOrdered (started s call)
+    by IsFree is held may =
+        let free : record s { errand = IsFree } ≡ s = λ i. record s { errand = sym is i } in
+        subst (λ (t : Stand). (next_spot t.layout t.limit (spot_of t) (Begins t.index call) ≡ Some (spot_of (started t call))) × IsOrdered (started t call)) free
+        (starts s.layout s.limit s.index lawful s.barred s.lock s.mended call may)
+    by (Asking job) is held may = absurd (busy s.layout s.lock s.mended s.barred Mending (Asks 0 (λ x. if x == 1 then Done (Ruined true) else left job)) call held.0 may)
+    by (Does why job) is held may = absurd (busy s.layout s.lock s.mended s.barred why (left job) call held.0 may)

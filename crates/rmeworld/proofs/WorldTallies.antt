@@ -1,0 +1,253 @@
+-- Every happening of a world keeps what its tallies say.
+use Rattle.std.proofs.Common.{◌≡◌, ◌≢◌, ℕ, zero, suc, ◌+◌, ◌<◌, Bool, true, false, ◌&&◌, ◌==◌, if◌then◌else◌, List, [], ◌∷◌, length, map, slice_set, Option, Some, None, IsSome, IfSome, unwrap_or, refl, sym, ap, ◌∙◌, subst, inl, inr, arith}
+use Rattle.std.proofs.lemmas.Bool.{cases_eq}
+use Rattle.std.proofs.lemmas.List.{get_or-set_same, get_or-set_other, get_or-replicate}
+use Rattle.rmecore.specs.Place.{Place, Steps, next}
+use Rattle.rmecore.specs.World.{Reads as CoreReads, is_store, read, write}
+use Rattle.rmecore.specs.Machine.{access, kind_of, word_of, carried}
+use Rattle.rmecore.specs.Paid.{ReadsBegun, is_glance}
+use Rattle.rmecore.specs.Simulated.{own_at, tally_at, counted, fresh}
+use Rattle.rmecore.specs.Tallied.{IsExact, IsRereading}
+use Rattle.rmecore.specs.declared.access.Access.{Access}
+use Rattle.rmecore.specs.declared.access.Access.TheVariants.{Load, Store}
+use Rattle.rmecore.specs.declared.kind.Kind.{Kind}
+use Rattle.rmecore.specs.declared.kind.Kind.TheVariants.{Get as Gets, Put as Puts}
+use Rattle.rmecore.specs.declared.own.Own.{Own}
+use Rattle.rmecore.specs.declared.tally.Tally.{Tally}
+use Rattle.rmecore.specs.declared.word.Word.{Word}
+use Rattle.rmecore.specs.declared.word.Word.TheVariants.{Choosing as ChoosingOf, Number as NumberOf, Inside as InsideOf, Data as DataAt}
+use Rattle.rmecore.proofs.Invariant.{put_same, put_other}
+use Rattle.rmecore.proofs.Tallies.{never_glances, exact_before, sums, Was, rereads_on, reads_begun}
+use Rattle.rmecore.proofs.Turns.{not_data}
+use Rattle.redomail.specs.Layout.{Words}
+use Rattle.redomail.specs.Script.{Script, Get as Asks, Put as Writes, Done}
+use Rattle.redomail.specs.declared.layout.Layout.{Layout}
+use Rattle.redomail.specs.declared.reply.Reply.{Reply}
+use Rattle.redomail.specs.declared.reply.Reply.TheVariants.{Ruined}
+use Rattle.rmeworld.specs.Answered.{answer_at, blocked_by}
+use Rattle.rmeworld.specs.OwnSteps.{most_steps}
+use Rattle.rmeworld.specs.Paid.{PaysAt}
+use Rattle.rmeworld.specs.Replayed.{value_of, happening, advanced_by, started, crashed}
+use Rattle.rmeworld.specs.Spot.{Errand, Free, Doing, Spot, Happening, Begins, Falls, Moves, dead, next_spot, settled, end_place, at_lock, moved_by}
+use Rattle.rmeworld.specs.Errands.{errand_of}
+use Rattle.rmeworld.specs.Stand.{Stand, access_by, outcome, StoresOwn}
+use Rattle.rmeworld.specs.Tallied.{HasTaken, IsTaking, IsTallied, AllTallied}
+use Rattle.rmeworld.specs.UnderWay.{call_at}
+use Rattle.rmeworld.specs.World.{Scene, Can, onward, reading, reading_of, words_after}
+use Rattle.rmeworld.specs.WorldState.{WorldState, stand_at, spot_at, scene_of, IsSeated, Takes}
+use Rattle.rmeworld.specs.declared.answer.Answer.{Answer}
+use Rattle.rmeworld.specs.declared.call.Call.{Call}
+use Rattle.rmeworld.specs.declared.why.Why.{Why}
+use Rattle.rmeworld.specs.declared.why.Why.TheVariants.{Checking, Ruining, Mending, Working}
+use Rattle.rmeworld.proofs.CallBounds.{fewer_at}
+use Rattle.rmeworld.proofs.CallSteps.{more, guard_spot, To, step_by, start_to}
+use Rattle.rmeworld.proofs.WorldSteps.{IsStep, step_takes}
+
+-- the machine never glances
+pub glances_never : (limit p : ℕ) (s : Place) (e : Errand) → IfSome (access_by limit p s e) (λ a. is_glance (kind_of a) ≡ false)
+glances_never limit p s Free = never_glances limit p s
+glances_never limit p s (Doing why (Asks i rest)) = refl
+glances_never limit p s (Doing why (Writes i v rest)) = refl
+glances_never limit p s (Doing why (Done reply)) = tt
+
+pub no_glance : (limit p : ℕ) (s : Place) (e : Errand) (a : Access) → access_by limit p s e ≡ Some a → is_glance (kind_of a) ≡ false
+no_glance limit p s e a is = subst (λ o. IfSome o (λ a. is_glance (kind_of a) ≡ false)) is (glances_never limit p s e)
+
+-- a process that rereads after a step has read an own word in it
+ended_not : (why : Why) (a : Reply) → IsRereading (end_place why a) → ⊥
+ended_not Checking (Ruined true) h = h
+ended_not Checking _ h = h
+ended_not Ruining a h = h
+ended_not Mending a h = h
+ended_not (Working t) a h = h
+
+settled_not : (m c : Bool) (why : Why) (left : Script Reply) → IsRereading (settled m c why left).lock → ⊥
+settled_not m c why (Asks i rest) h = h
+settled_not m c why (Writes i v rest) h = h
+settled_not m c why (Done a) h = ended_not why a h
+
+at_lock_some : (l : Layout) (p : ℕ) (s : Place) (m c : Bool) (o : Option Place) → IsSome (at_lock l p s m c o) → IsSome o
+at_lock_some l p s m c None some = absurd (cc)
+at_lock_some l p s m c (Some t) some = refl
+
+module _ (l : Layout) (limit p : ℕ) where
+  at_lock_was : (o : Option Place) (s : Place) (m c : Bool) (kind : Kind) (d : Spot) → IsSome (at_lock l p s m c o) → (IsSome o → Was s kind (unwrap_or o s)) → Was s kind (unwrap_or (at_lock l p s m c o) d).lock
+  at_lock_was None s m c kind d some was = absurd (cc)
+  at_lock_was (Some t) s m c kind d some was = was refl
+
+  rereads_so : (s : Place) (m c : Bool) (e : Errand) (d : Spot) (kind : Kind) (word : Word) (v : ℕ) → IsSome (moved_by l limit p s m c e kind word v) → is_glance kind ≡ false → Was s kind (unwrap_or (moved_by l limit p s m c e kind word v) d).lock
+  rereads_so s m c Free d kind word v some moves = at_lock_was (next l.procs limit p s kind word v) s m c kind d some (λ may. rereads_on l.procs limit p s kind word v may moves)
+  rereads_so s m c (Doing why (Asks j rest)) d Gets (DataAt i) v some moves = guard_spot (i == j) (settled m c why (rest v)) d (λ spot. Was s Gets spot.lock) some (λ e. λ h. absurd (settled_not m c why (rest v) h))
+  rereads_so s m c (Doing why (Writes j x rest)) d Puts (DataAt i) v some moves = guard_spot ((i == j) && (v == x)) (settled m c why rest) d (λ spot. Was s Puts spot.lock) some (λ e. λ h. absurd (settled_not m c why rest h))
+  rereads_so s m c (Doing why _) d _ _ v some moves = absurd (cc)
+
+  -- a lock word is read as it stands
+  core_reads : (words : ℕ → Own) (cells : Words) (s : Place) (kind : Kind) (word : Word) (v : ℕ) → IsSome (next l.procs limit p s kind word v) → (is_store kind ≡ false → reading_of words cells word ≡ v) → CoreReads words (Steps p kind word v)
+  core_reads words cells s kind (DataAt i) v some reads = λ load. absurd (not_data l.procs limit p s kind i v some)
+  core_reads words cells s kind (ChoosingOf q) v some reads = reads
+  core_reads words cells s kind (NumberOf q) v some reads = reads
+  core_reads words cells s kind (InsideOf q) v some reads = reads
+
+-- the count after one step of a process, begun with the words in its tally
+module _ (l : Layout) (limit : ℕ) (w : Scene) (p : ℕ) (kind : Kind) (word : Word) (v : ℕ) (t : Tally) (can : Can l limit w (Moves p kind word v)) (moves : is_glance kind ≡ false) (tallied : IsTallied l (w.words p) (w.spots p) t) where
+  abbrev spot : Spot
+  spot = w.spots p
+
+  abbrev b : Bool
+  b = blocked_by p spot.lock spot.errand kind v
+
+  abbrev to : Spot
+  to = unwrap_or (next_spot l limit spot (Moves p kind word v)) spot
+
+  reads : spot.errand ≡ Free → ReadsBegun t.began.choosing t.began.number t.began.inside spot.lock v
+  reads free =
+      let some : IsSome (next l.procs limit p spot.lock kind word v) = at_lock_some l p spot.lock spot.mended spot.barred (next l.procs limit p spot.lock kind word v) (subst (λ e. IsSome (moved_by l limit p spot.lock spot.mended spot.barred e kind word v)) free can.1) in
+      reads_begun l.procs limit (record { words = w.words; places = λ q. spot.lock }) p t.began spot.lock kind word v some moves (core_reads l limit p w.words w.cells spot.lock kind word v some can.2) tallied.began
+
+  counts : IsExact (counted t b) → (x : ℕ) × To l t.began spot.mended (call_at spot) (answer_at spot kind v) to x × ((counted t b).steps ≡ x + (counted t b).blocked)
+  counts exact =
+      let old = tallied.taking (exact_before t b exact) in
+      (more b old.0, step_by l p t.began limit can.0 spot kind word v old.0 can.1 moves reads old.1, sums t b old.0 exact old.2)
+
+  -- the answer comes with just the steps of the table
+  pub answered : IfSome (answer_at spot kind v) (λ a. IsExact (counted t b) → HasTaken l spot (counted t b) a)
+  answered = of (answer_at spot kind v) counts
+    where
+      of : (o : Option Answer) → (IsExact (counted t b) → (x : ℕ) × To l t.began spot.mended (call_at spot) o to x × ((counted t b).steps ≡ x + (counted t b).blocked)) → IfSome o (λ a. IsExact (counted t b) → HasTaken l spot (counted t b) a)
+      of None f = tt
+      of (Some a) f = λ exact. let c = f exact in let own = c.1.2 in (own.0, own.1, (c.0, own.2, c.2))
+
+  pays_on : (o : Option Answer) (x : ℕ) → To l t.began spot.mended (call_at spot) o to x → PaysAt l t.began to x
+  pays_on None x h = h.0
+  pays_on (Some a) x h = h.0
+
+  pub tallied_on : IsTallied l (words_after w.words (Moves p kind word v) p) to (counted t b)
+  tallied_on =
+      record {
+        began = λ h.
+            let was = rereads_so l limit p spot.lock spot.mended spot.barred spot.errand spot kind word v can.1 moves h in
+            tallied.began was.0 ∙ loads (is_store kind) was.1;
+        taking = λ exact. let c = counts exact in (c.0, pays_on (answer_at spot kind v) c.0 c.1, c.2);
+      }
+    where
+      loads : (store : Bool) → store ≡ false → w.words p ≡ (if store then write w.words word v else w.words) p
+      loads true e = cc
+      loads false e = refl
+
+-- of the others nothing was changed
+all_but : (l : Layout) (w w' : Scene) (p : ℕ) (tallies tallies' : List Tally) → ((q : ℕ) → q ≢ p → w'.words q ≡ w.words q) → ((q : ℕ) → q ≢ p → w'.spots q ≡ w.spots q) → ((q : ℕ) → q ≢ p → tally_at tallies' q ≡ tally_at tallies q)
+    → IsTallied l (w'.words p) (w'.spots p) (tally_at tallies' p) → AllTallied l w tallies → AllTallied l w' tallies'
+all_but l w w' p tallies tallies' words spots same here all q below =
+    elim (cases_eq q p) [
+      | inl is ↦ subst (λ r. IsTallied l (w'.words r) (w'.spots r) (tally_at tallies' r)) (sym is) here
+      | inr ne ↦
+          subst (λ t. IsTallied l (w'.words q) (w'.spots q) t) (sym (same q ne))
+          (subst (λ x. IsTallied l (w'.words q) x (tally_at tallies q)) (sym (spots q ne))
+          (subst (λ x. IsTallied l x (w.spots q) (tally_at tallies q)) (sym (words q ne)) (all q below)))
+    ]
+
+others_words : (words : ℕ → Own) (p r : ℕ) (a : Access) (v q : ℕ) → StoresOwn r a → r ≡ p → q ≢ p → words_after words (Moves p (kind_of a) (word_of a) v) q ≡ words q
+others_words words p r (Load kind word) v q own mine ne = rw own refl
+others_words words p r (Store kind (DataAt i) x) v q own mine ne = rw (own.0) refl
+others_words words p r (Store kind (ChoosingOf j) x) v q own mine ne = let far : q ≢ j = λ e. ne (e ∙ own.1 ∙ mine) in rw (own.0) (put_other words j _ q far)
+others_words words p r (Store kind (NumberOf j) x) v q own mine ne = let far : q ≢ j = λ e. ne (e ∙ own.1 ∙ mine) in rw (own.0) (put_other words j _ q far)
+others_words words p r (Store kind (InsideOf j) x) v q own mine ne = let far : q ≢ j = λ e. ne (e ∙ own.1 ∙ mine) in rw (own.0) (put_other words j _ q far)
+
+module _ (s : WorldState) (p : ℕ) (a : Access) (step : IsStep s p a) (all : AllTallied s.layout (scene_of s) s.tallies) where
+  abbrev v : ℕ
+  v = value_of s a
+
+  abbrev from_spot : Spot
+  from_spot = spot_at s.processes p
+
+  abbrev blocked : Bool
+  blocked = blocked_by p from_spot.lock from_spot.errand (kind_of a) v
+
+  abbrev tally : Tally
+  tally = tally_at s.tallies p
+
+  abbrev tallies' : List Tally
+  tallies' = (advanced_by s p a).tallies
+
+  moves : is_glance (kind_of a) ≡ false
+  moves =
+      let st : Stand = stand_at s.processes p in
+      no_glance st.limit st.index st.lock (errand_of st.errand) a step.next
+
+  seat_index : (stand_at s.processes p).index ≡ p
+  seat_index = let seat = step.seated.seats p step.below in seat.2
+
+  room : p < length s.tallies
+  room = subst (λ n. p < n) (sym step.seated.tallies_each) step.below
+
+  -- as the step counted it
+  abbrev count : Tally
+  count = counted tally (outcome (stand_at s.processes p) (Some a) (reading (scene_of s) (word_of a))).progress.blocked
+
+  now : tally_at tallies' p ≡ counted tally blocked
+  now = get_or-set_same s.tallies p count _ room ∙ ap (λ q. counted tally (blocked_by q from_spot.lock from_spot.errand (kind_of a) v)) seat_index
+
+  pub tallied_step : AllTallied s.layout (scene_of (advanced_by s p a)) tallies'
+  tallied_step =
+      let takes = step_takes s p a step in
+      let to : Spot = unwrap_or (next_spot s.layout s.limit from_spot (Moves p (kind_of a) (word_of a) v)) from_spot in
+      let on = tallied_on s.layout s.limit (scene_of s) p (kind_of a) (word_of a) v tally takes.can moves (all p step.below) in
+      subst (λ w. AllTallied s.layout w tallies') (sym takes.scene)
+      (all_but s.layout (scene_of s) (onward s.layout s.limit (scene_of s) (Moves p (kind_of a) (word_of a) v)) p s.tallies tallies'
+      (λ q ne. others_words (own_at s.words) p _ a v q step.own seat_index ne)
+      (λ q ne. put_other (spot_at s.processes) p to q ne)
+      (λ q ne. get_or-set_other s.tallies p q count _ ne)
+      (subst (λ x. IsTallied s.layout (words_after (own_at s.words) (Moves p (kind_of a) (word_of a) v) p) x (tally_at tallies' p)) (sym (put_same (spot_at s.processes) p to))
+      (subst (IsTallied s.layout (words_after (own_at s.words) (Moves p (kind_of a) (word_of a) v) p) to) (sym now) on))
+      all)
+
+  pub answered_step : IfSome (answer_at from_spot (kind_of a) v) (λ x. IsExact (tally_at tallies' p) → HasTaken s.layout from_spot (tally_at tallies' p) x)
+  answered_step =
+      let takes = step_takes s p a step in
+      subst (λ t. IfSome (answer_at from_spot (kind_of a) v) (λ x. IsExact t → HasTaken s.layout from_spot t x)) (sym now)
+      (answered s.layout s.limit (scene_of s) p (kind_of a) (word_of a) v tally takes.can moves (all p step.below))
+
+pub tallied_start : (s : WorldState) (p : ℕ) (call : Call) → IsSeated s.layout s.limit s.words s.processes s.tallies → p < s.layout.procs → Takes s (Begins p call) (started s p call) → AllTallied s.layout (scene_of s) s.tallies → AllTallied s.layout (scene_of (started s p call)) (started s p call).tallies
+tallied_start s p call seated below takes all =
+    let own : Own = own_at s.words p in
+    let to = unwrap_or (next_spot s.layout s.limit (spot_at s.processes p) (Begins p call)) (spot_at s.processes p) in
+    let new = (started s p call).tallies in
+    let begun : IsTallied s.layout own to (fresh own) = record { began = λ h. refl; taking = λ exact. (0, (start_to s.layout p own s.limit (spot_at s.processes p) call takes.can.1).0, refl) } in
+    subst (λ w. AllTallied s.layout w new) (sym takes.scene)
+    (all_but s.layout (scene_of s) (onward s.layout s.limit (scene_of s) (Begins p call)) p s.tallies new (λ q ne. refl)
+    (λ q ne. put_other (spot_at s.processes) p to q ne)
+    (λ q ne. get_or-set_other s.tallies p q _ _ ne)
+    (subst (λ x. IsTallied s.layout own x (tally_at new p)) (sym (put_same (spot_at s.processes) p to))
+    (subst (IsTallied s.layout own to) (sym (get_or-set_same s.tallies p (fresh own) _ (subst (λ n. p < n) (sym seated.tallies_each) below))) begun))
+    all)
+
+pub tallied_crash : (s : WorldState) (p : ℕ) → p < s.layout.procs → Takes s (Falls p) (crashed s p) → AllTallied s.layout (scene_of s) s.tallies → AllTallied s.layout (scene_of (crashed s p)) s.tallies
+tallied_crash s p below takes all =
+    let before = all p below in
+    let fallen : IsTallied s.layout (own_at s.words p) dead (tally_at s.tallies p) = record { began = λ h. absurd h; taking = λ exact. let x = before.taking exact in (x.0, tt, x.2) } in
+    subst (λ w. AllTallied s.layout w s.tallies) (sym takes.scene)
+    (all_but s.layout (scene_of s) (onward s.layout s.limit (scene_of s) (Falls p)) p s.tallies s.tallies (λ q ne. refl)
+    (λ q ne. put_other (spot_at s.processes) p dead q ne) (λ q ne. refl)
+    (subst (λ x. IsTallied s.layout (own_at s.words p) x (tally_at s.tallies p)) (sym (put_same (spot_at s.processes) p dead)) fallen)
+    all)
+
+-- before any call of a process at rest, or crashed
+uncounted : (words : List Own) (p : ℕ) → (tally_at (map fresh words) p).steps ≡ 0 + (tally_at (map fresh words) p).blocked
+uncounted [] p = refl
+uncounted (x ∷ xs) zero = refl
+uncounted (x ∷ xs) (suc p) = uncounted xs p
+
+pub unstarted : (l : Layout) (own : Own) (spot : Spot) (words : List Own) (p : ℕ) → spot ≡ dead → IsTallied l own spot (tally_at (map fresh words) p)
+unstarted l own spot words p is = subst (λ x. IsTallied l own x (tally_at (map fresh words) p)) (sym is) (record { began = λ h. absurd h; taking = λ exact. (0, tt, uncounted words p) })
+
+-- a call under way has taken fewer steps than the most
+pub takes_fewer : (l : Layout) (w : Scene) (tallies : List Tally) → AllTallied l w tallies → (p : ℕ) → IsExact (tally_at tallies p) → p < l.procs → IfSome (call_at (w.spots p)) (λ call. (tally_at tallies p).steps < most_steps l call + (tally_at tallies p).blocked)
+takes_fewer l w tallies all p exact below = of (call_at (w.spots p)) refl
+  where
+    of : (o : Option Call) → call_at (w.spots p) ≡ o → IfSome o (λ call. (tally_at tallies p).steps < most_steps l call + (tally_at tallies p).blocked)
+    of None is = tt
+    of (Some call) is =
+        let taking = (all p below).taking exact in
+        let less = fewer_at l (tally_at tallies p).began (omega arith) (w.spots p) call taking.0 is taking.1 in
+        let sum = taking.2 in
+        omega arith

@@ -1,0 +1,33 @@
+-- Only a process that is in puts a data word; so from its Enter on no other does, until its super-passage ends.
+use Rattle.std.specs.Prelude.{◌≡◌, ℕ, ◌<◌, Bool, true, false, List, [], ◌∷◌, ◌++◌, All}
+use Rattle.rmecore.specs.World.{is_store}
+use Rattle.rmecore.specs.declared.outer.Outer.TheVariants.{Enter}
+use Rattle.rmecore.specs.declared.word.Word.TheVariants.{Data as DataAt}
+use Rattle.redomail.specs.Layout.{IsLayout}
+use Rattle.redomail.specs.declared.deed.Deed.{Deed}
+use Rattle.redomail.specs.declared.deed.Deed.TheVariants as deed
+use Rattle.redomail.specs.declared.layout.Layout.{Layout}
+use Rattle.judge.specs.Plain.{IsEndOf}
+use Rattle.rmeworld.specs.Spot.{Happening, Moves, who}
+use Rattle.rmeworld.specs.World.{at_first, Story, last_scene, deeds}
+
+-- a store in a data word
+abbrev pub puts_data : Happening → Bool
+puts_data (Moves p kind (DataAt i) v) = is_store kind
+puts_data _ = false
+
+-- each store in a data word among these is p's
+abbrev pub AllPutBy : ℕ → List Happening → Type 0
+AllPutBy p [] = Unit {0}
+AllPutBy p (e ∷ es) = (puts_data e ≡ true → who e ≡ p) × AllPutBy p es
+
+-- no Leave and no Quit of p is among these
+abbrev pub NoEndOf : ℕ → List Deed → Type 0
+NoEndOf p ds = All (λ (d : Deed). IsEndOf p d → ⊥) ds
+
+-- a story whose first part ends with p's Enter, and whose second has no end of that super-passage: it may crash and come
+-- in again there
+abbrev pub OnlyHoldersPut : Type 0
+OnlyHoldersPut =
+    (l : Layout) (limit p : ℕ) (before since : List Happening) (earlier : List Deed) → IsLayout l → p < l.procs → Story l limit at_first (before ++ since)
+    → deeds l limit at_first before ≡ earlier ++ deed.Outer (Enter p) ∷ [] → NoEndOf p (deeds l limit (last_scene l limit at_first before) since) → AllPutBy p since

@@ -1,0 +1,58 @@
+-- The call that is under way at a spot, told by the spot alone.
+use Rattle.std.specs.Prelude.{Bool, true, false, Option, Some, None}
+use Rattle.rmecore.specs.Place.{Place, Reread, Opening, Door, Shutting, Wait, Leaving, Withdrawing, Unmarking}
+use Rattle.rmecore.specs.declared.core_call.CoreCall.{CoreCall}
+use Rattle.rmecore.specs.declared.core_call.CoreCall.TheVariants as core
+use Rattle.redomail.specs.declared.task.Task.{Task}
+use Rattle.redomail.specs.declared.task.Task.TheVariants as task
+use Rattle.rmeworld.specs.declared.call.Call.{Call}
+use Rattle.rmeworld.specs.declared.call.Call.TheVariants.{Lock, Unlock, Consistent, Recover, Append, Close, Get, Put, Withdraw}
+use Rattle.rmeworld.specs.declared.why.Why.{Why}
+use Rattle.rmeworld.specs.declared.why.Why.TheVariants.{Checking, Ruining, Mending, Working}
+use Rattle.rmeworld.specs.Spot.{Errand, Free, Doing, Spot}
+
+-- the lock's part that stands at a place. Unlock is the exit
+abbrev pub lock_part : Place → Option CoreCall
+lock_part (Reread core.Lock seen) = Some core.Lock
+lock_part (Reread _ seen) = Some core.Recover
+lock_part Opening = Some core.Lock
+lock_part (Door unread m) = Some core.Lock
+lock_part (Shutting core.Lock k) = Some core.Lock
+lock_part (Shutting _ k) = Some core.Recover
+lock_part (Wait k unpassed looked) = Some core.Lock
+lock_part (Unmarking core.Lock) = Some core.Lock
+lock_part (Unmarking core.Unlock) = Some core.Unlock
+lock_part (Unmarking _) = Some core.Recover
+lock_part Leaving = Some core.Unlock
+lock_part Withdrawing = Some core.Withdraw
+lock_part _ = None
+
+-- the call that it belongs to. A lock that was turned away takes the exit too
+abbrev pub part_call : Option CoreCall → Bool → Option Call
+part_call None barred = None
+part_call (Some core.Lock) barred = Some Lock
+part_call (Some core.Recover) barred = Some Recover
+part_call (Some core.Withdraw) barred = Some Withdraw
+part_call (Some core.Unlock) true = Some Lock
+part_call (Some core.Unlock) false = Some Unlock
+
+abbrev pub task_call : Task → Option Call
+task_call (task.Append seq value) = Some (Append seq value)
+task_call task.Close = Some Close
+task_call (task.BoardGet i) = Some (Get i)
+task_call (task.BoardPut i v) = Some (Put i v)
+task_call _ = None
+
+abbrev pub why_call : Why → Option Call
+why_call Checking = Some Lock
+why_call Ruining = Some Unlock
+why_call Mending = Some Consistent
+why_call (Working t) = task_call t
+
+abbrev pub call_by : Place → Bool → Errand → Option Call
+call_by s barred Free = part_call (lock_part s) barred
+call_by s barred (Doing why left) = why_call why
+
+-- no call is under way at rest, after a crash, or inside with nothing to do
+abbrev pub call_at : Spot → Option Call
+call_at spot = call_by spot.lock spot.barred spot.errand

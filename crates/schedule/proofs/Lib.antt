@@ -22,3 +22,5 @@ pub mod Judging
 pub mod Answering
 pub mod Heading
 pub mod Cutting
+pub mod Kept
+pub mod WorldRuns

@@ -38,7 +38,7 @@ tells before now bench heard told (Err halt) written halted hears = halted
 told_append : (a b : List Told) → told_text (a ++ b) ≡ told_text a ++ told_text b
 told_append a b = flat_map-append told_line a b
 
-deeds_append : (a b : List Told) → deeds_of (a ++ b) ≡ deeds_of a ++ deeds_of b
+pub deeds_append : (a b : List Told) → deeds_of (a ++ b) ≡ deeds_of a ++ deeds_of b
 deeds_append [] b = refl
 deeds_append (Did deed ∷ a) b = ap (λ (ds : List Deed). deed ∷ ds) (deeds_append a b)
 deeds_append (Answered p answer ∷ a) b = deeds_append a b

@@ -1,6 +1,6 @@
 //! Replaying the text of a schedule.
 
-ghost use Rattle.std.specs.Prelude.{◌≡◌};
+ghost use Rattle.std.specs.Prelude.{◌≡◌, IfOk};
 ghost use Rattle.rmecore.specs.Refused.{number_of};
 ghost use Rattle.rmeworld.specs.WorldState.{new_refusal};
 ghost use Rattle.schedule.specs.Plays.{tape};
@@ -9,6 +9,7 @@ ghost use Rattle.schedule.specs.Wholes.{layout_of, header_fault, OfSchedule, OfT
 
 use crate::device::{Sink, Source};
 use crate::fault::TextFault;
+use crate::laws::worlds_are_never_found_out;
 use crate::pieces::read_all;
 use crate::replay_fault::ReplayFault;
 use crate::replaying::replay_on;
@@ -35,8 +36,10 @@ fn replay_new<W: Sink>(
     schedule: &Schedule,
     w: &mut W,
 ) -> Result<Verdict, ReplayFault>
-    ensures { OfSchedule (tape (W.taken w.old) (W.failures w.old)) (tape (W.taken w.new) (W.failures w.new)) schedule.now (new_refusal (layout_of schedule.now) schedule.now.limit) result }
+    ensures of { OfSchedule (tape (W.taken w.old) (W.failures w.old)) (tape (W.taken w.new) (W.failures w.new)) schedule.now (new_refusal (layout_of schedule.now) schedule.now.limit) result }
+    ensures fine { IfOk result (λ verdict. verdict ≡ Verdict.Fine) }
 {
+    worlds_are_never_found_out();
     let head = schedule.head();
     let mut world = match World::new(alloc, head.procs, head.limit, head.cap, head.width) {
         Ok(world) => world,
@@ -51,7 +54,8 @@ fn replay_new<W: Sink>(
 
 /// Replays the schedule that the text spells.
 fn replay_text<W: Sink>(alloc: Global, text: &[u8], w: &mut W) -> Result<Verdict, ReplayFault>
-    ensures { OfText (tape (W.taken w.old) (W.failures w.old)) (tape (W.taken w.new) (W.failures w.new)) (schedule_at text.now) result }
+    ensures of { OfText (tape (W.taken w.old) (W.failures w.old)) (tape (W.taken w.new) (W.failures w.new)) (schedule_at text.now) result }
+    ensures fine { IfOk result (λ verdict. verdict ≡ Verdict.Fine) }
 {
     match read_schedule(alloc, text) {
         Ok(schedule) => replay_new(alloc, &schedule, w),
@@ -70,8 +74,11 @@ pub fn replay<R: Source, W: Sink>(
     source: &mut R,
     w: &mut W,
 ) -> Result<Verdict, ReplayFault>
-    ensures { ReplaysSource (reading (R.given source.old) (R.ended source.old) (R.failures source.old)) (reading (R.given source.new) (R.ended source.new) (R.failures source.new))
+    // What was read, written and answered.
+    ensures replay { ReplaysSource (reading (R.given source.old) (R.ended source.old) (R.failures source.old)) (reading (R.given source.new) (R.ended source.new) (R.failures source.new))
         (tape (W.taken w.old) (W.failures w.old)) (tape (W.taken w.new) (W.failures w.new)) result }
+    // By the lock theorem no replay answers `Against`.
+    ensures fine { IfOk result (λ verdict. verdict ≡ Verdict.Fine) }
 {
     let text = read_all(alloc, source)?;
     replay_text(alloc, &text, w)

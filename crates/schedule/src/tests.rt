@@ -1,4 +1,5 @@
 mod devices;
+mod everything;
 mod lock;
 mod mailbox;
 mod refusals;

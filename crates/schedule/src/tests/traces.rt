@@ -33,9 +33,9 @@ quit 0
 enter 1
 ";
 
-/// The answer is this one, in pieces of every length.
+/// The answer is this one, in pieces of every length up to the whole.
 fn judges(rt: &HostRuntime, text: &[u8], answer: Result<Verdict, ReplayFault>) -> Result<(), Fail> {
-    for piece in [1usize, 2, 7, 1000] {
+    for piece in 1..text.len() + 2 {
         let got = judge_trace(rt.alloc(), &mut Text::new(text, piece));
         check(got == answer, "an answer")?;
     }
@@ -90,4 +90,21 @@ fn a_fault_of_the_text_comes_first(rt: HostRuntime) -> Result<(), Fail> {
         b"trace 2 procs 1 cap 1 width 1\n",
         Err(ReplayFault::Text { line: 1, number: 3 }),
     )
+}
+
+/// Every beginning of a trace: the verdict on its whole lines, or the fault of the line that is cut off.
+#[test]
+fn beginnings(rt: HostRuntime) -> Result<(), Fail> {
+    let mut line = 1u64;
+    for end in 0..WITHDRAWN.len() {
+        let text = &WITHDRAWN[..end];
+        if text.ends_with(b"\n") {
+            line = line.saturating_add(1);
+            judges(&rt, text, Ok(Verdict::Fine))?;
+        } else {
+            let number = if text.is_empty() { 1 } else { 5 };
+            judges(&rt, text, Err(ReplayFault::Text { line, number }))?;
+        }
+    }
+    Ok(())
 }

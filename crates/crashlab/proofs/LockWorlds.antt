@@ -14,7 +14,7 @@ use Rattle.redomail.specs.Layout.{words_of}
 use Rattle.rmeworld.specs.declared.call.Call.{Call}
 use Rattle.rmeworld.specs.Replayed.{mail_by, or_else, words_by, cells_by, advanced_by as world_advanced, crashed as world_crashed, happening}
 use Rattle.rmeworld.specs.Spot.{Happening, Begins, Falls, next_spot}
-use Rattle.rmeworld.specs.Stand.{Stand, spot_of, IsSize, resting, next_access, outcome, stepped as stand_stepped, started as stand_started, crashed as stand_crashed, spot_after, IsAllowed, StoresOwn, InWords}
+use Rattle.rmeworld.specs.Stand.{Stand, spot_of, IsSize, resting, next_access, outcome, stepped as stand_stepped, started as stand_started, crashed as stand_crashed, spot_after, IsAllowed, StoresOwn}
 use Rattle.rmeworld.specs.World.{at_first, Can, onward, Story, last_scene, deeds, event_deeds}
 use Rattle.rmeworld.specs.declared.outcome.Outcome.{Outcome}
 use Rattle.rmeworld.specs.WorldState.{WorldState, scene_of, stand_at as world_stand, IsSeated as IsWorldSeated, Takes, at_rest_from as world_rest, new_world as world_new}
@@ -140,11 +140,11 @@ lock_crashed s h p lock below seated =
 
 pub lock_advanced :
     (s : VariantState) (h : List Deed) (p : ℕ) (a : Access) (ds : List Deed) → IsLockWorld s h → p < s.layout.procs → IsSeated (advanced_by s p a)
-    → variant_next_access (stand_at s.processes p) ≡ Some a → IsAllowed (stand_at s.processes p).stand a → InWords s.layout.procs (word_of a) → StoresOwn (stand_at s.processes p).stand.index a
+    → variant_next_access (stand_at s.processes p) ≡ Some a → IsAllowed (stand_at s.processes p).stand a → StoresOwn (stand_at s.processes p).stand.index a
     → spot_of (variant_stepped (stand_at s.processes p) (found_by s a)).stand ≡ spot_after (stand_at s.processes p).stand (next_access (stand_at s.processes p).stand) (found_by s a)
     → ds ≡ or_else (variant_outcome (stand_at s.processes p) (found_by s a)).progress.outer (mail_by s.layout p (words_of s.cells) a)
     → IsLockWorld (advanced_by s p a) (h ++ ds)
-lock_advanced s h p a ds lock below seated next allowed within own goes told =
+lock_advanced s h p a ds lock below seated next allowed own goes told =
     let t = stand_at s.processes p in
     let v = found_by s a in
     let plain = lock.plain p below in
@@ -158,7 +158,6 @@ lock_advanced s h p a ds lock below seated next allowed within own goes told =
       below = below;
       next = ap next_access at ∙ next';
       allowed = subst (λ (u : Stand). IsAllowed u a) (sym at) allowed;
-      within = within;
       own = subst (λ (u : Stand). StoresOwn u.index a) (sym at) own;
       goes = subst (λ (u : Stand). spot_of (stand_stepped u v) ≡ spot_after u (next_access u) v) (sym at) goes';
     } in
@@ -202,7 +201,6 @@ pub record Stepped (s : VariantState) (p : ℕ) (a : Access) (t new : VariantSta
   pub below : p < s.layout.procs
   pub value : v ≡ found_by s a
   pub next : variant_next_access t ≡ Some a
-  pub within : InWords s.layout.procs (word_of a)
   pub allowed : IsPlain t → IsAllowed t.stand a
   pub own : IsPlain t → StoresOwn t.stand.index a
   pub made : new ≡ variant_stepped t v
@@ -223,5 +221,5 @@ step_made s p a t new v o ds words cells m words_now cells_now seated h lock =
     let told : ds ≡ or_else (variant_outcome (stand_at s.processes p) (found_by s a)).progress.outer (mail_by s.layout p (words_of s.cells) a) =
     sym m.deeds ∙ ap (λ (x : Outcome). or_else x.progress.outer (mail_by s.layout p (words_of s.cells) a)) (m.outcome ∙ (λ i. variant_outcome (sym m.here i) (m.value i))) in
     subst (λ x. IsLockWorld x (h ++ ds)) (sym all)
-    (lock_advanced s h p a ds lock m.below (subst IsSeated all seated) (ap variant_next_access m.here ∙ m.next) (subst (λ (u : VariantStand). IsAllowed u.stand a) (sym m.here) (m.allowed plain)) m.within
+    (lock_advanced s h p a ds lock m.below (subst IsSeated all seated) (ap variant_next_access m.here ∙ m.next) (subst (λ (u : VariantStand). IsAllowed u.stand a) (sym m.here) (m.allowed plain))
     (subst (λ (u : VariantStand). StoresOwn u.stand.index a) (sym m.here) (m.own plain)) goes told)

@@ -54,7 +54,6 @@ made c =
       below = c.if-p-self.false;
       value = c.load-found.ensures ∙ (λ i. reading_of (own_at (c.deref.ensures.value i)) (words_of (c.deref-2.ensures.value i)) (c.word.ensures i));
       next = ap variant_next_access (sym (same c)) ∙ sym c.next.ensures.next ∙ c.in-Some.is;
-      within = in_words (state c) c.args.p _ c.self.invariant c.index.ensures c.if-p-self.false _ c.in-Some.access _ c.next.ensures.within c.in-Some.is refl _ refl;
       allowed = λ plain. subst (λ (u : VariantStand). IsAllowed u.stand c.in-Some.access) (same c) (subst (λ o. IfSome o (IsAllowed c.index.result.now.stand)) c.in-Some.is (c.next.ensures.allowed (subst IsPlain (sym (same c)) plain)));
       own = λ plain. subst (λ (u : VariantStand). StoresOwn u.stand.index c.in-Some.access) (same c) (subst (λ o. IfSome o (StoresOwn c.index.result.now.stand.index)) c.in-Some.is (c.next.ensures.own (subst IsPlain (sym (same c)) plain)));
       made = c.feed-outcome.ensures.exact;

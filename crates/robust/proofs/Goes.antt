@@ -24,13 +24,13 @@ use Rattle.rmeworld.specs.Refused.{is_idle}
 use Rattle.rmeworld.specs.Spot.{Errand, Free, Doing, Spot, Moves, next_spot, at_lock, only_spot, settled, mended_entered}
 use Rattle.robust.specs.Lasting.{Within, lock_left, IsFair, exit_of, Lasts}
 use Rattle.rmeworld.specs.declared.answer.Answer.TheVariants.{Mail}
-use Rattle.robust.specs.Under.{under_place, Replies, Mends, IsWord, UnderScript, IsUnder, Fits}
+use Rattle.robust.specs.Under.{under_place, Replies, Mends, IsWord, UnderScript, IsUnder, Fits, Leaves}
 use Rattle.robust.proofs.Lasting.{Burns, burns}
 use Rattle.robust.proofs.Under.{LockTo, lock_to}
 
--- a step with this answer, blocked or not: the call goes on, with a step fewer unless it was blocked
+-- a step with this answer, blocked or not: the call is at its end, or goes on, with a step fewer unless it was blocked
 abbrev pub SpotTo : Call → ℕ → ℕ → Option Answer → Bool → Spot → Type 0
-SpotTo call n k (Some a) blocked t = Fits call a
+SpotTo call n k (Some a) blocked t = Fits call a × Leaves call a t
 SpotTo call n k None blocked t = (is_idle t ≡ false) × IsUnder call t × Lasts n (if blocked then suc k else k) t
 
 not_itself : (s : Place) → is_entry s s ≡ false
@@ -66,7 +66,7 @@ module _ (l : Layout) (p k : ℕ) where
   -- the lock's part
   to_place : (call : Call) (s : Place) (b c : Bool) (a : Option Answer) (blocked : Bool) (t : Place) (f : Errand) → LockTo call c s a t → Burns l.procs blocked s t → IsFair s → lock_left l.procs s ≤ suc k
       → SpotTo call l.procs k a blocked (lock_spot s b c t (if is_entry s t then Doing Checking (Asks 0 (λ x. Done (reply.Ruined (x == 1)))) else Free))
-  to_place call s b c (Some a) blocked t f to burnt fair few = to
+  to_place call s b c (Some a) blocked t f to burnt fair few = (to.0, to.1 (lock_spot s b c t (if is_entry s t then Doing Checking (Asks 0 (λ x. Done (reply.Ruined (x == 1)))) else Free)))
   to_place call s b c None true t f (inl h) burnt fair few = absurd (let bad : is_entry s s ≡ true = ap (is_entry s) (sym burnt) ∙ h.0 in let no = not_itself s in cc)
   to_place call s b c None false t f (inl h) burnt fair few =
       let less : lock_left l.procs Inside < lock_left l.procs s = subst (λ (u : Place). lock_left l.procs u < lock_left l.procs s) (entry_inside s t h.0) burnt.1 in
@@ -83,34 +83,34 @@ module _ (l : Layout) (p k : ℕ) where
 
   -- the end of a script
   check_ends : (b c : Bool) (r : Reply) (m : ℕ) → m + 2 ≤ k → SpotTo Lock l.procs k (by_reply Checking b r) false (settled b c Checking (Done r))
-  check_ends true c reply.Stored m few = tt
-  check_ends false c reply.Stored m few = tt
-  check_ends true c reply.Already m few = tt
-  check_ends false c reply.Already m few = tt
-  check_ends true c reply.OutOfOrder m few = tt
-  check_ends false c reply.OutOfOrder m few = tt
-  check_ends true c reply.Full m few = tt
-  check_ends false c reply.Full m few = tt
-  check_ends true c reply.Closed m few = tt
-  check_ends false c reply.Closed m few = tt
-  check_ends true c reply.ClosedNow m few = tt
-  check_ends false c reply.ClosedNow m few = tt
-  check_ends true c reply.AlreadyClosed m few = tt
-  check_ends false c reply.AlreadyClosed m few = tt
-  check_ends true c (reply.Mended x) m few = tt
-  check_ends false c (reply.Mended x) m few = tt
-  check_ends true c (reply.Word x) m few = tt
-  check_ends false c (reply.Word x) m few = tt
-  check_ends true c reply.Done m few = tt
-  check_ends false c reply.Done m few = tt
+  check_ends true c reply.Stored m few = (tt, ((refl, refl), refl))
+  check_ends false c reply.Stored m few = (tt, ((refl, refl), refl))
+  check_ends true c reply.Already m few = (tt, ((refl, refl), refl))
+  check_ends false c reply.Already m few = (tt, ((refl, refl), refl))
+  check_ends true c reply.OutOfOrder m few = (tt, ((refl, refl), refl))
+  check_ends false c reply.OutOfOrder m few = (tt, ((refl, refl), refl))
+  check_ends true c reply.Full m few = (tt, ((refl, refl), refl))
+  check_ends false c reply.Full m few = (tt, ((refl, refl), refl))
+  check_ends true c reply.Closed m few = (tt, ((refl, refl), refl))
+  check_ends false c reply.Closed m few = (tt, ((refl, refl), refl))
+  check_ends true c reply.ClosedNow m few = (tt, ((refl, refl), refl))
+  check_ends false c reply.ClosedNow m few = (tt, ((refl, refl), refl))
+  check_ends true c reply.AlreadyClosed m few = (tt, ((refl, refl), refl))
+  check_ends false c reply.AlreadyClosed m few = (tt, ((refl, refl), refl))
+  check_ends true c (reply.Mended x) m few = (tt, ((refl, refl), refl))
+  check_ends false c (reply.Mended x) m few = (tt, ((refl, refl), refl))
+  check_ends true c (reply.Word x) m few = (tt, ((refl, refl), refl))
+  check_ends false c (reply.Word x) m few = (tt, ((refl, refl), refl))
+  check_ends true c reply.Done m few = (tt, ((refl, refl), refl))
+  check_ends false c reply.Done m few = (tt, ((refl, refl), refl))
   check_ends true c (reply.Ruined true) m few = (refl, refl, (tt, omega arith))
-  check_ends true c (reply.Ruined false) m few = tt
+  check_ends true c (reply.Ruined false) m few = (tt, ((refl, refl), refl))
   check_ends false c (reply.Ruined true) m few = (refl, refl, (tt, omega arith))
-  check_ends false c (reply.Ruined false) m few = tt
+  check_ends false c (reply.Ruined false) m few = (tt, ((refl, refl), refl))
 
   mend_ends : (b c : Bool) (r : Reply) → Replies Mends (Done r) → SpotTo Consistent l.procs k (by_reply Mending b r) false (settled b c Mending (Done r))
-  mend_ends b c (reply.Mended x) h = tt
-  mend_ends b c (reply.Ruined x) h = tt
+  mend_ends b c (reply.Mended x) h = (tt, ((refl, refl), refl))
+  mend_ends b c (reply.Ruined x) h = (tt, (refl, refl))
   mend_ends b c reply.Stored h = absurd h
   mend_ends b c reply.Already h = absurd h
   mend_ends b c reply.OutOfOrder h = absurd h
@@ -141,10 +141,10 @@ module _ (l : Layout) (p k : ℕ) where
   goes Lock b c Checking (Done r) m u w few = check_ends b c r m few
   goes Unlock b c Ruining (Done r) m u w few = (refl, subst (λ (d : Bool). under_place Unlock d Leaving ≡ true) (sym u) refl, (tt, omega arith))
   goes Consistent b c Mending (Done r) m u w few = mend_ends b c r u
-  goes (Append seq value) b c (Working task) (Done r) m u w few = tt
-  goes Close b c (Working task) (Done r) m u w few = tt
-  goes (Get i) b c (Working task) (Done r) m u w few = word_ends i r u
-  goes (Put i v) b c (Working task) (Done r) m u w few = tt
+  goes (Append seq value) b c (Working task) (Done r) m u w few = (tt, (refl, refl))
+  goes Close b c (Working task) (Done r) m u w few = (tt, (refl, refl))
+  goes (Get i) b c (Working task) (Done r) m u w few = (word_ends i r u, tt)
+  goes (Put i v) b c (Working task) (Done r) m u w few = (tt, tt)
   goes _ b c _ (Done r) m u w few = absurd u
 
   under_next : (call : Call) (c : Bool) (why : Why) (i x : ℕ) (rest : ℕ → Script Reply) → UnderScript call c why (Asks i rest) → UnderScript call c why (rest x)

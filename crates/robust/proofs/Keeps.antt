@@ -452,7 +452,9 @@ module _ (sizes : Setup) (log : List Entry) (owner : ℕ → ℕ) (words : List 
     glued_kept : IsKept sizes log seats words glued_views
     glued_kept = record { run = k.run; shows = k.shows; fits = glued_fits; members = glued_members }
 
-pub glues : (sizes : Setup) (id : ℕ) (v : Known) (other : ℕ) (w : Known) → v.view.setup ≡ w.view.setup → Joins (Kept sizes) id v other w (joined v w) spent_known
-glues sizes id v other w same s h at two m =
+-- the rule knows one setup for both, since each answers for some process
+pub glues : (sizes : Setup) (id : ℕ) (v : Known) (other : ℕ) (w : Known) (p q : ℕ) → has p v.view.answers ≡ true → has q w.view.answers ≡ true → Joins (Kept sizes) id v other w (joined v w) spent_known
+glues sizes id v other w p q has_p has_q s h at two m =
     let there : get_elem? s.views other ≡ some w = sym (set_else s.views id other (joined v w) two) ∙ m in
+    let same : v.view.setup ≡ w.view.setup = ((h.2.fits id v at).0.1 p has_p).setup ∙ sym ((h.2.fits other w there).0.1 q has_q).setup in
     (h.0, moved h.1 other id, glued_kept sizes h.0 h.1 s.words s.views h.2 id v other w at two there same)

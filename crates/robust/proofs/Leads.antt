@@ -1,5 +1,5 @@
 -- What a member's own entries tell of its spot.
-use Rattle.std.proofs.Common.{◌≡◌, ℕ, ◌+◌, ◌<◌, ◌==◌, ◌||◌, Bool, true, false, List, [], ◌∷◌, ◌++◌, Option, Some, None, IsSome, unwrap_or, refl, sym, ap, ◌∙◌, subst, arith, eq-eqb, append-nil}
+use Rattle.std.proofs.Common.{◌≡◌, ℕ, ◌+◌, ◌^◌, ◌<◌, ◌≤◌, ◌==◌, ◌||◌, Bool, true, false, List, [], ◌∷◌, ◌++◌, Option, Some, None, IsSome, unwrap_or, refl, sym, ap, ◌∙◌, subst, arith, eq-eqb, append-nil}
 use Rattle.rmecore.specs.World.{is_store}
 use Rattle.rmecore.specs.declared.kind.Kind.{Kind}
 use Rattle.rmecore.specs.declared.word.Word.{Word}
@@ -15,7 +15,7 @@ use Rattle.robust.specs.Rule.{Did, May, MayLoad, MayStore, MayPass}
 use Rattle.robust.specs.Pass.{Pass, view_of, alone, owed, next_entry, glanced, glance_entry, spot_now, moved_spot, IsPass, Adds, Advances, Looks}
 use Rattle.robust.proofs.Runs.{own-append, own_mine, spelled_snoc}
 
-has_one : (p : ℕ) → has p (p ∷ []) ≡ true
+pub has_one : (p : ℕ) → has p (p ∷ []) ≡ true
 has_one p = rw (eq-eqb p p refl)
 
 pub gone-append : (s : Setup) (spot : Spot) (xs ys : List Happening) → gone s spot (xs ++ ys) ≡ gone s (gone s spot xs) ys
@@ -65,6 +65,7 @@ spot_stays x y word value a =
 pub stays_pass : (x y : Pass) (word : Word) (value : ℕ) → Looks x word value y → IsPass x → IsPass y
 stays_pass x y word value a k = record {
   size = subst (λ (s : Setup). IsSize s.layout) (sym a.adds.setup) k.size;
+  limited = subst (λ (s : Setup). (1 ≤ s.limit) × (s.limit ≤ 2 ^ 62)) (sym a.adds.setup) k.limited;
   words = ap (λ t. t.words) a.adds.table ∙ k.words ∙ ap word_count (sym a.adds.setup);
   below = subst (λ (t : Setup × ℕ). t.1 < t.0.layout.procs) (λ i. (sym a.adds.setup i, sym a.adds.by i)) k.below;
   run = a.adds.run;
@@ -74,6 +75,7 @@ stays_pass x y word value a k = record {
 pub advanced_pass : (x y : Pass) (kind : Kind) (word : Word) (value : ℕ) → Advances x kind word value y → IsPass x → IsPass y
 advanced_pass x y kind word value a k = record {
   size = subst (λ (s : Setup). IsSize s.layout) (sym a.adds.setup) k.size;
+  limited = subst (λ (s : Setup). (1 ≤ s.limit) × (s.limit ≤ 2 ^ 62)) (sym a.adds.setup) k.limited;
   words = ap (λ t. t.words) a.adds.table ∙ k.words ∙ ap word_count (sym a.adds.setup);
   below = subst (λ (t : Setup × ℕ). t.1 < t.0.layout.procs) (λ i. (sym a.adds.setup i, sym a.adds.by i)) k.below;
   run = a.adds.run;

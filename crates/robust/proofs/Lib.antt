@@ -10,4 +10,16 @@ pub mod Taken
 pub mod Begun
 pub mod Called
 pub mod Turned
+pub mod Chained
+pub mod WholeCalls
 pub mod OneLockStories
+pub mod Shown
+pub mod Glanced
+pub mod Headline
+pub mod Board
+pub mod OneStep
+pub mod Gathered
+pub mod LawfulEnd
+pub mod OneLockSteps
+pub mod Working
+pub mod Worked

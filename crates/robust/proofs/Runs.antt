@@ -18,6 +18,7 @@ use Rattle.redomail.specs.declared.layout.Layout.{Layout}
 use Rattle.redomail.specs.Layout.{Words, size}
 use Rattle.rmeworld.specs.declared.call.Call.{Call}
 use Rattle.rmeworld.specs.Spot.{Spot, at_rest, dead, Happening, Begins, Falls, Moves, Glances, who, next_spot, begun_from}
+use Rattle.rmeworld.proofs.Holders.{story_front, story_back}
 use Rattle.rmeworld.specs.World.{Scene, at_first, Story, last_scene, onward, Reads, reading, words_after, cells_after, put_cell, own_happenings, spot_after}
 use Rattle.robust.specs.declared.setup.Setup.{Setup}
 use Rattle.robust.specs.declared.entry.Entry.{Entry}
@@ -64,7 +65,7 @@ by_kind P p word v glance move Get = move Get
 by_kind P p word v glance move Put = move Put
 by_kind P p word v glance move Glance = glance
 
-who_taken : (p : ℕ) (kind : Kind) (word : Word) (v : ℕ) → who (taken p kind word v) ≡ p
+pub who_taken : (p : ℕ) (kind : Kind) (word : Word) (v : ℕ) → who (taken p kind word v) ≡ p
 who_taken p kind word v = by_kind (λ _ h. who h ≡ p) p word v refl (λ _. refl) kind
 
 own_happenings-append : (p : ℕ) (xs ys : List Happening) → own_happenings p (xs ++ ys) ≡ own_happenings p xs ++ own_happenings p ys
@@ -86,7 +87,7 @@ own_all p q h e true None false is = rw (e, is) refl
 own_all p q h e true (Some call) true is = rw (e, is) refl
 own_all p q h e true (Some call) false is = rw (e, is) refl
 
-own_spelled : (p : ℕ) (es : List Entry) → own_happenings p (spelled es) ≡ spelled (own p es)
+pub own_spelled : (p : ℕ) (es : List Entry) → own_happenings p (spelled es) ≡ spelled (own p es)
 own_spelled p [] = refl
 own_spelled p (e ∷ es) =
     own_happenings-append p (happenings e) (spelled es)
@@ -102,7 +103,7 @@ module _ (s : Setup) where
   next_scene w h = onward s.layout s.limit w h
 
   -- a spot follows from the process's own happenings
-  spot_own : (w : Scene) (hs : List Happening) (p : ℕ) → (last_scene s.layout s.limit w hs).spots p ≡ gone s (w.spots p) (own_happenings p hs)
+  pub spot_own : (w : Scene) (hs : List Happening) (p : ℕ) → (last_scene s.layout s.limit w hs).spots p ≡ gone s (w.spots p) (own_happenings p hs)
   spot_own w [] p = refl
   spot_own w (h ∷ hs) p = go (spot_own (next_scene w h) hs p) (who h == p) refl
     where
@@ -122,21 +123,13 @@ pub spot_in_run : (s : Setup) (es : List Entry) (p : ℕ) → (end_of s es).spot
 spot_in_run s es p = spot_own s at_first (spelled es) p ∙ ap (gone s at_rest) (own_spelled p es)
 
 module _ (l : Layout) (limit : ℕ) where
-  scene-append : (w : Scene) (xs ys : List Happening) → last_scene l limit w (xs ++ ys) ≡ last_scene l limit (last_scene l limit w xs) ys
+  pub scene-append : (w : Scene) (xs ys : List Happening) → last_scene l limit w (xs ++ ys) ≡ last_scene l limit (last_scene l limit w xs) ys
   scene-append w [] ys = refl
   scene-append w (x ∷ xs) ys = scene-append (onward l limit w x) xs ys
 
-  story-append : (w : Scene) (xs ys : List Happening) → Story l limit w xs → Story l limit (last_scene l limit w xs) ys → Story l limit w (xs ++ ys)
+  pub story-append : (w : Scene) (xs ys : List Happening) → Story l limit w xs → Story l limit (last_scene l limit w xs) ys → Story l limit w (xs ++ ys)
   story-append w [] ys r t = t
   story-append w (x ∷ xs) ys r t = (r.0, story-append (onward l limit w x) xs ys r.1 t)
-
-  story_front : (w : Scene) (xs ys : List Happening) → Story l limit w (xs ++ ys) → Story l limit w xs
-  story_front w [] ys r = tt
-  story_front w (x ∷ xs) ys r = (r.0, story_front (onward l limit w x) xs ys r.1)
-
-  story_back : (w : Scene) (xs ys : List Happening) → Story l limit w (xs ++ ys) → Story l limit (last_scene l limit w xs) ys
-  story_back w [] ys r = r
-  story_back w (x ∷ xs) ys r = story_back (onward l limit w x) xs ys r.1
 
 -- one entry, from the spot of its process
 module _ (s : Setup) (q : ℕ) (lt : q < s.layout.procs) (h : Happening) (by : who h ≡ q) where
@@ -162,7 +155,7 @@ module _ (s : Setup) (q : ℕ) (lt : q < s.layout.procs) (h : Happening) (by : w
       let u : Scene = onward s.layout s.limit w (Falls q) in
       ((lt, refl, tt), start_goes u dead call (put_same w.spots q dead) goes.1 reads)
 
-reading_same : (w u : Scene) (word : Word) → u.words ≡ w.words → u.cells ≡ w.cells → reading u word ≡ reading w word
+pub reading_same : (w u : Scene) (word : Word) → u.words ≡ w.words → u.cells ≡ w.cells → reading u word ≡ reading w word
 reading_same w u (ChoosingOf p) e f = ap (λ (g : ℕ → Own). (g p).choosing) e
 reading_same w u (NumberOf p) e f = ap (λ (g : ℕ → Own). (g p).number) e
 reading_same w u (InsideOf p) e f = ap (λ (g : ℕ → Own). (g p).inside) e
@@ -188,10 +181,10 @@ legal_back : (s : Setup) (xs ys : List Entry) → IsRun s (xs ++ ys) → Story s
 legal_back s xs ys run = story_back s.layout s.limit at_first (spelled xs) (spelled ys) (subst (Story s.layout s.limit at_first) (spelled-append xs ys) run)
 
 -- what a step leaves of the words
-abbrev words_now : (ℕ → Own) → Kind → Word → ℕ → ℕ → Own
+abbrev pub words_now : (ℕ → Own) → Kind → Word → ℕ → ℕ → Own
 words_now words kind word v = if is_store kind then write words word v else words
 
-abbrev cells_now : Layout → Words → Kind → Word → ℕ → Words
+abbrev pub cells_now : Layout → Words → Kind → Word → ℕ → Words
 cells_now l cells kind word v = if is_store kind then put_cell l cells word v else cells
 
 module _ (l : Layout) (limit : ℕ) where
@@ -201,7 +194,7 @@ module _ (l : Layout) (limit : ℕ) where
   words_entry w q kind word v true None = by_kind (λ kind h. words_after w.words h ≡ words_now w.words kind word v) q word v refl (λ _. refl) kind
   words_entry w q kind word v true (Some call) = by_kind (λ kind h. words_after w.words h ≡ words_now w.words kind word v) q word v refl (λ _. refl) kind
 
-  cells_entry : (w : Scene) (q : ℕ) (kind : Kind) (word : Word) (v : ℕ) (c : Bool) (o : Option Call) → (last_scene l limit w (before c o q ++ taken q kind word v ∷ [])).cells ≡ cells_now l w.cells kind word v
+  pub cells_entry : (w : Scene) (q : ℕ) (kind : Kind) (word : Word) (v : ℕ) (c : Bool) (o : Option Call) → (last_scene l limit w (before c o q ++ taken q kind word v ∷ [])).cells ≡ cells_now l w.cells kind word v
   cells_entry w q kind word v false None = by_kind (λ kind h. cells_after l w.cells h ≡ cells_now l w.cells kind word v) q word v refl (λ _. refl) kind
   cells_entry w q kind word v false (Some call) = by_kind (λ kind h. cells_after l w.cells h ≡ cells_now l w.cells kind word v) q word v refl (λ _. refl) kind
   cells_entry w q kind word v true None = by_kind (λ kind h. cells_after l w.cells h ≡ cells_now l w.cells kind word v) q word v refl (λ _. refl) kind
@@ -210,10 +203,10 @@ module _ (l : Layout) (limit : ℕ) where
 scene_snoc : (s : Setup) (es : List Entry) (e : Entry) → end_of s (es ++ e ∷ []) ≡ last_scene s.layout s.limit (end_of s es) (happenings e)
 scene_snoc s es e = ap (last_scene s.layout s.limit at_first) (spelled_snoc es e) ∙ scene-append s.layout s.limit at_first (spelled es) (happenings e)
 
-words_snoc : (s : Setup) (es : List Entry) (e : Entry) → (end_of s (es ++ e ∷ [])).words ≡ words_now (end_of s es).words e.step.kind e.step.word e.value
+pub words_snoc : (s : Setup) (es : List Entry) (e : Entry) → (end_of s (es ++ e ∷ [])).words ≡ words_now (end_of s es).words e.step.kind e.step.word e.value
 words_snoc s es e = ap (λ (w : Scene). w.words) (scene_snoc s es e) ∙ words_entry s.layout s.limit (end_of s es) e.by e.step.kind e.step.word e.value e.step.crashed e.step.start
 
-cells_snoc : (s : Setup) (es : List Entry) (e : Entry) → (end_of s (es ++ e ∷ [])).cells ≡ cells_now s.layout (end_of s es).cells e.step.kind e.step.word e.value
+pub cells_snoc : (s : Setup) (es : List Entry) (e : Entry) → (end_of s (es ++ e ∷ [])).cells ≡ cells_now s.layout (end_of s es).cells e.step.kind e.step.word e.value
 cells_snoc s es e = ap (λ (w : Scene). w.cells) (scene_snoc s es e) ∙ cells_entry s.layout s.limit (end_of s es) e.by e.step.kind e.step.word e.value e.step.crashed e.step.start
 
 put_keeps : (g : Own → ℕ) (words : ℕ → Own) (p : ℕ) (x : Own) (q : ℕ) → g x ≡ g (words p) → g (put words p x q) ≡ g (words q)

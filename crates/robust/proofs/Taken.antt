@@ -17,13 +17,14 @@ use Rattle.robust.specs.Running.{Seated, many_more, TakesStep, outcome_of, fell}
 use Rattle.robust.specs.Calls.{spot_before, and_answer, answers_from, is_blocked_at, blocked_from, answers_of, blocked_of, Takes, blocks, Ran, Going, CutOff}
 use Rattle.rmecore.specs.Place.{Place, Wait}
 use Rattle.rmecore.specs.Machine.{answer, is_blocked}
+use Rattle.rmecore.specs.Paid.{is_glance}
 use Rattle.rmecore.specs.declared.kind.Kind.TheVariants.{Look, Weigh}
 use Rattle.rmeworld.specs.declared.call.Call.TheVariants.{Lock}
 use Rattle.rmeworld.specs.Spot.{Errand, Free, Doing}
 use Rattle.rmeworld.specs.Answered.{by_lock}
 use Rattle.rmeworld.specs.Refused.{is_idle}
 use Rattle.robust.specs.Lasting.{Lasts, LastsBy}
-use Rattle.robust.specs.Under.{UnderBy, IsUnder, Fits}
+use Rattle.robust.specs.Under.{UnderBy, IsUnder, Fits, Leaves}
 use Rattle.robust.specs.Calls.{Still}
 use Rattle.robust.proofs.Under.{blocked_lock}
 use Rattle.robust.proofs.Leads.{gone-append, spot_after, spot_moves}
@@ -41,9 +42,9 @@ takes_spot x y (e ∷ es) h =
     let here : spot_of z.setup z.by z.seen ≡ gone x.setup (spot_of x.setup x.by x.seen) (happenings e) = spot_after x z (next_entry x e.step.kind e.step.word e.value) refl h.2.adds ∙ ap (λ (f : Entry). gone x.setup (spot_of x.setup x.by x.seen) (happenings f)) (sym h.1) in
     takes_spot z y es h.3 ∙ ap (λ (t : Setup × Spot). gone t.0 t.1 (spelled es)) (λ i. (h.2.adds.setup i, here i)) ∙ sym (gone-append x.setup (spot_of x.setup x.by x.seen) (happenings e) (spelled es))
 
-pub takes_snoc : (x y z : Pass) (mine : List Entry) (kind : Kind) (word : Word) (v : ℕ) → Takes x mine y → Advances y kind word v z → Takes x (mine ++ next_entry y kind word v ∷ []) z
-takes_snoc x y z [] kind word v h a = subst (λ (p : Pass). Takes p (next_entry y kind word v ∷ []) z) h (z, refl, a, refl)
-takes_snoc x y z (e ∷ es) kind word v h a = (h.0, h.1, h.2, takes_snoc h.0 y z es kind word v h.3 a)
+pub takes_snoc : (x y z : Pass) (mine : List Entry) (kind : Kind) (word : Word) (v : ℕ) → Takes x mine y → Advances y kind word v z → is_glance kind ≡ false → Takes x (mine ++ next_entry y kind word v ∷ []) z
+takes_snoc x y z [] kind word v h a move = subst (λ (p : Pass). Takes p (next_entry y kind word v ∷ []) z) h (z, refl, a, refl, move)
+takes_snoc x y z (e ∷ es) kind word v h a move = (h.0, h.1, h.2, takes_snoc h.0 y z es kind word v h.3 a move, h.4)
 
 and_append : (o : Option Answer) (xs ys : List Answer) → and_answer o (xs ++ ys) ≡ and_answer o xs ++ ys
 and_append None xs ys = refl
@@ -84,7 +85,7 @@ module _ (x y z : Seated) (mine : List Entry) (o : Outcome) (g : Going x mine y)
       s.steps ∙ ap one_more g.steps ∙ ap (λ (k : ℕ). many_more k x.steps) k
 
   pub takes_more : Takes x.pass (mine ++ last ∷ []) z.pass
-  takes_more = takes_snoc x.pass y.pass z.pass mine (kind_of s.access) (word_of s.access) (carried s.access s.value) g.takes s.advances
+  takes_more = takes_snoc x.pass y.pass z.pass mine (kind_of s.access) (word_of s.access) (carried s.access s.value) g.takes s.advances (next_moves y.pass s.access s.next)
 
   pub answers_more : answers_of x.pass (mine ++ last ∷ []) ≡ and_answer o.answer []
   answers_more =
@@ -177,7 +178,7 @@ module _ (x y z : Seated) (mine : List Entry) (o : Outcome) (g : Going x mine y)
   asked_more asked before now e f = e ∙ ap one_more f ∙ ap (λ (k : ℕ). many_more k asked) (sym (length_snoc mine (last x y z mine o g s)))
 
 -- what follows such a step
-pub fits_answer : (call : Call) (y z : Seated) (o : Outcome) (k : ℕ) (a : Answer) → TakesStep y o z → IsUnder call (spot_now y.pass) → Lasts y.pass.setup.layout.procs (suc k) (spot_now y.pass) → o.answer ≡ Some a → Fits call a
+pub fits_answer : (call : Call) (y z : Seated) (o : Outcome) (k : ℕ) (a : Answer) → TakesStep y o z → IsUnder call (spot_now y.pass) → Lasts y.pass.setup.layout.procs (suc k) (spot_now y.pass) → o.answer ≡ Some a → Fits call a × Leaves call a (spot_now z.pass)
 fits_answer call y z o k a s u lasts e = subst (λ (t : Option Answer). SpotTo call y.pass.setup.layout.procs k t o.progress.blocked (spot_now z.pass)) e (step_to call y z o k s u lasts)
 
 same_procs : (y z : Seated) (o : Outcome) → TakesStep y o z → y.pass.setup.layout.procs ≡ z.pass.setup.layout.procs

@@ -17,13 +17,13 @@ use Rattle.robust.proofs.Called.{served_of, crashes_of}
 
 takes-append : (x y z : Pass) (a b : List Entry) → Takes x a y → Takes y b z → Takes x (a ++ b) z
 takes-append x y z [] b h k = subst (λ (p : Pass). Takes p b z) h k
-takes-append x y z (e ∷ es) b h k = (h.0, h.1, h.2, takes-append h.0 y z es b h.3 k)
+takes-append x y z (e ∷ es) b h k = (h.0, h.1, h.2, takes-append h.0 y z es b h.3 k, h.4)
 
-and_append : (o : Option Answer) (xs ys : List Answer) → and_answer o (xs ++ ys) ≡ and_answer o xs ++ ys
+pub and_append : (o : Option Answer) (xs ys : List Answer) → and_answer o (xs ++ ys) ≡ and_answer o xs ++ ys
 and_append None xs ys = refl
 and_append (Some a) xs ys = refl
 
-answers-append : (s : Setup) (q : Spot) (a b : List Entry) → answers_from s q (a ++ b) ≡ answers_from s q a ++ answers_from s (gone s q (spelled a)) b
+pub answers-append : (s : Setup) (q : Spot) (a b : List Entry) → answers_from s q (a ++ b) ≡ answers_from s q a ++ answers_from s (gone s q (spelled a)) b
 answers-append s q [] b = refl
 answers-append s q (x ∷ xs) b =
     ap (and_answer (answer_at (spot_before s q x) x.step.kind x.value)) (answers-append s (gone s q (happenings x)) xs b ∙ ap (λ (r : Spot). answers_from s (gone s q (happenings x)) xs ++ answers_from s r b) (sym (gone-append s q (happenings x) (spelled xs))))
@@ -35,14 +35,14 @@ none_before m = omega arith
 assoc : (a b c : ℕ) → a + (b + c) ≡ (a + b) + c
 assoc a b c = omega arith
 
-blocked-append : (s : Setup) (q : Spot) (a b : List Entry) → blocked_from s q (a ++ b) ≡ blocked_from s q a + blocked_from s (gone s q (spelled a)) b
+pub blocked-append : (s : Setup) (q : Spot) (a b : List Entry) → blocked_from s q (a ++ b) ≡ blocked_from s q a + blocked_from s (gone s q (spelled a)) b
 blocked-append s q [] b = none_before (blocked_from s q b)
 blocked-append s q (x ∷ xs) b =
     let later = blocked-append s (gone s q (happenings x)) xs b ∙ ap (λ (r : Spot). blocked_from s (gone s q (happenings x)) xs + blocked_from s r b) (sym (gone-append s q (happenings x) (spelled xs))) in
     let first = if is_blocked_at (spot_before s q x) x then 1 else 0 in
     ap (λ (m : ℕ). first + m) later ∙ assoc first (blocked_from s (gone s q (happenings x)) xs) (blocked_from s (gone s q (spelled (x ∷ xs))) b)
 
-many_add : (j k c : ℕ) → many_more k (many_more j c) ≡ many_more (j + k) c
+pub many_add : (j k c : ℕ) → many_more k (many_more j c) ≡ many_more (j + k) c
 many_add j zero c = ap (λ (m : ℕ). many_more m c) (let e : j ≡ j + 0 = omega arith in e)
 many_add j (suc k) c = ap one_more (many_add j k c) ∙ ap (λ (m : ℕ). many_more m c) (let e : suc (j + k) ≡ j + suc k = omega arith in e)
 
@@ -78,10 +78,10 @@ module _ (x y z : Seated) (a b : List Entry) (k : ℕ) (t : Turning x a k y) whe
         steps = later_steps r.steps;
       }
 
-  pub turned_served : (call : Call) (c : Answer) {o : Option Answer} → o ≡ Some c → IsPass x.pass → x.pass.start ≡ Some call → x.steps ≡ 0 → Ran y o z b → Served x call (c ∷ []) k z (a ++ b)
-  turned_served call c {o} e pass start fresh r =
+  pub turned_served : (call : Call) (c : Answer) {o : Option Answer} → o ≡ Some c → IsPass x.pass → x.pass.start ≡ Some call → Ran y o z b → Served x call (c ∷ []) k z (a ++ b)
+  turned_served call c {o} e pass start r =
       let answers = later_answers ∙ r.answers ∙ ap (λ (u : Option Answer). and_answer u []) e in
-      served_of x z call (c ∷ []) k (a ++ b) pass start fresh (takes-append x.pass y.pass z.pass a b t.takes r.takes) answers (later_blocked ∙ ap (λ (m : ℕ). k + m) (r.blocked ∙ ap blocks e) ∙ (let n : k + 0 ≡ k = omega arith in n)) (later_steps r.steps)
+      served_of x z call (c ∷ []) k (a ++ b) pass start (takes-append x.pass y.pass z.pass a b t.takes r.takes) answers (later_blocked ∙ ap (λ (m : ℕ). k + m) (r.blocked ∙ ap blocks e) ∙ (let n : k + 0 ≡ k = omega arith in n)) (later_steps r.steps)
       (λ none. absurd (let bad : [] ≡ c ∷ [] = sym (ap (answers_of x.pass) none) ∙ answers in cc))
 
   pub turned_cut : CutOff y b z → CutOff x (a ++ b) z
@@ -90,6 +90,6 @@ module _ (x y z : Seated) (a b : List Entry) (k : ℕ) (t : Turning x a k y) whe
   pub turned_ran_cut : {o : Option Answer} → (u : Seated) → Ran y o z b → u ≡ fell z → CutOff x (a ++ b) u
   turned_ran_cut {o} u r e = record { last = z; takes = takes-append x.pass y.pass z.pass a b t.takes r.takes; steps = later_steps r.steps; crash = e }
 
-pub turned_out : (x y : Seated) (mine : List Entry) (k : ℕ) (call : Call) → IsPass x.pass → x.pass.start ≡ Some call → x.steps ≡ 0 → Turning x mine (k + 1) y → Served x call [] (k + 1) y mine
-turned_out x y mine k call pass start fresh t =
-    served_of x y call [] (k + 1) mine pass start fresh t.takes t.answers t.blocked t.steps (λ none. let bad : 0 ≡ k + 1 = sym (ap (blocked_of x.pass) none) ∙ t.blocked in omega arith)
+pub turned_out : (x y : Seated) (mine : List Entry) (k : ℕ) (call : Call) → IsPass x.pass → x.pass.start ≡ Some call → Turning x mine (k + 1) y → Served x call [] (k + 1) y mine
+turned_out x y mine k call pass start t =
+    served_of x y call [] (k + 1) mine pass start t.takes t.answers t.blocked t.steps (λ none. let bad : 0 ≡ k + 1 = sym (ap (blocked_of x.pass) none) ∙ t.blocked in omega arith)

@@ -2,6 +2,7 @@
 use Rattle.std.specs.Prelude.{◌≡◌, ℕ, zero, suc, ◌+◌, ◌||◌, ◌⊎◌, not, Bool, true, false, if◌then◌else◌, List, [], ◌∷◌, ◌++◌, length, Option, Some, None, All}
 use Rattle.rmeworld.specs.declared.call.Call.{Call}
 use Rattle.rmeworld.specs.declared.answer.Answer.{Answer}
+use Rattle.rmecore.specs.Paid.{is_glance}
 use Rattle.rmeworld.specs.Spot.{Spot}
 use Rattle.rmeworld.specs.Answered.{answer_at, blocked_by}
 use Rattle.rmeworld.specs.Refused.{is_idle}
@@ -12,7 +13,7 @@ use Rattle.robust.specs.Pass.{Pass, spot_now, next_entry, Advances, Calls}
 use Rattle.robust.specs.Running.{Seated, many_more, fell}
 use Rattle.rmecore.specs.Simulated.{one_more}
 use Rattle.robust.specs.Lasting.{Lasts}
-use Rattle.robust.specs.Under.{IsUnder, Fits}
+use Rattle.robust.specs.Under.{IsUnder, Fits, Leaves}
 use Rattle.rmeworld.specs.declared.call.Call.TheVariants.{Lock}
 
 -- the spot of a process right before the step of one of its entries
@@ -45,6 +46,26 @@ abbrev pub starts : List Entry → List Call
 starts [] = []
 starts (e ∷ es) = and_call e.step.start (starts es)
 
+-- the first of them carries the start of this call, the others none
+abbrev pub FirstStart : Call → List Entry → Type 0
+FirstStart call [] = ⊥
+FirstStart call (e ∷ es) = (e.step.start ≡ Some call) × All (λ (f : Entry). f.step.start ≡ None) es
+
+-- the first of them carries the start of this call
+abbrev pub StartsWith : Call → List Entry → Type 0
+StartsWith call [] = ⊥
+StartsWith call (e ∷ es) = e.step.start ≡ Some call
+
+-- where these calls are started: one call in the first entry alone, several from the first entry on
+abbrev pub FirstStarts : List Call → List Entry → Type 0
+FirstStarts [] es = Unit {0}
+FirstStarts (call ∷ []) es = FirstStart call es
+FirstStarts (call ∷ next ∷ more) es = StartsWith call es
+
+-- none of them is a glance
+abbrev pub AreMoves : List Entry → Type 0
+AreMoves es = All (λ (e : Entry). is_glance e.step.kind ≡ false) es
+
 -- a crash stands in the first of them, or nowhere
 abbrev pub FirstCrash : Bool → List Entry → Type 0
 FirstCrash c [] = Unit {0}
@@ -56,10 +77,11 @@ answers_of x mine = answers_from x.setup (spot_of x.setup x.by x.seen) mine
 abbrev pub blocked_of : Pass → List Entry → ℕ
 blocked_of x mine = blocked_from x.setup (spot_of x.setup x.by x.seen) mine
 
--- steps one after another, each carrying what is owed
+-- steps one after another, each carrying what is owed, and none a glance
 abbrev pub Takes : Pass → List Entry → Pass → Type 0
 Takes x [] y = y ≡ x
-Takes x (e ∷ es) y = (z : Pass) × (e ≡ next_entry x e.step.kind e.step.word e.value) × Advances x e.step.kind e.step.word e.value z × Takes z es y
+Takes x (e ∷ es) y =
+    (z : Pass) × (e ≡ next_entry x e.step.kind e.step.word e.value) × Advances x e.step.kind e.step.word e.value z × Takes z es y × (is_glance e.step.kind ≡ false)
 
 -- the blocked readings of steps that end with an answer, or with a blocked one
 abbrev pub blocks : Option Answer → ℕ
@@ -87,32 +109,44 @@ pub record CutOff (x : Seated) (mine : List Entry) (y : Seated) : Type 0 where
   pub steps : last.steps ≡ many_more (length mine) x.steps
   pub crash : y ≡ fell last
 
--- what stands behind some steps of a call: an answer that fits it, or a lock that goes on
+-- what stands behind some steps of a call: an answer that fits it and the spot that it leaves, or a lock that goes on
 abbrev pub Still : Call → Seated → Option Answer → Type 0
-Still call y (Some a) = Fits call a
+Still call y (Some a) = Fits call a × Leaves call a (spot_now y.pass)
 Still call y None = (call ≡ Lock) × IsUnder call (spot_now y.pass) × (is_idle (spot_now y.pass) ≡ false) × Lasts y.pass.setup.layout.procs 256 (spot_now y.pass)
 
--- A whole call, from right after its start. Its own entries are those of `calls`: the run so far begins with all that the
--- caller had seen, ends with the call, and has just these of the caller. The first carries the crash that was owed and the
--- start, the others neither. Their answers, how many were blocked, and how many there were
-pub record Served (x : Seated) (call : Call) (answers : List Answer) (blocked : ℕ) (y : Seated) (mine : List Entry) : Type 0 where
+-- Calls one after another. Their own entries are those of `calls`: the run so far begins with all that the caller had seen,
+-- ends with the last call, and has just these of the caller. The first carries the crash that was owed, the first of each call
+-- its start, and none is a glance. Their answers, how many were blocked, and how many there were
+pub record ServedAll (x : Seated) (order : List Call) (answers : List Answer) (blocked : ℕ) (y : Seated) (mine : List Entry) : Type 0 where
   pub calls : Calls x.pass mine y.pass
   pub crash : FirstCrash x.pass.fallen mine
-  pub started : starts mine ≡ call ∷ []
+  pub started : starts mine ≡ order
+  pub first : FirstStarts order mine
+  pub moves : AreMoves mine
   pub answered : answers_of x.pass mine ≡ answers
   pub blocks : blocked_of x.pass mine ≡ blocked
-  pub steps : y.steps ≡ many_more (length mine) 0
+  pub steps : y.steps ≡ many_more (length mine) x.steps
   pub alive : y.pass.fallen ≡ false
   pub idle : y.pass.start ≡ None
 
--- a call that a crash cut off, before its first step, between two, or behind its last: the next step is the crash
-pub record Crashes (x : Seated) (call : Call) (y : Seated) (mine : List Entry) : Type 0 where
+-- one call
+abbrev pub Served : Seated → Call → List Answer → ℕ → Seated → List Entry → Type 0
+Served x call answers blocked y mine = ServedAll x (call ∷ []) answers blocked y mine
+
+-- Calls that a crash cut off, before their first step, between two, or behind their last: the next step is the crash. Which
+-- of them were started
+pub record CrashesIn (x : Seated) (Begun : List Call → Type 0) (y : Seated) (mine : List Entry) : Type 0 where
   pub calls : Calls x.pass mine y.pass
+  pub unmoved : mine ≡ [] → y.pass.seen ≡ x.pass.seen
   pub crash : FirstCrash x.pass.fallen mine
-  pub started : (mine ≡ []) ⊎ (starts mine ≡ call ∷ [])
-  pub steps : y.steps ≡ many_more (length mine) 0
+  pub started : (mine ≡ []) ⊎ Begun (starts mine)
+  pub steps : y.steps ≡ many_more (length mine) x.steps
   pub fallen : y.pass.fallen ≡ true
   pub idle : y.pass.start ≡ None
+
+-- one call
+abbrev pub Crashes : Seated → Call → Seated → List Entry → Type 0
+Crashes x call y mine = CrashesIn x (λ (order : List Call). order ≡ call ∷ []) y mine
 
 -- so many askings, of which the last fell
 abbrev pub Fell : ℕ → (asked asked_now fallen fallen_now : ℕ) → Type 0

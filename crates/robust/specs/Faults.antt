@@ -14,7 +14,7 @@ use Rattle.robust.specs.declared.entry_kind.Entry.{Entry as Entering}
 use Rattle.robust.specs.declared.entry_kind.Entry.TheVariants as entering
 use Rattle.robust.specs.Pass.{Pass, spot_now}
 use Rattle.robust.specs.Running.{Seated, began, fell}
-use Rattle.robust.specs.Calls.{Served, Crashes, Fell, Calm}
+use Rattle.robust.specs.Calls.{ServedAll, Served, CrashesIn, Crashes, Fell, Calm}
 
 -- the fault that a refused start is
 abbrev pub fault_for : Call → Refusal → LockFault
@@ -42,19 +42,31 @@ Fails x call y asked asked_now fallen fallen_now e = Refused x call y asked aske
 abbrev pub ready : Seated → Seated
 ready x = if is_idle (spot_now x.pass) then x else fell x
 
+-- a crash while calls are under way
+abbrev pub CutBy : Seated → (List Call → Type 0) → Seated → (asked asked_now fallen fallen_now : ℕ) → Type 0
+CutBy x Begun y asked asked_now fallen fallen_now = (mine : List Entry) × CrashesIn x Begun y mine × Fell (length mine + 1) asked asked_now fallen fallen_now
+
 -- a crash while a call is under way
 abbrev pub CutIn : Seated → Call → Seated → (asked asked_now fallen fallen_now : ℕ) → Type 0
 CutIn x call y asked asked_now fallen fallen_now = (mine : List Entry) × Crashes x call y mine × Fell (length mine + 1) asked asked_now fallen fallen_now
+
+-- calls with their answers, and so many askings beside those of their steps
+abbrev pub AnsweredBy : ℕ → Seated → List Call → List Answer → ℕ → Seated → (asked asked_now fallen fallen_now : ℕ) → Type 0
+AnsweredBy more x order answers blocked y asked asked_now fallen fallen_now = (mine : List Entry) × ServedAll x order answers blocked y mine × Calm (length mine + more) asked asked_now fallen fallen_now
 
 -- an answer of a call that was blocked some times
 abbrev pub AnsweredIn : Seated → Call → List Answer → ℕ → Seated → (asked asked_now fallen fallen_now : ℕ) → Type 0
 AnsweredIn x call answers blocked y asked asked_now fallen fallen_now = (mine : List Entry) × Served x call answers blocked y mine × Calm (length mine + 1) asked asked_now fallen fallen_now
 
--- how a lock ends that may be blocked so often, from right after its start: with an answer after no more blocked readings,
--- with none after one more, or cut off by a crash
+-- how a lock ends that may be blocked so often, from right after its start, with so many askings beside those of its steps: with
+-- an answer after no more blocked readings, or with none after one more
+abbrev pub LockBy : ℕ → Seated → ℕ → Option Answer → Seated → (asked asked_now fallen fallen_now : ℕ) → Type 0
+LockBy more x turns (Some a) y asked asked_now fallen fallen_now = (blocked : ℕ) × (blocked ≤ turns) × AnsweredBy more x (Lock ∷ []) (a ∷ []) blocked y asked asked_now fallen fallen_now
+LockBy more x turns None y asked asked_now fallen fallen_now = AnsweredBy more x (Lock ∷ []) [] (turns + 1) y asked asked_now fallen fallen_now
+
+-- the same, up to the asking before the answer
 abbrev pub LockEnds : Seated → ℕ → Option Answer → Seated → (asked asked_now fallen fallen_now : ℕ) → Type 0
-LockEnds x turns (Some a) y asked asked_now fallen fallen_now = (blocked : ℕ) × (blocked ≤ turns) × AnsweredIn x Lock (a ∷ []) blocked y asked asked_now fallen fallen_now
-LockEnds x turns None y asked asked_now fallen fallen_now = AnsweredIn x Lock [] (turns + 1) y asked asked_now fallen fallen_now
+LockEnds x turns o y asked asked_now fallen fallen_now = LockBy 1 x turns o y asked asked_now fallen fallen_now
 
 -- a recovery that fails: refused in the section, or cut off
 abbrev pub FailsOut : Seated → Call → Seated → (asked asked_now fallen fallen_now : ℕ) → LockFault → Type 0

@@ -6,6 +6,14 @@ pub mod Running
 pub mod Calls
 pub mod Under
 pub mod Faults
+pub mod Whole
 pub mod Making
+pub mod Lab
+pub mod Headline
+pub mod Board
 pub mod OneLockStory
 pub mod OneLockMember
+pub mod Reading
+pub mod Gathering
+pub mod Working
+pub mod Worked

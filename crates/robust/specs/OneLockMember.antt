@@ -1,9 +1,11 @@
 -- A member of an arena over one world: what contracts see of it, what its calls may answer, and where they leave it.
-use Rattle.std.specs.Prelude.{◌≡◌, ℕ, Bool, true, false, ◌+◌, ◌-◌, ◌^◌, ◌<◌, ◌≤◌, zero, suc, List, [], ◌∷◌, ◌++◌, Option, Some, None, Result, Ok, Err}
+use Rattle.std.specs.Prelude.{◌≡◌, ℕ, Bool, true, false, not, ◌+◌, ◌-◌, ◌^◌, ◌<◌, ◌≤◌, zero, suc, List, [], ◌∷◌, ◌++◌, length, Option, Some, None, Result, Ok, Err}
 use Rattle.rmecore.specs.Simulated.{one_more}
 use Rattle.rmecore.specs.declared.found.Found.{Found}
 use Rattle.rmecore.specs.declared.found.Found.TheVariants.{Inside as FoundInside}
 use Rattle.redomail.specs.declared.layout.Layout.{Layout}
+use Rattle.rmeworld.specs.declared.call.Call.{Call}
+use Rattle.rmeworld.specs.declared.call.Call.TheVariants.{Lock, Recover, Consistent, Append, Close, Withdraw}
 use Rattle.robust.specs.declared.lock_fault.LockFault.{LockFault}
 use Rattle.robust.specs.declared.lock_fault.LockFault.TheVariants.{Crashed, NotYet, NumbersSpent, NotRecoverable, AlreadyIn, NotOwner, NotInconsistent, BadIndex, OutOfMemory, BadWidth}
 use Rattle.robust.specs.declared.entry_kind.Entry.{Entry}
@@ -28,6 +30,19 @@ abbrev pub is_in : Standing → Bool
 is_in Mended = true
 is_in Unmended = true
 is_in _ = false
+
+-- the calls that a process may start where its member stands
+abbrev pub may_start : Standing → Call → Bool
+may_start standing Lock = not (is_in standing)
+may_start standing Recover = not (is_in standing)
+may_start Unmended Consistent = true
+may_start _ Consistent = false
+may_start Mended (Append seq value) = true
+may_start _ (Append seq value) = false
+may_start Mended Close = true
+may_start _ Close = false
+may_start standing Withdraw = false
+may_start standing _ = is_in standing
 
 -- no call changes whose member it is, nor takes back a step
 abbrev pub Goes : Seat → Seat → Type 0
@@ -102,3 +117,12 @@ stands_mended (Err e) = Lost
 abbrev pub stands_still : {T : Type 0} → Standing → Result T LockFault → Standing
 stands_still s (Ok a) = s
 stands_still s (Err e) = Lost
+
+-- all members of an arena of so many processes. No two of them are one process's
+abbrev pub AreAll : ℕ → List Seat → Type 0
+AreAll procs members = (0 < procs) × (length members ≡ procs)
+
+-- the own steps of these members together
+abbrev pub steps_taken : List Seat → ℕ
+steps_taken [] = 0
+steps_taken (m ∷ ms) = m.steps + steps_taken ms

@@ -2,7 +2,9 @@
 use Rattle.std.specs.Prelude.{◌≡◌, ℕ, suc, List, [], ◌∷◌}
 use Rattle.rmeworld.specs.Spot.{Happening, Begins, Falls, Moves, Glances}
 use Rattle.rmeworld.specs.World.{at_first, Story, last_scene, deeds}
+use Rattle.rmeworld.specs.Replayed.{image_of}
 use Rattle.rmeworld.specs.WorldState.{WorldState, scene_of}
+use Rattle.rmeworld.specs.declared.image.Image.{Image}
 
 -- how many of the happenings are steps, loads or stores of one word
 abbrev pub steps_of : List Happening → ℕ
@@ -25,3 +27,7 @@ pub record IsTold (s : WorldState) (steps : ℕ) : Type 0 where
 pub record Held : Type 0 where
   pub world : WorldState
   pub total : ℕ
+
+-- some run of so many steps, from all words 0, ends in a world with these sizes and words
+abbrev pub IsLeftBy : ℕ → Image → Type 0
+IsLeftBy steps image = (s : WorldState) × IsTold s steps × (image ≡ image_of s)

@@ -1,5 +1,5 @@
 -- What a contract sees of a member's seat: its pass, and what its next step has to carry.
-use Rattle.std.specs.Prelude.{◌≡◌, ℕ, ◌-◌, ◌<◌, ◌≤◌, Bool, true, false, List, [], ◌∷◌, ◌++◌, map, Option, Some, None, IsSome, unwrap_or}
+use Rattle.std.specs.Prelude.{◌≡◌, ℕ, ◌-◌, ◌<◌, ◌≤◌, ◌^◌, Bool, true, false, List, [], ◌∷◌, ◌++◌, map, Option, Some, None, IsSome, unwrap_or}
 use Rattle.atomic_table.specs.Seated.{TableId}
 use Rattle.rmecore.specs.declared.kind.Kind.{Kind}
 use Rattle.rmecore.specs.declared.kind.Kind.TheVariants.{Glance}
@@ -72,6 +72,7 @@ moved_spot x kind word value = next_spot x.setup.layout x.setup.limit (spot_now 
 -- what holds of each member's pass
 pub record IsPass (x : Pass) : Type 0 where
   pub size : IsSize x.setup.layout
+  pub limited : (1 ≤ x.setup.limit) × (x.setup.limit ≤ 2 ^ 62)
   pub words : x.table.words ≡ word_count x.setup
   pub below : x.by < x.setup.layout.procs
   pub run : IsRun x.setup x.seen

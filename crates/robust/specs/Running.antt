@@ -49,6 +49,10 @@ pub record TakesStep (x : Seated) (outcome : Outcome) (y : Seated) : Type 0 wher
 abbrev pub fell : Seated → Seated
 fell x = record x { pass = record x.pass { fallen = true; start = None } }
 
+-- after the start of a call behind another one, whose steps go on being counted
+abbrev pub behind : Seated → Call → Seated
+behind x call = record x { pass = record x.pass { start = Some call } }
+
 -- after the start of a call
 abbrev pub began : Seated → Call → Seated
 began x call = record { pass = record x.pass { start = Some call }; steps = 0 }

@@ -1,6 +1,6 @@
 -- Which call a process is about, from its spot alone, and which answers the call can have.
 use Rattle.std.specs.Prelude.{◌≡◌, ℕ, Bool, true, false, List, Option, Some, None}
-use Rattle.rmecore.specs.Place.{Place, Reread, Opening, Door, Shutting, Wait, Leaving, Withdrawing, Unmarking}
+use Rattle.rmecore.specs.Place.{Place, Reread, Opening, Door, Shutting, Wait, Inside, Leaving, Withdrawing, Unmarking}
 use Rattle.rmecore.specs.declared.core_call.CoreCall.TheVariants as core
 use Rattle.redomail.specs.declared.reply.Reply.{Reply}
 use Rattle.redomail.specs.declared.reply.Reply.TheVariants.{Mended, Ruined, Word}
@@ -83,6 +83,21 @@ Fits Close (Mail reply) = Unit {0}
 Fits (Get i) (Mail (Word v)) = Unit {0}
 Fits (Put i v) (Mail reply) = Unit {0}
 Fits _ _ = ⊥
+
+-- a holder with no call under way
+abbrev pub IsHolder : Spot → Type 0
+IsHolder t = (t.lock ≡ Inside) × (t.errand ≡ Free)
+
+-- the spot that the answer of a call leaves, for the calls of a holder: it is inside, and after a lock or a mending it has
+-- nothing to mend but where the owner died
+abbrev pub Leaves : Call → Answer → Spot → Type 0
+Leaves Lock Clean t = IsHolder t × (t.mended ≡ true)
+Leaves Lock OwnerDied t = IsHolder t × (t.mended ≡ false)
+Leaves Consistent NotRecoverable t = IsHolder t
+Leaves Consistent (Mail reply) t = IsHolder t × (t.mended ≡ true)
+Leaves (Append seq value) (Mail reply) t = IsHolder t
+Leaves Close (Mail reply) t = IsHolder t
+Leaves _ _ t = Unit {0}
 
 -- under way, busy, and with few steps left
 abbrev pub Begun : Call → ℕ → Spot → Type 0

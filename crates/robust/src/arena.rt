@@ -1,5 +1,5 @@
 //! The making of a running lock.
-ghost use Rattle.std.specs.Prelude.{◌≡◌, ℕ, ◌<◌, ◌≤◌, ◌⊎◌, Some, None, IfOk, IfErr, OnOk};
+ghost use Rattle.std.specs.Prelude.{◌≡◌, ℕ, ◌<◌, ◌≤◌, ◌^◌, ◌⊎◌, Some, None, IfOk, IfErr, OnOk};
 ghost use Rattle.redomail.specs.Layout.{size};
 ghost use Rattle.rmeworld.specs.Stand.{IsSize};
 ghost use Rattle.atomic_table.specs.Seated.{TableId};
@@ -63,7 +63,8 @@ fn check(procs: u64, limit: u64, cap: u64, width: u64) -> Result<(), Refusal>
 }
 
 fn made(alloc: Global, setup: Setup) -> Result<Vec<Member>, AllocError>
-    requires { IsSize setup.layout }
+    requires size { IsSize setup.layout }
+    requires limited { (1 ≤ setup.limit) × (setup.limit ≤ 2 ^ 62) }
     ensures { IfOk result (λ v. (t : TableId) × (v.items ≡ fresh_members t setup)) }
 {
     let count = 3 * setup.layout.procs + data_words(&setup.layout);

@@ -52,7 +52,7 @@ impl Runner {
     pub fn serve<C: CrashPlan>(&mut self, plan: &mut C, call: &Call) -> Result<Answer, LockFault>
         requires begun { Begun call.now self.old.pass.setup.layout.procs (spot_now self.old.pass) }
         requires pass { IsPass self.old.pass }
-        requires start { (self.old.pass.start ≡ Some call.now) × (self.old.steps ≡ 0) }
+        requires start { self.old.pass.start ≡ Some call.now }
         requires brief { call.now ≢ Lock }
         ensures answered { IfOk result (λ a. (mine : List Entry) × Served self.old call.now (a ∷ []) 0 self.new mine × Calm (length mine + 1) (C.asked plan.old) (C.asked plan.new) (C.fallen plan.old) (C.fallen plan.new)) }
         ensures fits { IfOk result (λ a. Fits call.now a) }

@@ -4,8 +4,8 @@ ghost use Rattle.rmecore.specs.declared.refusal.Refusal.{Refusal as RefusalOf};
 ghost use Rattle.rmeworld.specs.declared.call.Call.TheVariants.{Lock, Recover};
 ghost use Rattle.robust.specs.Pass.{IsPass, spot_now};
 ghost use Rattle.robust.specs.Running.{began};
-ghost use Rattle.robust.specs.Under.{Begun, Fits};
-ghost use Rattle.robust.specs.Faults.{refusal_now, ready, CutIn, LockEnds};
+ghost use Rattle.robust.specs.Under.{Begun, Fits, Leaves};
+ghost use Rattle.robust.specs.Faults.{refusal_now, ready, CutIn, LockBy, LockEnds};
 
 use crate::lock_fault::LockFault;
 use crate::runner::Runner;
@@ -13,6 +13,7 @@ use crashlab::CrashPlan;
 use crossbeam_utils::Backoff;
 use rmecore::Refusal;
 use rmeworld::{Answer, Call};
+use std::sync::Wait;
 
 impl Runner {
     /// Starts a lock or a recovery, unless the process is in the section. Where a lock still waits, its process crashes
@@ -39,7 +40,60 @@ impl Runner {
     }
 
     /// Takes the steps of a lock up to its answer, or until it has been blocked once more than it was given turns. Between
-    /// two blocked readings it rests.
+    /// two blocked readings it rests. The asking before the answer is left to the caller.
+    pub fn take_turns<C: CrashPlan>(
+        &mut self,
+        plan: &mut C,
+        turns: u64,
+    ) -> Result<Option<Answer>, LockFault>
+        requires begun { Begun Lock self.old.pass.setup.layout.procs (spot_now self.old.pass) }
+        requires pass { IsPass self.old.pass }
+        requires start { self.old.pass.start ≡ Some Lock }
+        ensures ends { IfOk result (λ o. LockBy 0 self.old turns o self.new (C.asked plan.old) (C.asked plan.new) (C.fallen plan.old) (C.fallen plan.new)) }
+        ensures fits { IfOk result (λ o. IfSome o (λ a. Fits Lock a × Leaves Lock a (spot_now self.new.pass))) }
+        ensures crashed { IfErr result (λ e. e ≡ LockFault.Crashed) }
+        ensures cut { OnErr result (CutIn self.old Lock self.new (C.asked plan.old) (C.asked plan.new) (C.fallen plan.old) (C.fallen plan.new)) }
+    {
+        let backoff = Backoff::new();
+        let mut left = turns;
+        loop {
+            if let Some(answer) = self.run(plan, &Call::Lock)? {
+                return Ok(Some(answer));
+            }
+            if left == 0 {
+                return Ok(None);
+            }
+            left -= 1;
+            backoff.snooze();
+        }
+    }
+
+    /// Takes the steps of a lock up to its answer, however often it is blocked. The asking before the answer is left to the
+    /// caller.
+    pub fn take_all<R: Wait, C: CrashPlan>(
+        &mut self,
+        rt: &R,
+        plan: &mut C,
+    ) -> Result<Answer, LockFault>
+        requires begun { Begun Lock self.old.pass.setup.layout.procs (spot_now self.old.pass) }
+        requires pass { IsPass self.old.pass }
+        requires start { self.old.pass.start ≡ Some Lock }
+        ensures ends { IfOk result (λ a. (turns : ℕ) × LockBy 0 self.old turns (Some a) self.new (C.asked plan.old) (C.asked plan.new) (C.fallen plan.old) (C.fallen plan.new)) }
+        ensures fits { IfOk result (λ a. Fits Lock a × Leaves Lock a (spot_now self.new.pass)) }
+        ensures crashed { IfErr result (λ e. e ≡ LockFault.Crashed) }
+        ensures cut { OnErr result (CutIn self.old Lock self.new (C.asked plan.old) (C.asked plan.new) (C.fallen plan.old) (C.fallen plan.new)) }
+    {
+        let backoff = Backoff::new();
+        for _ in rt.forever() {
+            if let Some(answer) = self.run(plan, &Call::Lock)? {
+                return Ok(answer);
+            }
+            backoff.snooze();
+        }
+        unreachable!()
+    }
+
+    /// The same as `take_turns`, with the asking before the answer.
     pub fn wait_turns<C: CrashPlan>(
         &mut self,
         plan: &mut C,
@@ -47,26 +101,31 @@ impl Runner {
     ) -> Result<Option<Answer>, LockFault>
         requires begun { Begun Lock self.old.pass.setup.layout.procs (spot_now self.old.pass) }
         requires pass { IsPass self.old.pass }
-        requires start { (self.old.pass.start ≡ Some Lock) × (self.old.steps ≡ 0) }
+        requires start { self.old.pass.start ≡ Some Lock }
         ensures ends { IfOk result (λ o. LockEnds self.old turns o self.new (C.asked plan.old) (C.asked plan.new) (C.fallen plan.old) (C.fallen plan.new)) }
         ensures fits { IfOk result (λ o. IfSome o (Fits Lock)) }
         ensures crashed { IfErr result (λ e. e ≡ LockFault.Crashed) }
         ensures cut { OnErr result (CutIn self.old Lock self.new (C.asked plan.old) (C.asked plan.new) (C.fallen plan.old) (C.fallen plan.new)) }
         ensures idle { self.new.pass.start ≡ None }
     {
-        let backoff = Backoff::new();
-        let mut left = turns;
-        loop {
-            if let Some(answer) = self.run(plan, &Call::Lock)? {
-                self.ask(plan)?;
-                return Ok(Some(answer));
-            }
-            if left == 0 {
-                self.ask(plan)?;
-                return Ok(None);
-            }
-            left -= 1;
-            backoff.snooze();
-        }
+        let answer = self.take_turns(plan, turns)?;
+        self.ask(plan)?;
+        Ok(answer)
+    }
+
+    /// The same as `take_all`, with the asking before the answer.
+    pub fn wait<R: Wait, C: CrashPlan>(&mut self, rt: &R, plan: &mut C) -> Result<Answer, LockFault>
+        requires begun { Begun Lock self.old.pass.setup.layout.procs (spot_now self.old.pass) }
+        requires pass { IsPass self.old.pass }
+        requires start { self.old.pass.start ≡ Some Lock }
+        ensures ends { IfOk result (λ a. (turns : ℕ) × LockEnds self.old turns (Some a) self.new (C.asked plan.old) (C.asked plan.new) (C.fallen plan.old) (C.fallen plan.new)) }
+        ensures fits { IfOk result (Fits Lock) }
+        ensures crashed { IfErr result (λ e. e ≡ LockFault.Crashed) }
+        ensures cut { OnErr result (CutIn self.old Lock self.new (C.asked plan.old) (C.asked plan.new) (C.fallen plan.old) (C.fallen plan.new)) }
+        ensures idle { self.new.pass.start ≡ None }
+    {
+        let answer = self.take_all(rt, plan)?;
+        self.ask(plan)?;
+        Ok(answer)
     }
 }

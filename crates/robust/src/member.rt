@@ -1,28 +1,35 @@
 //! A process of the running lock.
-ghost use Rattle.std.specs.Prelude.{◌≡◌, ◌≢◌, ℕ, ◌+◌, ◌⊎◌, List, [], ◌∷◌, length, Some, None, IfOk, IfErr, OnOk};
+ghost use Rattle.std.specs.Prelude.{◌≡◌, ◌≢◌, ℕ, ◌+◌, ◌*◌, ◌⊎◌, List, [], ◌∷◌, length, Some, None, IfOk, IfErr, OnOk, OnErr};
 ghost use Rattle.redomail.specs.declared.reply.Reply.{Reply as ReplyOf};
 ghost use Rattle.robust.specs.declared.entry.Entry.{Entry as EntryOf};
 ghost use Rattle.robust.specs.Pass.{fresh, spot_now, IsPass};
 ghost use Rattle.robust.specs.Running.{Seated, began};
 ghost use Rattle.robust.specs.Calls.{Served, Calm};
 ghost use Rattle.robust.specs.Under.{Fits};
+ghost use Rattle.robust.specs.Reading.{ReadsFrom, ReadsCount};
+ghost use Rattle.robust.specs.Headline.{IsSoundRun};
+ghost use Rattle.robust.specs.Board.{last_put, value_or, LastIsOwn};
 ghost use Rattle.robust.specs.Faults.{refusal_now, ready, Fails, FailsOut, AnsweredIn, LockEnds, LockFails, answer_of};
 
 use crate::entry_kind::Entry;
+use crate::laws;
 use crate::lock_fault::LockFault;
 use crate::runner::Runner;
+use crate::setup::Setup;
 use crate::walker::Walker;
 use crashlab::CrashPlan;
-use redomail::Reply;
+use redomail::{Message, Reply};
 use rmecore::Found;
 use rmeworld::{Answer, Call};
+use std::alloc::{AllocError, Global};
 use std::marker::Model;
+use std::sync::Wait;
 
 /// A process of the running lock. It owns a seat at the table and may move to a thread. Contracts see it as its pass, a
 /// beginning of the one run, with the own steps of its last call.
 #[derive(Drop)]
 pub struct Member {
-    runner: Runner,
+    pub(crate) runner: Runner,
 }
 
 impl Model for Member {
@@ -46,11 +53,29 @@ impl Member {
         }
     }
 
-    /// Which process it is.
+    /// Its walker.
+    pub(crate) fn into_walker(self) -> Walker
+        ensures { result ≡ self.pass }
+    {
+        self.runner.into_walker()
+    }
+
+    /// The sizes of its arena.
+    pub(crate) fn setup(&self) -> Setup
+        ensures is { result ≡ self.now.pass.setup }
+        ensures pass { IsPass self.now.pass }
+    {
+        self.runner.setup()
+    }
+
+    /// Which process it is. The run that its pass begins is sound: no two are inside, one that crashed inside is the next to
+    /// enter, first come first served, and each sender's messages stand once, in order.
     pub fn number(&self) -> u64
         ensures is { result ≡ self.now.pass.by }
         ensures pass { IsPass self.now.pass }
+        ensures sound { IsSoundRun self.now.pass.setup self.now.pass.seen }
     {
+        laws::every_run_is_sound();
         self.runner.by()
     }
 
@@ -59,6 +84,16 @@ impl Member {
         ensures { result ≡ self.now.steps }
     {
         self.runner.steps()
+    }
+
+    /// The messages shown from a place on, read from anywhere, also while a lock still waits or after a crash. They are those of
+    /// one moment, the reading of count, so no older than anything that the caller has seen. Where there is no room for
+    /// them, only count has been read. It is no call of the process: `steps` answers as before.
+    pub fn read_from(&mut self, alloc: Global, place: u64) -> Result<Vec<Message>, AllocError>
+        ensures messages { IfOk result (λ v. ReadsFrom self.old place v.items self.new) }
+        ensures no_room { OnErr result (ReadsCount self.old place self.new) }
+    {
+        self.runner.read_from(alloc, place)
     }
 
     /// Leaves the section. A holder that came in again and has not mended ruins the lock.
@@ -85,12 +120,16 @@ impl Member {
         }
     }
 
-    /// Reads a word of the board, 0 to 3, as a holder.
+    /// Reads a word of the board, 0 to 3, as a holder: what the run's last `put` there has put, 0 where there is none. That
+    /// `put` is the caller's own where it has made one since it entered, crashes between or not.
     pub fn get<C: CrashPlan>(&mut self, i: u64, plan: &mut C) -> Result<u64, LockFault>
         ensures accepted { OnOk result (refusal_now self.old (Call.Get i) ≡ None) }
         ensures served { IfOk result (λ v. (mine : List EntryOf) × Served (began self.old (Call.Get i)) (Call.Get i) (Answer.Mail (Reply.Word v) ∷ []) 0 self.new mine × Calm (length mine + 1) (C.asked plan.old) (C.asked plan.new) (C.fallen plan.old) (C.fallen plan.new)) }
+        ensures last { IfOk result (λ v. v ≡ value_or (last_put self.old.pass.setup i self.new.pass.seen) 0) }
+        ensures own { OnOk result (LastIsOwn self.old.pass.setup self.old.pass.by i self.new.pass.seen) }
         ensures fails { IfErr result (Fails self.old (Call.Get i) self.new (C.asked plan.old) (C.asked plan.new) (C.fallen plan.old) (C.fallen plan.new)) }
     {
+        let _by = self.runner.by();
         match self.runner.call(plan, &Call::Get(i))? {
             Answer::Mail(Reply::Word(value)) => Ok(value),
             _ => unreachable!(),
@@ -101,6 +140,7 @@ impl Member {
     pub fn put<C: CrashPlan>(&mut self, i: u64, value: u64, plan: &mut C) -> Result<(), LockFault>
         ensures accepted { OnOk result (refusal_now self.old (Call.Put i value) ≡ None) }
         ensures served { OnOk result ((reply : ReplyOf) × (mine : List EntryOf) × Served (began self.old (Call.Put i value)) (Call.Put i value) (Answer.Mail reply ∷ []) 0 self.new mine × Calm (length mine + 1) (C.asked plan.old) (C.asked plan.new) (C.fallen plan.old) (C.fallen plan.new)) }
+        ensures last { OnOk result ((e : EntryOf) × (last_put self.old.pass.setup i self.new.pass.seen ≡ Some e) × (e.by ≡ self.old.pass.by) × (e.value ≡ value)) }
         ensures fails { IfErr result (Fails self.old (Call.Put i value) self.new (C.asked plan.old) (C.asked plan.new) (C.fallen plan.old) (C.fallen plan.new)) }
     {
         match self.runner.call(plan, &Call::Put(i, value))? {
@@ -151,6 +191,17 @@ impl Member {
             Some(answer) => entered(answer),
             None => Err(LockFault::NotYet),
         }
+    }
+
+    /// Enters the section, also after a crash, and waits for as long as it has to.
+    pub fn lock<R: Wait, C: CrashPlan>(&mut self, rt: &R, plan: &mut C) -> Result<Entry, LockFault>
+        ensures accepted { OnOk result (refusal_now (ready self.old) Call.Lock ≡ None) }
+        ensures entered { IfOk result (λ entry. (turns : ℕ) × LockEnds (began (ready self.old) Call.Lock) turns (Some (answer_of entry)) self.new (C.asked plan.old) (C.asked plan.new) (C.fallen plan.old) (C.fallen plan.new)) }
+        ensures fails { IfErr result (λ e. (turns : ℕ) × LockFails self.old turns self.new (C.asked plan.old) (C.asked plan.new) (C.fallen plan.old) (C.fallen plan.new) e) }
+        ensures patient { IfErr result (λ e. e ≢ LockFault.NotYet) }
+    {
+        self.runner.set_out(&Call::Lock)?;
+        entered(self.runner.wait(rt, plan)?)
     }
 }
 

@@ -5,14 +5,15 @@
 
 pub mod arena;
 mod calls;
-pub mod gather_fault;
+pub mod gathering;
 pub mod member;
 mod opening;
 mod shared;
 pub mod standing;
 
 pub use crate::entry_kind::Entry;
+pub use crate::gather_fault::GatherFault;
 pub use arena::Arena;
-pub use gather_fault::GatherFault;
+pub use gathering::gather;
 pub use member::Member;
 pub use standing::Standing;

@@ -85,7 +85,7 @@ fn perform(walker: &mut Walker, access: Access) -> u64
 }
 
 impl Runner {
-    ghost use Rattle.robust.specs.Running.{Seated, TakesStep, fell, began};
+    ghost use Rattle.robust.specs.Running.{Seated, TakesStep, fell, began, behind};
 
     /// A process at rest, with this seat.
     pub fn new(walker: Walker) -> Runner
@@ -159,6 +159,21 @@ impl Runner {
         self.process.feed(value)
     }
 
+    /// Starts a call behind another one, whose steps go on being counted, unless it is refused.
+    pub fn go_on(&mut self, call: &Call) -> Result<(), Refusal>
+        requires { self.old.pass.start ≡ None }
+        ensures accepted { OnOk result ((start_refusal self.old.pass.setup.layout (spot_now self.old.pass) call.now ≡ None) × (self.new ≡ behind self.old call.now)) }
+        ensures begun { OnOk result (Begun call.now self.old.pass.setup.layout.procs (spot_now self.new.pass)) }
+        ensures pass { OnOk result (IsPass self.new.pass) }
+        ensures refused { IfErr result (λ e. start_refusal self.old.pass.setup.layout (spot_now self.old.pass) call.now ≡ Some e) }
+        ensures err { OnErr result (self.new ≡ self.old) }
+    {
+        self.process.start(*call)?;
+        self.walker.begin(*call);
+        let _by = self.walker.by();
+        Ok(())
+    }
+
     /// Starts a call, unless it is refused.
     pub fn begin(&mut self, call: &Call) -> Result<(), Refusal>
         requires { self.old.pass.start ≡ None }
@@ -168,9 +183,7 @@ impl Runner {
         ensures refused { IfErr result (λ e. start_refusal self.old.pass.setup.layout (spot_now self.old.pass) call.now ≡ Some e) }
         ensures err { OnErr result (self.new ≡ self.old) }
     {
-        self.process.start(*call)?;
-        self.walker.begin(*call);
-        let _by = self.walker.by();
+        self.go_on(call)?;
         self.steps = 0;
         Ok(())
     }

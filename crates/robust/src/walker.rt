@@ -1,5 +1,5 @@
 //! A process's seat at the table, with its pass. Each method takes at most one step.
-ghost use Rattle.std.specs.Prelude.{◌≡◌, ℕ, ◌<◌, ◌+◌, ◌^◌, true, false, [], Some, None, IsSome, IfOk, OnOk};
+ghost use Rattle.std.specs.Prelude.{◌≡◌, ℕ, ◌<◌, ◌≤◌, ◌+◌, ◌^◌, true, false, [], Some, None, IsSome, IfOk, OnOk};
 ghost use Rattle.std.specs.Arc.{arc_value};
 ghost use Rattle.rmecore.specs.World.{is_store};
 ghost use Rattle.rmeworld.specs.Spot.{next_spot, Begins};
@@ -70,6 +70,7 @@ impl Walker {
         requires table { (seat.old.table_id ≡ (arc_value board.now).shared.table_id) × (seat.old.table_id.words ≡ word_count setup) }
         requires seat { seat.old.me ≡ (rest_known setup by, []) }
         requires within { (by < setup.layout.procs) × IsSize setup.layout }
+        requires limited { (1 ≤ setup.limit) × (setup.limit ≤ 2 ^ 62) }
         ensures rest { OnOk result ((seat.new.table_id ≡ seat.old.table_id) × (seat.new.me ≡ (rest_known setup (by + 1), []))) }
         ensures walker { IfOk result (λ w. w ≡ fresh seat.old.table_id setup by) }
     {

@@ -3,8 +3,8 @@
 //! Each plan is asked before each step and once before the answer, while no lock is held. The first asking that falls ends
 //! the call. A call that is refused for where the member stands or for what it is given takes no step and asks nothing.
 
-ghost use Rattle.std.specs.Prelude.{◌≡◌, ◌≢◌, ◌<◌, ◌≤◌, ◌⊎◌, ◌↔◌, ℕ, IfErr, IsErrOf, OnOk, OnErr, IsNone, IsSome, true, false, length};
-ghost use Rattle.robust.specs.OneLockMember.{Goes, AskedEach, AskedOnceMore, is_in, of_lock, of_wait, of_steps, of_consistent, falls_by, stands_entered, stands_out, stands_found, stands_mended, stands_still};
+ghost use Rattle.std.specs.Prelude.{◌≡◌, ◌≢◌, ◌<◌, ◌≤◌, ◌⊎◌, ◌↔◌, ℕ, Ok, IfOk, IfErr, IsErrOf, OnOk, OnErr, IsNone, IsSome, true, false, length};
+ghost use Rattle.robust.specs.OneLockMember.{Goes, AskedEach, AskedOnceMore, is_in, may_start, of_lock, of_wait, of_steps, of_consistent, falls_by, stands_entered, stands_out, stands_found, stands_mended, stands_still};
 
 use crate::entry_kind::Entry;
 use crate::lock_fault::LockFault;
@@ -363,6 +363,7 @@ impl<L: Ledger> Member<L> {
         call: Call,
         turns: Option<u64>,
     ) -> Result<Reply, LockFault>
+        requires { may_start Standing.Mended call ≡ true }
         ensures refused { IsErrOf result LockFault.AlreadyIn ↔ (is_in self.old.standing ≡ true) }
         ensures unasked { is_in self.old.standing ≡ true → (self.new ≡ self.old) × (P.asked plan.new ≡ P.asked plan.old) }
         ensures patient { IsErrOf result LockFault.NotYet → IsSome turns }
@@ -380,33 +381,63 @@ impl<L: Ledger> Member<L> {
             Ok(entry) => {
                 self.standing = standing;
                 let reply = self.work(rt, plan, entry, call)?;
-                self.conclude(plan, Ok(reply), Standing::Out)
+                self.conclude(plan, reply, Standing::Out)
             }
             Err(fault) => self.conclude(plan, Err(fault), standing),
         }
     }
 
-    /// What a call of the mailbox does once it is in, up to the asking before its answer.
+    /// What a call of the mailbox does once it is in, up to the asking before its answer. A lock that can't be mended is left
+    /// as it is.
     fn work<R: Wait, P: CrashPlan>(
         &mut self,
         rt: &R,
         plan: &mut P,
         entry: Entry,
         call: Call,
-    ) -> Result<Reply, LockFault>
-        requires { is_in self.old.standing ≡ true }
+    ) -> Result<Result<Reply, LockFault>, LockFault>
+        requires inside { self.old.standing ≡ stands_entered (Ok entry) }
+        requires task { may_start Standing.Mended call ≡ true }
         ensures goes { Goes self.old self.new }
         ensures asked { OnOk result (AskedEach self.old self.new (P.asked plan.old) (P.asked plan.new)) }
         ensures ended { OnErr result (AskedOnceMore self.old self.new (P.asked plan.old) (P.asked plan.new)) }
         ensures fallen { P.fallen plan.new ≡ falls_by result (P.fallen plan.old) }
+        ensures falls { IfOk result (λ reply. (f : ℕ) → falls_by reply f ≡ f) }
+        ensures faults { IfOk result (λ reply. IfErr reply (λ e. e ≡ LockFault.NotRecoverable)) }
         ensures lost { OnErr result (self.new.standing ≡ Standing.Lost) }
         ensures only { IfErr result (λ e. (e ≡ LockFault.Crashed) ⊎ (e ≡ LockFault.OutOfMemory)) }
     {
-        if entry == Entry::OwnerDied {
-            self.pursue(rt, plan, Call::Consistent, None)?;
-        }
-        let reply = replied(self.pursue(rt, plan, call, None)?);
+        let mended = self.mend(rt, plan, entry)?;
+        let reply = match mended {
+            Ok(_) => Ok(replied(self.pursue(rt, plan, call, None)?)),
+            Err(fault) => Err(fault),
+        };
         self.pursue(rt, plan, Call::Unlock, None)?;
         Ok(reply)
+    }
+
+    /// Mends where the owner died.
+    fn mend<R: Wait, P: CrashPlan>(
+        &mut self,
+        rt: &R,
+        plan: &mut P,
+        entry: Entry,
+    ) -> Result<Result<bool, LockFault>, LockFault>
+        requires { self.old.standing ≡ stands_entered (Ok entry) }
+        ensures goes { Goes self.old self.new }
+        ensures asked { OnOk result (AskedEach self.old self.new (P.asked plan.old) (P.asked plan.new)) }
+        ensures ended { OnErr result (AskedOnceMore self.old self.new (P.asked plan.old) (P.asked plan.new)) }
+        ensures fallen { P.fallen plan.new ≡ falls_by result (P.fallen plan.old) }
+        ensures stands { IfOk result (λ mended. self.new.standing ≡ stands_mended mended) }
+        ensures faults { IfOk result (λ mended. IfErr mended (λ e. e ≡ LockFault.NotRecoverable)) }
+        ensures lost { OnErr result (self.new.standing ≡ Standing.Lost) }
+        ensures only { IfErr result (λ e. (e ≡ LockFault.Crashed) ⊎ (e ≡ LockFault.OutOfMemory)) }
+    {
+        if entry == Entry::Clean {
+            return Ok(Ok(false));
+        }
+        let (repaired, standing) = mended(self.pursue(rt, plan, Call::Consistent, None)?);
+        self.standing = standing;
+        Ok(repaired)
     }
 }

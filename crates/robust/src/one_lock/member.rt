@@ -1,8 +1,8 @@
 //! A process's way to the world.
 
-ghost use Rattle.std.specs.Prelude.{◌≡◌, ℕ, ◌<◌, ◌≤◌, ◌+◌, IfOk, IfErr, OnOk, OnErr, IsNone, IsSome};
+ghost use Rattle.std.specs.Prelude.{◌≡◌, ℕ, ◌<◌, ◌≤◌, ◌+◌, IfOk, IfErr, OnOk, OnErr, IsNone, IsSome, true};
 ghost use Rattle.rmecore.specs.Simulated.{one_more};
-ghost use Rattle.robust.specs.OneLockMember.{Goes, AskedEach, AskedOnceMore, falls_by};
+ghost use Rattle.robust.specs.OneLockMember.{Goes, AskedEach, AskedOnceMore, falls_by, may_start};
 
 use crate::lock_fault::LockFault;
 use crate::one_lock::opening::Opening;
@@ -73,6 +73,30 @@ impl<L: Ledger> Member<L> {
         self.standing
     }
 
+    /// Its share of the ledger, one part with its own steps.
+    pub(super) fn into_share(self) -> Share<L>
+        ensures parts { result.parts ≡ 1 }
+        ensures amount { result.amount ≡ self.steps }
+    {
+        let Member { share, .. } = self;
+        share
+    }
+
+    /// Asks the plan. Where it falls, the process has lost its private memory.
+    fn ask<P: CrashPlan>(&mut self, plan: &mut P) -> Result<(), LockFault>
+        ensures asked { P.asked plan.new ≡ one_more (P.asked plan.old) }
+        ensures fallen { P.fallen plan.new ≡ falls_by result (P.fallen plan.old) }
+        ensures ok { OnOk result (self.new ≡ self.old) }
+        ensures err { OnErr result (self.new ≡ record self.old { standing = Standing.Lost }) }
+        ensures only { IfErr result (λ e. e ≡ LockFault.Crashed) }
+    {
+        if plan.falls() {
+            self.standing = Standing::Lost;
+            return Err(LockFault::Crashed);
+        }
+        Ok(())
+    }
+
     /// One step of its process: it asks the plan, and then takes the lock for one step of the world. A step that the world
     /// refuses leaves the member lost; its process can do what the member asks for, so that memory was wanting.
     fn step<R: Wait, P: CrashPlan>(
@@ -87,10 +111,7 @@ impl<L: Ledger> Member<L> {
         ensures err { OnErr result (self.new ≡ record self.old { standing = Standing.Lost }) }
         ensures only { IfErr result (λ e. (e ≡ LockFault.Crashed) ⊎ (e ≡ LockFault.OutOfMemory)) }
     {
-        if plan.falls() {
-            self.standing = Standing::Lost;
-            return Err(LockFault::Crashed);
-        }
+        self.ask(plan)?;
         let turn = self
             .shared
             .lock(rt)
@@ -104,7 +125,7 @@ impl<L: Ledger> Member<L> {
         }
     }
 
-    /// Takes a call to its answer, or until one blocked reading more than it has turns; with no turns it waits as long as
+    /// Takes a call that its process may start to its answer, or until one blocked reading more than it has turns; with no turns it waits as long as
     /// it has to. The asking before the answer is left to the caller.
     pub(super) fn pursue<R: Wait, P: CrashPlan>(
         &mut self,
@@ -113,6 +134,7 @@ impl<L: Ledger> Member<L> {
         call: Call,
         turns: Option<u64>,
     ) -> Result<Option<Answer>, LockFault>
+        requires { may_start self.old.standing call ≡ true }
         ensures goes { Goes self.old self.new }
         ensures asked { OnOk result (AskedEach self.old self.new (P.asked plan.old) (P.asked plan.new)) }
         ensures ended { OnErr result (AskedOnceMore self.old self.new (P.asked plan.old) (P.asked plan.new)) }
@@ -161,10 +183,7 @@ impl<L: Ledger> Member<L> {
         ensures fallen { P.fallen plan.new ≡ falls_by result (P.fallen plan.old) }
         ensures answer { ((result ≡ answer) × (self.new ≡ record self.old { standing = standing })) ⊎ ((result ≡ Err LockFault.Crashed) × (self.new ≡ record self.old { standing = Standing.Lost })) }
     {
-        if plan.falls() {
-            self.standing = Standing::Lost;
-            return Err(LockFault::Crashed);
-        }
+        self.ask(plan)?;
         self.standing = standing;
         answer
     }

@@ -3,6 +3,7 @@
 ghost use Rattle.std.specs.Prelude.{◌≡◌, ◌≢◌, ◌<◌, ◌+◌, ◌↔◌, IfOk, OnOk, OnErr, IsTrue};
 ghost use Rattle.rmecore.specs.Simulated.{tally_at};
 ghost use Rattle.rmeworld.specs.Replayed.{advanced, stepped, started, crashed, image_of};
+ghost use Rattle.rmeworld.specs.ImageRules.{IsLawfulImage};
 ghost use Rattle.rmeworld.specs.WorldState.{new_world};
 
 use crate::one_lock::opening::Opening;
@@ -38,6 +39,8 @@ pub struct Turn {
 }
 
 impl<L: Ledger> Shared<L> {
+    ghost use Rattle.robust.specs.OneLockStory.{IsLeftBy};
+
     /// A new world, and a book that has counted nothing.
     pub fn new(world: World, book: Book<L>) -> Shared<L>
         requires world { world ≡ new_world world.layout world.limit }
@@ -108,10 +111,21 @@ impl<L: Ledger> Shared<L> {
         Ok(())
     }
 
-    /// The words that stand.
+    /// The words that stand. They are what the steps counted so far have left.
     pub fn image(&self) -> Result<Image, Refusal>
-        ensures { IfOk result (λ image. image ≡ image_of self.now.world) }
+        ensures ok { IfOk result (λ image. image ≡ image_of self.now.world) }
+        ensures left { IfOk result (λ image. IsLeftBy self.now.total image) }
+        ensures lawful { IfOk result (λ image. IsLawfulImage image) }
     {
         self.world.image()
+    }
+
+    /// Nothing changes. Who has all shares has taken all steps.
+    pub fn audit(&mut self, all: &mut Share<L>)
+        requires { all.old.parts ≡ L.parts }
+        ensures same { self.new ≡ self.old }
+        ensures whole { all.old.amount ≡ self.old.total }
+    {
+        self.book.audit(all);
     }
 }

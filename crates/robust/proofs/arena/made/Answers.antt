@@ -10,7 +10,7 @@ use Rattle.robust.proofs.Opens.{size_small, mapped_more}
 use Rattle.robust.proofs.arena.made.Goals as goal
 
 pub overflow_add-count : goal.overflow_add-count
-overflow_add-count c = let s = size_small c.args.setup.layout c.requires.layout in omega (arith, s, c.requires.layout.few, c.data_words.ensures)
+overflow_add-count c = let s = size_small c.args.setup.layout c.requires.size.layout in omega (arith, s, c.requires.size.layout.few, c.data_words.ensures)
 
 pub of_words-requires : goal.of_words-requires
 of_words-requires c =

@@ -6,7 +6,7 @@ use Rattle.robust.specs.Pass.{spot_now}
 use Rattle.robust.specs.Running.{many_more}
 use Rattle.robust.specs.Calls.{Turning}
 use Rattle.robust.specs.Under.{Begun}
-use Rattle.robust.proofs.runner.Runner.wait_turns.Given as goal
+use Rattle.robust.proofs.runner.Runner.take_turns.Given as goal
 
 abbrev pub invariant-loop-answer : goal.invariant-loop-answer
 invariant-loop-answer g l = record {

@@ -1,0 +1,42 @@
+-- A worker's calls leave its seat what it is.
+use Rattle.std.proofs.Common.{◌≡◌, ◌⊎◌, ℕ, Bool, true, false, if◌then◌else◌, List, Result, Ok, Err, IfOk, IfErr, refl, sym, ap, ◌∙◌, inl, inr}
+use Rattle.rmeworld.specs.declared.call.Call.{Call}
+use Rattle.rmeworld.specs.declared.call.Call.TheVariants.{Lock}
+use Rattle.rmeworld.specs.declared.answer.Answer.{Answer}
+use Rattle.rmeworld.specs.Refused.{is_idle}
+use Rattle.redomail.specs.declared.reply.Reply.{Reply}
+use Rattle.robust.specs.declared.entry.Entry.{Entry}
+use Rattle.robust.specs.declared.lock_fault.LockFault.{LockFault}
+use Rattle.robust.specs.Pass.{spot_now, Calls}
+use Rattle.robust.specs.Running.{Seated, began, fell}
+use Rattle.robust.specs.Faults.{ready, CutBy, AnsweredBy}
+use Rattle.robust.specs.Whole.{WholeEnds, WholeFails, AppendFails, IsWithin}
+use Rattle.robust.specs.Working.{seat_of}
+
+either_seat : (b : Bool) (x : Seated) → seat_of (if b then x else fell x) ≡ seat_of x
+either_seat true x = refl
+either_seat false x = refl
+
+begun_seat : (x : Seated) → seat_of (began (ready x) Lock) ≡ seat_of x
+begun_seat x = either_seat (is_idle (spot_now x.pass)) x
+
+calls_seat : (x y : Seated) (mine : List Entry) → Calls x.pass mine y.pass → seat_of y ≡ seat_of x
+calls_seat x y mine c = λ i. (c.table i, c.setup i, c.by i)
+
+whole_seat : (x : Seated) (turns : ℕ) (task : Call) (r : Result Reply LockFault) (y : Seated) (a b c d : ℕ) → WholeEnds (began (ready x) Lock) turns task r y a b c d → seat_of y ≡ seat_of x
+whole_seat x turns task r y a b c d h = let answered = h.4 in calls_seat (began (ready x) Lock) y answered.0 answered.1.calls ∙ begun_seat x
+
+fails_seat : (x : Seated) (turns : ℕ) (task : Call) (y : Seated) (a b c d : ℕ) (e : LockFault) → WholeFails x turns task y a b c d e → seat_of y ≡ seat_of x
+fails_seat x turns task y a b c d e (inl h) = ap seat_of h.2
+fails_seat x turns task y a b c d e (inr (none, inl h)) = calls_seat (began (ready x) Lock) y h.1.0 h.1.1.calls ∙ begun_seat x
+fails_seat x turns task y a b c d e (inr (none, inr h)) = whole_seat x turns task (Err e) y a b c d h
+
+append_seat : (x : Seated) (turns seq : ℕ) (value : List ℕ) (y : Seated) (a b c d : ℕ) (e : LockFault) → AppendFails x turns seq value y a b c d e → seat_of y ≡ seat_of x
+append_seat x turns seq value y a b c d e (inl h) = ap seat_of h.2
+append_seat x turns seq value y a b c d e (inr h) = fails_seat x turns _ y a b c d e h.1
+
+-- an append, however it ends
+pub sent_seat : (x y : Seated) (task : Call) (seq : ℕ) (value : List ℕ) (a b c d : ℕ) (r : Result Reply LockFault)
+    → IfOk r (λ reply. (turns : ℕ) × WholeEnds (began (ready x) Lock) turns task (Ok reply) y a b c d) → IfErr r (λ e. (turns : ℕ) × AppendFails x turns seq value y a b c d e) → seat_of y ≡ seat_of x
+sent_seat x y task seq value a b c d (Ok reply) h k = whole_seat x h.0 task (Ok reply) y a b c d h.1
+sent_seat x y task seq value a b c d (Err e) h k = append_seat x k.0 seq value y a b c d e k.1

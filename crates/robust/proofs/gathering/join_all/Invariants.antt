@@ -1,0 +1,14 @@
+use Rattle.std.proofs.Common.{◌≡◌, List, [], ◌++◌, length, vec_len}
+use Rattle.std.specs.Arc.{arc_value}
+use Rattle.robust.specs.Runs.{word_count}
+use Rattle.robust.specs.Running.{Seated}
+use Rattle.robust.specs.Gathering.{Knows}
+use Rattle.robust.proofs.gathering.join_all.Given as goal
+
+abbrev pub invariant-loop-other : goal.invariant-loop-other
+invariant-loop-other l =
+    (l.seat.table_id ≡ (arc_value l.board).shared.table_id) × (l.seat.table_id ≡ l.fn.first.pass.table) × (l.seat.table_id.words ≡ word_count l.setup)
+    × ((taken : List Seated) × (l.fn.others.items ≡ l.others.items ++ taken) × Knows l.fn.first taken (length taken) l.seat.me.0)
+
+abbrev pub decreases-loop-other : goal.decreases-loop-other
+decreases-loop-other l = vec_len l.others

@@ -1,0 +1,5 @@
+use Rattle.robust.proofs.Runs.{last_reads}
+use Rattle.robust.proofs.laws.loads_tell.Goals as goal
+
+pub returns : goal.returns
+returns c = last_reads

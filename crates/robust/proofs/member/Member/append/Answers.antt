@@ -1,0 +1,20 @@
+use Rattle.std.proofs.Common.{◌≡◌, ℕ, length, Ok, IfOk, IfErr, ap, ◌∙◌, subst, inr, arith}
+use Rattle.rmeworld.specs.declared.call.Call.TheVariants.{Lock, Append}
+use Rattle.robust.specs.declared.setup.Setup.{Setup}
+use Rattle.robust.specs.Running.{Seated, began}
+use Rattle.robust.specs.Faults.{ready}
+use Rattle.robust.specs.Whole.{WholeEnds, WholeFails}
+use Rattle.robust.proofs.WholeCalls.{err_more}
+use Rattle.robust.proofs.member.Member.append.Goals as goal
+
+pub returns-clause-replied : goal.returns-clause-replied
+returns-clause-replied g c =
+    subst (λ (x : Seated). IfOk c.mail.result (λ reply. (k : ℕ) × WholeEnds (began (ready x) Lock) k (Append c.args.seq c.args.value) (Ok reply) c.mail.new.self (g.C.CrashPlan.asked c.args.plan.now) (g.C.CrashPlan.asked c.mail.new.plan) (g.C.CrashPlan.fallen c.args.plan.now) (g.C.CrashPlan.fallen c.mail.new.plan)))
+    c.self.view_is c.mail.ensures.replied
+
+pub returns-clause-fails : goal.returns-clause-fails
+returns-clause-fails g c =
+    let w : c.setup.result.layout.width ≡ c.args.self.now.pass.setup.layout.width = ap (λ (s : Setup). s.layout.width) c.setup.ensures.is ∙ ap (λ (x : Seated). x.pass.setup.layout.width) c.self.view_is in
+    let fits : length c.args.value ≡ c.args.self.now.pass.setup.layout.width = omega (arith, c.width.ensures.width, w, c.if-width-setup.false) in
+    let fails = subst (λ (x : Seated). IfErr c.mail.result (λ why. (k : ℕ) × WholeFails x k (Append c.args.seq c.args.value) c.mail.new.self (g.C.CrashPlan.asked c.args.plan.now) (g.C.CrashPlan.asked c.mail.new.plan) (g.C.CrashPlan.fallen c.args.plan.now) (g.C.CrashPlan.fallen c.mail.new.plan) why)) c.self.view_is c.mail.ensures.fails in
+    err_more _ _ c.mail.result fails (λ why h. (h.0, inr (fits, h.1)))

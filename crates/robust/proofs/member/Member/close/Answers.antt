@@ -1,0 +1,11 @@
+use Rattle.std.proofs.Common.{ℕ, Ok, IfOk, subst}
+use Rattle.rmeworld.specs.declared.call.Call.TheVariants.{Lock, Close}
+use Rattle.robust.specs.Running.{Seated, began}
+use Rattle.robust.specs.Faults.{ready}
+use Rattle.robust.specs.Whole.{WholeEnds}
+use Rattle.robust.proofs.member.Member.close.Goals as goal
+
+pub returns-clause-replied : goal.returns-clause-replied
+returns-clause-replied g c =
+    subst (λ (x : Seated). IfOk c.mail.result (λ reply. (k : ℕ) × WholeEnds (began (ready x) Lock) k Close (Ok reply) c.mail.new.self (g.C.CrashPlan.asked c.args.plan.now) (g.C.CrashPlan.asked c.mail.new.plan) (g.C.CrashPlan.fallen c.args.plan.now) (g.C.CrashPlan.fallen c.mail.new.plan)))
+    c.self.view_is c.mail.ensures.replied

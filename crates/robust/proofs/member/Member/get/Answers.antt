@@ -1,0 +1,26 @@
+use Rattle.std.proofs.Common.{rules, ◌≡◌, [], ◌∷◌, None, subst}
+use Rattle.rmeworld.specs.declared.answer.Answer.{Answer}
+use Rattle.rmeworld.specs.declared.answer.Answer.TheVariants.{Mail}
+use Rattle.redomail.specs.declared.reply.Reply.TheVariants.{Word}
+use Rattle.rmeworld.specs.declared.call.Call.TheVariants.{Get}
+use Rattle.robust.specs.Board.{last_put, value_or, LastIsOwn}
+use Rattle.robust.specs.Running.{Seated, began}
+use Rattle.robust.specs.Calls.{Served}
+use Rattle.robust.proofs.Board.{last_is_own_after}
+use Rattle.robust.proofs.OneStep.{got}
+use Rattle.robust.proofs.member.Member.get.Goals as goal
+
+pub returns-clause-last : goal.returns-clause-last
+returns-clause-last g c =
+    let x = c.self.inside.runner in
+    let i = c.args.i in
+    let r = c.in_ok-value.ensures.answered in
+    let is : c.in_ok-value.field-0 ≡ Mail (Word c.in-Mail-Word.value) = search rules in
+    subst (λ (u : Seated). c.in-Mail-Word.value ≡ value_or (last_put u.pass.setup i c.call.new.self.pass.seen) 0) c.self.view_is
+    (got x c.call.new.self i c.in-Mail-Word.value r.0 c.self.invariant c.in_ok-value.ensures.accepted (subst (λ (a : Answer). Served (began x (Get i)) (Get i) (a ∷ []) 0 c.call.new.self r.0) is r.1))
+
+pub returns-clause-own : goal.returns-clause-own
+returns-clause-own g c =
+    let r = c.in_ok-value.ensures.answered in
+    subst (λ (u : Seated). LastIsOwn u.pass.setup u.pass.by c.args.i c.call.new.self.pass.seen) c.self.view_is
+    (last_is_own_after c.self.inside.runner c.call.new.self (Get c.args.i) _ r.0 c.args.i c.by-by.ensures.pass r.1)

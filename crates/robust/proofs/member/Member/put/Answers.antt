@@ -1,0 +1,19 @@
+use Rattle.std.proofs.Common.{rules, ◌≡◌, [], ◌∷◌, Some, None, subst}
+use Rattle.rmeworld.specs.declared.answer.Answer.{Answer}
+use Rattle.rmeworld.specs.declared.answer.Answer.TheVariants.{Mail}
+use Rattle.rmeworld.specs.declared.call.Call.TheVariants.{Put}
+use Rattle.robust.specs.declared.entry.Entry.{Entry}
+use Rattle.robust.specs.Board.{last_put}
+use Rattle.robust.specs.Running.{Seated, began}
+use Rattle.robust.specs.Calls.{Served}
+use Rattle.robust.proofs.OneStep.{has_put}
+use Rattle.robust.proofs.member.Member.put.Goals as goal
+
+pub returns-clause-last : goal.returns-clause-last
+returns-clause-last g c =
+    let x = c.self.inside.runner in
+    let i = c.args.i in
+    let r = c.in_ok-call.ensures.answered in
+    let is : c.in_ok-call.field-0 ≡ Mail c.in-Mail.field-0 = search rules in
+    subst (λ (u : Seated). (e : Entry) × (last_put u.pass.setup i c.call.new.self.pass.seen ≡ Some e) × (e.by ≡ u.pass.by) × (e.value ≡ c.args.value)) c.self.view_is
+    (has_put x c.call.new.self i c.args.value c.in-Mail.field-0 r.0 c.self.invariant c.in_ok-call.ensures.accepted (subst (λ (a : Answer). Served (began x (Put i c.args.value)) (Put i c.args.value) (a ∷ []) 0 c.call.new.self r.0) is r.1))

@@ -1,0 +1,33 @@
+use Rattle.std.proofs.Common.{◌≡◌, true, Some, Ok, List, [], ◌∷◌, refl, ap, ◌∙◌, inl}
+use Rattle.rmeworld.specs.declared.call.Call.{Call as CallOf}
+use Rattle.rmeworld.specs.declared.call.Call.TheVariants.{Unlock}
+use Rattle.rmeworld.specs.declared.answer.Answer.TheVariants.{Clean, OwnerDied, Mail, Unlocked}
+use Rattle.robust.specs.declared.entry_kind.Entry.TheVariants as entry
+use Rattle.robust.specs.Whole.{IsFront, IsInner}
+use Rattle.robust.proofs.Called.{on_err}
+use Rattle.robust.proofs.WholeCalls.{whole_of, cut_of, cut_more, lock_is}
+use Rattle.robust.proofs.runner.Runner.come.Goals as goal
+
+pub returns-in_ok-reply-in-Clean-clause-comes : goal.returns-in_ok-reply-in-Clean-clause-comes
+returns-in_ok-reply-in-Clean-clause-comes g c =
+    let task = c.args.task.now in
+    let reply = c.in_ok-reply-in-Clean.reply in
+    λ x turns asked fallen h. whole_of x c.args.self.now c.work.new.self asked _ _ fallen _ _ turns entry.Clean task (Ok reply) (task ∷ Unlock ∷ []) (Mail reply ∷ Unlocked ∷ []) (lock_is x c.args.self.now turns asked _ fallen _ c.args.answer (Some Clean) (c.in-Some.is ∙ ap (λ a. Some a) c.in-Clean.is) h) (true, refl, refl) c.in_ok-reply-in-Clean.ensures.done
+
+pub returns-in_err-reply-in-Clean-clause-cut : goal.returns-in_err-reply-in-Clean-clause-cut
+returns-in_err-reply-in-Clean-clause-cut g c =
+    let task = c.args.task.now in
+    on_err _ c.from_residual.result (
+    λ x turns asked fallen h. cut_of x c.args.self.now c.work.new.self asked _ _ fallen _ _ turns entry.Clean task (lock_is x c.args.self.now turns asked _ fallen _ c.args.answer (Some Clean) (c.in-Some.is ∙ ap (λ a. Some a) c.in-Clean.is) h)
+    (cut_more c.args.self.now c.work.new.self _ _ _ _ (λ (order : List CallOf). IsFront order (task ∷ Unlock ∷ [])) (IsInner entry.Clean task) c.in_err-reply-in-Clean.ensures.cut (λ done p. inl p))
+    )
+
+pub returns-in_ok-ended-in-OwnerDied-clause-comes : goal.returns-in_ok-ended-in-OwnerDied-clause-comes
+returns-in_ok-ended-in-OwnerDied-clause-comes g c =
+    let d = c.in_ok-ended-in-OwnerDied.ensures.done in
+    λ x turns asked fallen h. whole_of x c.args.self.now c.mend_and_work.new.self asked _ _ fallen _ _ turns entry.OwnerDied c.args.task.now c.in_ok-ended-in-OwnerDied.ended d.0 d.1 (lock_is x c.args.self.now turns asked _ fallen _ c.args.answer (Some OwnerDied) (c.in-Some.is ∙ ap (λ a. Some a) c.in-OwnerDied.is) h) d.2 d.3
+
+pub returns-in_err-ended-in-OwnerDied-clause-cut : goal.returns-in_err-ended-in-OwnerDied-clause-cut
+returns-in_err-ended-in-OwnerDied-clause-cut g c =
+    on_err _ c.from_residual-in_err-ended-in-OwnerDied.result (λ x turns asked fallen h.
+    cut_of x c.args.self.now c.mend_and_work.new.self asked _ _ fallen _ _ turns entry.OwnerDied c.args.task.now (lock_is x c.args.self.now turns asked _ fallen _ c.args.answer (Some OwnerDied) (c.in-Some.is ∙ ap (λ a. Some a) c.in-OwnerDied.is) h) c.in_err-ended-in-OwnerDied.ensures.cut)

@@ -1,0 +1,15 @@
+use Rattle.std.proofs.Common.{◌≡◌, ◌∙◌}
+use Rattle.robust.proofs.Called.{on_err}
+use Rattle.robust.proofs.Chained.{none_more}
+use Rattle.robust.proofs.WholeCalls.{cut_from, ran_from}
+use Rattle.robust.proofs.runner.Runner.follow.Goals as goal
+
+pub returns-in_err-answer-in-Ok-clause-cut : goal.returns-in_err-answer-in-Ok-clause-cut
+returns-in_err-answer-in-Ok-clause-cut g c =
+    let r = c.in_err-answer-in-Ok.ensures.cut in
+    on_err _ c.from_residual.result (r.0, cut_from c.args.self.now c.go_on.new.self c.run.new.self c.args.call.now r.0 c.in-Ok.ensures.accepted.1 c.in-Ok.ensures.pass r.1, r.2)
+
+pub returns-clause-answered : goal.returns-clause-answered
+returns-clause-answered g c =
+    let r = c.in_ok-answer-in-Ok.ensures.ran in
+    (r.0, ran_from c.args.self.now c.go_on.new.self c.run.new.self c.args.call.now c.in-Some.answer r.0 c.in-Ok.ensures.accepted.1 c.in-Ok.ensures.pass c.in-Some.is r.1, (r.2.0 ∙ none_more r.0 _, r.2.1))

@@ -1,0 +1,19 @@
+-- What workers that have ended hand back.
+use Rattle.std.specs.Prelude.{ℕ}
+use Rattle.atomic_table.specs.Seated.{TableId}
+use Rattle.robust.specs.declared.setup.Setup.{Setup}
+use Rattle.robust.specs.declared.lab.spec.Spec.{Spec}
+use Rattle.robust.specs.declared.lab.worker.Done.{Done}
+use Rattle.robust.specs.declared.lab.worker.HandsBack.{HandsBack}
+use Rattle.robust.specs.Working.{seat_of}
+
+-- the seat of the member that a worker has handed back
+abbrev pub seat_done : Done → TableId × Setup × ℕ
+seat_done done = seat_of done.member
+
+-- the seat of the member that a worker at work will hand back
+abbrev pub seat_promised : HandsBack → TableId × Setup × ℕ
+seat_promised promise = seat_of promise.0.value
+
+abbrev pub sizes_of : Spec → Setup
+sizes_of s = record { layout = record { procs = s.procs; cap = s.cap; width = s.width }; limit = s.limit }

@@ -1,0 +1,210 @@
+//! All members of an arena become one again, and the words are read.
+ghost use Rattle.std.specs.Prelude.{◌≡◌, ℕ, ◌<◌, ◌≤◌, ◌∷◌, ◌++◌, vec_capacity, map, length, true, false, [], All, IfOk, IfErr};
+ghost use Rattle.std.specs.Arc.{arc_value};
+ghost use Rattle.redomail.specs.Layout.{size};
+ghost use Rattle.rmeworld.specs.ImageRules.{IsLawfulImage};
+ghost use Rattle.rmeworld.specs.Stand.{IsSize};
+ghost use Rattle.robust.specs.declared.gather_fault.GatherFault.TheVariants.{NotAll, OutOfMemory};
+ghost use Rattle.robust.specs.Runs.{InTable, IsRun, end_of, has as answers_for, word_count};
+ghost use Rattle.robust.specs.Rule.{count_from, Did, IsIn, stepper};
+ghost use Rattle.robust.specs.Pass.{alone, glanced};
+ghost use Rattle.robust.specs.Gathering.{OneArena, has_member, IsMissing, Gathers, Knows, Absorbs, AnswersAll, Looked, Stays};
+
+use crate::entry::{Known, Step};
+use crate::gather_fault::GatherFault;
+use crate::member::Member;
+use crate::rule::{Glue, Words};
+use crate::runner::data_words;
+use crate::setup::Setup;
+use crate::steps;
+use crate::walker::{Board, Walker, index};
+use atomic_table::Seat;
+use rmecore::{Kind, Own, Word};
+use rmeworld::{Cells, Image, Owns};
+use std::alloc::Global;
+use std::sync::Arc;
+
+/// The words of an arena, once all its members are back: those at the end of the one run of which each member's pass is a
+/// beginning. The caller gives members of one arena, in any order. With a fault the members are handed back as they were:
+/// `NotAll` where one is missing, `OutOfMemory` where there was no room for the words.
+///
+/// The first member's seat joins the others' seats into its own, a glance before each joining, and then reads each word by a
+/// glance: nobody else is left to step. All memory is taken before it joins the first.
+pub fn gather(alloc: Global, mut members: Vec<Member>) -> Result<Image, (Vec<Member>, GatherFault)>
+    requires arena { OneArena members.items }
+    ensures gathered { IfOk result (Gathers members.items) }
+    ensures lawful { IfOk result IsLawfulImage }
+    ensures handed_back { IfErr result (λ e. e.0.items ≡ members.items) }
+    ensures missing { IfErr result (λ e. e.1 ≡ NotAll → IsMissing members.items) }
+    ensures memory { IfErr result (λ e. e.1 ≡ OutOfMemory → ¬ IsMissing members.items) }
+{
+    if members.is_empty() {
+        return Err((members, GatherFault::NotAll));
+    }
+    let setup = members[0].setup();
+    if !has_all(members.as_slice(), setup.layout.procs) {
+        return Err((members, GatherFault::NotAll));
+    }
+    let Ok(lock) = Vec::with_capacity(alloc, setup.layout.procs as usize) else {
+        return Err((members, GatherFault::OutOfMemory));
+    };
+    let Ok(cells) = Vec::with_capacity(alloc, data_words(&setup.layout) as usize) else {
+        return Err((members, GatherFault::OutOfMemory));
+    };
+    let first = members.remove(0);
+    Ok(read_all(members, first, lock, cells))
+}
+
+fn has(members: &[Member], p: u64) -> bool
+    ensures { result ≡ has_member p members.now }
+{
+    members.iter().any(|member| member.number() == p)
+}
+
+fn has_all(members: &[Member], procs: u64) -> bool
+    ensures yes { result ≡ true → (p : ℕ) → p < procs → has_member p members.now ≡ true }
+    ensures no { result ≡ false → ((p : ℕ) × (p < procs) × (has_member p members.now ≡ false)) }
+{
+    for p in 0..procs {
+        if !has(members, p) {
+            return false;
+        }
+    }
+    true
+}
+
+/// A glance of a seat that answers for one or more processes.
+fn look(table: &Words, seat: &mut Seat<(), Known>, setup: &Setup, word: Word) -> u64
+    requires table { (seat.old.table_id ≡ table.now.table_id) × (seat.old.table_id.words ≡ word_count setup.now) }
+    requires setup { seat.old.me.0.view.setup ≡ setup.now }
+    requires size { IsSize setup.now.layout }
+    requires word { InTable setup.now word }
+    requires some { answers_for (stepper seat.old.me.0.view) seat.old.me.0.view.answers ≡ true }
+    ensures same { (seat.new.table_id ≡ seat.old.table_id) × (seat.new.me.1 ≡ seat.old.me.1) }
+    ensures did { Did (glanced word) seat.old.me.0 result seat.new.me.0 }
+{
+    let step = Step {
+        crashed: false,
+        start: None,
+        kind: Kind::Glance,
+        word,
+    };
+    let at = index(setup, word);
+    steps::load(table, seat, step, at as usize)
+}
+
+/// The seat answers for the other's process too. It takes a glance first, which tells that all passes that were joined into
+/// it are beginnings of one run.
+fn absorb(table: &Words, seat: &mut Seat<(), Known>, setup: &Setup, other: Walker)
+    requires table { (seat.old.table_id ≡ table.now.table_id) × (seat.old.table_id.words ≡ word_count setup.now) × (other.table ≡ seat.old.table_id) }
+    requires setup { seat.old.me.0.view.setup ≡ setup.now }
+    requires size { IsSize setup.now.layout }
+    requires some { answers_for (stepper seat.old.me.0.view) seat.old.me.0.view.answers ≡ true }
+    ensures same { (seat.new.table_id ≡ seat.old.table_id) × (seat.new.me.1 ≡ seat.old.me.1) }
+    ensures absorbs { Absorbs seat.old.me.0 other seat.new.me.0 }
+{
+    look(table, seat, setup, Word::Choosing(0));
+    let (_, theirs) = other.into_parts();
+    table.join_seat::<Glue>(seat, theirs);
+}
+
+/// One seat for all members.
+fn join_all(
+    mut others: Vec<Member>,
+    first: Member,
+    setup: &Setup,
+) -> (Arc<Board, Global>, Seat<(), Known>)
+    requires arena { OneArena (first ∷ others.items) }
+    requires setup { setup.now ≡ first.pass.setup }
+    ensures table { (result.1.table_id ≡ (arc_value result.0).shared.table_id) × (result.1.table_id.words ≡ word_count setup.now) }
+    ensures knows { Knows first others.items (length others.items) result.1.me.0 }
+{
+    let (board, mut seat) = first.into_walker().into_parts();
+    while let Some(other) = others.pop() {
+        absorb(&board.shared, &mut seat, setup, other.into_walker());
+    }
+    (board, seat)
+}
+
+/// A glance of a seat that answers for all processes.
+fn read(table: &Words, seat: &mut Seat<(), Known>, setup: &Setup, word: Word) -> u64
+    requires table { (seat.old.table_id ≡ table.now.table_id) × (seat.old.table_id.words ≡ word_count setup.now) }
+    requires size { IsSize setup.now.layout }
+    requires word { InTable setup.now word }
+    requires all { AnswersAll setup.now seat.old.me.0.view }
+    ensures same { seat.new.table_id ≡ seat.old.table_id }
+    ensures looked { Looked setup.now word seat.old.me.0 result seat.new.me.0 }
+{
+    look(table, seat, setup, word)
+}
+
+/// The three lock words of a process.
+fn read_own(table: &Words, seat: &mut Seat<(), Known>, setup: &Setup, p: u64) -> Own
+    requires table { (seat.old.table_id ≡ table.now.table_id) × (seat.old.table_id.words ≡ word_count setup.now) }
+    requires size { IsSize setup.now.layout }
+    requires within { p < setup.now.layout.procs }
+    requires all { AnswersAll setup.now seat.old.me.0.view }
+    ensures same { seat.new.table_id ≡ seat.old.table_id }
+    ensures stays { Stays setup.now seat.old.me.0 seat.new.me.0 }
+    ensures own { result ≡ (end_of setup.now seat.old.me.0.view.seen).words p }
+{
+    let choosing = read(table, seat, setup, Word::Choosing(p));
+    let number = read(table, seat, setup, Word::Number(p));
+    let inside = read(table, seat, setup, Word::Inside(p));
+    Own {
+        choosing,
+        number,
+        inside,
+    }
+}
+
+fn read_lock(table: &Words, seat: &mut Seat<(), Known>, setup: &Setup, lock: &mut Vec<Own>)
+    requires table { (seat.old.table_id ≡ table.now.table_id) × (seat.old.table_id.words ≡ word_count setup.now) }
+    requires size { IsSize setup.now.layout }
+    requires all { AnswersAll setup.now seat.old.me.0.view }
+    requires room { (lock.old.items ≡ []) × (setup.now.layout.procs ≤ vec_capacity lock.old) }
+    ensures same { seat.new.table_id ≡ seat.old.table_id }
+    ensures stays { Stays setup.now seat.old.me.0 seat.new.me.0 }
+    ensures lock { lock.new.items ≡ map (end_of setup.now seat.old.me.0.view.seen).words (count_from 0 setup.now.layout.procs) }
+{
+    for p in 0..setup.layout.procs {
+        let own = read_own(table, seat, setup, p);
+        lock.push_reserved(own);
+    }
+}
+
+fn read_cells(table: &Words, seat: &mut Seat<(), Known>, setup: &Setup, cells: &mut Vec<u64>)
+    requires table { (seat.old.table_id ≡ table.now.table_id) × (seat.old.table_id.words ≡ word_count setup.now) }
+    requires size { IsSize setup.now.layout }
+    requires all { AnswersAll setup.now seat.old.me.0.view }
+    requires room { (cells.old.items ≡ []) × (size setup.now.layout ≤ vec_capacity cells.old) }
+    ensures cells { cells.new.items ≡ map (end_of setup.now seat.old.me.0.view.seen).cells (count_from 0 (size setup.now.layout)) }
+{
+    for i in 0..data_words(&setup.layout) {
+        let cell = read(table, seat, setup, Word::Data(i));
+        cells.push_reserved(cell);
+    }
+}
+
+fn read_all(others: Vec<Member>, first: Member, mut lock: Vec<Own>, mut cells: Vec<u64>) -> Image
+    requires arena { OneArena (first ∷ others.items) }
+    requires all { (p : ℕ) → p < first.pass.setup.layout.procs → has_member p (first ∷ others.items) ≡ true }
+    requires lock { (lock.items ≡ []) × (first.pass.setup.layout.procs ≤ vec_capacity lock) }
+    requires cells { (cells.items ≡ []) × (size first.pass.setup.layout ≤ vec_capacity cells) }
+    ensures gathers { Gathers (first ∷ others.items) result }
+    ensures lawful { IsLawfulImage result }
+{
+    let setup = first.setup();
+    let (board, mut seat) = join_all(others, first, &setup);
+    read(&board.shared, &mut seat, &setup, Word::Choosing(0));
+    read_lock(&board.shared, &mut seat, &setup, &mut lock);
+    read_cells(&board.shared, &mut seat, &setup, &mut cells);
+    Image {
+        cap: setup.layout.cap,
+        cells: Cells::new(cells),
+        limit: setup.limit,
+        lock: Owns::new(lock),
+        version: 2,
+        width: setup.layout.width,
+    }
+}

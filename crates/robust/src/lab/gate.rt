@@ -1,0 +1,22 @@
+//! What a worker of the lab asks and tells.
+
+ghost use Rattle.std.specs.Prelude.{◌≡◌};
+
+use crashlab::{CrashPlan, Never, Seeded};
+
+/// A worker's plan of crashes, which also hears of the worker's answers. A test can hold a worker at an asking by one.
+pub trait Gate: CrashPlan {
+    /// The worker's call with this number was answered. It is told once for each answer, also for the one that ends the
+    /// worker, and it is no asking.
+    fn answered(&mut self, call: u64)
+        ensures asked { Self.asked self.new ≡ Self.asked self.old }
+        ensures fallen { Self.fallen self.new ≡ Self.fallen self.old };
+}
+
+impl Gate for Never {
+    fn answered(&mut self, _call: u64) {}
+}
+
+impl Gate for Seeded {
+    fn answered(&mut self, _call: u64) {}
+}

@@ -1,0 +1,22 @@
+//! Why a lab has no result.
+
+use crate::lock_fault::LockFault;
+use redomail::Reply;
+use thiserror::Error;
+
+/// Why a lab has no result. `BadSpec` and `OutOfMemory` come first, then what ended the least worker that has ended early.
+#[derive(Clone, Copy, Debug, PartialEq, Eq, Error)]
+pub enum LabFault {
+    /// A size outside its limits, or not one gate for each worker. Nothing was run.
+    #[error("bad spec")]
+    BadSpec,
+    /// Also where a thread could not be made.
+    #[error("out of memory")]
+    OutOfMemory,
+    /// The fault that ended worker p.
+    #[error("worker {p}: {fault}")]
+    Member { p: u64, fault: LockFault },
+    /// The reply that ended worker p: neither Stored nor Already.
+    #[error("worker {p}: reply {reply:?}")]
+    Reply { p: u64, reply: Reply },
+}

@@ -1,0 +1,194 @@
+//! The laboratory over the running lock.
+
+ghost use Rattle.std.specs.Prelude.{◌≡◌, ◌≢◌, ◌<◌, ◌≤◌, ◌↔◌, IfOk, IfErr, IfSome, IsErrOf, map, vec_len};
+ghost use Rattle.std.specs.Thread.{IsSend, IsSync};
+ghost use Rattle.atomic_table.specs.Seated.{TableId};
+ghost use Rattle.robust.specs.Lab.{IsBadSpec};
+ghost use Rattle.robust.specs.Making.{fresh_members};
+ghost use Rattle.robust.specs.Worked.{seat_done, seat_promised, sizes_of};
+ghost use Rattle.robust.specs.Working.{seats_of};
+
+use crate::arena::Arena;
+use crate::gather_fault::GatherFault;
+use crate::gathering::gather;
+use crate::lab::worker::{Done, Ending, HandsBack, work};
+use crate::lab::{Gate, LabFault, LabResult, Spec};
+use crate::member::Member;
+use redomail::{Layout, content};
+use rmeworld::Image;
+use std::alloc::{AllocError, Global};
+use std::snapshot::Snapshot;
+use std::sync::Wait;
+use std::thread;
+use std::thread::{PromisedHandle, Scope, Threads};
+
+/// Runs a worker for each process of a new arena, all at the same time, each on a thread of its own. Worker p appends its
+/// messages with the numbers from 1 on; it calls again after each crash that its gate lets fall, and tells its gate of each
+/// answer. It returns when all workers have ended, with the messages that stand then.
+pub fn run_lab<G: Gate + Send + Drop, R: Threads + Wait + Sync>(
+    rt: &R,
+    alloc: Global,
+    spec: Spec,
+    gates: Vec<G>,
+) -> Result<LabResult, LabFault>
+    ensures bad_spec { IsErrOf result LabFault.BadSpec ↔ IsBadSpec spec (vec_len gates) }
+{
+    if spec.is_bad(gates.len() as u64) {
+        return Err(LabFault::BadSpec);
+    }
+    run(rt, alloc, spec, gates)
+}
+
+/// The lab, with sizes within the limits and a gate for each worker.
+fn run<G: Gate + Send + Drop, R: Threads + Wait + Sync>(
+    rt: &R,
+    alloc: Global,
+    spec: Spec,
+    gates: Vec<G>,
+) -> Result<LabResult, LabFault>
+    requires { IsBadSpec spec (vec_len gates) → ⊥ }
+    ensures { IfErr result (λ fault. fault ≢ LabFault.BadSpec) }
+{
+    let members = made(rt, alloc, spec)?;
+    let Ok(ended) = work_all(rt, alloc, spec, members, gates) else {
+        return Err(LabFault::OutOfMemory);
+    };
+    if let Some(fault) = first_fault(ended.as_slice()) {
+        return Err(fault);
+    }
+    let Ok(members) = members_of(alloc, ended) else {
+        return Err(LabFault::OutOfMemory);
+    };
+    match gather(alloc, members) {
+        Ok(image) => shown(alloc, spec, &image),
+        Err((_, GatherFault::OutOfMemory)) => Err(LabFault::OutOfMemory),
+        Err((_, GatherFault::NotAll)) => unreachable!(),
+    }
+}
+
+/// A new member for each worker.
+#[tactic(auto, using(crate::proofs::Worked::length_fresh))]
+fn made<R>(rt: &R, alloc: Global, spec: Spec) -> Result<Vec<Member>, LabFault>
+    ensures seats { IfOk result (λ v. (t : TableId) × (seats_of v.items ≡ seats_of (fresh_members t (sizes_of spec)))) }
+    ensures length { IfOk result (λ v. vec_len v ≡ spec.procs) }
+    ensures memory { IfErr result (λ fault. fault ≡ LabFault.OutOfMemory) }
+{
+    match Arena::new(rt, alloc, spec.procs, spec.limit, spec.cap, spec.width) {
+        Ok(members) => Ok(members),
+        Err(_) => Err(LabFault::OutOfMemory),
+    }
+}
+
+/// Runs all workers, each in a thread of its own, and answers them once all have ended. Where a thread can't be made it
+/// returns too once those that run have ended.
+fn work_all<G: Gate + Send + Drop, R: Threads + Wait + Sync>(
+    rt: &R,
+    alloc: Global,
+    spec: Spec,
+    members: Vec<Member>,
+    gates: Vec<G>,
+) -> Result<Vec<Done>, AllocError>
+    requires gates { vec_len gates ≡ vec_len members }
+    requires messages { spec.messages ≤ 4096 }
+    requires width { (1 ≤ spec.width) × (spec.width ≤ 8) }
+    ensures { IfOk result (λ all. map seat_done all.items ≡ seats_of members.items) }
+{
+    thread::scope(
+        thread::scope_env(),
+        rt,
+        |scope| -> Result<Vec<Done>, AllocError>
+            requires { IsSend G.row × IsSync R.row × (vec_len gates ≡ vec_len members) × (spec.messages ≤ 4096) × (1 ≤ spec.width) × (spec.width ≤ 8) }
+            ensures { IfOk result (λ all. map seat_done all.items ≡ seats_of members.items) }
+        {
+            let threads = start_all(scope, rt, alloc, spec, members, gates)?;
+            join_all(rt, alloc, threads)
+        },
+    )
+}
+
+/// A thread of the scope for each worker, by process.
+fn start_all<'s, E: 's, G: Gate + Send + Drop + 's, R: Wait + Sync>(
+    scope: &Scope<'s, E>,
+    rt: &'s R,
+    alloc: Global,
+    spec: Spec,
+    members: Vec<Member>,
+    gates: Vec<G>,
+) -> Result<Vec<PromisedHandle<Done, HandsBack>>, AllocError>
+    requires gates { vec_len gates ≡ vec_len members }
+    requires messages { spec.messages ≤ 4096 }
+    requires width { (1 ≤ spec.width) × (spec.width ≤ 8) }
+    ensures { IfOk result (λ threads. map (λ h. seat_promised h.promise) threads.items ≡ seats_of members.items) }
+{
+    let mut threads = Vec::new(alloc);
+    let mut gates = gates.into_iter();
+    for member in members {
+        let Some(gate) = gates.next() else {
+            unreachable!()
+        };
+        let promise = HandsBack(Snapshot::of(&member));
+        let job = move || -> Done
+            requires { IsSend G.row × IsSync R.row × (spec.messages ≤ 4096) × (1 ≤ spec.width) × (spec.width ≤ 8) }
+        { work(rt, member, gate, spec) };
+        let Ok(thread) = scope.spawn_with(promise, job) else {
+            return Err(AllocError);
+        };
+        threads.push(thread)?;
+    }
+    Ok(threads)
+}
+
+/// What these threads hand back, once they have ended.
+fn join_all<R: Threads>(
+    rt: &R,
+    alloc: Global,
+    threads: Vec<PromisedHandle<Done, HandsBack>>,
+) -> Result<Vec<Done>, AllocError>
+    ensures { IfOk result (λ all. map seat_done all.items ≡ map (λ h. seat_promised h.promise) threads.items) }
+{
+    let mut all = Vec::new(alloc);
+    for thread in threads {
+        all.push(thread.join(rt))?;
+    }
+    Ok(all)
+}
+
+/// What ended the least worker that has ended early.
+fn first_fault(ended: &[Done]) -> Option<LabFault>
+    ensures { IfSome result (λ fault. fault ≢ LabFault.BadSpec) }
+{
+    for (p, done) in ended.iter().enumerate() {
+        match done.ending {
+            Ending::AllSent => {}
+            Ending::Fault(fault) => return Some(LabFault::Member { p: p as u64, fault }),
+            Ending::Refused(reply) => return Some(LabFault::Reply { p: p as u64, reply }),
+        }
+    }
+    None
+}
+
+/// The members of workers that have ended.
+fn members_of(alloc: Global, ended: Vec<Done>) -> Result<Vec<Member>, AllocError>
+    ensures { IfOk result (λ all. seats_of all.items ≡ map seat_done ended.items) }
+{
+    let mut members = Vec::with_capacity(alloc, ended.len())?;
+    for done in ended {
+        members.push(done.member)?;
+    }
+    Ok(members)
+}
+
+/// The messages that the data words of the last image show.
+fn shown(alloc: Global, spec: Spec, image: &Image) -> Result<LabResult, LabFault>
+    ensures { IfErr result (λ fault. fault ≢ LabFault.BadSpec) }
+{
+    let layout = Layout {
+        procs: spec.procs,
+        cap: spec.cap,
+        width: spec.width,
+    };
+    match content(alloc, layout, image.cells.as_slice()) {
+        Ok(messages) => Ok(LabResult { messages }),
+        Err(_) => Err(LabFault::OutOfMemory),
+    }
+}

@@ -1,0 +1,92 @@
+//! A worker of the lab over the running lock.
+
+ghost use Rattle.std.specs.Prelude.{◌≡◌, ◌≤◌};
+ghost use Rattle.robust.specs.Working.{seat_of};
+
+use crate::lab::sending::value_sent;
+use crate::lab::{Gate, Spec};
+use crate::lock_fault::LockFault;
+use crate::member::Member;
+use redomail::Reply;
+use rmecore::Body;
+use std::snapshot::Snapshot;
+use std::sync::Wait;
+use std::thread::Promise;
+
+/// How a worker ended.
+#[derive(Clone, Copy, Debug, PartialEq, Eq)]
+pub enum Ending {
+    /// Each of its messages was answered Stored or Already.
+    AllSent,
+    /// A call ended with a fault.
+    Fault(LockFault),
+    /// A call was answered by another reply.
+    Refused(Reply),
+}
+
+/// A worker that has ended, with the member that it was given.
+#[derive(Drop)]
+pub struct Done {
+    pub member: Member,
+    pub ending: Ending,
+}
+
+/// That a worker hands back the member that it was given.
+#[derive(Drop)]
+pub struct HandsBack(pub Snapshot<Member>);
+
+impl Promise<Done> for HandsBack {
+    ghost use Rattle.std.specs.Prelude.{◌≡◌};
+    ghost use Rattle.robust.specs.Working.{seat_of};
+
+    ghost kept_by = { λ promise done. seat_of done.member ≡ seat_of promise.0.value };
+}
+
+/// Sends the messages of a worker, numbered from 1, each again until it is answered. An answer is told to the gate.
+pub fn work<G: Gate + Drop, R: Wait>(rt: &R, mut member: Member, mut gate: G, spec: Spec) -> Done
+    requires most { spec.messages ≤ 4096 }
+    requires least { 1 ≤ spec.width }
+    requires wide { spec.width ≤ 8 }
+    ensures { seat_of result.member ≡ seat_of member }
+{
+    let p = member.number();
+    for seq in 1..spec.messages + 1 {
+        let value = value_sent(p, seq, spec.width);
+        match send(rt, &mut member, &mut gate, seq, value) {
+            Ok(Reply::Stored | Reply::Already) => {}
+            Ok(reply) => {
+                let ending = Ending::Refused(reply);
+                return Done { member, ending };
+            }
+            Err(fault) => {
+                let ending = Ending::Fault(fault);
+                return Done { member, ending };
+            }
+        }
+    }
+    let ending = Ending::AllSent;
+    Done { member, ending }
+}
+
+/// Sends one message until it is answered.
+fn send<G: Gate, R: Wait>(
+    rt: &R,
+    member: &mut Member,
+    gate: &mut G,
+    seq: u64,
+    value: Body,
+) -> Result<Reply, LockFault>
+    ensures { seat_of member.new ≡ seat_of member.old }
+{
+    for _ in rt.forever() {
+        match member.append(rt, seq, value, gate) {
+            Ok(reply) => {
+                gate.answered(seq);
+                return Ok(reply);
+            }
+            Err(LockFault::Crashed) => {}
+            Err(fault) => return Err(fault),
+        }
+    }
+    unreachable!()
+}

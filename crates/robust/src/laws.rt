@@ -1,0 +1,31 @@
+//! Laws over every run of the table, whoever takes its steps. Each is the contract of a function that does nothing.
+
+ghost use Rattle.robust.specs.Headline.{EveryRunIsSound};
+ghost use Rattle.robust.specs.Reading.{LoadsTell, RunsShow, EntriesStandInRuns};
+
+/// The headline, for any number of processes, limit and room, and any list of entries that is a run, crashes and all: its
+/// deeds are legal by the judge's whole table; so no two are inside, one that crashed inside is the next to enter, whose
+/// doorway was finished before another began enters first unless it withdrew, and each sender's messages stand once, in
+/// its order, none after closing. The words at its end are lawful, and each append that was answered Stored or Already is
+/// shown.
+pub fn every_run_is_sound()
+    ensures { EveryRunIsSound }
+{
+    rmeworld::laws::every_story_is_sound();
+    judge::laws::legal_histories_are_plain();
+}
+
+/// A load tells the word as it stands in the run's world right before it.
+pub fn loads_tell()
+    ensures { LoadsTell }
+{}
+
+/// After every run the entries below count are the messages that the mailbox list shows, and there is room for them.
+pub fn runs_show()
+    ensures { RunsShow }
+{}
+
+/// Entries below count never change later in a run, and count doesn't fall.
+pub fn entries_stand_in_runs()
+    ensures { EntriesStandInRuns }
+{}

@@ -1,0 +1,81 @@
+//! The whole mailbox calls of a member: each locks, mends where the owner died, does its task and unlocks. Its one answer is
+//! the task's reply.
+ghost use Rattle.std.specs.Prelude.{◌≡◌, ◌≢◌, ℕ, length, Ok, IfOk, IfErr, OnOk};
+ghost use Rattle.robust.specs.Running.{began};
+ghost use Rattle.robust.specs.Faults.{refusal_now, ready};
+ghost use Rattle.robust.specs.Whole.{WholeEnds, WholeFails, AppendFails};
+
+use crate::lock_fault::LockFault;
+use crate::member::Member;
+use crashlab::CrashPlan;
+use redomail::Reply;
+use rmecore::Body;
+use rmeworld::Call;
+use std::sync::Wait;
+
+impl Member {
+    /// Stores a message with this number, from 1. It gives up once it is blocked more often than it was given turns; the
+    /// member keeps its place in the line.
+    pub fn append_within<C: CrashPlan>(
+        &mut self,
+        seq: u64,
+        value: Body,
+        plan: &mut C,
+        turns: u64,
+    ) -> Result<Reply, LockFault>
+        ensures wide { OnOk result (length value ≡ self.old.pass.setup.layout.width) }
+        ensures accepted { OnOk result (refusal_now (ready self.old) Call.Lock ≡ None) }
+        ensures replied { IfOk result (λ reply. WholeEnds (began (ready self.old) Call.Lock) turns (Call.Append seq value) (Ok reply) self.new (C.asked plan.old) (C.asked plan.new) (C.fallen plan.old) (C.fallen plan.new)) }
+        ensures fails { IfErr result (AppendFails self.old turns seq value self.new (C.asked plan.old) (C.asked plan.new) (C.fallen plan.old) (C.fallen plan.new)) }
+    {
+        if value.width() != self.runner.setup().layout.width {
+            return Err(LockFault::BadWidth);
+        }
+        self.runner
+            .mail_within(plan, &Call::Append { seq, value }, turns)
+    }
+
+    /// Closes the mailbox. It gives up once it is blocked more often than it was given turns; the member keeps its place in
+    /// the line.
+    pub fn close_within<C: CrashPlan>(
+        &mut self,
+        plan: &mut C,
+        turns: u64,
+    ) -> Result<Reply, LockFault>
+        ensures accepted { OnOk result (refusal_now (ready self.old) Call.Lock ≡ None) }
+        ensures replied { IfOk result (λ reply. WholeEnds (began (ready self.old) Call.Lock) turns Call.Close (Ok reply) self.new (C.asked plan.old) (C.asked plan.new) (C.fallen plan.old) (C.fallen plan.new)) }
+        ensures fails { IfErr result (WholeFails self.old turns Call.Close self.new (C.asked plan.old) (C.asked plan.new) (C.fallen plan.old) (C.fallen plan.new)) }
+    {
+        self.runner.mail_within(plan, &Call::Close, turns)
+    }
+
+    /// Stores a message with this number, from 1, and waits for as long as it has to.
+    pub fn append<R: Wait, C: CrashPlan>(
+        &mut self,
+        rt: &R,
+        seq: u64,
+        value: Body,
+        plan: &mut C,
+    ) -> Result<Reply, LockFault>
+        ensures wide { OnOk result (length value ≡ self.old.pass.setup.layout.width) }
+        ensures accepted { OnOk result (refusal_now (ready self.old) Call.Lock ≡ None) }
+        ensures replied { IfOk result (λ reply. (turns : ℕ) × WholeEnds (began (ready self.old) Call.Lock) turns (Call.Append seq value) (Ok reply) self.new (C.asked plan.old) (C.asked plan.new) (C.fallen plan.old) (C.fallen plan.new)) }
+        ensures fails { IfErr result (λ e. (turns : ℕ) × AppendFails self.old turns seq value self.new (C.asked plan.old) (C.asked plan.new) (C.fallen plan.old) (C.fallen plan.new) e) }
+        ensures patient { IfErr result (λ e. e ≢ LockFault.NotYet) }
+    {
+        if value.width() != self.runner.setup().layout.width {
+            return Err(LockFault::BadWidth);
+        }
+        self.runner.mail(rt, plan, &Call::Append { seq, value })
+    }
+
+    /// Closes the mailbox, and waits for as long as it has to.
+    pub fn close<R: Wait, C: CrashPlan>(&mut self, rt: &R, plan: &mut C) -> Result<Reply, LockFault>
+        ensures accepted { OnOk result (refusal_now (ready self.old) Call.Lock ≡ None) }
+        ensures replied { IfOk result (λ reply. (turns : ℕ) × WholeEnds (began (ready self.old) Call.Lock) turns Call.Close (Ok reply) self.new (C.asked plan.old) (C.asked plan.new) (C.fallen plan.old) (C.fallen plan.new)) }
+        ensures fails { IfErr result (λ e. (turns : ℕ) × WholeFails self.old turns Call.Close self.new (C.asked plan.old) (C.asked plan.new) (C.fallen plan.old) (C.fallen plan.new) e) }
+        ensures patient { IfErr result (λ e. e ≢ LockFault.NotYet) }
+    {
+        self.runner.mail(rt, plan, &Call::Close)
+    }
+}

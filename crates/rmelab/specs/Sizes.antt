@@ -1,13 +1,19 @@
 -- The ranges of the numbers that the program is asked for.
 use Rattle.std.specs.Prelude.{◌≤◌}
 use Rattle.rmelab.specs.declared.order.Command.{Command}
-use Rattle.rmelab.specs.declared.order.Command.TheVariants.{Replay, Hunt, Judge}
+use Rattle.rmelab.specs.declared.order.Command.TheVariants.{Replay, Run, Hunt, Judge}
 use Rattle.rmelab.specs.declared.order.HuntOrder.{HuntOrder}
+use Rattle.rmelab.specs.declared.order.RunOrder.{RunOrder}
 
 abbrev pub HuntFits : HuntOrder → Type 0
 HuntFits order = ((1 ≤ order.rounds) × (order.rounds ≤ 10000)) × (1 ≤ order.steps) × (order.steps ≤ 10000)
 
+-- so many processes, messages of each, crashes of 1,000 askings, and words of a message
+abbrev pub RunFits : RunOrder → Type 0
+RunFits order = ((1 ≤ order.procs) × (order.procs ≤ 16)) × ((1 ≤ order.messages) × (order.messages ≤ 4096)) × (order.crash ≤ 50) × (1 ≤ order.width) × (order.width ≤ 8)
+
 abbrev pub IsSized : Command → Type 0
 IsSized (Replay order) = Unit {0}
+IsSized (Run order) = RunFits order
 IsSized (Hunt order) = HuntFits order
 IsSized (Judge file) = Unit {0}

@@ -4,10 +4,13 @@ use crate::ending::{Ending, status_after_verdict};
 use crate::fault::Fault;
 use crate::order::{Command, HuntOrder};
 use crate::replaying::replay_order;
+use crate::running::run_order;
 use crashlab::hunt::hunt;
 use schedule::device::write_all;
 use schedule::{Sink, Source, judge_trace, put_verdict, write_schedule};
 use std::alloc::Global;
+use std::sync::Wait;
+use std::thread::Threads;
 
 /// The verdict line of a trace.
 fn judge_order<R: Source, W: Sink>(alloc: Global, r: &mut R, w: &mut W) -> Result<Ending, Fault> {
@@ -48,7 +51,8 @@ fn tell<E: Sink>(alloc: Global, fault: Fault, e: &mut E) -> Result<(), Fault> {
 
 /// Does what a command says: it reads the schedule or the trace from `r`, writes what it prints to `w`, and the one line of
 /// a fault to `e`. The image is the text of the file that `--image` names.
-pub fn command<R: Source, W: Sink, E: Sink>(
+pub fn command<T: Threads + Wait + Sync, R: Source, W: Sink, E: Sink>(
+    rt: &T,
     alloc: Global,
     command: &Command,
     image: Option<&[u8]>,
@@ -58,6 +62,7 @@ pub fn command<R: Source, W: Sink, E: Sink>(
 ) -> Ending {
     let ended = match command {
         Command::Replay(order) => replay_order(alloc, order, image, r, w),
+        Command::Run(order) => run_order(rt, alloc, order, w),
         Command::Judge(_) => judge_order(alloc, r, w),
         Command::Hunt(order) => hunt_order(alloc, order, w),
     };

@@ -4,6 +4,7 @@ ghost use Rattle.std.specs.Prelude.{◌≡◌};
 ghost use Rattle.rmelab.specs.declared.fault.Fault.TheVariants.{OutOfMemory};
 
 use crashlab::HuntFault;
+use robust::LabFault;
 use schedule::{OutOfMemory as NoMemory, ReplayFault, TextFault};
 use std::alloc::{AllocError, AllocFailed};
 use thiserror::Error;
@@ -32,12 +33,15 @@ pub enum Fault {
     Write,
     #[error("rmelab: out of memory")]
     OutOfMemory,
+    /// This sender of a run could not go on.
+    #[error("rmelab: member {p} failed")]
+    Member { p: u64 },
 }
 
 impl Fault {
     ghost use Rattle.rmelab.specs.Statuses.{status_of};
 
-    /// The exit status: 2 for a fault of the input, 3 for one of a device or of memory.
+    /// The exit status: 2 for a fault of the input, 3 for one of a device, of memory or of a member.
     pub fn status(self) -> u8
         ensures { result ≡ status_of self }
     {
@@ -47,7 +51,7 @@ impl Fault {
             | Fault::Image { .. }
             | Fault::BadVariant
             | Fault::BadSize => 2,
-            Fault::Read | Fault::Write | Fault::OutOfMemory => 3,
+            Fault::Read | Fault::Write | Fault::OutOfMemory | Fault::Member { .. } => 3,
         }
     }
 }
@@ -97,6 +101,16 @@ impl From<HuntFault> for Fault {
         match fault {
             HuntFault::BadRounds | HuntFault::BadSteps => Fault::BadSize,
             HuntFault::OutOfMemory => Fault::OutOfMemory,
+        }
+    }
+}
+
+impl From<LabFault> for Fault {
+    fn from(fault: LabFault) -> Fault {
+        match fault {
+            LabFault::BadSpec => Fault::BadSize,
+            LabFault::OutOfMemory => Fault::OutOfMemory,
+            LabFault::Member { p, .. } | LabFault::Reply { p, .. } => Fault::Member { p },
         }
     }
 }

@@ -8,6 +8,8 @@ mod json;
 mod order;
 mod parser;
 mod replaying;
+mod running;
+mod tally;
 #[cfg(test)]
 mod tests;
 mod words;
@@ -22,6 +24,8 @@ use std::alloc::Global;
 use std::io::BufReader;
 use std::process::ExitCode;
 use std::rt::{Env, Files};
+use std::sync::Wait;
+use std::thread::Threads;
 use std::{fs, io};
 
 fn words_given<R: Env + Alloc<A = Global>>(rt: &R) -> io::Result<Vec<String>> {
@@ -61,7 +65,7 @@ fn input_of(words: &Command) -> Option<&str> {
 }
 
 /// Runs a command over the file that it names, or over standard input.
-fn run<R: Files + Print + Eprint + Input>(
+fn run<R: Files + Print + Eprint + Input + Threads + Wait + Sync>(
     rt: &R,
     alloc: Global,
     words: &Command,
@@ -72,11 +76,11 @@ fn run<R: Files + Print + Eprint + Input>(
     let ending = match input_of(words) {
         Some(path) => {
             let mut input = FromReader::new(BufReader::new(alloc, fs::open(rt, path)?)?);
-            command(alloc, words, image, &mut input, &mut out, &mut err)
+            command(rt, alloc, words, image, &mut input, &mut out, &mut err)
         }
         None => {
             let mut input = FromReader::new(BufReader::new(alloc, rt.reader())?);
-            command(alloc, words, image, &mut input, &mut out, &mut err)
+            command(rt, alloc, words, image, &mut input, &mut out, &mut err)
         }
     };
     if let Ok(line) = str::from_utf8(err.as_slice()) {

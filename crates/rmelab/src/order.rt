@@ -16,6 +16,21 @@ pub struct ReplayOrder {
     pub file: Option<String>,
 }
 
+/// `run`: senders send through the running lock, each on a thread of its own, and crash as they go.
+#[derive(Clone, Copy, Debug, PartialEq, Eq)]
+pub struct RunOrder {
+    /// How many senders there are.
+    pub procs: u64,
+    /// How many messages each of them sends.
+    pub messages: u64,
+    /// How many of 1,000 askings fall.
+    pub crash: u64,
+    /// The seed of the first sender's crashes; each further one has the next number.
+    pub seed: u64,
+    /// How many words a message has.
+    pub width: u64,
+}
+
 /// `hunt`: schedules are drawn until one goes wrong.
 #[derive(Clone, Copy, Debug, PartialEq, Eq)]
 pub struct HuntOrder {
@@ -30,6 +45,7 @@ pub struct HuntOrder {
 #[derive(Debug, Drop, PartialEq, Eq)]
 pub enum Command {
     Replay(ReplayOrder),
+    Run(RunOrder),
     Hunt(HuntOrder),
     /// The verdict of a trace in a file, or on standard input.
     Judge(Option<String>),

@@ -4,13 +4,18 @@ use clap::{Arg, ArgAction, Command as Parser, value_parser};
 use std::alloc::{AllocError, Global};
 
 const STATUSES: &str =
-    "Exit status: 0 fine, 1 a verdict against, a schedule found, 2 a fault of the \
-input, 3 a fault of a device or of memory.";
+    "Exit status: 0 fine, 1 a verdict against, a schedule found, or a message twice or out of order, 2 a fault of the \
+input, 3 a fault of a device, of memory or of a member.";
 
 const REPLAY_HELP: &str =
     "In: a schedule, as `rme 1 procs 2 limit 10 cap 1`, then lines such as `lock 0`, `step 0 5`, \
 `crash 0`, each ended by a line feed.\nOut: its report: the deeds and answers of each step, the last words, the mailbox and \
 the verdict.\n\nExample: rmelab replay examples/tie.rme";
+
+const RUN_HELP: &str =
+    "In: nothing. Each sender sends its messages through one running lock, on a thread of its own, and sends a message \
+again after each crash.\nOut: what stands in the mailbox of each sender, as `sender 0 messages 50 twice 0 order yes`, and the \
+total.\n\nExample: rmelab run --procs 4 --messages 50 --crash 20 --seed 7";
 
 const HUNT_HELP: &str =
     "In: nothing.\nOut: the schedule found, which `rmelab replay --variant V` replays to its fault, or `nothing \
@@ -66,6 +71,17 @@ fn replay<'a>(alloc: Global) -> Result<Parser<'a>, AllocError> {
         .arg(file(alloc, "The schedule; without it, standard input is read"))
 }
 
+fn run<'a>(alloc: Global) -> Result<Parser<'a>, AllocError> {
+    Parser::new(alloc, "run")
+        .about("Runs senders on threads, with drawn crashes, and counts what came through")
+        .after_help(RUN_HELP)
+        .arg(number(alloc, "procs", "N", "1 to 16 senders").required(true))?
+        .arg(number(alloc, "messages", "M", "1 to 4096 messages of each").required(true))?
+        .arg(number(alloc, "crash", "C", "0 to 50 crashes in 1000 askings").required(true))?
+        .arg(number(alloc, "seed", "S", "The seed of the crashes").required(true))?
+        .arg(number(alloc, "width", "W", "1 to 8 words a message; 1 without it"))
+}
+
 fn hunt<'a>(alloc: Global) -> Result<Parser<'a>, AllocError> {
     Parser::new(alloc, "hunt")
         .about("Draws schedules until a variant of the lock goes wrong")
@@ -90,6 +106,7 @@ pub fn parser<'a>(alloc: Global) -> Result<Parser<'a>, AllocError> {
         .after_help(STATUSES)
         .subcommand_required(true)
         .subcommand(replay(alloc)?)?
+        .subcommand(run(alloc)?)?
         .subcommand(hunt(alloc)?)?
         .subcommand(judge(alloc)?)
 }

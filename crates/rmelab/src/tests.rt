@@ -1,7 +1,9 @@
 //! The worked rows that name the program, on its two functions.
 
 mod images;
+mod memory;
 mod replays;
+mod runs;
 mod texts;
 mod variants;
 mod words;
@@ -11,6 +13,8 @@ use crate::words::read_words;
 use schedule::{Page, Text};
 use std::alloc::{AllocError, Global};
 use std::process::Abort;
+use std::sync::Wait;
+use std::thread::Threads;
 
 /// What a run of the program printed, the bytes that it saved, and its exit status.
 #[derive(Drop)]
@@ -32,7 +36,7 @@ fn words_of(alloc: Global, line: &str) -> Result<Vec<String>, AllocError> {
 
 /// Runs the program with these words over this input.
 fn ran(
-    rt: &impl Abort,
+    rt: &(impl Abort + Threads + Wait + Sync),
     alloc: Global,
     line: &str,
     image: Option<&[u8]>,
@@ -45,7 +49,7 @@ fn ran(
     let mut source = Text::new(input.as_bytes(), 64);
     let mut out = Page::new(alloc);
     let mut err = Page::new(alloc);
-    let ending = command(alloc, &order, image, &mut source, &mut out, &mut err);
+    let ending = command(rt, alloc, &order, image, &mut source, &mut out, &mut err);
     Ok(Printed {
         out,
         err,
@@ -56,7 +60,7 @@ fn ran(
 
 /// Runs the program, and compares what it prints and its status.
 fn prints(
-    rt: &impl Abort,
+    rt: &(impl Abort + Threads + Wait + Sync),
     alloc: Global,
     line: &str,
     input: &str,

@@ -1,9 +1,9 @@
 //! The words of the command line, read.
 
 ghost use Rattle.std.specs.Prelude.{◌≡◌, ◌↔◌, IfOk, IsOk, OnErr, IsErrOf};
-ghost use Rattle.rmelab.specs.Sizes.{IsSized, HuntFits};
+ghost use Rattle.rmelab.specs.Sizes.{IsSized, HuntFits, RunFits};
 
-use crate::order::{Command, HuntOrder, ReplayOrder};
+use crate::order::{Command, HuntOrder, ReplayOrder, RunOrder};
 use crate::parser::parser;
 use clap::error::ErrorKind;
 use clap::{ArgMatches, Error};
@@ -17,7 +17,7 @@ pub enum WordsFault {
     Refused { text: String, status: u8 },
     /// No such variant, or one other than `right` together with an image.
     BadVariant,
-    /// A number of `hunt` outside its range.
+    /// A number of `run` or `hunt` outside its range.
     BadSize,
     OutOfMemory,
 }
@@ -103,11 +103,41 @@ fn hunt_words(matches: &ArgMatches<'_>) -> Result<HuntOrder, WordsFault>
     })
 }
 
+/// The order of a run, where its numbers are in their ranges.
+fn run_of(order: RunOrder) -> Result<RunOrder, WordsFault>
+    ensures fits { IsOk result ↔ RunFits order }
+    ensures same { IfOk result (λ sized. sized ≡ order) }
+    ensures size { OnErr result (IsErrOf result WordsFault.BadSize) }
+{
+    let fits = (1..=16).contains(&order.procs)
+        && (1..=4096).contains(&order.messages)
+        && order.crash <= 50
+        && (1..=8).contains(&order.width);
+    if fits {
+        Ok(order)
+    } else {
+        Err(WordsFault::BadSize)
+    }
+}
+
+fn run_words(matches: &ArgMatches<'_>) -> Result<RunOrder, WordsFault>
+    ensures { IfOk result RunFits }
+{
+    run_of(RunOrder {
+        procs: number_of(matches, "procs"),
+        messages: number_of(matches, "messages"),
+        crash: number_of(matches, "crash"),
+        seed: number_of(matches, "seed"),
+        width: matches.get_one::<u64>("width").unwrap_or(1),
+    })
+}
+
 fn command_of(alloc: Global, matches: &ArgMatches<'_>) -> Result<Command, WordsFault>
     ensures { IfOk result IsSized }
 {
     match matches.subcommand() {
         Some(("replay", inner)) => Ok(Command::Replay(replay_words(alloc, inner)?)),
+        Some(("run", inner)) => Ok(Command::Run(run_words(inner)?)),
         Some(("hunt", inner)) => Ok(Command::Hunt(hunt_words(inner)?)),
         Some((_, inner)) => Ok(Command::Judge(text_of(alloc, inner, "FILE")?)),
         None => Err(WordsFault::BadVariant),

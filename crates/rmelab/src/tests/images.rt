@@ -3,7 +3,9 @@
 use super::{prints, ran};
 use std::alloc::Global;
 use std::process::Abort;
+use std::sync::Wait;
 use std::test::Fail;
+use std::thread::Threads;
 
 const SMALLEST: &str = "rme 1 procs 1 limit 10 cap 1\nlock 0\nstep 0 8\n";
 
@@ -23,7 +25,7 @@ const MENDED: (&str, &str) = (
 
 /// Replays a schedule from an image, and compares what it prints.
 fn goes_on(
-    rt: &impl Abort,
+    rt: &(impl Abort + Threads + Wait + Sync),
     alloc: Global,
     image: &str,
     input: &str,
@@ -39,7 +41,12 @@ fn goes_on(
 }
 
 /// Replays a schedule, and compares the image that it saves.
-fn saves(rt: &impl Abort, alloc: Global, schedule: &str, image: &str) -> Result<(), Fail> {
+fn saves(
+    rt: &(impl Abort + Threads + Wait + Sync),
+    alloc: Global,
+    schedule: &str,
+    image: &str,
+) -> Result<(), Fail> {
     let printed = ran(rt, alloc, "rmelab replay --save a.json", None, schedule)?;
     let text = match &printed.save {
         Some(text) => text.as_slice(),

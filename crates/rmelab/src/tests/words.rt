@@ -2,7 +2,7 @@
 
 use super::words_of;
 use crate::fault::Fault;
-use crate::order::{Command, HuntOrder, ReplayOrder};
+use crate::order::{Command, HuntOrder, ReplayOrder, RunOrder};
 use crate::words::{WordsFault, read_words};
 use crashlab::Variant;
 use std::test::Fail;
@@ -42,6 +42,45 @@ fn a_hunt(rt: HostRuntime) -> Result<(), Fail> {
 }
 
 #[test]
+fn runs(rt: HostRuntime) -> Result<(), Fail> {
+    let narrow = "rmelab run --procs 16 --messages 4096 --crash 50 --seed 7";
+    let wide = "rmelab run --procs 16 --messages 4096 --crash 50 --seed 7 --width 8";
+    for (line, width) in [(narrow, 1), (wide, 8)] {
+        let words = words_of(rt.alloc(), line)?;
+        let Ok(Command::Run(order)) = read_words(rt.alloc(), &words) else {
+            panic!(&rt; "no run: {line}");
+        };
+        let greatest = RunOrder {
+            procs: 16,
+            messages: 4096,
+            crash: 50,
+            seed: 7,
+            width,
+        };
+        assert_eq!(rt; order, greatest);
+    }
+    Ok(())
+}
+
+#[test]
+fn runs_of_bad_sizes(rt: HostRuntime) -> Result<(), Fail> {
+    for line in [
+        "rmelab run --procs 0 --messages 1 --crash 0 --seed 1",
+        "rmelab run --procs 17 --messages 1 --crash 0 --seed 1",
+        "rmelab run --procs 1 --messages 0 --crash 0 --seed 1",
+        "rmelab run --procs 1 --messages 4097 --crash 0 --seed 1",
+        "rmelab run --procs 1 --messages 1 --crash 51 --seed 1",
+        "rmelab run --procs 1 --messages 1 --crash 0 --seed 1 --width 0",
+        "rmelab run --procs 1 --messages 1 --crash 0 --seed 1 --width 9",
+    ] {
+        let words = words_of(rt.alloc(), line)?;
+        let bad = matches!(&read_words(rt.alloc(), &words), Err(WordsFault::BadSize));
+        assert_eq!(rt; bad, true, "{line}");
+    }
+    Ok(())
+}
+
+#[test]
 fn refused_words(rt: HostRuntime) -> Result<(), Fail> {
     for (line, fault) in [
         ("rmelab replay --variant none", Fault::BadVariant),
@@ -77,6 +116,8 @@ fn what_clap_refuses(rt: HostRuntime) -> Result<(), Fail> {
         ("rmelab replay a b", 2),
         ("rmelab --help", 0),
         ("rmelab hunt --help", 0),
+        ("rmelab run --procs 4", 2),
+        ("rmelab run --help", 0),
     ] {
         let words = words_of(rt.alloc(), line)?;
         let Err(WordsFault::Refused { status, .. }) = read_words(rt.alloc(), &words) else {

@@ -1,0 +1,85 @@
+//! The command `run`.
+
+use crate::ending::Ending;
+use crate::fault::Fault;
+use crate::order::RunOrder;
+use crate::tally::{Tally, tallied};
+use crashlab::Seeded;
+use indexmap::IndexMap;
+use robust::{Spec, run_lab};
+use schedule::Sink;
+use schedule::device::write_all;
+use std::alloc::{AllocError, Global};
+use std::sync::Wait;
+use std::thread::Threads;
+
+/// The greatest limit that a lock can have.
+const MOST: u64 = 1 << 62;
+
+/// The sizes of the lab that a run is made in: room for each message, and numbers enough.
+fn spec_of(order: &RunOrder) -> Spec {
+    Spec {
+        procs: order.procs,
+        messages: order.messages,
+        limit: MOST,
+        cap: order.procs.saturating_mul(order.messages),
+        width: order.width,
+    }
+}
+
+/// The crashes of each sender.
+fn gates_of(alloc: Global, order: &RunOrder) -> Result<Vec<Seeded>, AllocError> {
+    let mut gates = Vec::new(alloc);
+    for p in 0..order.procs {
+        gates.push(Seeded::new(order.seed.wrapping_add(p), order.crash))?;
+    }
+    Ok(gates)
+}
+
+/// One line for each sender, and one for all of them.
+pub fn lines_of(alloc: Global, tallies: &IndexMap<u64, Tally>) -> Result<String, AllocError> {
+    let mut text = String::new(alloc);
+    let mut total = 0u64;
+    for (sender, tally) in tallies {
+        let order = if tally.ordered { "yes" } else { "no" };
+        let line = format!(in alloc;
+            "sender {sender} messages {} twice {} order {order}\n",
+            tally.messages, tally.twice
+        )?;
+        text.push_str(&line)?;
+        total = total.saturating_add(tally.messages);
+    }
+    let line = format!(in alloc; "total {total}\n")?;
+    text.push_str(&line)?;
+    Ok(text)
+}
+
+/// 0 where each message stands once and in its order, else 1.
+pub fn status_of_tallies(tallies: &IndexMap<u64, Tally>) -> u8 {
+    for (_, tally) in tallies {
+        if !tally.is_fine() {
+            return 1;
+        }
+    }
+    0
+}
+
+/// Runs `run`: the senders send all they have, each on a thread of its own, and what stands in the mailbox is counted.
+pub fn run_order<T: Threads + Wait + Sync, W: Sink>(
+    rt: &T,
+    alloc: Global,
+    order: &RunOrder,
+    w: &mut W,
+) -> Result<Ending, Fault> {
+    let gates = gates_of(alloc, order)?;
+    let result = run_lab(rt, alloc, spec_of(order), gates)?;
+    let tallies = tallied(alloc, order.procs, &result.messages)?;
+    let text = lines_of(alloc, &tallies)?;
+    if write_all(w, text.as_bytes()).is_err() {
+        return Err(Fault::Write);
+    }
+    Ok(Ending {
+        status: status_of_tallies(&tallies),
+        save: None,
+    })
+}

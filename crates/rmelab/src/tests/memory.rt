@@ -1,0 +1,161 @@
+//! Each request for memory refused in turn: all memory is taken, but for a reserve that is given back piece by piece, until
+//! a call meets no refusal.
+
+use rmecore::Refusal;
+use rmeworld::{Image, World, read_image, write_image};
+use schedule::{ReplayFault, Text, ToWriter, Verdict, replay};
+use std::alloc::{AllocError, Global};
+use std::io::Cursor;
+use std::test::Fail;
+
+const LARGEST: usize = 8 * 1024 * 1024 * 1024;
+
+const BLOCKS: usize = 200_000;
+
+const PIECES: usize = 400;
+
+const PIECE: usize = 240;
+
+/// All memory but for a reserve.
+#[derive(Drop)]
+struct Scarce {
+    reserve: Vec<Vec<u8>>,
+    taken: Vec<Vec<u8>>,
+}
+
+impl Scarce {
+    fn new(alloc: Global) -> Result<Scarce, AllocError> {
+        let mut reserve = Vec::with_capacity(alloc, PIECES)?;
+        for _ in 0..PIECES {
+            reserve.push(Vec::<u8>::with_capacity(alloc, PIECE)?)?;
+        }
+        let taken = all_that_is_left(alloc)?;
+        Ok(Scarce { reserve, taken })
+    }
+
+    /// Gives back one piece, while there is one.
+    fn give_back(&mut self) {
+        let piece = self.reserve.pop();
+        drop(piece);
+    }
+}
+
+/// Blocks that shrink, until the smallest is refused.
+fn all_that_is_left(alloc: Global) -> Result<Vec<Vec<u8>>, AllocError> {
+    let mut blocks = Vec::with_capacity(alloc, BLOCKS)?;
+    let mut size = LARGEST;
+    for _ in 0..2 * BLOCKS {
+        if blocks.len() + 1 >= BLOCKS {
+            break;
+        }
+        match Vec::<u8>::with_capacity(alloc, size) {
+            Ok(block) => blocks.push(block)?,
+            Err(_) if size <= 16 => break,
+            Err(_) if size <= 4096 => size -= 16,
+            Err(_) => size /= 2,
+        }
+    }
+    Ok(blocks)
+}
+
+#[test]
+fn a_new_world(rt: HostRuntime) -> Result<(), Fail> {
+    let alloc = rt.alloc();
+    let mut scarce = Scarce::new(alloc)?;
+    let mut refused = 0u64;
+    for _ in 0..PIECES {
+        match World::new(alloc, 2, 10, 2, 1) {
+            Ok(_) => break,
+            Err(refusal) => assert_eq!(rt; refusal, Refusal::OutOfMemory),
+        }
+        refused = refused.saturating_add(1);
+        scarce.give_back();
+    }
+    assert!(rt; 0 < refused && refused < PIECES as u64);
+    Ok(())
+}
+
+const TORN: &str =
+    "rme 1 procs 1 limit 10 cap 2\nlock 0\nstep 0 8\nappend 0 1 77\nstep 0 7\ncrash 0\nlock 0\nstep 0 4\nconsistent 0\nstep 0 11\nappend 0 1 77\nstep 0 3\n";
+
+const REPORT: &str =
+    "begin 0\nready 0\nenter 0\nanswer 0 clean\ncommit 0 1 77\ncrash 0\nreenter 0\nanswer 0 owner-died\nshow 0 0 1 77\nanswer 0 mended\nanswer 0 already\nwords 0 0 1 1\nmail 1 closed 0 ruined 0\nmessage 0 0 1 77\nverdict fine\n";
+
+/// Replays into room that is there.
+fn torn(alloc: Global, printed: &mut [u8]) -> Result<Verdict, ReplayFault> {
+    let mut source = Text::new(TORN.as_bytes(), 64);
+    let mut sink = ToWriter::new(Cursor::new(printed));
+    replay(alloc, &mut source, &mut sink)
+}
+
+#[test]
+fn a_replay(rt: HostRuntime) -> Result<(), Fail> {
+    let alloc = rt.alloc();
+    let mut scarce = Scarce::new(alloc)?;
+    let mut refused = 0u64;
+    for _ in 0..PIECES {
+        let mut printed = [0u8; 512];
+        match torn(alloc, &mut printed) {
+            Ok(verdict) => {
+                assert_eq!(rt; verdict, Verdict::Fine);
+                assert!(rt; printed.starts_with(REPORT.as_bytes()));
+                break;
+            }
+            Err(fault) => assert_eq!(rt; fault, ReplayFault::OutOfMemory),
+        }
+        refused = refused.saturating_add(1);
+        scarce.give_back();
+    }
+    assert!(rt; 0 < refused && refused < PIECES as u64);
+    Ok(())
+}
+
+/// The image of a new world, with ample memory.
+fn new_image(alloc: Global) -> Result<Image, Refusal> {
+    World::new(alloc, 2, 10, 2, 1)?.image()
+}
+
+#[test]
+fn a_written_image(rt: HostRuntime) -> Result<(), Fail> {
+    let alloc = rt.alloc();
+    let image = new_image(alloc)?;
+    let wanted = write_image(alloc, &image)?;
+    let mut scarce = Scarce::new(alloc)?;
+    let mut refused = 0u64;
+    for _ in 0..PIECES {
+        match write_image(alloc, &image) {
+            Ok(text) => {
+                assert_eq!(rt; text, wanted);
+                break;
+            }
+            Err(refusal) => assert_eq!(rt; refusal, Refusal::OutOfMemory),
+        }
+        refused = refused.saturating_add(1);
+        scarce.give_back();
+    }
+    assert!(rt; 0 < refused && refused < PIECES as u64);
+    Ok(())
+}
+
+#[test]
+fn a_read_image(rt: HostRuntime) -> Result<(), Fail> {
+    let alloc = rt.alloc();
+    let image = new_image(alloc)?;
+    let text = write_image(alloc, &image)?;
+    let mut scarce = Scarce::new(alloc)?;
+    let mut refused = 0u64;
+    for _ in 0..PIECES {
+        match read_image(alloc, &text) {
+            Ok(found) => {
+                assert_eq!(rt; found.lock.as_slice(), image.lock.as_slice());
+                assert_eq!(rt; found.cells.as_slice(), image.cells.as_slice());
+                break;
+            }
+            Err(refusal) => assert_eq!(rt; refusal, Refusal::OutOfMemory),
+        }
+        refused = refused.saturating_add(1);
+        scarce.give_back();
+    }
+    assert!(rt; 0 < refused && refused < PIECES as u64);
+    Ok(())
+}

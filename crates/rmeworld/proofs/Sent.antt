@@ -1,5 +1,4 @@
--- What a mailbox shows was committed, and so it was sent; a closed one was closed, and a ruined lock ruined; and what the
--- replies of an append tell.
+-- What a mailbox shows was committed, and so it was sent; a closed one was closed, and a ruined lock ruined.
 use Rattle.std.proofs.Common.{◌≡◌, ℕ, true, List, [], ◌∷◌, All, sym, ap, ◌∙◌, subst, inl, inr, ◌⊎◌}
 use Rattle.std.proofs.lemmas.Bool.{cases_Bool, false≢true}
 use Rattle.std.proofs.lemmas.List.Elements.{All-nil, All-head, All-tail, All-push}

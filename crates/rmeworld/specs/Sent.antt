@@ -5,14 +5,14 @@ use Rattle.std.specs.Prelude.{◌≡◌, ◌≢◌, ℕ, ◌-◌, true, false, L
 use Rattle.rmecore.specs.declared.kind.Kind.{Kind}
 use Rattle.rmecore.specs.declared.word.Word.{Word}
 use Rattle.redomail.specs.Layout.{IsLayout}
-use Rattle.redomail.specs.Mailbox.{Mailbox, IsAmong}
+use Rattle.redomail.specs.Mailbox.{Mailbox, IsAmong, message}
 use Rattle.redomail.specs.Script.{Script}
 use Rattle.redomail.specs.declared.deed.Deed.{Deed}
 use Rattle.redomail.specs.declared.deed.Deed.TheVariants as deed
 use Rattle.redomail.specs.declared.layout.Layout.{Layout}
 use Rattle.redomail.specs.declared.message.Message.{Message}
 use Rattle.redomail.specs.declared.reply.Reply.{Reply}
-use Rattle.redomail.specs.declared.reply.Reply.TheVariants.{OutOfOrder, Full, Closed}
+use Rattle.redomail.specs.declared.reply.Reply.TheVariants.{Stored, OutOfOrder, Full, Closed}
 use Rattle.redomail.specs.declared.task.Task.TheVariants as task
 use Rattle.judge.specs.Halves.{all_after}
 use Rattle.judge.specs.Table.{empty}
@@ -65,15 +65,15 @@ EveryRuinWasAsked =
     → (p : ℕ) × IsLeftUnmended l limit story p
 
 -- What the reply of an append by p with this number tells of the mailbox then and there: full, with the number not among
--- p's; closed, and so too; or the number is 0, or that before it isn't among p's. Stored and Already are told by the lock
--- theorem.
+-- p's; closed, and so too; or the number is 0, or that before it isn't among p's. That after Stored and Already the number
+-- is among p's is told by the lock theorem.
 abbrev pub ReplyTells : Layout → ℕ → ℕ → Reply → Mailbox → Type 0
 ReplyTells l p seq Full m = (length m.shown ≡ l.cap) × (IsAmong p seq m.shown → ⊥)
 ReplyTells l p seq Closed m = (m.closed ≡ true) × (IsAmong p seq m.shown → ⊥)
 ReplyTells l p seq OutOfOrder m = (seq ≡ 0) ⊎ (IsAmong p (seq - 1) m.shown → ⊥)
 ReplyTells l p seq _ m = Unit {0}
 
--- this step of p, at this spot, ends an append with this number, with this reply
+-- this step, at this spot, ends an append with this number, with this reply
 pub record EndsAppend (spot : Spot) (kind : Kind) (v seq : ℕ) (reply : Reply) : Type 0 where
   pub value : List ℕ
   pub left : Script Reply
@@ -85,3 +85,10 @@ RepliesTell =
     (l : Layout) (limit : ℕ) (front : List Happening) (p : ℕ) (kind : Kind) (word : Word) (v : ℕ) (back : List Happening) (seq : ℕ) (reply : Reply) → IsLayout l
     → Story l limit at_first (front ++ Moves p kind word v ∷ back) → EndsAppend ((last_scene l limit at_first front).spots p) kind v seq reply
     → ReplyTells l p seq reply (mail_after l limit (front ++ Moves p kind word v ∷ []))
+
+-- what an append was given that is answered Stored is shown from then on, with its value
+abbrev pub StoredIsShown : Type 0
+StoredIsShown =
+    (l : Layout) (limit : ℕ) (front : List Happening) (p : ℕ) (kind : Kind) (word : Word) (v : ℕ) (back : List Happening) (seq : ℕ) → IsLayout l
+    → Story l limit at_first (front ++ Moves p kind word v ∷ back) → (ends : EndsAppend ((last_scene l limit at_first front).spots p) kind v seq Stored)
+    → Contains (mail_after l limit (front ++ Moves p kind word v ∷ back)).shown (message p seq ends.value)

@@ -1,5 +1,5 @@
 use Rattle.rmeworld.proofs.Asked.{every_deed_was_asked}
-use Rattle.rmeworld.proofs.Replies.{replies_tell}
+use Rattle.rmeworld.proofs.Replies.{replies_tell, stored_is_shown}
 use Rattle.rmeworld.proofs.Sent.{every_message_was_sent, every_close_was_asked, every_ruin_was_asked}
 use Rattle.rmeworld.proofs.laws.messages_were_sent.Goals as goal
 
@@ -17,3 +17,6 @@ returns-clause-replies c = replies_tell
 
 pub returns-clause-asked : goal.returns-clause-asked
 returns-clause-asked c = every_deed_was_asked
+
+pub returns-clause-stored : goal.returns-clause-stored
+returns-clause-stored c = stored_is_shown

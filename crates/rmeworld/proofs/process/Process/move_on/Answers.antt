@@ -5,10 +5,9 @@ use Rattle.redomail.specs.Left.{begun}
 use Rattle.redomail.specs.declared.task.Task.TheVariants.{Check}
 use Rattle.rmeworld.specs.Spot.{mended_entered}
 use Rattle.rmeworld.specs.Entered.{is_entry}
-use Rattle.rmeworld.specs.declared.errand.Errand.{Errand as Chore}
 use Rattle.rmeworld.specs.declared.errand.Errand.TheVariants.{Free as IsFree, Doing as Does}
 use Rattle.rmeworld.specs.declared.why.Why.TheVariants.{Checking}
-use Rattle.rmeworld.specs.Stand.{Stand, standing, next_access, spot_of, spot_after, stepped, stepped_by, lock_moved, IsAllowed}
+use Rattle.rmeworld.specs.Stand.{Stand, standing, next_access, spot_of, spot_after, stepped_by, IsAllowed}
 use Rattle.rmeworld.proofs.Chores.{with, lock_allowed, lock_goes, standing_is}
 use Rattle.rmeworld.proofs.process.Process.move_on.Goals as goal
 

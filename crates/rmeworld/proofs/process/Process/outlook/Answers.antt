@@ -1,6 +1,5 @@
-use Rattle.std.proofs.Common.{◌≡◌, sym, ap, ◌∙◌, subst, IfSome}
+use Rattle.std.proofs.Common.{◌≡◌, sym, ap, ◌∙◌}
 use Rattle.rmecore.specs.Machine.{next_access as lock_access, progress}
-
 use Rattle.rmeworld.specs.declared.errand.Errand.TheVariants.{Free}
 use Rattle.rmeworld.specs.Answered.{by_lock}
 use Rattle.rmeworld.specs.Stand.{Stand, standing, next_access, outcome}

@@ -93,7 +93,7 @@ mends_repair l p = λ armed. mends_if (armed == 0) _ _ tt (λ at seq. mends_gets
 within_consistent : (l : Layout) (p : ℕ) → l.width ≤ 8 → Within 41 (consistent l p)
 within_consistent l p narrow = λ ruined. within_if 40 (ruined == 1) _ _ tt (within_repair l p narrow)
 
-mends_consistent : (l : Layout) (p : ℕ) → Replies Mends (consistent l p)
+pub mends_consistent : (l : Layout) (p : ℕ) → Replies Mends (consistent l p)
 mends_consistent l p = λ ruined. mends_if (ruined == 1) _ _ tt (mends_repair l p)
 
 module _ (l : Layout) (p : ℕ) (fits : IsLayout l) where

@@ -16,6 +16,8 @@ pub mod OneLockStories
 pub mod Shown
 pub mod Glanced
 pub mod Headline
+pub mod Errands
+pub mod Appended
 pub mod Board
 pub mod OneStep
 pub mod Gathered

@@ -17,11 +17,12 @@ use Rattle.judge.proofs.Halves.{state_led}
 use Rattle.rmeworld.specs.Spot.{Happening}
 use Rattle.rmeworld.specs.World.{Scene, at_first, onward, last_scene, event_deeds, deeds}
 use Rattle.rmeworld.proofs.LawfulNow.{Someone, Nobody, find_in}
-use Rattle.rmeworld.proofs.Reaching.{Arrived, reached_arrives}
+use Rattle.rmeworld.proofs.Reaching.{Arrived, reached_arrives, all_after-append}
 use Rattle.rmeworld.proofs.Stories.{before_is, goes_on}
 use Rattle.robust.specs.declared.setup.Setup.{Setup}
 use Rattle.robust.specs.declared.entry.Entry.{Entry}
 use Rattle.robust.specs.Runs.{spelled, IsRun, end_of}
+use Rattle.robust.specs.Headline.{deeds_of, shown_by}
 use Rattle.robust.specs.Reading.{cells_of, AreShown, RunsShow, EntriesStandInRuns}
 use Rattle.robust.proofs.Runs.{spelled-append, legal_front}
 
@@ -44,6 +45,16 @@ all_shown s (d ∷ ds) =
     let first = one_more_shown s d in
     let rest = all_shown (after s d) ds in
     (first.0 ++ rest.0, rest.1 ∙ (ap (λ xs. xs ++ rest.0) first.1 ∙ append_assoc s.mail.shown first.0 rest.0))
+
+-- nor do the later entries of a run
+pub shown_on : (s : Setup) (es later : List Entry) → (more : List Message) × (shown_by s (es ++ later) ≡ shown_by s es ++ more)
+shown_on s es later =
+    let start : State = empty s.layout.procs s.layout.cap in
+    let first = deeds_of s es in
+    let then = deeds s.layout s.limit (end_of s es) (spelled later) in
+    let all : deeds_of s (es ++ later) ≡ first ++ then = ap (deeds s.layout s.limit at_first) (spelled-append es later) ∙ deeds-append s.layout s.limit at_first (spelled es) (spelled later) in
+    let rest = all_shown (all_after start first) then in
+    (rest.0, ap (λ (t : State). t.mail.shown) (ap (all_after start) all ∙ all_after-append start first then) ∙ rest.1)
 
 module _ (s : Setup) (layout : IsLayout s.layout) where
   abbrev l : Layout

@@ -1,10 +1,13 @@
 //! The whole mailbox calls of a member: each locks, mends where the owner died, does its task and unlocks. Its one answer is
 //! the task's reply.
-ghost use Rattle.std.specs.Prelude.{◌≡◌, ◌≢◌, ℕ, length, Ok, IfOk, IfErr, OnOk};
+ghost use Rattle.std.specs.Prelude.{◌≡◌, ◌≢◌, ◌⊎◌, ℕ, length, Ok, IfOk, IfErr, OnOk};
+ghost use Rattle.redomail.specs.Mailbox.{IsAmong};
 ghost use Rattle.robust.specs.Running.{began};
 ghost use Rattle.robust.specs.Faults.{refusal_now, ready};
+ghost use Rattle.robust.specs.Headline.{shown_by};
 ghost use Rattle.robust.specs.Whole.{WholeEnds, WholeFails, AppendFails};
 
+use crate::laws;
 use crate::lock_fault::LockFault;
 use crate::member::Member;
 use crashlab::CrashPlan;
@@ -15,7 +18,7 @@ use std::sync::Wait;
 
 impl Member {
     /// Stores a message with this number, from 1. It gives up once it is blocked more often than it was given turns; the
-    /// member keeps its place in the line.
+    /// member keeps its place in the line. Where it answers Stored or Already, the message is shown.
     pub fn append_within<C: CrashPlan>(
         &mut self,
         seq: u64,
@@ -27,7 +30,9 @@ impl Member {
         ensures accepted { OnOk result (refusal_now (ready self.old) Call.Lock ≡ None) }
         ensures replied { IfOk result (λ reply. WholeEnds (began (ready self.old) Call.Lock) turns (Call.Append seq value) (Ok reply) self.new (C.asked plan.old) (C.asked plan.new) (C.fallen plan.old) (C.fallen plan.new)) }
         ensures fails { IfErr result (AppendFails self.old turns seq value self.new (C.asked plan.old) (C.asked plan.new) (C.fallen plan.old) (C.fallen plan.new)) }
+        ensures shown { IfOk result (λ reply. (reply ≡ Reply.Stored) ⊎ (reply ≡ Reply.Already) → IsAmong self.old.pass.by seq (shown_by self.new.pass.setup self.new.pass.seen)) }
     {
+        laws::every_run_is_sound();
         if value.width() != self.runner.setup().layout.width {
             return Err(LockFault::BadWidth);
         }
@@ -49,7 +54,8 @@ impl Member {
         self.runner.mail_within(plan, &Call::Close, turns)
     }
 
-    /// Stores a message with this number, from 1, and waits for as long as it has to.
+    /// Stores a message with this number, from 1, and waits for as long as it has to. Where it answers Stored or Already, the
+    /// message is shown.
     pub fn append<R: Wait, C: CrashPlan>(
         &mut self,
         rt: &R,
@@ -62,7 +68,9 @@ impl Member {
         ensures replied { IfOk result (λ reply. (turns : ℕ) × WholeEnds (began (ready self.old) Call.Lock) turns (Call.Append seq value) (Ok reply) self.new (C.asked plan.old) (C.asked plan.new) (C.fallen plan.old) (C.fallen plan.new)) }
         ensures fails { IfErr result (λ e. (turns : ℕ) × AppendFails self.old turns seq value self.new (C.asked plan.old) (C.asked plan.new) (C.fallen plan.old) (C.fallen plan.new) e) }
         ensures patient { IfErr result (λ e. e ≢ LockFault.NotYet) }
+        ensures shown { IfOk result (λ reply. (reply ≡ Reply.Stored) ⊎ (reply ≡ Reply.Already) → IsAmong self.old.pass.by seq (shown_by self.new.pass.setup self.new.pass.seen)) }
     {
+        laws::every_run_is_sound();
         if value.width() != self.runner.setup().layout.width {
             return Err(LockFault::BadWidth);
         }

@@ -1,9 +1,13 @@
 use Rattle.std.proofs.Common.{◌≡◌, ℕ, length, Ok, IfOk, IfErr, ap, ◌∙◌, subst, inr, arith}
+use Rattle.redomail.specs.Mailbox.{IsAmong}
 use Rattle.rmeworld.specs.declared.call.Call.TheVariants.{Lock, Append}
 use Rattle.robust.specs.declared.setup.Setup.{Setup}
 use Rattle.robust.specs.Running.{Seated, began}
 use Rattle.robust.specs.Faults.{ready}
 use Rattle.robust.specs.Whole.{WholeEnds, WholeFails}
+use Rattle.robust.specs.Headline.{shown_by}
+use Rattle.robust.proofs.Appended.{append_shown}
+use Rattle.robust.proofs.Errands.{IsStored}
 use Rattle.robust.proofs.WholeCalls.{err_more}
 use Rattle.robust.proofs.member.Member.append.Goals as goal
 
@@ -18,3 +22,8 @@ returns-clause-fails g c =
     let fits : length c.args.value ≡ c.args.self.now.pass.setup.layout.width = omega (arith, c.width.ensures.width, w, c.if-width-setup.false) in
     let fails = subst (λ (x : Seated). IfErr c.mail.result (λ why. (k : ℕ) × WholeFails x k (Append c.args.seq c.args.value) c.mail.new.self (g.C.CrashPlan.asked c.args.plan.now) (g.C.CrashPlan.asked c.mail.new.plan) (g.C.CrashPlan.fallen c.args.plan.now) (g.C.CrashPlan.fallen c.mail.new.plan) why)) c.self.view_is c.mail.ensures.fails in
     err_more _ _ c.mail.result fails (λ why h. (h.0, inr (fits, h.1)))
+
+pub returns-clause-shown : goal.returns-clause-shown
+returns-clause-shown g c =
+    subst (λ (x : Seated). IfOk c.mail.result (λ reply. IsStored reply → IsAmong x.pass.by c.args.seq (shown_by c.mail.new.self.pass.setup c.mail.new.self.pass.seen))) c.self.view_is
+    (append_shown c.self.inside.runner c.mail.new.self c.args.seq c.args.value c.mail.result _ _ _ _ c.self.invariant c.setup.ensures.pass c.every_run_is_sound.ensures c.mail.ensures.accepted c.mail.ensures.replied)

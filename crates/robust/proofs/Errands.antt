@@ -1,0 +1,249 @@
+-- At which spots of a whole mailbox call a reply can come: its task's alone is Stored or Already.
+use Rattle.std.proofs.Common.{◌≡◌, ℕ, ◌+◌, ◌==◌, ◌&&◌, nat_lt, Bool, true, false, if◌then◌else◌, ◌⊎◌, List, [], ◌∷◌, ◌++◌, length, Option, Some, None, All, unwrap_or, refl, sym, ap, ◌∙◌, subst, inl, inr}
+use Rattle.std.proofs.lemmas.List.Elements.{All-nil, All-cons, All-head, All-tail}
+use Rattle.rmecore.specs.Place.{Place, Rest, Dead, Reread, Opening, Door, Shutting, Wait, Inside, Leaving, Withdrawing, Unmarking, next, started}
+use Rattle.rmecore.specs.Machine.{answer}
+use Rattle.rmecore.specs.declared.core_call.CoreCall.TheVariants as core
+use Rattle.rmecore.specs.declared.core_done.CoreDone.{CoreDone}
+use Rattle.rmecore.specs.declared.core_done.CoreDone.TheVariants as ends
+use Rattle.rmecore.specs.declared.kind.Kind.{Kind}
+use Rattle.rmecore.specs.declared.kind.Kind.TheVariants.{Get as Gets, Put as Puts}
+use Rattle.rmecore.specs.declared.word.Word.{Word}
+use Rattle.rmecore.specs.declared.word.Word.TheVariants.{Data as DataAt}
+use Rattle.redomail.specs.Script.{Script, Get as Asks, Put as Writes, Done, tail}
+use Rattle.redomail.specs.Tasks.{script, consistent}
+use Rattle.redomail.specs.declared.layout.Layout.{Layout}
+use Rattle.redomail.specs.declared.reply.Reply.{Reply}
+use Rattle.redomail.specs.declared.reply.Reply.TheVariants as reply
+use Rattle.redomail.specs.declared.task.Task.{Task}
+use Rattle.redomail.specs.declared.task.Task.TheVariants as task
+use Rattle.rmeworld.specs.declared.answer.Answer.{Answer}
+use Rattle.rmeworld.specs.declared.answer.Answer.TheVariants.{Mail}
+use Rattle.rmeworld.specs.declared.call.Call.{Call}
+use Rattle.rmeworld.specs.declared.call.Call.TheVariants.{Lock, Unlock, Consistent, Recover, Append, Close, Get, Put, Withdraw}
+use Rattle.rmeworld.specs.declared.why.Why.{Why}
+use Rattle.rmeworld.specs.declared.why.Why.TheVariants.{Checking, Ruining, Mending, Working}
+use Rattle.rmeworld.specs.Answered.{by_core, by_lock, by_reply, by_script, answer_by, answer_at}
+use Rattle.rmeworld.specs.Entered.{is_entry}
+use Rattle.rmeworld.specs.Spot.{Errand, Free, Doing, Spot, Begins, Falls, next_spot, at_lock, settled, only_spot, moved_by, inside_only, begun_from}
+use Rattle.robust.specs.declared.setup.Setup.{Setup}
+use Rattle.robust.specs.declared.entry.Entry.{Entry}
+use Rattle.robust.specs.Runs.{before, taken, happenings, spelled, gone}
+use Rattle.robust.specs.Calls.{spot_before, and_answer, answers_from, and_call, starts}
+use Rattle.robust.specs.Under.{Replies, Mends}
+use Rattle.robust.proofs.Begun.{mends_consistent}
+use Rattle.robust.proofs.Leads.{gone-append}
+use Rattle.robust.proofs.Runs.{by_kind}
+
+-- of all tasks at most this one is under way here, and a mending replies as mendings do
+abbrev pub Only : Task → Errand → Type 0
+Only t Free = Unit {0}
+Only t (Doing Checking left) = Unit {0}
+Only t (Doing Ruining left) = Unit {0}
+Only t (Doing Mending left) = Replies Mends left
+Only t (Doing (Working u) left) = u ≡ t
+
+-- a call that brings no other task
+abbrev pub Brings : Task → Call → Type 0
+Brings t (Append seq value) = task.Append seq value ≡ t
+Brings t Close = task.Close ≡ t
+Brings t (Get i) = ⊥
+Brings t (Put i v) = ⊥
+Brings t call = Unit {0}
+
+-- what holds of the call that an entry starts, if it does
+abbrev pub OfStart : (Call → Type 0) → Option Call → Type 0
+OfStart P None = Unit {0}
+OfStart P (Some call) = P call
+
+-- the starts of some entries
+pub each_start : (P : Call → Type 0) (mine : List Entry) → All P (starts mine) → All (λ (e : Entry). OfStart P e.step.start) mine
+each_start P [] h = All-nil _
+each_start P (e ∷ es) h = go e.step.start refl (each_start P es)
+  where
+    go : (o : Option Call) → e.step.start ≡ o → (All P (starts es) → All (λ (f : Entry). OfStart P f.step.start) es) → All (λ (f : Entry). OfStart P f.step.start) (e ∷ es)
+    go None is later =
+        let rest : All P (starts es) = subst (λ (o : Option Call). All P (and_call o (starts es))) is h in
+        All-cons (λ (f : Entry). OfStart P f.step.start) e es (subst (OfStart P) (sym is) tt) (later rest)
+    go (Some c) is later =
+        let all : All P (c ∷ starts es) = subst (λ (o : Option Call). All P (and_call o (starts es))) is h in
+        All-cons (λ (f : Entry). OfStart P f.step.start) e es (subst (OfStart P) (sym is) (All-head P c (starts es) all)) (later (All-tail P c (starts es) all))
+
+module _ (t : Task) where
+  abbrev At : Option Spot → Spot → Type 0
+  At o d = Only t (unwrap_or o d).errand
+
+  only_settled : (b c : Bool) (why : Why) (left : Script Reply) → Only t (Doing why left) → Only t (settled b c why left).errand
+  only_settled b c why (Done r) h = tt
+  only_settled b c why (Asks i rest) h = h
+  only_settled b c why (Writes i v rest) h = h
+
+  only_asked : (why : Why) (i v : ℕ) (rest : ℕ → Script Reply) → Only t (Doing why (Asks i rest)) → Only t (Doing why (rest v))
+  only_asked Checking i v rest h = tt
+  only_asked Ruining i v rest h = tt
+  only_asked Mending i v rest h = h v
+  only_asked (Working u) i v rest h = h
+
+  only_written : (why : Why) (i v : ℕ) (rest : Script Reply) → Only t (Doing why (Writes i v rest)) → Only t (Doing why rest)
+  only_written Checking i v rest h = tt
+  only_written Ruining i v rest h = tt
+  only_written Mending i v rest h = h
+  only_written (Working u) i v rest h = h
+
+  only_entered : (b : Bool) (left : Script Reply) → Only t (if b then Doing Checking left else Free)
+  only_entered true left = tt
+  only_entered false left = tt
+
+  only_placed : (l : Layout) (p : ℕ) (s : Place) (b c : Bool) (o : Option Place) (d : Spot) → Only t d.errand → At (at_lock l p s b c o) d
+  only_placed l p s b c None d h = h
+  only_placed l p s b c (Some u) d h = only_entered (is_entry s u) (script l p task.Check)
+
+  only_if : (b : Bool) (spot d : Spot) → Only t spot.errand → Only t d.errand → At (only_spot b spot) d
+  only_if true spot d h k = h
+  only_if false spot d h k = k
+
+  only_moved : (l : Layout) (limit p : ℕ) (s : Place) (b c : Bool) (e : Errand) (kind : Kind) (word : Word) (v : ℕ) (d : Spot) → Only t e → Only t d.errand → At (moved_by l limit p s b c e kind word v) d
+  only_moved l limit p s b c Free kind word v d h k = only_placed l p s b c (next l.procs limit p s kind word v) d k
+  only_moved l limit p s b c (Doing why (Asks j rest)) Gets (DataAt i) v d h k = only_if (i == j) (settled b c why (rest v)) d (only_settled b c why (rest v) (only_asked why j v rest h)) k
+  only_moved l limit p s b c (Doing why (Writes j x rest)) Puts (DataAt i) v d h k = only_if ((i == j) && (v == x)) (settled b c why rest) d (only_settled b c why rest (only_written why j x rest h)) k
+  only_moved l limit p s b c _ _ _ v d h k = k
+
+  only_inside : (s : Place) (b fits : Bool) (why : Why) (left : Script Reply) (d : Spot) → Only t (Doing why left) → Only t d.errand → At (inside_only s b fits why left) d
+  only_inside Inside b fits why left d h k = only_if fits (record { lock = Inside; mended = b; barred = false; errand = Doing why left }) d h k
+  only_inside _ b fits why left d h k = k
+
+  pub only_begun : (l : Layout) (p : ℕ) (s : Place) (b : Bool) (e : Errand) (call : Call) (d : Spot) → Brings t call → Only t d.errand → At (begun_from l p s b e call) d
+  only_begun l p s b Free Lock d h k = only_placed l p s b false (started s core.Lock) d k
+  only_begun l p s b Free Recover d h k = only_placed l p s b false (started s core.Recover) d k
+  only_begun l p s b Free Withdraw d h k = only_placed l p s b false (started s core.Withdraw) d k
+  only_begun l p s true Free Unlock d h k = only_placed l p s true false (started s core.Unlock) d k
+  only_begun l p s false Free Unlock d h k = only_inside s false true Ruining (script l p task.Ruin) d tt k
+  only_begun l p s true Free Consistent d h k = k
+  only_begun l p s false Free Consistent d h k = only_inside s false true Mending (consistent l p) d (mends_consistent l p) k
+  only_begun l p s b Free (Append seq value) d h k = only_inside s b (b && (length value == l.width)) (Working (task.Append seq value)) (script l p (task.Append seq value)) d h k
+  only_begun l p s b Free Close d h k = only_inside s b b (Working task.Close) (script l p task.Close) d h k
+  only_begun l p s b Free (Get i) d h k = absurd h
+  only_begun l p s b Free (Put i v) d h k = absurd h
+  only_begun l p s b (Doing why left) call d h k = k
+
+  module _ (s : Setup) where
+    only_before : (crashed : Bool) (o : Option Call) (p : ℕ) (spot : Spot) → OfStart (Brings t) o → Only t spot.errand → Only t (gone s spot (before crashed o p)).errand
+    only_before true None p spot h k = tt
+    only_before true (Some call) p spot h k = only_begun s.layout p Dead true Free call (record { lock = Dead; mended = true; barred = false; errand = Free }) h tt
+    only_before false None p spot h k = k
+    only_before false (Some call) p spot h k = only_begun s.layout p spot.lock spot.mended spot.errand call spot h k
+
+    only_taken : (p : ℕ) (kind : Kind) (word : Word) (v : ℕ) (spot : Spot) → Only t spot.errand → Only t (gone s spot (taken p kind word v ∷ [])).errand
+    only_taken p kind word v spot h =
+        by_kind (λ k e. Only t (gone s spot (e ∷ [])).errand) p word v h (λ k. only_moved s.layout s.limit p spot.lock spot.mended spot.barred spot.errand k word v spot h h) kind
+
+    only_after : (spot : Spot) (e : Entry) → Only t (spot_before s spot e).errand → Only t (gone s spot (happenings e)).errand
+    only_after spot e h =
+        subst (λ (u : Spot). Only t u.errand) (sym (gone-append s spot (before e.step.crashed e.step.start e.by) (taken e.by e.step.kind e.step.word e.value ∷ [])))
+        (only_taken e.by e.step.kind e.step.word e.value (spot_before s spot e) h)
+
+    -- one of these entries answers so, where at most this task is under way
+    pub record Answering (spot : Spot) (mine : List Entry) (a : Answer) : Type 0 where
+      pub front : List Entry
+      pub entry : Entry
+      pub back : List Entry
+      pub is : mine ≡ front ++ entry ∷ back
+      pub answer : answer_at (spot_before s (gone s spot (spelled front)) entry) entry.step.kind entry.value ≡ Some a
+      pub only : Only t (spot_before s (gone s spot (spelled front)) entry).errand
+
+    later_on : (spot : Spot) (e : Entry) (es : List Entry) (a : Answer) → Answering (gone s spot (happenings e)) es a → Answering spot (e ∷ es) a
+    later_on spot e es a h =
+        let same : gone s (gone s spot (happenings e)) (spelled h.front) ≡ gone s spot (spelled (e ∷ h.front)) = sym (gone-append s spot (happenings e) (spelled h.front)) in
+        record {
+          front = e ∷ h.front;
+          entry = h.entry;
+          back = h.back;
+          is = ap (λ (l : List Entry). e ∷ l) h.is;
+          answer = subst (λ (u : Spot). answer_at (spot_before s u h.entry) h.entry.step.kind h.entry.value ≡ Some a) same h.answer;
+          only = subst (λ (u : Spot). Only t (spot_before s u h.entry).errand) same h.only;
+        }
+
+    here_or_later : (spot : Spot) (e : Entry) (es : List Entry) (a : Answer) (told rest : List Answer) → Only t (spot_before s spot e).errand → answers_from s spot (e ∷ es) ≡ told ++ a ∷ rest
+        → ((more : List Answer) → answers_from s (gone s spot (happenings e)) es ≡ more ++ a ∷ rest → Answering spot (e ∷ es) a) → Answering spot (e ∷ es) a
+    here_or_later spot e es a told rest only is later = go (answer_at (spot_before s spot e) e.step.kind e.value) refl told is
+      where
+        others : List Answer
+        others = answers_from s (gone s spot (happenings e)) es
+
+        go : (o : Option Answer) → answer_at (spot_before s spot e) e.step.kind e.value ≡ o → (before_it : List Answer) → answers_from s spot (e ∷ es) ≡ before_it ++ a ∷ rest → Answering spot (e ∷ es) a
+        go None none before_it k = later before_it (subst (λ (o : Option Answer). and_answer o others ≡ before_it ++ a ∷ rest) none k)
+        go (Some b) some [] k =
+            let whole : b ∷ others ≡ a ∷ rest = subst (λ (o : Option Answer). and_answer o others ≡ a ∷ rest) some k in
+            let same : b ≡ a = cc in
+            record { front = []; entry = e; back = es; is = refl; answer = some ∙ ap Some same; only = only }
+        go (Some b) some (c ∷ cs) k =
+            let whole : b ∷ others ≡ c ∷ (cs ++ a ∷ rest) = subst (λ (o : Option Answer). and_answer o others ≡ c ∷ (cs ++ a ∷ rest)) some k in
+            later cs (let same : others ≡ cs ++ a ∷ rest = cc in same)
+
+    none_there : (a : Answer) (told rest : List Answer) → [] ≡ told ++ a ∷ rest → ⊥
+    none_there a [] rest e = absurd (cc)
+    none_there a (b ∷ bs) rest e = absurd (let k : [] ≡ b ∷ (bs ++ a ∷ rest) = e in cc)
+
+    pub find : (spot : Spot) (e : Entry) (es : List Entry) (a : Answer) (told rest : List Answer) → All (λ (f : Entry). OfStart (Brings t) f.step.start) es → Only t (spot_before s spot e).errand
+        → answers_from s spot (e ∷ es) ≡ told ++ a ∷ rest → Answering spot (e ∷ es) a
+    find spot e [] a told rest fine only is = here_or_later spot e [] a told rest only is (λ more k. absurd (none_there a more rest k))
+    find spot e (f ∷ fs) a told rest fine only is =
+        here_or_later spot e (f ∷ fs) a told rest only is (λ more k.
+        later_on spot e (f ∷ fs) a
+        (find (gone s spot (happenings e)) f fs a more rest (All-tail (λ (g : Entry). OfStart (Brings t) g.step.start) f fs fine)
+        (only_before f.step.crashed f.step.start f.by (gone s spot (happenings e)) (All-head (λ (g : Entry). OfStart (Brings t) g.step.start) f fs fine) (only_after spot e only)) k))
+
+-- no answer of the lock, of the ruin check or of a mending is Stored or Already
+abbrev pub IsStored : Reply → Type 0
+IsStored r = (r ≡ reply.Stored) ⊎ (r ≡ reply.Already)
+
+lock_mails : (c : Bool) (o : Option CoreDone) (r : Reply) → by_lock c o ≡ Some (Mail r) → ⊥
+lock_mails c None r e = absurd (cc)
+lock_mails c (Some ends.In) r e = absurd (cc)
+lock_mails c (Some ends.InAgain) r e = absurd (cc)
+lock_mails c (Some ends.Spent) r e = absurd (cc)
+lock_mails true (Some ends.Out) r e = absurd (cc)
+lock_mails false (Some ends.Out) r e = absurd (cc)
+lock_mails c (Some (ends.Found found)) r e = absurd (cc)
+lock_mails c (Some ends.Withdrawn) r e = absurd (cc)
+
+check_mails : (told : Reply) (b : Bool) (r : Reply) → by_reply Checking b told ≡ Some (Mail r) → ⊥
+check_mails (reply.Ruined true) b r e = absurd (cc)
+check_mails (reply.Ruined false) true r e = absurd (cc)
+check_mails (reply.Ruined false) false r e = absurd (cc)
+check_mails _ true r e = absurd (cc)
+check_mails _ false r e = absurd (cc)
+
+mend_mails : (told : Reply) (b : Bool) (r : Reply) → Mends told → IsStored r → by_reply Mending b told ≡ Some (Mail r) → ⊥
+mend_mails (reply.Mended x) b r h (inl s) e = absurd (cc)
+mend_mails (reply.Mended x) b r h (inr s) e = absurd (cc)
+mend_mails (reply.Ruined x) b r h s e = absurd (cc)
+mend_mails _ b r h s e = absurd h
+
+checked : (b : Bool) (left : Script Reply) (r : Reply) → by_script Checking b left ≡ Some (Mail r) → ⊥
+checked b (Done told) r e = check_mails told b r e
+checked b (Asks i rest) r e = absurd (cc)
+checked b (Writes i v rest) r e = absurd (cc)
+
+ruined : (b : Bool) (left : Script Reply) (r : Reply) → by_script Ruining b left ≡ Some (Mail r) → ⊥
+ruined b (Done told) r e = absurd (cc)
+ruined b (Asks i rest) r e = absurd (cc)
+ruined b (Writes i v rest) r e = absurd (cc)
+
+mended : (b : Bool) (left : Script Reply) (r : Reply) → Replies Mends left → IsStored r → by_script Mending b left ≡ Some (Mail r) → ⊥
+mended b (Done told) r h s e = mend_mails told b r h s e
+mended b (Asks i rest) r h s e = absurd (cc)
+mended b (Writes i v rest) r h s e = absurd (cc)
+
+mends_tail : (left : Script Reply) (v : ℕ) → Replies Mends left → Replies Mends (tail left v)
+mends_tail (Done told) v h = h
+mends_tail (Asks i rest) v h = h v
+mends_tail (Writes i x rest) v h = h
+
+-- the task's alone is
+pub task_mails : (t : Task) (s : Place) (b c : Bool) (e : Errand) (kind : Kind) (v : ℕ) (r : Reply) → Only t e → IsStored r → answer_by s b c e kind v ≡ Some (Mail r) → (left : Script Reply) × (e ≡ Doing (Working t) left)
+task_mails t s b c Free kind v r h stored e = absurd (lock_mails c (answer s kind v) r e)
+task_mails t s b c (Doing Checking left) kind v r h stored e = absurd (checked b (tail left v) r e)
+task_mails t s b c (Doing Ruining left) kind v r h stored e = absurd (ruined b (tail left v) r e)
+task_mails t s b c (Doing Mending left) kind v r h stored e = absurd (mended b (tail left v) r (mends_tail left v h) stored e)
+task_mails t s b c (Doing (Working u) left) kind v r h stored e = (left, ap (λ (w : Task). Doing (Working w) left) h)

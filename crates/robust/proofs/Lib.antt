@@ -18,6 +18,8 @@ pub mod Glanced
 pub mod Headline
 pub mod Board
 pub mod OneStep
+pub mod Walked
+pub mod Tabled
 pub mod Gathered
 pub mod LawfulEnd
 pub mod OneLockSteps

@@ -1,12 +1,10 @@
 -- The own steps of a member's call are those of the table.
-use Rattle.std.proofs.Common.{◌≡◌, ℕ, zero, suc, ◌+◌, ◌<◌, ◌==◌, Bool, true, false, if◌then◌else◌, List, [], ◌∷◌, ◌++◌, length, Option, Some, None, All, refl, sym, ap, ◌∙◌, subst, arith, append_assoc, eqb-true}
+use Rattle.std.proofs.Common.{◌≡◌, ℕ, suc, ◌+◌, ◌==◌, Bool, true, false, if◌then◌else◌, List, [], ◌∷◌, ◌++◌, length, Option, Some, None, All, refl, sym, ap, ◌∙◌, subst, append_assoc, eqb-true}
 use Rattle.std.proofs.lemmas.List.Elements.{All-nil, All-cons, All-head, All-tail}
 use Rattle.rmecore.specs.Paid.{is_glance}
-use Rattle.rmecore.specs.declared.own.Own.{Own}
-use Rattle.redomail.specs.declared.layout.Layout.{Layout}
 use Rattle.rmeworld.specs.Answered.{answer_at, blocked_by}
 use Rattle.rmeworld.specs.CallWalk.{next_or_same, blocked_in, and_answer as and_answer_in, answers_in, last_spot, Tells}
-use Rattle.rmeworld.specs.Spot.{Spot, Happening, Begins, Moves, next_spot}
+use Rattle.rmeworld.specs.Spot.{Spot, Happening, Begins, Moves}
 use Rattle.rmeworld.specs.World.{Scene, Story, own_happenings}
 use Rattle.rmeworld.specs.declared.answer.Answer.{Answer}
 use Rattle.rmeworld.specs.declared.call.Call.{Call}
@@ -15,7 +13,7 @@ use Rattle.robust.specs.declared.setup.Setup.{Setup}
 use Rattle.robust.specs.declared.entry.Entry.{Entry}
 use Rattle.robust.specs.Runs.{before, crash_first, taken, happenings, spelled, own, IsRun, end_of, gone, spot_of}
 use Rattle.robust.specs.Running.{Seated}
-use Rattle.robust.specs.Calls.{spot_before, and_answer, answers_from, is_blocked_at, blocked_from, FirstStart, FirstCrash, AreMoves, Served}
+use Rattle.robust.specs.Calls.{spot_before, and_answer, answers_from, blocked_from, AreMoves}
 use Rattle.robust.specs.Tabled.{words_begun, spot_begun, KeepsTable, CallsKeepTheTable}
 use Rattle.robust.proofs.Runs.{own_spelled, spot_in_run, legal_back}
 use Rattle.robust.proofs.Leads.{gone-append}

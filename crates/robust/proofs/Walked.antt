@@ -1,11 +1,11 @@
 -- The steps of one process in a story are a walk: each comes where it may, and a reread finds its word as it stood when the
 -- call began, since nobody else stores into the lock words of a process.
-use Rattle.std.proofs.Common.{◌≡◌, ◌≢◌, ℕ, zero, suc, ◌+◌, ◌<◌, ◌==◌, ◌&&◌, nat_lt, nat_le, Bool, true, false, if◌then◌else◌, List, [], ◌∷◌, ◌++◌, length, Option, Some, None, IsSome, unwrap_or, refl, sym, ap, ◌∙◌, subst, arith, eqb-true}
+use Rattle.std.proofs.Common.{◌≡◌, ◌≢◌, ℕ, ◌+◌, ◌<◌, ◌==◌, ◌&&◌, nat_lt, nat_le, Bool, true, false, if◌then◌else◌, List, [], ◌∷◌, Option, Some, None, IsSome, unwrap_or, refl, sym, ◌∙◌, subst, eqb-true}
 use Rattle.std.proofs.lemmas.Bool.{and_parts, eqb-false}
 use Rattle.rmecore.specs.Paid.{ReadsBegun, is_glance}
 use Rattle.rmecore.specs.Place.{Place, Rest, Dead, Reread, Opening, Door, Shutting, Wait, Inside, Leaving, Withdrawing, Unmarking, only, next, started}
 use Rattle.rmecore.specs.Tallied.{IsRereading}
-use Rattle.rmecore.specs.World.{World, is_store, write, Reads as CoreReads}
+use Rattle.rmecore.specs.World.{is_store, write, Reads as CoreReads}
 use Rattle.rmecore.specs.Place.{Steps}
 use Rattle.rmecore.specs.declared.core_call.CoreCall.TheVariants as core
 use Rattle.rmecore.specs.declared.kind.Kind.{Kind}
@@ -17,19 +17,17 @@ use Rattle.rmecore.proofs.Accesses.{passed}
 use Rattle.rmecore.proofs.Invariant.{put_same, put_other}
 use Rattle.rmecore.proofs.Tallies.{rereads_on, reads_begun}
 use Rattle.rmecore.proofs.Turns.{not_data}
-use Rattle.redomail.specs.Layout.{Words}
 use Rattle.redomail.specs.Script.{Script, Get as Asks, Put as Writes, Done}
 use Rattle.redomail.specs.declared.layout.Layout.{Layout}
 use Rattle.redomail.specs.declared.reply.Reply.{Reply}
 use Rattle.redomail.specs.declared.reply.Reply.TheVariants.{Ruined}
 use Rattle.rmeworld.specs.CallWalk.{next_or_same, Walks}
 use Rattle.rmeworld.specs.Spot.{Errand, Free, Doing, Spot, Happening, Begins, Falls, Moves, Glances, who, dead, next_spot, settled, end_place, only_spot, at_lock, errand_entered, moved_by, inside_only, begun_from}
-use Rattle.rmeworld.specs.World.{Scene, Can, onward, Story, reading_of, words_after, own_happenings}
+use Rattle.rmeworld.specs.World.{Scene, Can, onward, Story, reading_of, own_happenings}
 use Rattle.rmeworld.specs.declared.call.Call.{Call}
 use Rattle.rmeworld.specs.declared.call.Call.TheVariants.{Lock, Unlock, Consistent, Recover, Append, Close, Get, Put, Withdraw}
 use Rattle.rmeworld.specs.declared.why.Why.{Why}
 use Rattle.rmeworld.specs.declared.why.Why.TheVariants.{Checking, Ruining, Mending, Working}
-use Rattle.robust.specs.Runs.{before, crash_first}
 
 -- nobody else's step stores into the lock words of p
 apart : (p q r : ℕ) (b : Bool) (t : Place) → p ≢ q → IsSome (only ((r == q) && b) t) → p ≢ r

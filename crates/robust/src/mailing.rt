@@ -3,6 +3,7 @@
 ghost use Rattle.std.specs.Prelude.{◌≡◌, ◌≢◌, ℕ, length, Ok, IfOk, IfErr, OnOk};
 ghost use Rattle.robust.specs.Running.{began};
 ghost use Rattle.robust.specs.Faults.{refusal_now, ready};
+ghost use Rattle.robust.specs.Working.{seat_of};
 ghost use Rattle.robust.specs.Whole.{WholeEnds, WholeFails, AppendFails};
 
 use crate::lock_fault::LockFault;
@@ -27,6 +28,7 @@ impl Member {
         ensures accepted { OnOk result (refusal_now (ready self.old) Call.Lock ≡ None) }
         ensures replied { IfOk result (λ reply. WholeEnds (began (ready self.old) Call.Lock) turns (Call.Append seq value) (Ok reply) self.new (C.asked plan.old) (C.asked plan.new) (C.fallen plan.old) (C.fallen plan.new)) }
         ensures fails { IfErr result (AppendFails self.old turns seq value self.new (C.asked plan.old) (C.asked plan.new) (C.fallen plan.old) (C.fallen plan.new)) }
+        ensures seat { seat_of self.new ≡ seat_of self.old }
     {
         if value.width() != self.runner.setup().layout.width {
             return Err(LockFault::BadWidth);
@@ -45,6 +47,7 @@ impl Member {
         ensures accepted { OnOk result (refusal_now (ready self.old) Call.Lock ≡ None) }
         ensures replied { IfOk result (λ reply. WholeEnds (began (ready self.old) Call.Lock) turns Call.Close (Ok reply) self.new (C.asked plan.old) (C.asked plan.new) (C.fallen plan.old) (C.fallen plan.new)) }
         ensures fails { IfErr result (WholeFails self.old turns Call.Close self.new (C.asked plan.old) (C.asked plan.new) (C.fallen plan.old) (C.fallen plan.new)) }
+        ensures seat { seat_of self.new ≡ seat_of self.old }
     {
         self.runner.mail_within(plan, &Call::Close, turns)
     }
@@ -62,6 +65,7 @@ impl Member {
         ensures replied { IfOk result (λ reply. (turns : ℕ) × WholeEnds (began (ready self.old) Call.Lock) turns (Call.Append seq value) (Ok reply) self.new (C.asked plan.old) (C.asked plan.new) (C.fallen plan.old) (C.fallen plan.new)) }
         ensures fails { IfErr result (λ e. (turns : ℕ) × AppendFails self.old turns seq value self.new (C.asked plan.old) (C.asked plan.new) (C.fallen plan.old) (C.fallen plan.new) e) }
         ensures patient { IfErr result (λ e. e ≢ LockFault.NotYet) }
+        ensures seat { seat_of self.new ≡ seat_of self.old }
     {
         if value.width() != self.runner.setup().layout.width {
             return Err(LockFault::BadWidth);
@@ -75,6 +79,7 @@ impl Member {
         ensures replied { IfOk result (λ reply. (turns : ℕ) × WholeEnds (began (ready self.old) Call.Lock) turns Call.Close (Ok reply) self.new (C.asked plan.old) (C.asked plan.new) (C.fallen plan.old) (C.fallen plan.new)) }
         ensures fails { IfErr result (λ e. (turns : ℕ) × WholeFails self.old turns Call.Close self.new (C.asked plan.old) (C.asked plan.new) (C.fallen plan.old) (C.fallen plan.new) e) }
         ensures patient { IfErr result (λ e. e ≢ LockFault.NotYet) }
+        ensures seat { seat_of self.new ≡ seat_of self.old }
     {
         self.runner.mail(rt, plan, &Call::Close)
     }

@@ -20,6 +20,8 @@ pub mod Errands
 pub mod Appended
 pub mod Board
 pub mod OneStep
+pub mod Walked
+pub mod Tabled
 pub mod Gathered
 pub mod LawfulEnd
 pub mod OneLockSteps

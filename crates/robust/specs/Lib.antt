@@ -6,6 +6,7 @@ pub mod Running
 pub mod Calls
 pub mod Under
 pub mod Faults
+pub mod Tabled
 pub mod Whole
 pub mod Making
 pub mod Lab

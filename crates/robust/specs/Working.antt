@@ -1,4 +1,4 @@
--- What a worker of a lab does with its member.
+-- What a member keeps, whatever it does.
 use Rattle.std.specs.Prelude.{ℕ, List, map}
 use Rattle.atomic_table.specs.Seated.{TableId}
 use Rattle.robust.specs.declared.setup.Setup.{Setup}

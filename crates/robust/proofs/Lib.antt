@@ -22,6 +22,7 @@ pub mod Board
 pub mod OneStep
 pub mod Walked
 pub mod Tabled
+pub mod Counted
 pub mod Gathered
 pub mod LawfulEnd
 pub mod OneLockSteps

@@ -21,5 +21,6 @@ pub mod OneStep
 pub mod Gathered
 pub mod LawfulEnd
 pub mod OneLockSteps
+pub mod OneLockSeats
 pub mod Working
 pub mod Worked

@@ -26,5 +26,6 @@ pub mod Counted
 pub mod Gathered
 pub mod LawfulEnd
 pub mod OneLockSteps
+pub mod OneLockSeats
 pub mod Working
 pub mod Worked

@@ -2,7 +2,7 @@
 //! words while it is inside. It knows no shared word: it says which one it loads or stores next, and is fed with what was
 //! read. The world and the running lock run this machine over their words.
 
-ghost use Rattle.std.specs.Prelude.{◌≡◌, ◌≢◌, ◌==◌, true, false, not, if◌then◌else◌, [], ◌∷◌, Some, None, IfSome, OnOk, OnErr, IfErr, is_none};
+ghost use Rattle.std.specs.Prelude.{◌≡◌, ◌==◌, true, false, not, if◌then◌else◌, [], ◌∷◌, Some, None, IfSome, OnOk, OnErr, IfErr, is_none};
 ghost use Rattle.rmecore.specs.Place.{Inside, Leaving, started as lock_started};
 ghost use Rattle.rmecore.specs.Refused.{start_refusal as lock_refusal};
 ghost use Rattle.rmecore.specs.Machine.{after_access, progress, quiet, next_access as lock_access, IsAllowed as IsLockAllowed};
@@ -121,7 +121,7 @@ impl Process {
             Errand::Doing(why, job) => {
                 let mut job = job;
                 job.feed(value);
-                job_outcome(why, self.mended, job)
+                job_outcome(why, self.mended, &job)
             }
         }
     }
@@ -134,26 +134,18 @@ impl Process {
         ensures allowed { IfSome (next_access self.old) (IsAllowed self.old) }
         ensures outcome { result ≡ outcome self.old (next_access self.old) value }
     {
-        if self.is_free() {
-            let barred = self.barred;
-            return lock_outcome(barred, self.move_on(value));
-        }
-        let outcome = self.outlook(value);
         let errand = self.errand;
         match errand {
-            Errand::Free => {}
-            Errand::Asking(job) => self.go_on(value, job),
+            Errand::Free => {
+                let barred = self.barred;
+                lock_outcome(barred, self.move_on(value))
+            }
+            Errand::Asking(job) => {
+                self.go_on(value, job);
+                asked(value)
+            }
             Errand::Doing(why, job) => self.job_step(why, job, value),
         }
-        outcome
-    }
-
-    /// Has it nothing to do with the data words?
-    fn is_free(&self) -> bool
-        ensures yes { result ≡ true → self.now.errand ≡ Errand.Free }
-        ensures no { result ≡ false → self.now.errand ≢ Errand.Free }
-    {
-        matches!(&self.errand, Errand::Free)
     }
 
     /// A step of the lock.
@@ -184,18 +176,22 @@ impl Process {
     }
 
     /// A step of a job.
-    fn job_step(&mut self, why: Why, job: Job, value: u64)
+    fn job_step(&mut self, why: Why, job: Job, value: u64) -> Outcome
         requires { self.old.errand ≡ Errand.Doing why job }
         ensures exact { self.new ≡ stepped self.old value }
         ensures spot { spot_of self.new ≡ spot_after self.old (next_access self.old) value }
+        ensures outcome { result ≡ outcome self.old (next_access self.old) value }
     {
         let _ = &self.errand;
         let mut job = job;
         job.feed(value);
+        let same = why;
+        let outcome = job_outcome(same, self.mended, &job);
         match job.next() {
             Next::Done(reply) => self.end(why, reply),
             Next::Get(_) | Next::Put(..) => self.errand = Errand::Doing(why, job),
         }
+        outcome
     }
 
     /// The end of a script: inside, or at the exit.
@@ -419,8 +415,8 @@ fn asked(value: u64) -> Outcome
 }
 
 /// What a step of a script is for its call, with this job left.
-fn job_outcome(why: Why, mended: bool, job: Job) -> Outcome
-    ensures { result ≡ record { progress = quiet; answer = by_script why mended (left job) } }
+fn job_outcome(why: Why, mended: bool, job: &Job) -> Outcome
+    ensures { result ≡ record { progress = quiet; answer = by_script why mended (left job.now) } }
 {
     let answer = match job.next() {
         Next::Done(reply) => reply_answer(why, mended, reply),

@@ -1,5 +1,5 @@
 -- Who puts a data word is in, and who has entered stays in until it leaves.
-use Rattle.std.proofs.Common.{◌≡◌, ◌≢◌, ℕ, ◌<◌, Bool, true, false, List, [], ◌∷◌, ◌++◌, Option, Some, None, IsSome, All, refl, sym, ap, ◌∙◌, subst, inl, inr}
+use Rattle.std.proofs.Common.{◌≡◌, ℕ, ◌<◌, Bool, true, List, [], ◌∷◌, ◌++◌, Option, Some, None, IsSome, refl, sym, ap, ◌∙◌, subst, inl, inr}
 use Rattle.std.proofs.lemmas.Bool.{cases_eq}
 use Rattle.std.proofs.lemmas.List.Elements.{All-head, All-tail}
 use Rattle.rmecore.specs.AbstractLock.{Abstract, nobody, Legal, needs, done}
@@ -24,15 +24,16 @@ use Rattle.redomail.specs.declared.deed.Deed.{Deed}
 use Rattle.redomail.specs.declared.deed.Deed.TheVariants as deed
 use Rattle.redomail.specs.declared.layout.Layout.{Layout}
 use Rattle.judge.specs.Halves.{outers as lock_deeds}
+use Rattle.judge.specs.Legal.{Leads}
 use Rattle.judge.specs.Plain.{IsEndOf}
 use Rattle.judge.specs.Table.{empty}
 use Rattle.rmeworld.specs.Holders.{puts_data, AllPutBy, NoEndOf, OnlyHoldersPut}
-use Rattle.rmeworld.specs.Spot.{Errand, Free, Doing, Spot, Happening, Begins, Falls, Moves, Glances, who, moved_by, next_spot, at_lock, outer}
+use Rattle.rmeworld.specs.Spot.{Errand, Free, Doing, Happening, Moves, who, moved_by, next_spot, at_lock, outer}
 use Rattle.rmeworld.specs.World.{Scene, at_first, Story, onward, last_scene, outer_deeds, mail_deeds, event_deeds, deeds}
 use Rattle.rmeworld.proofs.Projection.{outers, projected, core_of, some_of}
-use Rattle.rmeworld.proofs.Happenings.{done_by, AllowsBy, Kept}
+use Rattle.rmeworld.proofs.Happenings.{done_by, judge_of, AllowsBy, Kept}
 use Rattle.rmeworld.proofs.Knowing.{Post, PostAt}
-use Rattle.rmeworld.proofs.Stories.{AllPosts, happens, head, posts}
+use Rattle.rmeworld.proofs.Stories.{AllPosts, goes_on, happens, head, posts}
 use Rattle.rmeworld.proofs.Reaching.{mail_own, done-and_then, origin}
 
 -- the lock's deeds among those of a story
@@ -97,10 +98,6 @@ legal_back : (n : ℕ) (a : Abstract) (ds es : List Outer) → Legal n a (ds ++ 
 legal_back n a [] es h = h
 legal_back n a (d ∷ ds) es h = legal_back n (done a d) ds es h.1
 
-legal_front : (n : ℕ) (a : Abstract) (ds es : List Outer) → Legal n a (ds ++ es) → Legal n a ds
-legal_front n a [] es h = tt
-legal_front n a (d ∷ ds) es h = (h.0, legal_front n (done a d) ds es h.1)
-
 and_then-append : (o : Option Outer) (ds es : List Outer) → and_then o (ds ++ es) ≡ and_then o ds ++ es
 and_then-append None ds es = refl
 and_then-append (Some d) ds es = refl
@@ -127,35 +124,45 @@ module _ (l : Layout) (limit : ℕ) where
       some_place (Some t) h = refl
   putter cells a m p lock b c (Doing why left) kind i v some post stores = post.1
 
-  putter_in : (w : Scene) (a : Abstract) (m : Mailbox) (e : Happening) → IsSome (next_spot l limit (w.spots (who e)) e) → PostAt l (who e) (a.phase (who e)) w.cells m (w.spots (who e)) → puts_data e ≡ true → a.phase (who e) ≡ Within
+  pub putter_in : (w : Scene) (a : Abstract) (m : Mailbox) (e : Happening) → IsSome (next_spot l limit (w.spots (who e)) e) → PostAt l (who e) (a.phase (who e)) w.cells m (w.spots (who e)) → puts_data e ≡ true → a.phase (who e) ≡ Within
   putter_in w a m (Moves p kind (DataAt i) v) some post puts = let x = w.spots p in putter w.cells a m p x.lock x.mended x.barred x.errand kind i v some post puts
   putter_in w a m _ some post puts = absurd (cc)
 
   module _ (layout : IsLayout l) where
     -- everything that stands at a scene
-    record At (w : Scene) (a : Abstract) : Type 0 where
+    pub record At (w : Scene) (a : Abstract) : Type 0 where
       pub mail : Mailbox
       pub kept : Kept l a w.cells mail
       pub posts : AllPosts l limit layout a w.cells mail w.spots
 
-    one : (w : Scene) (a : Abstract) (e : Happening) (es : List Happening) → At w a → Story l limit w (e ∷ es) → Legal l.procs a (outers l limit w (e ∷ es)) → At (onward l limit w e) (done_by a (outer (w.spots (who e)) e))
+    -- after a happening, with what its deeds lead to
+    pub one : (w : Scene) (a : Abstract) (e : Happening) (es : List Happening) (at : At w a) → Story l limit w (e ∷ es) → Legal l.procs a (outers l limit w (e ∷ es))
+        → (next : At (onward l limit w e) (done_by a (outer (w.spots (who e)) e))) × Leads (judge_of l a at.mail) (event_deeds l w e) (judge_of l (done_by a (outer (w.spots (who e)) e)) next.mail)
     one w a e es at story legal =
         let o = outer (w.spots (who e)) e in
         let x = some_of l limit (next_spot l limit (w.spots (who e)) e) (w.spots (who e)) story.0.1 in
         let r = head l limit layout a o (outers l limit (onward l limit w e) es) legal in
-        let left = happens l limit layout w a at.mail e x.0 story.0.0 at.kept x.1 story.0.2 r.0 (at.posts (who e) story.0.0) in
-        record {
-          mail = left.0.mail;
-          kept = left.0.kept;
-          posts = subst (λ z. AllPosts l limit layout (done_by a o) (onward l limit w e).cells left.0.mail (put w.spots (who e) z)) (sym x.2) (posts l limit layout w a at.mail e x.0 left.0 at.posts);
-        }
+        let left = happens l limit layout w a at.mail e x.0 story.0.0 at.kept x.1 story.0.2 r.0 (at.posts (who e) story.0.0) in (
+          record {
+            mail = left.0.mail;
+            kept = left.0.kept;
+            posts = subst (λ z. AllPosts l limit layout (done_by a o) (onward l limit w e).cells left.0.mail (put w.spots (who e) z)) (sym x.2) (posts l limit layout w a at.mail e x.0 left.0 at.posts);
+          },
+          left.0.leads,
+        )
 
-    comes_to : (w : Scene) (a : Abstract) (es : List Happening) → At w a → Story l limit w es → Legal l.procs a (outers l limit w es) → At (last_scene l limit w es) (all_done a (outers l limit w es))
-    comes_to w a [] at story legal = at
+    -- and after a story
+    pub comes_to : (w : Scene) (a : Abstract) (es : List Happening) (at : At w a) → Story l limit w es → Legal l.procs a (outers l limit w es)
+        → (there : At (last_scene l limit w es) (all_done a (outers l limit w es))) × Leads (judge_of l a at.mail) (deeds l limit w es) (judge_of l (all_done a (outers l limit w es)) there.mail)
+    comes_to w a [] at story legal = (at, refl)
     comes_to w a (e ∷ es) at story legal =
         let o = outer (w.spots (who e)) e in
         let r = head l limit layout a o (outers l limit (onward l limit w e) es) legal in
-        subst (At (last_scene l limit (onward l limit w e) es)) (sym (done-and_then a o (outers l limit (onward l limit w e) es))) (comes_to (onward l limit w e) (done_by a o) es (one w a e es at story legal) story.1 r.1)
+        let now = one w a e es at story legal in
+        let rest = comes_to (onward l limit w e) (done_by a o) es now.0 story.1 r.1 in
+        let Comes : Abstract → Type 0 = λ b. (there : At (last_scene l limit w (e ∷ es)) b) × Leads (judge_of l a at.mail) (deeds l limit w (e ∷ es)) (judge_of l b there.mail) in
+        subst Comes (sym (done-and_then a o (outers l limit (onward l limit w e) es)))
+        (rest.0, goes_on (judge_of l a at.mail) (judge_of l (done_by a o) now.0.mail) (event_deeds l w e) (deeds l limit (onward l limit w e) es) now.1 ∙ rest.1)
 
     only_puts : (w : Scene) (a : Abstract) (es : List Happening) (p : ℕ) → p < l.procs → At w a → Story l limit w es → Legal l.procs a (outers l limit w es) → IsIn (a.phase p) → Stays p (outers l limit w es) → AllPutBy p es
     only_puts w a [] p below at story legal i stays = tt
@@ -164,18 +171,28 @@ module _ (l : Layout) (limit : ℕ) where
         let r = head l limit layout a o (outers l limit (onward l limit w e) es) legal in
         let s = stays_by l.procs a o (outers l limit (onward l limit w e) es) p r.0 stays i in (
           λ puts. sym (at.kept.sole p (who e) below story.0.0 i (subst IsIn (sym (putter_in w a at.mail e story.0.1 (at.posts (who e) story.0.0) puts)) tt)),
-          only_puts (onward l limit w e) (done_by a o) es p below (one w a e es at story legal) story.1 r.1 s.0 s.1,
+          only_puts (onward l limit w e) (done_by a o) es p below (one w a e es at story legal).0 story.1 r.1 s.0 s.1,
         )
+
+-- where a story from the first scene comes to
+pub story_comes : (l : Layout) (limit : ℕ) (story : List Happening) (layout : IsLayout l) → Story l limit at_first story
+    → Legal l.procs nobody (outers l limit at_first story) × ((at : At l limit layout (last_scene l limit at_first story) (all_done nobody (outers l limit at_first story)))
+    × Leads (empty l.procs l.cap) (deeds l limit at_first story) (judge_of l (all_done nobody (outers l limit at_first story)) at.mail))
+story_comes l limit story layout told =
+    let n = l.procs in
+    let o = origin l limit at_first (empty n l.cap) layout (inl (refl, refl)) in
+    let r = projected l limit at_first story o.held told in
+    let all : Legal n nobody (outers l limit at_first story) = subst (Legal n nobody) r.same (legal n limit (core_of at_first) nobody r.events o.tied r.run) in
+    (all, comes_to l limit layout at_first nobody story (record { mail = (empty n l.cap).mail; kept = o.kept; posts = o.posts }) told all)
 
 pub holders_put : OnlyHoldersPut
 holders_put l limit p before since earlier layout below story entered none =
     let n = l.procs in
-    let o = origin l limit at_first (empty n l.cap) layout (inl (refl, refl)) in
-    let r = projected l limit at_first (before ++ since) o.held story in
+    let whole = story_comes l limit (before ++ since) layout story in
     let all : Legal n nobody (outers l limit at_first before ++ outers l limit (last_scene l limit at_first before) since) =
-    subst (Legal n nobody) (r.same ∙ outers-append l limit at_first before since) (legal n limit (core_of at_first) nobody r.events o.tied r.run) in
-    let there = comes_to l limit layout at_first nobody before (record { mail = (empty n l.cap).mail; kept = o.kept; posts = o.posts }) (story_front l limit at_first before since story) (legal_front n nobody _ _ all) in
+    subst (Legal n nobody) (outers-append l limit at_first before since) whole.0 in
+    let there = story_comes l limit before layout (story_front l limit at_first before since story) in
     let is : outers l limit at_first before ≡ lock_deeds earlier ++ Enter p ∷ [] = sym (lock_deeds_are l limit at_first before) ∙ ap lock_deeds entered ∙ lock_deeds-append earlier (deed.Outer (Enter p) ∷ []) in
     let within : IsIn ((all_done nobody (outers l limit at_first before)).phase p) = subst (λ (ds : List Outer). IsIn ((all_done nobody ds).phase p)) (sym is) (entered_in nobody (lock_deeds earlier) p) in
-    only_puts l limit layout (last_scene l limit at_first before) (all_done nobody (outers l limit at_first before)) since p below there (story_back l limit at_first before since story) (legal_back n nobody _ _ all) within
+    only_puts l limit layout (last_scene l limit at_first before) (all_done nobody (outers l limit at_first before)) since p below there.1.0 (story_back l limit at_first before since story) (legal_back n nobody (outers l limit at_first before) (outers l limit (last_scene l limit at_first before) since) all) within
     (subst (Stays p) (lock_deeds_are l limit (last_scene l limit at_first before) since) (none_ends p (deeds l limit (last_scene l limit at_first before) since) none))

@@ -29,3 +29,7 @@ pub mod Ordered
 pub mod Following
 pub mod Beginning
 pub mod WorldTallies
+pub mod Sends
+pub mod Asked
+pub mod Sent
+pub mod Replies

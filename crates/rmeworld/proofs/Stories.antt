@@ -37,7 +37,7 @@ use Rattle.rmeworld.proofs.Happenings.{done_by, AllowsBy, judge_of, Kept, Outcom
 some_by : (o : Option Place) (t : Place) → o ≡ Some t → IsSome o
 some_by o t e = rw e refl
 
-if_same : {A : Type 0} (b : Bool) (x : A) → (if b then x else x) ≡ x
+pub if_same : {A : Type 0} (b : Bool) (x : A) → (if b then x else x) ≡ x
 if_same true x = refl
 if_same false x = refl
 
@@ -48,7 +48,7 @@ cells_same l n limit p s t kind (NumberOf q) v cells e = if_same (is_store kind)
 cells_same l n limit p s t kind (InsideOf q) v cells e = if_same (is_store kind) cells
 cells_same l n limit p s t kind (DataAt i) v cells e = absurd (not_data n limit p s kind i v (some_by _ t e))
 
-deeds_none : (l : Layout) (n limit p : ℕ) (s t : Place) (kind : Kind) (word : Word) (v : ℕ) (cells : Words) → next n limit p s kind word v ≡ Some t → mail_deeds l cells (Moves p kind word v) ≡ []
+pub deeds_none : (l : Layout) (n limit p : ℕ) (s t : Place) (kind : Kind) (word : Word) (v : ℕ) (cells : Words) → next n limit p s kind word v ≡ Some t → mail_deeds l cells (Moves p kind word v) ≡ []
 deeds_none l n limit p s t kind (ChoosingOf q) v cells e = if_same (is_store kind) []
 deeds_none l n limit p s t kind (NumberOf q) v cells e = if_same (is_store kind) []
 deeds_none l n limit p s t kind (InsideOf q) v cells e = if_same (is_store kind) []

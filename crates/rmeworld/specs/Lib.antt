@@ -21,3 +21,4 @@ pub mod OwnSteps
 pub mod Paid
 pub mod CallWalk
 pub mod Tallied
+pub mod Sent

@@ -11,6 +11,7 @@ ghost use Rattle.rmeworld.specs.CallWalk.{CallsTakeTheirSteps, NoCallTakesMore};
 ghost use Rattle.rmeworld.specs.Holders.{OnlyHoldersPut};
 ghost use Rattle.rmeworld.specs.Law.{IsLater, EveryStoryIsSound, EveryStoryIsLegal, EveryLaterStoryIsSound, EveryStoryEndsLawful};
 ghost use Rattle.rmeworld.specs.Reached.{crashed_scene};
+ghost use Rattle.rmeworld.specs.Sent.{EveryDeedWasAsked, EveryMessageWasSent, EveryCloseWasAsked, EveryRuinWasAsked, RepliesTell, StoredIsShown};
 ghost use Rattle.rmeworld.specs.Spot.{Happening};
 ghost use Rattle.rmeworld.specs.World.{Scene, at_first, Can, onward, Story, last_scene, event_deeds, deeds, own_happenings, spot_after};
 ghost use Rattle.rmeworld.specs.WorldState.{scene_of, new_world, image_world};
@@ -69,4 +70,19 @@ pub fn only_holders_put()
 pub fn calls_take_their_steps()
     ensures told { CallsTakeTheirSteps }
     ensures most { NoCallTakesMore }
+{}
+
+/// The messages shown are such as were sent: each was one that its sender began to append, with this number and this value,
+/// also where a crash came between and the record was applied later. And what is answered Stored is shown from then on, with
+/// its value. A mailbox is closed only where a process began to close it; the lock is ruined only where a holder that came in
+/// again began to unlock before it had mended. An append that is answered Full, Closed or OutOfOrder tells the truth of the
+/// mailbox then and there. So each deed of the mailbox goes back to the start of such a call. Nothing is said of a world that
+/// begins with an image.
+pub fn messages_were_sent()
+    ensures sent { EveryMessageWasSent }
+    ensures closed { EveryCloseWasAsked }
+    ensures ruined { EveryRuinWasAsked }
+    ensures replies { RepliesTell }
+    ensures stored { StoredIsShown }
+    ensures asked { EveryDeedWasAsked }
 {}

@@ -1,0 +1,113 @@
+-- What the puts of a script make of the mailbox: each Commit is that of the append's own number and value, each Close that
+-- of a close, each Ruin that of a ruin. It holds over any words, so it stands still while other processes move.
+use Rattle.std.proofs.Common.{◌≡◌, ℕ, zero, suc, ◌+◌, ◌<◌, ◌≤◌, true, ◌&&◌, ◌==◌, nat_lt, nat_le, List, [], ◌∷◌, ◌++◌, length, All, refl, sym, ◌∙◌, subst, arith, eqb-true}
+use Rattle.std.proofs.lemmas.Bool.{cond_both, and_parts}
+use Rattle.std.proofs.lemmas.List.Elements.{All-nil, All-cons}
+use Rattle.rmecore.specs.Needs.{put}
+use Rattle.redomail.specs.Deeds.{deeds_of_put}
+use Rattle.redomail.specs.Layout.{Words, IsLayout, row, held, board_at, last_at, place_at}
+use Rattle.redomail.specs.Script.{Script, Get, Put, Done, puts, in_row, gets}
+use Rattle.redomail.specs.Tasks.{record_of, apply_steps, store_steps, redo, repair, consistent, script}
+use Rattle.redomail.specs.declared.deed.Deed.{Deed}
+use Rattle.redomail.specs.declared.deed.Deed.TheVariants as deed
+use Rattle.redomail.specs.declared.layout.Layout.{Layout}
+use Rattle.redomail.specs.declared.record.Record.{Record}
+use Rattle.redomail.specs.declared.reply.Reply.{Reply}
+use Rattle.redomail.specs.declared.reply.Reply.TheVariants as reply
+use Rattle.redomail.specs.declared.task.Task.TheVariants as task
+use Rattle.redomail.proofs.Scripts.{held-small}
+use Rattle.redomail.proofs.Words.{put-other, put-same, place_low, deeds_of_put-none}
+
+-- each deed of this script's puts, over these words, has D
+abbrev pub Sends : Layout → ℕ → (Deed → Type 0) → Script Reply → Words → Type 0
+Sends l p D (Get i next) w = Sends l p D (next (w i)) w
+Sends l p D (Put i v rest) w = All D (deeds_of_put l p w i v) × Sends l p D rest (put w i v)
+Sends l p D (Done a) w = Unit {0}
+
+module _ (l : Layout) (p : ℕ) (D : Deed → Type 0) (shows : (at seq : ℕ) (v : List ℕ) → D (deed.Show p at seq v)) where
+  -- a put's deeds, by what it may put
+  put_has : (i v : ℕ) (w : Words) → (i ≡ 3 → v ≡ 1 → D (deed.Commit p (w 5) (row w 6 l.width))) → (i ≡ 1 → D (deed.Close p)) → (i ≡ 0 → D (deed.Ruin p)) → All D (deeds_of_put l p w i v)
+  put_has i v w commits closes ruins =
+      cond_both (w i == v) _ _ (All D) (λ _. All-nil D) (λ _.
+      cond_both ((i == 3) && (v == 1)) _ _ (All D) (λ e. let both = and_parts (i == 3) (v == 1) e in All-cons D _ [] (commits (eqb-true i 3 both.0) (eqb-true v 1 both.1)) (All-nil D)) (λ _.
+      cond_both (i == 2) _ _ (All D) (λ _. All-cons D _ [] (shows _ _ _) (All-nil D)) (λ _.
+      cond_both ((i == 1) && (v == 1)) _ _ (All D) (λ e. let both = and_parts (i == 1) (v == 1) e in All-cons D _ [] (closes (eqb-true i 1 both.0)) (All-nil D)) (λ _.
+      cond_both ((i == 0) && (v == 1)) _ _ (All D) (λ e. let both = and_parts (i == 0) (v == 1) e in All-cons D _ [] (ruins (eqb-true i 0 both.0)) (All-nil D)) (λ _. All-nil D)))))
+
+  -- a put behind the four heads is no deed
+  quiet : (i v : ℕ) (e : Script Reply) (w : Words) → 3 < i → Sends l p D e (put w i v) → Sends l p D (Put i v e) w
+  quiet i v e w high h = (subst (All D) (sym (deeds_of_put-none l p w i v high)) (All-nil D), h)
+
+  row_quiet : (i : ℕ) (vs : List ℕ) (ys : List (ℕ × ℕ)) (e : Script Reply) (w : Words) → 3 < i → ((v : Words) → Sends l p D (puts ys e) v) → Sends l p D (puts (in_row i vs ++ ys) e) w
+  row_quiet i [] ys e w high go = go w
+  row_quiet i (x ∷ vs) ys e w high go =
+      quiet (held i) x (puts (in_row (i + 1) vs ++ ys) e) w (omega arith) (row_quiet (i + 1) vs ys e (put w (held i) x) (omega arith) go)
+
+  -- a row of puts, with what stands after them
+  row_known : (i : ℕ) (vs : List ℕ) (ys : List (ℕ × ℕ)) (e : Script Reply) (w : Words) → 3 < i → i + length vs ≤ 1000000
+      → ((v : Words) → row v i (length vs) ≡ vs → ((j : ℕ) → j < i → v j ≡ w j) → Sends l p D (puts ys e) v) → Sends l p D (puts (in_row i vs ++ ys) e) w
+  row_known i [] ys e w high small go = go w refl (λ j _. refl)
+  row_known i (x ∷ vs) ys e w high small go =
+      let same : held i ≡ i = held-small i (omega arith) in
+      let rest = row_known (i + 1) vs ys e (put w i x) (omega arith) (omega arith)
+      (λ v stands alike.
+      let here : v i ≡ x = alike i (omega arith) ∙ put-same w i x i refl in
+      go v (rw (here, stands) refl) (λ j lt. alike j (omega arith) ∙ put-other w i x j (λ q. omega arith))) in
+      let P : ℕ → Type 0 = λ j. Sends l p D (Put j x (puts (in_row (i + 1) vs ++ ys) e)) w in
+      subst P (sym same) (quiet i x (puts (in_row (i + 1) vs ++ ys) e) w high rest)
+
+  -- the apply steps commit nothing
+  apply_sends : (r : Record) (a : Reply) (w : Words) → Sends l p D (puts (apply_steps l p r) (Done a)) w
+  apply_sends r a w =
+      let low = place_low l r.at in
+      row_quiet (place_at l r.at) (p ∷ r.seq ∷ r.value) ((last_at l p, r.seq) ∷ (2, held (r.at + 1)) ∷ (3, 0) ∷ []) (Done a) w (omega arith)
+      (λ v.
+      let x : Words = put v (last_at l p) r.seq in
+      let y : Words = put x 2 (held (r.at + 1)) in
+      quiet (last_at l p) r.seq (Put 2 (held (r.at + 1)) (Put 3 0 (Done a))) v (omega arith) (
+        put_has 2 (held (r.at + 1)) x (λ e. absurd (omega arith)) (λ e. absurd (omega arith)) (λ e. absurd (omega arith)),
+        (put_has 3 0 y (λ _ e. absurd (omega arith)) (λ e. absurd (omega arith)) (λ e. absurd (omega arith)), tt),
+      ))
+
+  -- storing commits what it was given
+  store_sends : (at seq : ℕ) (value : List ℕ) (w : Words) → IsLayout l → length value ≡ l.width → D (deed.Commit p seq value) → Sends l p D (puts (store_steps l p (record_of at seq value)) (Done reply.Stored)) w
+  store_sends at seq value w layout wide asked =
+      let most = layout.most in
+      row_known 4 (at ∷ seq ∷ value) ((3, 1) ∷ apply_steps l p (record_of at seq value)) (Done reply.Stored) w (omega arith) (omega arith)
+      (λ v stands _.
+      let number : v 5 ≡ seq = cc in
+      let long : row v 6 (length value) ≡ value = cc in
+      let words : row v 6 l.width ≡ value = subst (λ n. row v 6 n ≡ value) wide long in
+      (put_has 3 1 v (λ _ _. rw (number, words) asked) (λ e. absurd (omega arith)) (λ e. absurd (omega arith)), apply_sends (record_of at seq value) reply.Stored (put v 3 1)))
+
+  pub append_sends : (seq : ℕ) (value : List ℕ) (w : Words) → IsLayout l → length value ≡ l.width → D (deed.Commit p seq value) → Sends l p D (script l p (task.Append seq value)) w
+  append_sends seq value w layout wide asked =
+      let P : Script Reply → Type 0 = λ e. Sends l p D e w in
+      cond_both (seq == 0) _ _ P (λ _. tt) (λ _.
+      cond_both (nat_le seq (w (last_at l p))) _ _ P (λ _. tt) (λ _.
+      cond_both (nat_lt (w (last_at l p) + 1) seq) _ _ P (λ _. tt) (λ _.
+      cond_both (w 1 == 1) _ _ P (λ _. tt) (λ _.
+      cond_both (w 2 == l.cap) _ _ P (λ _. tt) (λ _. store_sends (w 2) seq value w layout wide asked)))))
+
+  pub close_sends : (w : Words) → D (deed.Close p) → Sends l p D (script l p task.Close) w
+  close_sends w asked =
+      let P : Script Reply → Type 0 = λ e. Sends l p D e w in
+      cond_both (w 1 == 1) _ _ P (λ _. tt) (λ _. (put_has 1 1 w (λ e. absurd (omega arith)) (λ _. asked) (λ e. absurd (omega arith)), tt))
+
+  pub ruin_sends : (w : Words) → D (deed.Ruin p) → Sends l p D (script l p task.Ruin) w
+  ruin_sends w asked = (put_has 0 1 w (λ e. absurd (omega arith)) (λ e. absurd (omega arith)) (λ _. asked), tt)
+
+  pub board_sends : (i v : ℕ) (w : Words) → Sends l p D (script l p (task.BoardPut i v)) w
+  board_sends i v w = quiet (board_at l i) v (Done reply.Done) w (omega arith) tt
+
+  gets_sends : (i n : ℕ) (read : List ℕ) (next : List ℕ → Script Reply) (w : Words) → ((xs : List ℕ) → Sends l p D (next xs) w) → Sends l p D (gets i n read next) w
+  gets_sends i zero read next w go = go read
+  gets_sends i (suc n) read next w go = gets_sends (i + 1) n (read ++ w i ∷ []) next w go
+
+  -- mending applies what stands, and commits nothing
+  pub consistent_sends : (w : Words) → Sends l p D (consistent l p) w
+  consistent_sends w =
+      let P : Script Reply → Type 0 = λ e. Sends l p D e w in
+      cond_both (w 0 == 1) (Done (reply.Ruined true)) (repair l p) P (λ _. tt) (λ _.
+      cond_both (w 3 == 0) _ _ P (λ _. tt) (λ _.
+      gets_sends 6 l.width [] (redo l p (w 4) (w 5)) w (λ xs. apply_sends (record_of (w 4) (w 5) xs) (reply.Mended true) w)))

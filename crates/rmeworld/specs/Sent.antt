@@ -1,0 +1,94 @@
+-- Where the mailbox's contents come from: each message shown was one that its sender was asked to append, with this number
+-- and this value; a closed mailbox was asked to be closed, a ruined lock was left by a holder that hadn't mended it. And what
+-- an append that stores nothing tells of the mailbox.
+use Rattle.std.specs.Prelude.{◌≡◌, ◌≢◌, ℕ, ◌-◌, true, false, List, [], ◌∷◌, ◌++◌, length, Some, All, Contains, ◌⊎◌}
+use Rattle.rmecore.specs.declared.kind.Kind.{Kind}
+use Rattle.rmecore.specs.declared.word.Word.{Word}
+use Rattle.redomail.specs.Layout.{IsLayout}
+use Rattle.redomail.specs.Mailbox.{Mailbox, IsAmong, message}
+use Rattle.redomail.specs.Script.{Script}
+use Rattle.redomail.specs.declared.deed.Deed.{Deed}
+use Rattle.redomail.specs.declared.deed.Deed.TheVariants as deed
+use Rattle.redomail.specs.declared.layout.Layout.{Layout}
+use Rattle.redomail.specs.declared.message.Message.{Message}
+use Rattle.redomail.specs.declared.reply.Reply.{Reply}
+use Rattle.redomail.specs.declared.reply.Reply.TheVariants.{Stored, OutOfOrder, Full, Closed}
+use Rattle.redomail.specs.declared.task.Task.TheVariants as task
+use Rattle.judge.specs.Halves.{all_after}
+use Rattle.judge.specs.Table.{empty}
+use Rattle.rmeworld.specs.Answered.{answer_at}
+use Rattle.rmeworld.specs.Spot.{Spot, Doing, Happening, Begins, Moves}
+use Rattle.rmeworld.specs.World.{at_first, Story, last_scene, deeds}
+use Rattle.rmeworld.specs.declared.answer.Answer.TheVariants.{Mail}
+use Rattle.rmeworld.specs.declared.call.Call.TheVariants.{Unlock, Append, Close}
+use Rattle.rmeworld.specs.declared.why.Why.TheVariants.{Working}
+
+-- the judge's mailbox after the deeds of a story
+abbrev pub mail_after : Layout → ℕ → List Happening → Mailbox
+mail_after l limit story = (all_after (empty l.procs l.cap) (deeds l limit at_first story)).mail
+
+-- its sender began to append just this message, with this number and value
+abbrev pub IsSent : List Happening → Message → Type 0
+IsSent story m = Contains story (Begins m.sender (Append m.seq m.value))
+
+-- p began to unlock where it stood as a holder that came in again and hadn't mended
+pub record IsLeftUnmended (l : Layout) (limit : ℕ) (story : List Happening) (p : ℕ) : Type 0 where
+  pub front : List Happening
+  pub back : List Happening
+  pub split : story ≡ front ++ Begins p Unlock ∷ back
+  pub unmended : ((last_scene l limit at_first front).spots p).mended ≡ false
+
+-- what a deed of the mailbox was asked for by
+abbrev pub IsAsked : Layout → ℕ → List Happening → Deed → Type 0
+IsAsked l limit story (deed.Commit p seq v) = Contains story (Begins p (Append seq v))
+IsAsked l limit story (deed.Close p) = Contains story (Begins p Close)
+IsAsked l limit story (deed.Ruin p) = IsLeftUnmended l limit story p
+IsAsked l limit story _ = Unit {0}
+
+abbrev pub EveryDeedWasAsked : Type 0
+EveryDeedWasAsked =
+    (l : Layout) (limit : ℕ) (story : List Happening) → IsLayout l → Story l limit at_first story → All (IsAsked l limit story) (deeds l limit at_first story)
+
+abbrev pub EveryMessageWasSent : Type 0
+EveryMessageWasSent =
+    (l : Layout) (limit : ℕ) (story : List Happening) → IsLayout l → Story l limit at_first story → All (IsSent story) (mail_after l limit story).shown
+
+abbrev pub EveryCloseWasAsked : Type 0
+EveryCloseWasAsked =
+    (l : Layout) (limit : ℕ) (story : List Happening) → IsLayout l → Story l limit at_first story → (mail_after l limit story).closed ≡ true
+    → (p : ℕ) × Contains story (Begins p Close)
+
+-- the data word 0 tells that the lock is ruined
+abbrev pub EveryRuinWasAsked : Type 0
+EveryRuinWasAsked =
+    (l : Layout) (limit : ℕ) (story : List Happening) → IsLayout l → Story l limit at_first story → (last_scene l limit at_first story).cells 0 ≢ 0
+    → (p : ℕ) × IsLeftUnmended l limit story p
+
+-- What the reply of an append by p with this number tells of the mailbox then and there: full, with the number not among
+-- p's; closed, and so too; or the number is 0, or that before it isn't among p's. That after Stored and Already the number
+-- is among p's is told by the lock theorem.
+abbrev pub ReplyTells : Layout → ℕ → ℕ → Reply → Mailbox → Type 0
+ReplyTells l p seq Full m = (length m.shown ≡ l.cap) × (IsAmong p seq m.shown → ⊥)
+ReplyTells l p seq Closed m = (m.closed ≡ true) × (IsAmong p seq m.shown → ⊥)
+ReplyTells l p seq OutOfOrder m = (seq ≡ 0) ⊎ (IsAmong p (seq - 1) m.shown → ⊥)
+ReplyTells l p seq _ m = Unit {0}
+
+-- this step, at this spot, ends an append with this number, with this reply
+pub record EndsAppend (spot : Spot) (kind : Kind) (v seq : ℕ) (reply : Reply) : Type 0 where
+  pub value : List ℕ
+  pub left : Script Reply
+  pub append : spot.errand ≡ Doing (Working (task.Append seq value)) left
+  pub answer : answer_at spot kind v ≡ Some (Mail reply)
+
+abbrev pub RepliesTell : Type 0
+RepliesTell =
+    (l : Layout) (limit : ℕ) (front : List Happening) (p : ℕ) (kind : Kind) (word : Word) (v : ℕ) (back : List Happening) (seq : ℕ) (reply : Reply) → IsLayout l
+    → Story l limit at_first (front ++ Moves p kind word v ∷ back) → EndsAppend ((last_scene l limit at_first front).spots p) kind v seq reply
+    → ReplyTells l p seq reply (mail_after l limit (front ++ Moves p kind word v ∷ []))
+
+-- what an append was given that is answered Stored is shown from then on, with its value
+abbrev pub StoredIsShown : Type 0
+StoredIsShown =
+    (l : Layout) (limit : ℕ) (front : List Happening) (p : ℕ) (kind : Kind) (word : Word) (v : ℕ) (back : List Happening) (seq : ℕ) → IsLayout l
+    → Story l limit at_first (front ++ Moves p kind word v ∷ back) → (ends : EndsAppend ((last_scene l limit at_first front).spots p) kind v seq Stored)
+    → Contains (mail_after l limit (front ++ Moves p kind word v ∷ back)).shown (message p seq ends.value)

@@ -30,7 +30,8 @@ use Rattle.robust.specs.Pass.{Pass, IsPass, spot_now, Calls}
 use Rattle.robust.specs.Running.{Seated, fell, began}
 use Rattle.robust.specs.Runs.{before, own, spelled, gone, spot_of, IsRun}
 use Rattle.robust.specs.Whole.{WholeEnds, calls_inside, answers_inside}
-use Rattle.robust.proofs.Errands.{Only, Brings, OfStart, each_start, only_begun, Answering, find, IsStored, task_mails}
+use Rattle.robust.specs.Working.{OfStart}
+use Rattle.robust.proofs.Errands.{Only, Brings, each_start, only_begun, Answering, find, IsStored, task_mails}
 use Rattle.robust.proofs.Leads.{gone-append}
 use Rattle.robust.proofs.Running.{spot_begun}
 use Rattle.robust.proofs.Runs.{own-append, spelled-append}
@@ -44,10 +45,10 @@ pub record Own (p : ℕ) (es front : List Entry) (e : Entry) : Type 0 where
   pub own_are : own p earlier ≡ front
   pub by : e.by ≡ p
 
-own_taken : (p : ℕ) (x : Entry) (xs : List Entry) → (x.by == p) ≡ true → own p (x ∷ xs) ≡ x ∷ own p xs
+pub own_taken : (p : ℕ) (x : Entry) (xs : List Entry) → (x.by == p) ≡ true → own p (x ∷ xs) ≡ x ∷ own p xs
 own_taken p x xs is = rw is refl
 
-own_passed : (p : ℕ) (x : Entry) (xs : List Entry) → (x.by == p) ≡ false → own p (x ∷ xs) ≡ own p xs
+pub own_passed : (p : ℕ) (x : Entry) (xs : List Entry) → (x.by == p) ≡ false → own p (x ∷ xs) ≡ own p xs
 own_passed p x xs is = rw is refl
 
 pub own_split : (p : ℕ) (es front : List Entry) (e : Entry) (back : List Entry) → own p es ≡ front ++ e ∷ back → Own p es front e

@@ -31,6 +31,7 @@ use Rattle.robust.specs.declared.entry.Entry.{Entry}
 use Rattle.robust.specs.Runs.{before, taken, happenings, spelled, gone}
 use Rattle.robust.specs.Calls.{spot_before, and_answer, answers_from, and_call, starts}
 use Rattle.robust.specs.Under.{Replies, Mends}
+use Rattle.robust.specs.Working.{OfStart}
 use Rattle.robust.proofs.Begun.{mends_consistent}
 use Rattle.robust.proofs.Leads.{gone-append}
 use Rattle.robust.proofs.Runs.{by_kind}
@@ -50,11 +51,6 @@ Brings t Close = task.Close ≡ t
 Brings t (Get i) = ⊥
 Brings t (Put i v) = ⊥
 Brings t call = Unit {0}
-
--- what holds of the call that an entry starts, if it does
-abbrev pub OfStart : (Call → Type 0) → Option Call → Type 0
-OfStart P None = Unit {0}
-OfStart P (Some call) = P call
 
 -- the starts of some entries
 pub each_start : (P : Call → Type 0) (mine : List Entry) → All P (starts mine) → All (λ (e : Entry). OfStart P e.step.start) mine

@@ -191,3 +191,9 @@ module _ (s : Setup) (es : List Entry) (run : IsRun s es) where
 
     pub lawful_end : IsLawfulImage (image_at s w)
     lawful_end = image_is_lawful (world ended.0) is_world
+
+-- the words of the list are those that stand in the scene
+pub cells_counted : (s : Setup) (es : List Entry) → IsRun s es → words_of (map (end_of s es).cells (count_from 0 (size s.layout))) ≡ (end_of s es).cells
+cells_counted s es run =
+    let w = end_of s es in
+    λ i. λ p. from_counted w.cells (size s.layout) 0 (λ j past. reads_beyond s es (DataAt j) past) p i

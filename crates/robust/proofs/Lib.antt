@@ -18,6 +18,9 @@ pub mod Glanced
 pub mod Headline
 pub mod Errands
 pub mod Appended
+pub mod Sending
+pub mod Numbered
+pub mod AllSent
 pub mod Board
 pub mod OneStep
 pub mod Walked

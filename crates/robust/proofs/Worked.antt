@@ -1,18 +1,23 @@
 -- What a lab has of its arena when its workers have handed their members back.
-use Rattle.std.proofs.Common.{◌≡◌, ◌≢◌, ◌⊎◌, ℕ, zero, suc, ◌+◌, ◌<◌, ◌≤◌, ◌==◌, ◌||◌, Bool, true, false, List, [], ◌∷◌, ◌++◌, map, length, All, refl, sym, ap, ◌∙◌, subst, inl, inr, arith, append-nil, append_assoc}
+use Rattle.std.proofs.Common.{◌≡◌, ◌≢◌, ◌⊎◌, ℕ, zero, suc, ◌+◌, ◌<◌, ◌≤◌, ◌==◌, ◌||◌, Bool, true, false, List, [], ◌∷◌, ◌++◌, map, length, Result, Ok, Err, IfOk, OnOk, All, refl, sym, ap, ◌∙◌, subst, inl, inr, arith, append-nil, append_assoc}
 use Rattle.std.specs.List.{list_any}
+use Rattle.std.proofs.lemmas.List.{map-append}
 use Rattle.std.proofs.lemmas.Bool.{true≢false, cases_eq, cases_lt}
 use Rattle.std.proofs.lemmas.List.Elements.{All-nil, All-cons, All-head, All-tail}
 use Rattle.atomic_table.specs.Seated.{TableId}
+use Rattle.redomail.specs.Layout.{IsLayout}
 use Rattle.robust.specs.declared.setup.Setup.{Setup}
 use Rattle.robust.specs.declared.lab.spec.Spec.{Spec}
+use Rattle.robust.specs.declared.lab.worker.Done.{Done}
+use Rattle.robust.specs.declared.lab.worker.Ending.TheVariants.{AllSent}
 use Rattle.robust.specs.Lab.{IsBadSpec}
+use Rattle.robust.specs.Worked.{seat_done, sizes_of, HasWorked}
 use Rattle.robust.specs.Runs.{has}
 use Rattle.robust.specs.Rule.{count_from}
 use Rattle.robust.specs.Running.{Seated}
 use Rattle.robust.specs.Making.{fresh_member, fresh_members}
 use Rattle.robust.specs.Gathering.{OneArena, has_member, procs_of, IsMissing}
-use Rattle.robust.specs.Working.{seat_of, seats_of}
+use Rattle.robust.specs.Working.{seat_of, seats_of, IsNew, HasSent}
 use Rattle.robust.proofs.Keeps.{count_has}
 
 abbrev Seat : Type 0
@@ -27,6 +32,11 @@ tail_same x y xs ys e = cc
 no_seat : (x : Seat) (xs : List Seat) → x ∷ xs ≡ [] → ⊥
 no_seat x xs e = cc
 
+-- one more of them has been taken and handed back
+pub moved_on : {A B C : Type 0} (f : A → C) (g : B → C) (done : List A) (d : A) (x : B) (left rest : List B) (all : List C) → map f done ++ map g left ≡ all → left ≡ x ∷ rest → f d ≡ g x → map f (done ++ d ∷ []) ++ map g rest ≡ all
+moved_on {A = A} {B = B} {C = C} f g done d x left rest all old is same =
+    ap (λ (l : List C). l ++ map g rest) (map-append f done (d ∷ [])) ∙ append_assoc (map f done) (f d ∷ []) (map g rest) ∙ ap (λ (c : C). map f done ++ c ∷ map g rest) same ∙ ap (λ (l : List B). map f done ++ map g l) (sym is) ∙ old
+
 -- members with the same seats are of the same arena, and the same are missing
 same_tables : (t : TableId) (xs ys : List Seated) → seats_of xs ≡ seats_of ys → All (λ (x : Seated). x.pass.table ≡ t) ys → All (λ (x : Seated). x.pass.table ≡ t) xs
 same_tables t [] ys e all = All-nil _
@@ -34,6 +44,14 @@ same_tables t (x ∷ xs) [] e all = absurd (no_seat (seat_of x) (seats_of xs) e)
 same_tables t (x ∷ xs) (y ∷ ys) e all =
     let here : seat_of x ≡ seat_of y = head_same (seat_of x) (seat_of y) (seats_of xs) (seats_of ys) e in
     All-cons (λ (x : Seated). x.pass.table ≡ t) x xs (ap (λ (s : Seat). s.0) here ∙ All-head (λ (x : Seated). x.pass.table ≡ t) y ys all) (same_tables t xs ys (tail_same (seat_of x) (seat_of y) (seats_of xs) (seats_of ys) e) (All-tail (λ (x : Seated). x.pass.table ≡ t) y ys all))
+
+same_setups : (s : Setup) (xs ys : List Seated) → seats_of xs ≡ seats_of ys → All (λ (x : Seated). x.pass.setup ≡ s) ys → All (λ (x : Seated). x.pass.setup ≡ s) xs
+same_setups s [] ys e all = All-nil _
+same_setups s (x ∷ xs) [] e all = absurd (no_seat (seat_of x) (seats_of xs) e)
+same_setups s (x ∷ xs) (y ∷ ys) e all =
+    let here : seat_of x ≡ seat_of y = head_same (seat_of x) (seat_of y) (seats_of xs) (seats_of ys) e in
+    All-cons (λ (x : Seated). x.pass.setup ≡ s) x xs (ap (λ (z : Seat). z.1) here ∙ All-head (λ (x : Seated). x.pass.setup ≡ s) y ys all)
+    (same_setups s xs ys (tail_same (seat_of x) (seat_of y) (seats_of xs) (seats_of ys) e) (All-tail (λ (x : Seated). x.pass.setup ≡ s) y ys all))
 
 same_members : (p : ℕ) (xs ys : List Seated) → seats_of xs ≡ seats_of ys → has_member p xs ≡ has_member p ys
 same_members p [] [] e = refl
@@ -56,6 +74,13 @@ module _ (t : TableId) (s : Setup) where
   fresh_tables k zero = All-nil _
   fresh_tables k (suc n) = All-cons (λ (x : Seated). x.pass.table ≡ t) (fresh_member t s k) (map (fresh_member t s) (count_from (suc k) n)) refl (fresh_tables (suc k) n)
 
+  fresh_setups : (k n : ℕ) → All (λ (x : Seated). x.pass.setup ≡ s) (map (fresh_member t s) (count_from k n))
+  fresh_setups k zero = All-nil _
+  fresh_setups k (suc n) = All-cons (λ (x : Seated). x.pass.setup ≡ s) (fresh_member t s k) (map (fresh_member t s) (count_from (suc k) n)) refl (fresh_setups (suc k) n)
+
+  pub all_setups : (xs : List Seated) → seats_of xs ≡ seats_of (fresh_members t s) → All (λ (x : Seated). x.pass.setup ≡ s) xs
+  all_setups xs e = same_setups s xs (fresh_members t s) e (fresh_setups 0 s.layout.procs)
+
   fresh_has : (p k n : ℕ) → has_member p (map (fresh_member t s) (count_from k n)) ≡ has p (count_from k n)
   fresh_has p k zero = refl
   fresh_has p k (suc n) = ap (λ (b : Bool). (k == p) || b) (fresh_has p (suc k) n)
@@ -77,6 +102,13 @@ module _ (t : TableId) (s : Setup) where
       let there = same_members h.0 xs (fresh_members t s) e ∙ fresh_has h.0 0 s.layout.procs ∙ count_has h.0 0 s.layout.procs (omega arith) (omega (arith, h.1, procs)) in
       true≢false (sym there ∙ h.2)
 
+  new_counted : (k n : ℕ) → All IsNew (map (fresh_member t s) (count_from k n))
+  new_counted k zero = All-nil _
+  new_counted k (suc n) = All-cons IsNew (fresh_member t s k) (map (fresh_member t s) (count_from (suc k) n)) refl (new_counted (suc k) n)
+
+  pub fresh_new : All IsNew (fresh_members t s)
+  fresh_new = new_counted 0 s.layout.procs
+
   length_counted : (k n : ℕ) → length (map (fresh_member t s) (count_from k n)) ≡ n
   length_counted k zero = refl
   length_counted k (suc n) = ap suc (length_counted (suc k) n)
@@ -93,3 +125,37 @@ good_sizes s gates good = (
   elim (cases_eq s.width 0) [ inl e ↦ absurd (good (inr (inr (inr (inl (inl e)))))) | inr ne ↦ omega (arith, ne) ],
   elim (cases_lt 8 s.width) [ inl h ↦ absurd (good (inr (inr (inr (inl (inr h)))))) | inr h ↦ h ],
 )
+
+pub good_layout : (s : Spec) (gates : ℕ) → (IsBadSpec s gates → ⊥) → IsLayout (sizes_of s).layout
+good_layout s gates good =
+    let sizes = good_sizes s gates good in
+    record {
+      few = elim (cases_lt 64 s.procs) [ inl h ↦ absurd (good (inl (inr h))) | inr h ↦ h ];
+      small = elim (cases_lt 65536 s.cap) [ inl h ↦ absurd (good (inr (inr (inl (inr h))))) | inr h ↦ h ];
+      least = sizes.3;
+      most = sizes.4;
+    }
+
+pub good_messages : (s : Spec) (gates : ℕ) → (IsBadSpec s gates → ⊥) → 1 ≤ s.messages
+good_messages s gates good = elim (cases_eq s.messages 0) [ inl e ↦ absurd (good (inr (inr (inr (inr (inl (inl e))))))) | inr ne ↦ omega (arith, ne) ]
+
+-- the members that workers hand back
+pub members_seats : (ds : List Done) → seats_of (map (λ (d : Done). d.member) ds) ≡ map seat_done ds
+members_seats [] = refl
+members_seats (d ∷ ds) = ap (λ (l : List Seat). seat_of d.member ∷ l) (members_seats ds)
+
+pub members_sent : (s : Spec) (ds : List Done) → All (HasWorked s) ds → All (λ (d : Done). d.ending ≡ AllSent) ds → All (HasSent s.width s.messages) (map (λ (d : Done). d.member) ds)
+members_sent s [] worked ended = All-nil _
+members_sent s (d ∷ ds) worked ended =
+    let here = All-head (HasWorked s) d ds worked in
+    let all = All-head (λ (d : Done). d.ending ≡ AllSent) d ds ended in
+    All-cons (HasSent s.width s.messages) d.member (map (λ (d : Done). d.member) ds) (here.0, here.1 all) (members_sent s ds (All-tail (HasWorked s) d ds worked) (All-tail (λ (d : Done). d.ending ≡ AllSent) d ds ended))
+
+-- two facts of an answer
+pub if_both : {T E : Type 0} (P Q R : T → Type 0) (r : Result T E) → IfOk r P → IfOk r Q → ((x : T) → P x → Q x → R x) → IfOk r R
+if_both P Q R (Ok x) h g both = both x h g
+if_both P Q R (Err e) h g both = tt
+
+pub if_on : {T E : Type 0} (P R : T → Type 0) (Q : Type 0) (r : Result T E) → IfOk r P → OnOk r Q → ((x : T) → P x → Q → R x) → IfOk r R
+if_on P R Q (Ok x) h g both = both x h g
+if_on P R Q (Err e) h g both = tt

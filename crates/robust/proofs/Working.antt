@@ -1,17 +1,20 @@
 -- A worker's calls leave its seat what it is.
-use Rattle.std.proofs.Common.{◌≡◌, ◌⊎◌, ℕ, Bool, true, false, if◌then◌else◌, List, Result, Ok, Err, IfOk, IfErr, refl, sym, ap, ◌∙◌, inl, inr}
+use Rattle.std.proofs.Common.{◌≡◌, ◌⊎◌, ℕ, ◌+◌, ◌<◌, Bool, true, false, if◌then◌else◌, List, Result, Ok, Err, IfOk, IfErr, refl, sym, ap, ◌∙◌, subst, inl, inr, arith}
+use Rattle.atomic_table.specs.Seated.{TableId}
 use Rattle.rmeworld.specs.declared.call.Call.{Call}
-use Rattle.rmeworld.specs.declared.call.Call.TheVariants.{Lock}
+use Rattle.rmeworld.specs.declared.call.Call.TheVariants.{Lock, Append}
 use Rattle.rmeworld.specs.declared.answer.Answer.{Answer}
 use Rattle.rmeworld.specs.Refused.{is_idle}
 use Rattle.redomail.specs.declared.reply.Reply.{Reply}
 use Rattle.robust.specs.declared.entry.Entry.{Entry}
+use Rattle.robust.specs.declared.setup.Setup.{Setup}
 use Rattle.robust.specs.declared.lock_fault.LockFault.{LockFault}
 use Rattle.robust.specs.Pass.{spot_now, Calls}
 use Rattle.robust.specs.Running.{Seated, began, fell}
 use Rattle.robust.specs.Faults.{ready, CutBy, AnsweredBy}
 use Rattle.robust.specs.Whole.{WholeEnds, WholeFails, AppendFails, IsWithin}
-use Rattle.robust.specs.Working.{seat_of}
+use Rattle.robust.specs.Lab.{words_sent}
+use Rattle.robust.specs.Working.{seat_of, IsSending}
 
 either_seat : (b : Bool) (x : Seated) → seat_of (if b then x else fell x) ≡ seat_of x
 either_seat true x = refl
@@ -40,3 +43,11 @@ pub sent_seat : (x y : Seated) (task : Call) (seq : ℕ) (value : List ℕ) (a b
     → IfOk r (λ reply. (turns : ℕ) × WholeEnds (began (ready x) Lock) turns task (Ok reply) y a b c d) → IfErr r (λ e. (turns : ℕ) × AppendFails x turns seq value y a b c d e) → seat_of y ≡ seat_of x
 sent_seat x y task seq value a b c d (Ok reply) h k = whole_seat x h.0 task (Ok reply) y a b c d h.1
 sent_seat x y task seq value a b c d (Err e) h k = append_seat x k.0 seq value y a b c d e k.1
+
+-- the same seat sends the same
+pub fits_seat : (width k : ℕ) (x y : Seated) (seq : ℕ) (value : List ℕ) → seat_of x ≡ seat_of y → IsSending width k y.pass.by (Append seq value) → IsSending width k x.pass.by (Append seq value)
+fits_seat width k x y seq value same fits = subst (λ (p : ℕ). IsSending width k p (Append seq value)) (ap (λ (s : TableId × Setup × ℕ). s.2) (sym same)) fits
+
+pub sends_value : (x y : Seated) (p seq width k : ℕ) (value : List ℕ) → seat_of x ≡ seat_of y → p ≡ y.pass.by → seq < k + 1 → value ≡ words_sent p seq width → IsSending width k x.pass.by (Append seq value)
+sends_value x y p seq width k value same is few words =
+    subst (λ (q : ℕ). IsSending width k q (Append seq value)) (is ∙ ap (λ (s : TableId × Setup × ℕ). s.2) (sym same)) (omega (arith, few), words)

@@ -1,20 +1,26 @@
 //! The laboratory over the running lock.
 
-ghost use Rattle.std.specs.Prelude.{◌≡◌, ◌≢◌, ◌<◌, ◌≤◌, ◌↔◌, IfOk, IfErr, IfSome, IsErrOf, map, vec_len};
+ghost use Rattle.std.specs.Prelude.{◌≡◌, ◌≢◌, ◌<◌, ◌≤◌, ◌↔◌, All, None, OnOk, IfOk, IfErr, IfSome, IsErrOf, map, slice_index, vec_len};
 ghost use Rattle.std.specs.Thread.{IsSend, IsSync};
 ghost use Rattle.atomic_table.specs.Seated.{TableId};
-ghost use Rattle.robust.specs.Lab.{IsBadSpec};
+ghost use Rattle.redomail.specs.Layout.{words_of};
+ghost use Rattle.redomail.specs.Shape.{entries, IsNumbered};
+ghost use Rattle.rmeworld.specs.ImageRules.{layout_of, IsLawfulImage};
+ghost use Rattle.robust.specs.declared.lab.spec.Spec.{Spec as SpecOf};
+ghost use Rattle.robust.specs.Lab.{AreAllSent, IsBadSpec};
 ghost use Rattle.robust.specs.Making.{fresh_members};
-ghost use Rattle.robust.specs.Worked.{seat_done, seat_promised, sizes_of};
-ghost use Rattle.robust.specs.Working.{seats_of};
+ghost use Rattle.robust.specs.Worked.{seat_done, seat_promised, sizes_of, HasWorked};
+ghost use Rattle.robust.specs.Working.{seats_of, IsNew};
 
 use crate::arena::Arena;
 use crate::gather_fault::GatherFault;
 use crate::gathering::gather;
 use crate::lab::worker::{Done, Ending, HandsBack, work};
 use crate::lab::{Gate, LabFault, LabResult, Spec};
+use crate::laws;
 use crate::member::Member;
 use redomail::{Layout, content};
+use rmecore::Refusal;
 use rmeworld::Image;
 use std::alloc::{AllocError, Global};
 use std::snapshot::Snapshot;
@@ -24,13 +30,15 @@ use std::thread::{PromisedHandle, Scope, Threads};
 
 /// Runs a worker for each process of a new arena, all at the same time, each on a thread of its own. Worker p appends its
 /// messages with the numbers from 1 on; it calls again after each crash that its gate lets fall, and tells its gate of each
-/// answer. It returns when all workers have ended, with the messages that stand then.
+/// answer. It returns when all workers have ended, with the messages that stand then: of each worker its own, once and in
+/// order, and no others.
 pub fn run_lab<G: Gate + Send + Drop, R: Threads + Wait + Sync>(
     rt: &R,
     alloc: Global,
     spec: Spec,
     gates: Vec<G>,
 ) -> Result<LabResult, LabFault>
+    ensures all { IfOk result (λ r. AreAllSent spec r.messages.items) }
     ensures bad_spec { IsErrOf result LabFault.BadSpec ↔ IsBadSpec spec (vec_len gates) }
 {
     if spec.is_bad(gates.len() as u64) {
@@ -47,8 +55,11 @@ fn run<G: Gate + Send + Drop, R: Threads + Wait + Sync>(
     gates: Vec<G>,
 ) -> Result<LabResult, LabFault>
     requires { IsBadSpec spec (vec_len gates) → ⊥ }
-    ensures { IfErr result (λ fault. fault ≢ LabFault.BadSpec) }
+    ensures all { IfOk result (λ r. AreAllSent spec r.messages.items) }
+    ensures fault { IfErr result (λ fault. fault ≢ LabFault.BadSpec) }
 {
+    laws::runs_show();
+    rmeworld::laws::messages_were_sent();
     let members = made(rt, alloc, spec)?;
     let Ok(ended) = work_all(rt, alloc, spec, members, gates) else {
         return Err(LabFault::OutOfMemory);
@@ -67,10 +78,11 @@ fn run<G: Gate + Send + Drop, R: Threads + Wait + Sync>(
 }
 
 /// A new member for each worker.
-#[tactic(auto, using(crate::proofs::Worked::length_fresh))]
+#[tactic(auto, using(crate::proofs::Worked::length_fresh, crate::proofs::Worked::fresh_new))]
 fn made<R>(rt: &R, alloc: Global, spec: Spec) -> Result<Vec<Member>, LabFault>
     ensures seats { IfOk result (λ v. (t : TableId) × (seats_of v.items ≡ seats_of (fresh_members t (sizes_of spec)))) }
     ensures length { IfOk result (λ v. vec_len v ≡ spec.procs) }
+    ensures new { IfOk result (λ v. All IsNew v.items) }
     ensures memory { IfErr result (λ fault. fault ≡ LabFault.OutOfMemory) }
 {
     match Arena::new(rt, alloc, spec.procs, spec.limit, spec.cap, spec.width) {
@@ -89,16 +101,18 @@ fn work_all<G: Gate + Send + Drop, R: Threads + Wait + Sync>(
     gates: Vec<G>,
 ) -> Result<Vec<Done>, AllocError>
     requires gates { vec_len gates ≡ vec_len members }
-    requires messages { spec.messages ≤ 4096 }
+    requires messages { (1 ≤ spec.messages) × (spec.messages ≤ 4096) }
     requires width { (1 ≤ spec.width) × (spec.width ≤ 8) }
-    ensures { IfOk result (λ all. map seat_done all.items ≡ seats_of members.items) }
+    requires new { All IsNew members.items }
+    ensures seats { IfOk result (λ all. map seat_done all.items ≡ seats_of members.items) }
+    ensures worked { IfOk result (λ all. All (HasWorked spec) all.items) }
 {
     thread::scope(
         thread::scope_env(),
         rt,
         |scope| -> Result<Vec<Done>, AllocError>
-            requires { IsSend G.row × IsSync R.row × (vec_len gates ≡ vec_len members) × (spec.messages ≤ 4096) × (1 ≤ spec.width) × (spec.width ≤ 8) }
-            ensures { IfOk result (λ all. map seat_done all.items ≡ seats_of members.items) }
+            requires { IsSend G.row × IsSync R.row × (vec_len gates ≡ vec_len members) × (1 ≤ spec.messages) × (spec.messages ≤ 4096) × (1 ≤ spec.width) × (spec.width ≤ 8) × All IsNew members.items }
+            ensures { IfOk result (λ all. (map seat_done all.items ≡ seats_of members.items) × All (HasWorked spec) all.items) }
         {
             let threads = start_all(scope, rt, alloc, spec, members, gates)?;
             join_all(rt, alloc, threads)
@@ -116,9 +130,11 @@ fn start_all<'s, E: 's, G: Gate + Send + Drop + 's, R: Wait + Sync>(
     gates: Vec<G>,
 ) -> Result<Vec<PromisedHandle<Done, HandsBack>>, AllocError>
     requires gates { vec_len gates ≡ vec_len members }
-    requires messages { spec.messages ≤ 4096 }
+    requires messages { (1 ≤ spec.messages) × (spec.messages ≤ 4096) }
     requires width { (1 ≤ spec.width) × (spec.width ≤ 8) }
-    ensures { IfOk result (λ threads. map (λ h. seat_promised h.promise) threads.items ≡ seats_of members.items) }
+    requires new { All IsNew members.items }
+    ensures seats { IfOk result (λ threads. map (λ h. seat_promised h.promise) threads.items ≡ seats_of members.items) }
+    ensures spec { IfOk result (λ threads. All (λ h. h.promise.1 ≡ spec) threads.items) }
 {
     let mut threads = Vec::new(alloc);
     let mut gates = gates.into_iter();
@@ -126,9 +142,9 @@ fn start_all<'s, E: 's, G: Gate + Send + Drop + 's, R: Wait + Sync>(
         let Some(gate) = gates.next() else {
             unreachable!()
         };
-        let promise = HandsBack(Snapshot::of(&member));
+        let promise = HandsBack(Snapshot::of(&member), spec);
         let job = move || -> Done
-            requires { IsSend G.row × IsSync R.row × (spec.messages ≤ 4096) × (1 ≤ spec.width) × (spec.width ≤ 8) }
+            requires { IsSend G.row × IsSync R.row × (1 ≤ spec.messages) × (spec.messages ≤ 4096) × (1 ≤ spec.width) × (spec.width ≤ 8) × IsNew member }
         { work(rt, member, gate, spec) };
         let Ok(thread) = scope.spawn_with(promise, job) else {
             return Err(AllocError);
@@ -144,7 +160,8 @@ fn join_all<R: Threads>(
     alloc: Global,
     threads: Vec<PromisedHandle<Done, HandsBack>>,
 ) -> Result<Vec<Done>, AllocError>
-    ensures { IfOk result (λ all. map seat_done all.items ≡ map (λ h. seat_promised h.promise) threads.items) }
+    ensures seats { IfOk result (λ all. map seat_done all.items ≡ map (λ h. seat_promised h.promise) threads.items) }
+    ensures worked { (spec : SpecOf) → All (λ h. h.promise.1 ≡ spec) threads.items → IfOk result (λ all. All (HasWorked spec) all.items) }
 {
     let mut all = Vec::new(alloc);
     for thread in threads {
@@ -155,13 +172,15 @@ fn join_all<R: Threads>(
 
 /// What ended the least worker that has ended early.
 fn first_fault(ended: &[Done]) -> Option<LabFault>
-    ensures { IfSome result (λ fault. fault ≢ LabFault.BadSpec) }
+    ensures fault { IfSome result (λ fault. fault ≢ LabFault.BadSpec) }
+    ensures none { result ≡ None → All (λ done. done.ending ≡ Ending.AllSent) ended.now }
 {
-    for (p, done) in ended.iter().enumerate() {
+    for done in ended {
+        let p = done.member.number();
         match done.ending {
             Ending::AllSent => {}
-            Ending::Fault(fault) => return Some(LabFault::Member { p: p as u64, fault }),
-            Ending::Refused(reply) => return Some(LabFault::Reply { p: p as u64, reply }),
+            Ending::Fault(fault) => return Some(LabFault::Member { p, fault }),
+            Ending::Refused(reply) => return Some(LabFault::Reply { p, reply }),
         }
     }
     None
@@ -169,7 +188,7 @@ fn first_fault(ended: &[Done]) -> Option<LabFault>
 
 /// The members of workers that have ended.
 fn members_of(alloc: Global, ended: Vec<Done>) -> Result<Vec<Member>, AllocError>
-    ensures { IfOk result (λ all. seats_of all.items ≡ map seat_done ended.items) }
+    ensures { IfOk result (λ all. all.items ≡ map (λ done. done.member) ended.items) }
 {
     let mut members = Vec::with_capacity(alloc, ended.len())?;
     for done in ended {
@@ -180,7 +199,11 @@ fn members_of(alloc: Global, ended: Vec<Done>) -> Result<Vec<Member>, AllocError
 
 /// The messages that the data words of the last image show.
 fn shown(alloc: Global, spec: Spec, image: &Image) -> Result<LabResult, LabFault>
-    ensures { IfErr result (λ fault. fault ≢ LabFault.BadSpec) }
+    requires lawful { IsLawfulImage image.now }
+    requires layout { layout_of image.now ≡ (sizes_of spec).layout }
+    ensures messages { IfOk result (λ r. r.messages.items ≡ entries (sizes_of spec).layout (words_of image.now.cells) (slice_index image.now.cells 2)) }
+    ensures numbered { OnOk result (IsNumbered (sizes_of spec).layout (words_of image.now.cells) (slice_index image.now.cells 2)) }
+    ensures fault { IfErr result (λ fault. fault ≢ LabFault.BadSpec) }
 {
     let layout = Layout {
         procs: spec.procs,
@@ -189,6 +212,7 @@ fn shown(alloc: Global, spec: Spec, image: &Image) -> Result<LabResult, LabFault
     };
     match content(alloc, layout, image.cells.as_slice()) {
         Ok(messages) => Ok(LabResult { messages }),
+        Err(Refusal::BadShape) => unreachable!(),
         Err(_) => Err(LabFault::OutOfMemory),
     }
 }

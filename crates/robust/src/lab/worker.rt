@@ -1,7 +1,9 @@
 //! A worker of the lab over the running lock.
 
-ghost use Rattle.std.specs.Prelude.{◌≡◌, ◌≤◌};
-ghost use Rattle.robust.specs.Working.{seat_of};
+ghost use Rattle.std.specs.Prelude.{◌≡◌, ◌≤◌, ◌↔◌, ◌⊎◌, ℕ, IsTrue, IfOk};
+ghost use Rattle.rmeworld.specs.declared.call.Call.TheVariants.{Append};
+ghost use Rattle.robust.specs.Worked.{HasWorked};
+ghost use Rattle.robust.specs.Working.{seat_of, IsNew, IsSending, SendsOnly, HasShown};
 
 use crate::lab::sending::value_sent;
 use crate::lab::{Gate, Spec};
@@ -31,32 +33,37 @@ pub struct Done {
     pub ending: Ending,
 }
 
-/// That a worker hands back the member that it was given.
+/// That a worker of a lab with these sizes hands back the member that it was given, with its messages sent.
 #[derive(Drop)]
-pub struct HandsBack(pub Snapshot<Member>);
+pub struct HandsBack(pub Snapshot<Member>, pub Spec);
 
 impl Promise<Done> for HandsBack {
     ghost use Rattle.std.specs.Prelude.{◌≡◌};
+    ghost use Rattle.robust.specs.Worked.{HasWorked};
     ghost use Rattle.robust.specs.Working.{seat_of};
 
-    ghost kept_by = { λ promise done. seat_of done.member ≡ seat_of promise.0.value };
+    ghost kept_by = { λ promise done. (seat_of done.member ≡ seat_of promise.0.value) × HasWorked promise.1 done };
 }
 
 /// Sends the messages of a worker, numbered from 1, each again until it is answered. An answer is told to the gate.
 pub fn work<G: Gate + Drop, R: Wait>(rt: &R, mut member: Member, mut gate: G, spec: Spec) -> Done
+    requires some { 1 ≤ spec.messages }
     requires most { spec.messages ≤ 4096 }
     requires least { 1 ≤ spec.width }
     requires wide { spec.width ≤ 8 }
-    ensures { seat_of result.member ≡ seat_of member }
+    requires new { IsNew member }
+    ensures seat { seat_of result.member ≡ seat_of member }
+    ensures worked { HasWorked spec result }
 {
     let p = member.number();
     for seq in 1..spec.messages + 1 {
         let value = value_sent(p, seq, spec.width);
         match send(rt, &mut member, &mut gate, seq, value) {
-            Ok(Reply::Stored | Reply::Already) => {}
             Ok(reply) => {
-                let ending = Ending::Refused(reply);
-                return Done { member, ending };
+                if !is_sent(reply) {
+                    let ending = Ending::Refused(reply);
+                    return Done { member, ending };
+                }
             }
             Err(fault) => {
                 let ending = Ending::Fault(fault);
@@ -68,6 +75,13 @@ pub fn work<G: Gate + Drop, R: Wait>(rt: &R, mut member: Member, mut gate: G, sp
     Done { member, ending }
 }
 
+/// Is the message shown by this reply?
+fn is_sent(reply: Reply) -> bool
+    ensures { IsTrue result ↔ (reply ≡ Reply.Stored) ⊎ (reply ≡ Reply.Already) }
+{
+    matches!(reply, Reply::Stored | Reply::Already)
+}
+
 /// Sends one message until it is answered.
 fn send<G: Gate, R: Wait>(
     rt: &R,
@@ -76,7 +90,9 @@ fn send<G: Gate, R: Wait>(
     seq: u64,
     value: Body,
 ) -> Result<Reply, LockFault>
-    ensures { seat_of member.new ≡ seat_of member.old }
+    ensures seat { seat_of member.new ≡ seat_of member.old }
+    ensures only { (width k : ℕ) → IsSending width k member.old.pass.by (Append seq value) → SendsOnly width k member.old → SendsOnly width k member.new }
+    ensures shown { IfOk result (λ reply. (reply ≡ Reply.Stored) ⊎ (reply ≡ Reply.Already) → HasShown seq member.new) }
 {
     for _ in rt.forever() {
         match member.append(rt, seq, value, gate) {

@@ -1,7 +1,11 @@
-use Rattle.std.proofs.Common.{◌≡◌, ◌++◌, map}
+use Rattle.std.proofs.Common.{◌≡◌, ◌++◌, map, All}
 use Rattle.std.specs.Vec.Iter.{into_iter_items}
-use Rattle.robust.specs.Worked.{seat_done, seat_promised}
+use Rattle.robust.specs.declared.lab.spec.Spec.{Spec}
+use Rattle.robust.specs.Worked.{seat_done, seat_promised, HasWorked}
 use Rattle.robust.proofs.lab.running.join_all.Given as goal
 
 abbrev pub invariant-loop-thread : goal.invariant-loop-thread
-invariant-loop-thread g l = record { seats : map seat_done l.all.items ++ map (λ h. seat_promised h.promise) (into_iter_items l.thread-iterator) ≡ map (λ h. seat_promised h.promise) l.fn.threads.items }
+invariant-loop-thread g l = record {
+  seats : map seat_done l.all.items ++ map (λ h. seat_promised h.promise) (into_iter_items l.thread-iterator) ≡ map (λ h. seat_promised h.promise) l.fn.threads.items;
+  worked : (spec : Spec) → All (λ h. h.promise.1 ≡ spec) l.fn.threads.items → All (HasWorked spec) l.all.items × All (λ h. h.promise.1 ≡ spec) (into_iter_items l.thread-iterator);
+}

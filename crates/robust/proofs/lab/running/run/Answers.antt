@@ -1,19 +1,55 @@
-use Rattle.std.proofs.Common.{◌≡◌, ◌∙◌, sym, ap}
+use Rattle.std.proofs.Common.{◌≡◌, ◌∙◌, All, slice_index, sym, ap, subst}
 use Rattle.std.specs.Prelude.{vec_len}
+use Rattle.redomail.specs.Layout.{words_of}
+use Rattle.redomail.specs.Shape.{entries, IsNumbered}
+use Rattle.robust.specs.declared.lab.worker.Ending.TheVariants.{AllSent}
+use Rattle.robust.specs.Lab.{AreAllSent}
 use Rattle.robust.specs.Worked.{sizes_of}
-use Rattle.robust.proofs.Worked.{one_arena, none_missing, good_sizes}
+use Rattle.robust.specs.Working.{seats_of, HasSent}
+use Rattle.robust.proofs.AllSent.{lab_sent, gathered_layout}
+use Rattle.robust.proofs.Worked.{one_arena, none_missing, all_setups, good_sizes, good_messages, good_layout, members_seats, members_sent, if_on}
 use Rattle.robust.proofs.lab.running.run.Goals as goal
 
 pub work_all-requires-clause-gates : goal.work_all-requires-clause-gates
 work_all-requires-clause-gates g c κs within = (good_sizes c.args.spec (vec_len c.args.gates) c.requires).0 ∙ sym c.in_ok-members.ensures.length
 
+pub work_all-requires-clause-messages : goal.work_all-requires-clause-messages
+work_all-requires-clause-messages g c κs within = (good_messages c.args.spec (vec_len c.args.gates) c.requires, (good_sizes c.args.spec (vec_len c.args.gates) c.requires).2)
+
 pub gather-requires : goal.gather-requires
 gather-requires g c =
     let s = c.in_ok-members.ensures.seats in
-    record { arena = one_arena s.0 (sizes_of c.args.spec) c.in-Ok-members_of.members.items (c.in-Ok-members_of.ensures ∙ c.in-Ok.ensures ∙ s.1) }
+    let seats = ap seats_of c.in-Ok-members_of.ensures ∙ members_seats c.in-Ok.ended.items ∙ c.in-Ok.ensures.seats ∙ s.1 in
+    record { arena = one_arena s.0 (sizes_of c.args.spec) c.in-Ok-members_of.members.items seats }
 
 pub unreachable-requires : goal.unreachable-requires
 unreachable-requires g c =
     let s = c.in_ok-members.ensures.seats in
-    none_missing s.0 (sizes_of c.args.spec) c.in-Ok-members_of.members.items (c.in-Ok-members_of.ensures ∙ c.in-Ok.ensures ∙ s.1) (good_sizes c.args.spec (vec_len c.args.gates) c.requires).1
+    let seats = ap seats_of c.in-Ok-members_of.ensures ∙ members_seats c.in-Ok.ended.items ∙ c.in-Ok.ensures.seats ∙ s.1 in
+    none_missing s.0 (sizes_of c.args.spec) c.in-Ok-members_of.members.items seats (good_sizes c.args.spec (vec_len c.args.gates) c.requires).1
     (c.in-Err-default-NotAll.ensures.missing c.in-Err-default-NotAll.field-0-1-is)
+
+pub shown-requires-clause-lawful : goal.shown-requires-clause-lawful
+shown-requires-clause-lawful g c = c.in-Ok-gather.ensures.lawful
+
+pub shown-requires-clause-layout : goal.shown-requires-clause-layout
+shown-requires-clause-layout g c =
+    let s = c.in_ok-members.ensures.seats in
+    let xs = c.in-Ok-members_of.members.items in
+    let seats = ap seats_of c.in-Ok-members_of.ensures ∙ members_seats c.in-Ok.ended.items ∙ c.in-Ok.ensures.seats ∙ s.1 in
+    gathered_layout (sizes_of c.args.spec) xs c.in-Ok-gather.image (all_setups s.0 (sizes_of c.args.spec) xs seats) c.in-Ok-gather.ensures.gathered
+
+pub returns-in-Ok-gather-clause-all : goal.returns-in-Ok-gather-clause-all
+returns-in-Ok-gather-clause-all g c =
+    let spec = c.args.spec in
+    let z = sizes_of spec in
+    let s = c.in_ok-members.ensures.seats in
+    let xs = c.in-Ok-members_of.members.items in
+    let image = c.in-Ok-gather.image in
+    let seats = ap seats_of c.in-Ok-members_of.ensures ∙ members_seats c.in-Ok.ended.items ∙ c.in-Ok.ensures.seats ∙ s.1 in
+    let ended = subst (All (λ done. done.ending ≡ AllSent)) c.as_slice.ensures.value (c.first_fault.ensures.none c.in_default-first_fault.is) in
+    let sent = subst (All (HasSent spec.width spec.messages)) (sym c.in-Ok-members_of.ensures) (members_sent spec c.in-Ok.ended.items c.in-Ok.ensures.worked ended) in
+    let layout = good_layout spec (vec_len c.args.gates) c.requires in
+    if_on (λ r. r.messages.items ≡ entries z.layout (words_of image.cells) (slice_index image.cells 2)) (λ r. AreAllSent spec r.messages.items) (IsNumbered z.layout (words_of image.cells) (slice_index image.cells 2)) c.shown.result c.shown.ensures.messages
+    c.shown.ensures.numbered
+    (λ r is numbered. lab_sent spec xs image r.messages.items layout (all_setups s.0 z xs seats) sent c.in-Ok-gather.ensures.gathered c.messages_were_sent.ensures.sent c.runs_show.ensures is numbered)

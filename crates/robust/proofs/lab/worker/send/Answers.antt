@@ -1,8 +1,33 @@
-use Rattle.std.proofs.Common.{◌∙◌}
+use Rattle.std.proofs.Common.{◌≡◌, ℕ, ◌∙◌, sym, ap, subst}
+use Rattle.atomic_table.specs.Seated.{TableId}
+use Rattle.redomail.specs.Mailbox.{IsAmong}
 use Rattle.rmeworld.specs.declared.call.Call.TheVariants.{Append}
-use Rattle.robust.proofs.Working.{sent_seat}
+use Rattle.robust.specs.declared.setup.Setup.{Setup}
+use Rattle.robust.specs.Headline.{shown_by}
+use Rattle.robust.proofs.Sending.{sends_append}
+use Rattle.robust.proofs.Working.{sent_seat, fits_seat}
 use Rattle.robust.proofs.lab.worker.send.Goals as goal
 
+pub returns-in-Ok-clause-only : goal.returns-in-Ok-clause-only
+returns-in-Ok-clause-only g c = λ width k fits old.
+    sends_append width k c.loop.member c.append.new.self c.args.seq c.args.value _ _ _ _ (fits_seat width k c.loop.member c.args.member.now c.args.seq c.args.value c.loop.invariant.seat fits) (c.loop.invariant.only width k fits old) c.append.result c.append.ensures.replied c.append.ensures.fails
+
+pub returns-in-Ok-clause-shown : goal.returns-in-Ok-clause-shown
+returns-in-Ok-clause-shown g c = λ stored.
+    let seat = sent_seat c.loop.member c.append.new.self (Append c.args.seq c.args.value) c.args.seq c.args.value _ _ _ _ c.append.result c.append.ensures.replied c.append.ensures.fails in
+    subst (λ (p : ℕ). IsAmong p c.args.seq (shown_by c.append.new.self.pass.setup c.append.new.self.pass.seen)) (ap (λ (s : TableId × Setup × ℕ). s.2) (sym seat)) (c.in-Ok.ensures.shown stored)
+
+pub loop-preserved : goal.loop-preserved
+loop-preserved g c = record {
+  seat = sent_seat c.loop.member c.append.new.self (Append c.args.seq c.args.value) c.args.seq c.args.value _ _ _ _ c.append.result c.append.ensures.replied c.append.ensures.fails ∙ c.loop.invariant.seat;
+  only = λ width k fits old.
+      sends_append width k c.loop.member c.append.new.self c.args.seq c.args.value _ _ _ _ (fits_seat width k c.loop.member c.args.member.now c.args.seq c.args.value c.loop.invariant.seat fits) (c.loop.invariant.only width k fits old) c.append.result c.append.ensures.replied c.append.ensures.fails;
+}
+
 pub returns-in-Err : goal.returns-in-Err
-returns-in-Err g c =
-    sent_seat c.loop.member c.append.new.self (Append c.args.seq c.args.value) c.args.seq c.args.value _ _ _ _ c.append.result c.append.ensures.replied c.append.ensures.fails ∙ c.loop.invariant.seat
+returns-in-Err g c = record {
+  seat = sent_seat c.loop.member c.append.new.self (Append c.args.seq c.args.value) c.args.seq c.args.value _ _ _ _ c.append.result c.append.ensures.replied c.append.ensures.fails ∙ c.loop.invariant.seat;
+  only = λ width k fits old.
+      sends_append width k c.loop.member c.append.new.self c.args.seq c.args.value _ _ _ _ (fits_seat width k c.loop.member c.args.member.now c.args.seq c.args.value c.loop.invariant.seat fits) (c.loop.invariant.only width k fits old) c.append.result c.append.ensures.replied c.append.ensures.fails;
+  shown = tt;
+}

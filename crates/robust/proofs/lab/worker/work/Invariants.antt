@@ -1,6 +1,10 @@
-use Rattle.std.proofs.Common.{◌≡◌}
-use Rattle.robust.specs.Working.{seat_of}
+use Rattle.std.proofs.Common.{◌≡◌, ℕ, ◌+◌, ◌<◌}
+use Rattle.robust.specs.Working.{seat_of, SendsOnly, HasShown}
 use Rattle.robust.proofs.lab.worker.work.Given as goal
 
 abbrev pub invariant-loop-seq : goal.invariant-loop-seq
-invariant-loop-seq g l = record { seat : seat_of l.member ≡ seat_of l.fn.member }
+invariant-loop-seq g l = record {
+  seat : seat_of l.member ≡ seat_of l.fn.member;
+  only : SendsOnly l.fn.spec.width l.fn.spec.messages l.member;
+  shown : (n : ℕ) → n + 1 ≡ l.seq → 0 < n → HasShown n l.member;
+}

@@ -1,0 +1,224 @@
+-- What the mailbox list shows at the end of a lab: just what its workers sent.
+use Rattle.std.proofs.Common.{◌≡◌, ◌≢◌, ℕ, zero, suc, ◌+◌, ◌*◌, ◌<◌, ◌≤◌, ◌==◌, ◌||◌, ◌⊎◌, Bool, true, false, List, [], ◌∷◌, ◌++◌, length, slice_index, map, Option, Some, None, All, refl, sym, ap, ◌∙◌, subst, inl, inr, arith, eqb-true, eq-eqb}
+use Rattle.std.proofs.lemmas.Bool.{cases_eq}
+use Rattle.std.proofs.lemmas.List.Elements.{All-nil, All-cons, All-head, All-tail, All-append, All-weaker, All-contains}
+use Rattle.rmecore.specs.declared.kind.Kind.{Kind}
+use Rattle.redomail.specs.declared.layout.Layout.{Layout}
+use Rattle.redomail.specs.declared.message.Message.{Message}
+use Rattle.redomail.specs.Content.{IsContent, EntriesHold}
+use Rattle.redomail.specs.Layout.{Words, IsLayout, words_of, size}
+use Rattle.redomail.specs.Mailbox.{IsAmong}
+use Rattle.redomail.specs.Shape.{entries, count_of, IsNumbered, RecordRule, Unshown, Shown}
+use Rattle.judge.specs.Table.{State, empty}
+use Rattle.judge.proofs.Halves.{state_led}
+use Rattle.rmeworld.specs.declared.call.Call.{Call}
+use Rattle.rmeworld.specs.declared.call.Call.TheVariants.{Append}
+use Rattle.rmeworld.specs.declared.image.Image.{Image}
+use Rattle.rmeworld.specs.ImageRules.{layout_of, IsLawfulImage}
+use Rattle.rmeworld.specs.Sent.{EveryMessageWasSent, IsSent}
+use Rattle.rmeworld.specs.Spot.{Happening, Begins, Falls}
+use Rattle.robust.specs.declared.entry.Entry.{Entry}
+use Rattle.robust.specs.declared.lab.spec.Spec.{Spec}
+use Rattle.robust.specs.declared.setup.Setup.{Setup}
+use Rattle.robust.specs.Gathering.{Gathers, IsGlance, IsTold, IsWhole, has_member, image_at}
+use Rattle.robust.specs.Headline.{deeds_of, shown_by}
+use Rattle.robust.specs.Lab.{AreAllSent, words_sent, messages_sent, messages_by}
+use Rattle.robust.specs.Reading.{cells_of, RunsShow}
+use Rattle.robust.specs.Rule.{Begins as Starts, count_from}
+use Rattle.robust.specs.Running.{Seated}
+use Rattle.robust.specs.Runs.{before, taken, happenings, spelled, own, IsRun, end_of}
+use Rattle.robust.specs.Worked.{sizes_of}
+use Rattle.robust.specs.Working.{OfStart, IsSending, AreSending, HasSent}
+use Rattle.robust.proofs.Appended.{own_taken, own_passed, among_more}
+use Rattle.robust.proofs.LawfulEnd.{length-counted, cells_counted}
+use Rattle.robust.proofs.Numbered.{many, few, sent_by, senders, counted_all}
+use Rattle.robust.proofs.Runs.{by_kind}
+use Rattle.robust.proofs.Shown.{shown_on}
+
+all_both : {X : Type 0} (P Q : X → Type 0) (xs : List X) → All P xs → All Q xs → All (λ (x : X). P x × Q x) xs
+all_both P Q [] h g = All-nil _
+all_both P Q (x ∷ xs) h g = All-cons (λ x. P x × Q x) x xs (All-head P x xs h, All-head Q x xs g) (all_both P Q xs (All-tail P x xs h) (All-tail Q x xs g))
+
+-- what holds of each call that a process starts
+OfBegins : (Call → Type 0) → ℕ → Happening → Type 0
+OfBegins P p (Begins q call) = q ≡ p → P call
+OfBegins P p _ = Unit {0}
+
+module _ (P : Call → Type 0) (p : ℕ) where
+  abbrev Q : Happening → Type 0
+  Q = OfBegins P p
+
+  begins_before : (c : Bool) (o : Option Call) (q : ℕ) → (q ≡ p → OfStart P o) → All Q (before c o q)
+  unfolding OfBegins
+  begins_before true None q h = All-cons Q (Falls q) [] tt (All-nil Q)
+  begins_before true (Some call) q h = All-cons Q (Falls q) (Begins q call ∷ []) tt (All-cons Q (Begins q call) [] h (All-nil Q))
+  begins_before false None q h = All-nil Q
+  begins_before false (Some call) q h = All-cons Q (Begins q call) [] h (All-nil Q)
+
+  begins_taken : (e : Entry) → Q (taken e.by e.step.kind e.step.word e.value)
+  unfolding OfBegins
+  begins_taken e = by_kind (λ k h. OfBegins P p h) e.by e.step.word e.value tt (λ k. tt) e.step.kind
+
+  begins_entry : (e : Entry) → (e.by ≡ p → OfStart P e.step.start) → All Q (happenings e)
+  begins_entry e h = All-append Q (before e.step.crashed e.step.start e.by) (taken e.by e.step.kind e.step.word e.value ∷ []) (begins_before e.step.crashed e.step.start e.by h) (All-cons Q (taken e.by e.step.kind e.step.word e.value) [] (begins_taken e) (All-nil Q))
+
+  abbrev F : Entry → Type 0
+  F e = OfStart P e.step.start
+
+  own_first : (e : Entry) (es : List Entry) → All F (own p (e ∷ es)) → e.by ≡ p → F e
+  own_first e es h same = All-head F e (own p es) (subst (All F) (own_taken p e es (eq-eqb e.by p same)) h)
+
+  own_rest : (e : Entry) (es : List Entry) → All F (own p (e ∷ es)) → All F (own p es)
+  own_rest e es h = go (e.by == p) refl
+    where
+      go : (b : Bool) → (e.by == p) ≡ b → All F (own p es)
+      go true is = All-tail F e (own p es) (subst (All F) (own_taken p e es is) h)
+      go false is = subst (All F) (own_passed p e es is) h
+
+  begins_all : (es : List Entry) → All F (own p es) → All Q (spelled es)
+  begins_all [] h = All-nil Q
+  begins_all (e ∷ es) h = All-append Q (happenings e) (spelled es) (begins_entry e (own_first e es h)) (begins_all es (own_rest e es h))
+
+begins_it : (P : Call → Type 0) (p : ℕ) (call : Call) → OfBegins P p (Begins p call) → P call
+unfolding OfBegins
+begins_it P p call h = h refl
+
+-- the words of a lawful image
+pub lawful_content : (i : Image) → IsLawfulImage i → IsContent (layout_of i) i.cells
+lawful_content i k = record {
+  heads = k.heads (omega arith);
+  entries = record { listed = k.listed (omega arith); recorded = recorded };
+}
+  where
+    recorded : slice_index i.cells 3 ≡ 1 → (q : ℕ) × (q < length i.lock) × RecordRule (layout_of i) q (words_of i.cells)
+    recorded armed =
+        let r = k.recorded (omega arith) in
+        elim (cases_eq (slice_index i.cells 0) 0) [
+          | inl zero_is ↦ (let c = r.clean armed zero_is in (c.0, c.1.0, c.2))
+          | inr other ↦ r.ruined armed (let bit = (k.heads (omega arith)).ruined in omega (arith, bit, other))
+        ]
+
+pub content_numbered : (l : Layout) (xs : List ℕ) → IsContent l xs → IsNumbered l (words_of xs) (slice_index xs 2)
+content_numbered l xs c =
+    elim (cases_eq (slice_index xs 3) 0) [
+      | inl none ↦ (c.entries.listed none).numbered
+      | inr other ↦ (let armed : slice_index xs 3 ≡ 1 = (let bit = c.heads.armed in omega (arith, bit, other)) in by_rule (c.entries.recorded armed).2)
+    ]
+  where
+    by_rule : {q : ℕ} → RecordRule l q (words_of xs) → IsNumbered l (words_of xs) (slice_index xs 2)
+    by_rule r = elim r.rule [ inl unshown ↦ unshown.numbered | inr shown ↦ shown.listed.numbered ]
+
+-- the messages at the end of a run
+pub shown_entries : (s : Setup) (run : List Entry) → IsLayout s.layout → IsRun s run → RunsShow → shown_by s run ≡ entries s.layout (cells_of s run) (cells_of s run 2)
+shown_entries s run layout legal shows =
+    let h = (shows s run layout legal).0 in
+    ap (λ (t : State). t.mail.shown) (sym (state_led (empty s.layout.procs s.layout.cap) h.0 (deeds_of s run) h.1)) ∙ h.2
+
+-- each sender's are what it sent, where each process of the run has started just its own appends
+module _ (s : Spec) (run : List Entry) (w : Words) (n : ℕ) (layout : IsLayout (sizes_of s).layout) (legal : IsRun (sizes_of s) run) (numbered : IsNumbered (sizes_of s).layout w n) (sent : EveryMessageWasSent)
+    (shown : shown_by (sizes_of s) run ≡ entries (sizes_of s).layout w n) (each : (p : ℕ) → p < s.procs → AreSending s.width s.messages p (own p run) × IsAmong p s.messages (shown_by (sizes_of s) run)) where
+  abbrev z : Setup
+  z = sizes_of s
+
+  abbrev ms : List Message
+  ms = entries z.layout w n
+
+  abbrev Fits : Message → Type 0
+  Fits m = (m.seq ≤ s.messages) × (m.value ≡ words_sent m.sender m.seq s.width)
+
+  was_sent : (m : Message) → (m.sender < s.procs) × IsSent (spelled run) m → Fits m
+  was_sent m h =
+      let P = IsSending s.width s.messages m.sender in
+      begins_it P m.sender (Append m.seq m.value) (All-contains (OfBegins P m.sender) (spelled run) (Begins m.sender (Append m.seq m.value)) (begins_all P m.sender run (each m.sender h.0).0) h.1)
+
+  all_fit : All Fits ms
+  all_fit =
+      let were : All (IsSent (spelled run)) ms = subst (All (IsSent (spelled run))) shown (sent z.layout z.limit (spelled run) layout legal) in
+      All-weaker (λ (m : Message). (m.sender < s.procs) × IsSent (spelled run) m) Fits was_sent ms (all_both (λ (m : Message). m.sender < s.procs) (IsSent (spelled run)) ms (senders z.layout w n numbered) were)
+
+  counted : (p : ℕ) → p < s.procs → count_of p ms ≡ s.messages
+  counted p below =
+      let most = few z.layout w p s.messages n numbered (All-weaker Fits (λ (m : Message). m.sender ≡ p → m.seq ≤ s.messages) (λ m h e. h.0) ms all_fit) in
+      let least = many z.layout w n p s.messages numbered (subst (IsAmong p s.messages) shown (each p below).1) in
+      omega (arith, most, least)
+
+  its : (p : ℕ) → p < s.procs → messages_by p ms ≡ messages_sent s.width p s.messages
+  its p below =
+      let values = All-weaker Fits (λ (m : Message). m.sender ≡ p → m.value ≡ words_sent p m.seq s.width) (λ m h e. h.1 ∙ ap (λ (q : ℕ). words_sent q m.seq s.width) e) ms all_fit in
+      sent_by z.layout w p n numbered values ∙ ap (messages_sent s.width p) (counted p below)
+
+  pub are_all_sent : AreAllSent s ms
+  are_all_sent = record { each = its; total = counted_all s.procs s.messages ms (senders z.layout w n numbered) counted }
+
+-- a member of each process
+member_at : (P : Seated → Type 0) (p : ℕ) (xs : List Seated) → has_member p xs ≡ true → All P xs → (x : Seated) × (x.pass.by ≡ p) × P x
+member_at P p [] h all = absurd (cc)
+member_at P p (x ∷ xs) h all = go (x.pass.by == p) refl (member_at P p xs)
+  where
+    go : (b : Bool) → (x.pass.by == p) ≡ b → (has_member p xs ≡ true → All P xs → (x : Seated) × (x.pass.by ≡ p) × P x) → (x : Seated) × (x.pass.by ≡ p) × P x
+    go true is later = (x, eqb-true x.pass.by p is, All-head P x xs all)
+    go false is later = later (subst (λ (b : Bool). (b || has_member p xs) ≡ true) is h) (All-tail P x xs all)
+
+-- of the one run, where each member has sent its own
+module _ (z : Setup) (width k : ℕ) (first : Seated) (others : List Seated) (run : List Entry) (told : IsTold first others (length others) run) where
+  abbrev Has : Seated → Type 0
+  Has x = AreSending width k x.pass.by (own x.pass.by run) × IsAmong x.pass.by k (shown_by z run)
+
+  abbrev Known : Seated → Type 0
+  Known x = (x.pass.setup ≡ z) × HasSent width k x
+
+  still_shown : (x : Seated) → Known x → Starts x.pass.seen run → IsAmong x.pass.by k (shown_by z run)
+  still_shown x h starts =
+      let here : IsAmong x.pass.by k (shown_by z x.pass.seen) = subst (λ (s : Setup). IsAmong x.pass.by k (shown_by s x.pass.seen)) h.0 h.1.1 in
+      let more = shown_on z x.pass.seen starts.0 in
+      subst (λ (es : List Entry). IsAmong x.pass.by k (shown_by z es)) (sym starts.1) (subst (IsAmong x.pass.by k) (sym more.1) (among_more x.pass.by k (shown_by z x.pass.seen) more.0 here))
+
+  glance_starts : (P : Call → Type 0) (e : Entry) → IsGlance e → OfStart P e.step.start
+  glance_starts P e h = subst (OfStart P) (sym (ap (λ s. s.start) h.1)) tt
+
+  first_has : Known first → Has first
+  first_has h =
+      let p = first.pass.by in
+      let F : Entry → Type 0 = λ e. OfStart (IsSending width k p) e.step.start in
+      let all = All-append F (own p first.pass.seen) told.glances h.1.0 (All-weaker IsGlance F (glance_starts (IsSending width k p)) told.glances told.are_glances) in
+      (subst (AreSending width k p) (sym told.own_is) all, still_shown first h told.begins)
+
+  other_has : Has first → (x : Seated) → IsWhole first run x × Known x → Has x
+  other_has of_first x h =
+      elim (cases_eq x.pass.by first.pass.by) [
+        | inl same ↦ (subst (λ (p : ℕ). AreSending width k p (own p run)) (sym same) of_first.0, still_shown x h.1 h.0.begins)
+        | inr other ↦ (subst (AreSending width k x.pass.by) (sym (h.0.own_is other)) h.1.1.0, still_shown x h.1 h.0.begins)
+      ]
+
+  all_have : All Known (first ∷ others) → All Has (first ∷ others)
+  all_have h =
+      let one = first_has (All-head Known first others h) in
+      All-cons Has first others one (All-weaker (λ (x : Seated). IsWhole first run x × Known x) Has (other_has one) others (all_both (IsWhole first run) Known others told.whole (All-tail Known first others h)))
+
+  pub each_has : All Known (first ∷ others) → (p : ℕ) → has_member p (first ∷ others) ≡ true → AreSending width k p (own p run) × IsAmong p k (shown_by z run)
+  each_has h p there =
+      let m = member_at Has p (first ∷ others) there (all_have h) in
+      subst (λ (q : ℕ). AreSending width k q (own q run) × IsAmong q k (shown_by z run)) m.1 m.2
+
+-- the lab's messages
+pub lab_sent : (s : Spec) (xs : List Seated) (image : Image) (messages : List Message) → IsLayout (sizes_of s).layout → All (λ (x : Seated). x.pass.setup ≡ sizes_of s) xs → All (HasSent s.width s.messages) xs → Gathers xs image → EveryMessageWasSent → RunsShow
+    → messages ≡ entries (sizes_of s).layout (words_of image.cells) (slice_index image.cells 2) → IsNumbered (sizes_of s).layout (words_of image.cells) (slice_index image.cells 2) → AreAllSent s messages
+lab_sent s xs image messages layout setups sent g was shows are numbered =
+    let z = sizes_of s in
+    let Known : Seated → Type 0 = λ x. (x.pass.setup ≡ z) × HasSent s.width s.messages x in
+    let known : All Known (g.first ∷ g.others) = subst (All Known) g.are (all_both (λ (x : Seated). x.pass.setup ≡ z) (HasSent s.width s.messages) xs setups sent) in
+    let same : g.first.pass.setup ≡ z = (All-head Known g.first g.others known).0 in
+    let legal : IsRun z g.run = subst (λ (u : Setup). IsRun u g.run) same g.legal in
+    let words : words_of image.cells ≡ cells_of z g.run =
+    ap (λ (i : Image). words_of i.cells) (g.words ∙ ap (λ (u : Setup). image_at u (end_of u g.run)) same) ∙ cells_counted z g.run legal in
+    let count : slice_index image.cells 2 ≡ cells_of z g.run 2 = ap (λ (w : Words). w 2) words in
+    let shown = shown_entries z g.run layout legal shows ∙ (λ i. entries z.layout (sym words i) (sym count i)) in
+    let each = λ (p : ℕ) (below : p < s.procs). each_has z s.width s.messages g.first g.others g.run g.told known p (subst (λ (l : List Seated). has_member p l ≡ true) g.are (g.all p (subst (λ (u : Setup). p < u.layout.procs) (sym same) below))) in
+    subst (AreAllSent s) (sym are) (are_all_sent s g.run (words_of image.cells) (slice_index image.cells 2) layout legal numbered was shown each)
+
+pub gathered_layout : (s : Setup) (xs : List Seated) (image : Image) → All (λ (x : Seated). x.pass.setup ≡ s) xs → Gathers xs image → layout_of image ≡ s.layout
+gathered_layout s xs image setups g =
+    let same : g.first.pass.setup ≡ s = All-head (λ (x : Seated). x.pass.setup ≡ s) g.first g.others (subst (All (λ (x : Seated). x.pass.setup ≡ s)) g.are setups) in
+    let u = g.first.pass.setup in
+    let w = end_of u g.run in
+    ap layout_of g.words ∙ (λ i. record { procs = length-counted w.words u.layout.procs i; cap = u.layout.cap; width = u.layout.width }) ∙ ap (λ (v : Setup). v.layout) same

@@ -1,0 +1,105 @@
+-- A worker's appends start nothing but what it sends.
+use Rattle.std.proofs.Common.{◌≡◌, ◌≢◌, ◌⊎◌, ℕ, ◌+◌, ◌≤◌, Bool, true, false, if◌then◌else◌, List, [], ◌∷◌, ◌++◌, Option, Some, None, Result, Ok, Err, IfOk, IfErr, All, refl, sym, ap, ◌∙◌, subst, inl, inr}
+use Rattle.std.proofs.lemmas.List.Elements.{All-nil, All-cons, All-append}
+use Rattle.redomail.specs.declared.reply.Reply.{Reply}
+use Rattle.rmeworld.specs.declared.answer.Answer.{Answer}
+use Rattle.rmeworld.specs.declared.call.Call.{Call}
+use Rattle.rmeworld.specs.declared.call.Call.TheVariants.{Lock, Unlock, Consistent, Append}
+use Rattle.rmeworld.specs.Refused.{is_idle}
+use Rattle.robust.specs.declared.entry_kind.Entry.{Entry as Entering}
+use Rattle.robust.specs.declared.entry_kind.Entry.TheVariants as entering
+use Rattle.robust.specs.declared.entry.Entry.{Entry}
+use Rattle.robust.specs.declared.lock_fault.LockFault.{LockFault}
+use Rattle.robust.specs.Calls.{starts}
+use Rattle.robust.specs.Faults.{ready, CutBy}
+use Rattle.robust.specs.Pass.{spot_now, own_of, Calls}
+use Rattle.robust.specs.Running.{Seated, began, fell}
+use Rattle.robust.specs.Runs.{own}
+use Rattle.robust.specs.Whole.{WholeEnds, WholeFails, AppendFails, Comes, IsFront, IsWithin, calls_inside}
+use Rattle.robust.specs.Working.{OfStart, IsSending, AreSending, SendsOnly}
+use Rattle.robust.proofs.Errands.{each_start}
+use Rattle.robust.proofs.Gathered.{all_left}
+use Rattle.robust.proofs.Runs.{own-append}
+
+-- the calls of a whole mailbox call
+module _ (P : Call → Type 0) (task : Call) (lock : P Lock) (unlock : P Unlock) (mends : P Consistent) (does : P task) where
+  leaves : All P (Unlock ∷ [])
+  leaves = All-cons P Unlock [] unlock (All-nil P)
+
+  locks : All P (Lock ∷ [])
+  locks = All-cons P Lock [] lock (All-nil P)
+
+  pub all_inside : (entry : Entering) → All P (Lock ∷ calls_inside entry task)
+  all_inside entering.Clean = All-cons P Lock (task ∷ Unlock ∷ []) lock (All-cons P task (Unlock ∷ []) does leaves)
+  all_inside entering.OwnerDied = All-cons P Lock (Consistent ∷ task ∷ Unlock ∷ []) lock (All-cons P Consistent (task ∷ Unlock ∷ []) mends (All-cons P task (Unlock ∷ []) does leaves))
+
+  all_ruined : All P (Lock ∷ Consistent ∷ Unlock ∷ [])
+  all_ruined = All-cons P Lock (Consistent ∷ Unlock ∷ []) lock (All-cons P Consistent (Unlock ∷ []) mends leaves)
+
+  all_come : (turns : ℕ) (r : Result Reply LockFault) (order : List Call) (answers : List Answer) (blocked : ℕ) → Comes turns task r order answers blocked → All P order
+  all_come turns (Ok reply) order answers blocked h = subst (All P) (sym h.3) (all_inside h.1)
+  all_come turns (Err e) order answers blocked (inl h) = subst (All P) (sym h.1) locks
+  all_come turns (Err e) order answers blocked (inr (few, inl h)) = subst (All P) (sym h.1) locks
+  all_come turns (Err e) order answers blocked (inr (few, inr (inl h))) = subst (All P) (sym h.1) locks
+  all_come turns (Err e) order answers blocked (inr (few, inr (inr h))) = subst (All P) (sym h.1) all_ruined
+
+  all_front : (done order : List Call) → IsFront done order → All P order → All P done
+  all_front done order h all = all_left P done h.0 (subst (All P) h.1 all)
+
+  all_within : (done : List Call) → IsWithin task done → All P done
+  all_within done (inl h) = all_front done (Lock ∷ calls_inside h.0 task) h.1 (all_inside h.0)
+  all_within done (inr h) = all_front done (Lock ∷ Consistent ∷ Unlock ∷ []) h all_ruined
+
+  -- also where a crash came before the first
+  all_cut : (mine : List Entry) → (mine ≡ []) ⊎ IsWithin task (starts mine) → All P (starts mine)
+  all_cut mine (inl none) = subst (λ (es : List Entry). All P (starts es)) (sym none) (All-nil P)
+  all_cut mine (inr h) = all_within (starts mine) h
+
+either_own : (b : Bool) (x : Seated) → (own_of (if b then x else fell x).pass ≡ own_of x.pass) × ((if b then x else fell x).pass.by ≡ x.pass.by)
+either_own true x = (refl, refl)
+either_own false x = (refl, refl)
+
+module _ (width k : ℕ) where
+  sends_calls : (x y : Seated) (mine : List Entry) → Calls x.pass mine y.pass → AreSending width k x.pass.by mine → SendsOnly width k x → SendsOnly width k y
+  sends_calls x y mine c new old =
+      let own_are : own_of y.pass ≡ own_of x.pass ++ mine =
+      ap (λ (p : ℕ). own p y.pass.seen) c.by ∙ ap (own x.pass.by) c.seen ∙ own-append x.pass.by x.pass.seen c.since ∙ ap (λ (l : List Entry). own_of x.pass ++ l) c.mine_are in
+      subst (λ (u : ℕ × List Entry). AreSending width k u.0 u.1) (λ i. (sym c.by i, sym own_are i)) (All-append (λ (e : Entry). OfStart (IsSending width k x.pass.by) e.step.start) (own_of x.pass) mine old new)
+
+  module _ (x y : Seated) (seq : ℕ) (value : List ℕ) (a b c d : ℕ) (fits : IsSending width k x.pass.by (Append seq value)) (old : SendsOnly width k x) where
+    abbrev z : Seated
+    z = began (ready x) Lock
+
+    same : (own_of z.pass ≡ own_of x.pass) × (z.pass.by ≡ x.pass.by)
+    same = either_own (is_idle (spot_now x.pass)) x
+
+    outset : SendsOnly width k z
+    outset = subst (λ (u : ℕ × List Entry). AreSending width k u.0 u.1) (λ i. (sym same.1 i, sym same.0 i)) old
+
+    sends : IsSending width k z.pass.by (Append seq value)
+    sends = subst (λ (p : ℕ). IsSending width k p (Append seq value)) (sym same.1) fits
+
+    abbrev P : Call → Type 0
+    P = IsSending width k z.pass.by
+
+    sends_whole : (turns : ℕ) (r : Result Reply LockFault) → WholeEnds z turns (Append seq value) r y a b c d → SendsOnly width k y
+    sends_whole turns r h =
+        let all = all_come P (Append seq value) tt tt tt sends turns r h.0 h.1 h.2 h.3 in
+        sends_calls z y h.4.0 h.4.1.calls (each_start P h.4.0 (subst (All P) (sym h.4.1.started) all)) outset
+
+    sends_cut : CutBy z (IsWithin (Append seq value)) y a b c d → SendsOnly width k y
+    sends_cut h = sends_calls z y h.0 h.1.calls (each_start P h.0 (all_cut P (Append seq value) tt tt tt sends h.0 h.1.started)) outset
+
+    still : y ≡ x → SendsOnly width k y
+    still e = subst (SendsOnly width k) (sym e) old
+
+    sends_fails : (turns : ℕ) (e : LockFault) → AppendFails x turns seq value y a b c d e → SendsOnly width k y
+    sends_fails turns e (inl h) = still h.2
+    sends_fails turns e (inr (wide, inl h)) = still h.2
+    sends_fails turns e (inr (wide, inr (may, inl h))) = sends_cut h.1
+    sends_fails turns e (inr (wide, inr (may, inr h))) = sends_whole turns (Err e) h
+
+    -- an append, however it ends
+    pub sends_append : (r : Result Reply LockFault) → IfOk r (λ reply. (turns : ℕ) × WholeEnds z turns (Append seq value) (Ok reply) y a b c d) → IfErr r (λ e. (turns : ℕ) × AppendFails x turns seq value y a b c d e) → SendsOnly width k y
+    sends_append (Ok reply) h g = sends_whole h.0 (Ok reply) h.1
+    sends_append (Err e) h g = sends_fails g.0 e g.1

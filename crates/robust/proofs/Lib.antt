@@ -30,5 +30,6 @@ pub mod Gathered
 pub mod LawfulEnd
 pub mod OneLockSteps
 pub mod OneLockSeats
+pub mod OneLockAnswers
 pub mod Working
 pub mod Worked

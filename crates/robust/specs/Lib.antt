@@ -14,6 +14,7 @@ pub mod Headline
 pub mod Board
 pub mod OneLockStory
 pub mod OneLockMember
+pub mod OneLockAnswers
 pub mod OneLockLab
 pub mod Reading
 pub mod Gathering

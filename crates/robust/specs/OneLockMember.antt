@@ -31,6 +31,10 @@ is_in Mended = true
 is_in Unmended = true
 is_in _ = false
 
+abbrev pub is_lost : Standing → Bool
+is_lost Lost = true
+is_lost _ = false
+
 -- the calls that a process may start where its member stands
 abbrev pub may_start : Standing → Call → Bool
 may_start standing Lock = not (is_in standing)

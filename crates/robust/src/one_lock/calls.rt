@@ -4,6 +4,7 @@
 //! the call. A call that is refused for where the member stands or for what it is given takes no step and asks nothing.
 
 ghost use Rattle.std.specs.Prelude.{◌≡◌, ◌≢◌, ◌<◌, ◌≤◌, ◌⊎◌, ◌↔◌, ℕ, Ok, IfOk, IfErr, IsErrOf, OnOk, OnErr, IsNone, IsSome, true, false, length};
+ghost use Rattle.robust.specs.OneLockAnswers.{Answered, IsReply, entry_by, found_by, mended_by, word_by, reply_by};
 ghost use Rattle.robust.specs.OneLockMember.{Goes, AskedEach, AskedOnceMore, is_in, may_start, of_lock, of_wait, of_steps, of_consistent, falls_by, stands_entered, stands_out, stands_found, stands_mended, stands_still};
 
 use crate::entry_kind::Entry;
@@ -22,6 +23,7 @@ const BOARD: u64 = 4;
 
 /// What a lock answers, and where it leaves the member. With no answer it has waited as often as it may.
 fn entered(answer: Option<Answer>) -> (Result<Entry, LockFault>, Standing)
+    ensures told { result.0 ≡ entry_by answer }
     ensures stands { result.1 ≡ stands_entered result.0 }
     ensures falls { (f : ℕ) → falls_by result.0 f ≡ f }
     ensures faults { IfErr result.0 (λ e. of_lock e ≡ true) }
@@ -38,6 +40,7 @@ fn entered(answer: Option<Answer>) -> (Result<Entry, LockFault>, Standing)
 
 /// What a recovery answers, and where it leaves the member.
 fn found(answer: Option<Answer>) -> (Result<Found, LockFault>, Standing)
+    ensures told { result.0 ≡ found_by answer }
     ensures stands { result.1 ≡ stands_found result.0 }
     ensures falls { (f : ℕ) → falls_by result.0 f ≡ f }
     ensures fine { OnErr result.0 ⊥ }
@@ -53,6 +56,7 @@ fn found(answer: Option<Answer>) -> (Result<Found, LockFault>, Standing)
 
 /// What `consistent` answers, and where it leaves the member.
 fn mended(answer: Option<Answer>) -> (Result<bool, LockFault>, Standing)
+    ensures told { result.0 ≡ mended_by answer }
     ensures stands { result.1 ≡ stands_mended result.0 }
     ensures falls { (f : ℕ) → falls_by result.0 f ≡ f }
     ensures faults { IfErr result.0 (λ e. e ≡ LockFault.NotRecoverable) }
@@ -64,7 +68,9 @@ fn mended(answer: Option<Answer>) -> (Result<bool, LockFault>, Standing)
 }
 
 /// What a task answers.
-fn replied(answer: Option<Answer>) -> Reply {
+fn replied(answer: Option<Answer>) -> Reply
+    ensures { result ≡ reply_by answer }
+{
     match answer {
         Some(Answer::Mail(reply)) => reply,
         _ => Reply::Done,
@@ -72,7 +78,9 @@ fn replied(answer: Option<Answer>) -> Reply {
 }
 
 /// The word of the board that a call read.
-fn word_read(answer: Option<Answer>) -> u64 {
+fn word_read(answer: Option<Answer>) -> u64
+    ensures { Ok result ≡ word_by answer }
+{
     match answer {
         Some(Answer::Mail(Reply::Word(word))) => word,
         _ => 0,
@@ -95,6 +103,7 @@ impl<L: Ledger> Member<L> {
         ensures goes { Goes self.old self.new }
         ensures stands { is_in self.old.standing ≡ false → self.new.standing ≡ stands_entered result }
         ensures faults { is_in self.old.standing ≡ false → IfErr result (λ e. of_lock e ≡ true) }
+        ensures answered { is_in self.old.standing ≡ false → Answered entry_by self.old Call.Lock result }
     {
         self.lock_by(rt, plan, Some(turns))
     }
@@ -108,11 +117,13 @@ impl<L: Ledger> Member<L> {
         ensures goes { Goes self.old self.new }
         ensures stands { is_in self.old.standing ≡ false → self.new.standing ≡ stands_entered result }
         ensures faults { is_in self.old.standing ≡ false → IfErr result (λ e. of_wait e ≡ true) }
+        ensures answered { is_in self.old.standing ≡ false → Answered entry_by self.old Call.Lock result }
     {
         self.lock_by(rt, plan, None)
     }
 
     /// A lock, with as many turns as it is given, or with no end of them.
+    #[tactic(auto, using(crate::proofs::OneLockAnswers::cut_off, crate::proofs::OneLockAnswers::as_told))]
     fn lock_by<R: Wait, P: CrashPlan>(
         &mut self,
         rt: &R,
@@ -127,6 +138,7 @@ impl<L: Ledger> Member<L> {
         ensures goes { Goes self.old self.new }
         ensures stands { is_in self.old.standing ≡ false → self.new.standing ≡ stands_entered result }
         ensures faults { is_in self.old.standing ≡ false → IfErr result (λ e. of_lock e ≡ true) }
+        ensures answered { is_in self.old.standing ≡ false → Answered entry_by self.old Call.Lock result }
     {
         if self.standing.is_in() {
             return Err(LockFault::AlreadyIn);
@@ -137,6 +149,7 @@ impl<L: Ledger> Member<L> {
 
     /// Finds out where a crash has left the process, and goes no further than it must. One that died inside is inside again,
     /// and has to mend.
+    #[tactic(auto, using(crate::proofs::OneLockAnswers::cut_off, crate::proofs::OneLockAnswers::as_told))]
     pub fn recover<R: Wait, P: CrashPlan>(
         &mut self,
         rt: &R,
@@ -149,6 +162,7 @@ impl<L: Ledger> Member<L> {
         ensures goes { Goes self.old self.new }
         ensures stands { is_in self.old.standing ≡ false → self.new.standing ≡ stands_found result }
         ensures faults { is_in self.old.standing ≡ false → IfErr result (λ e. of_steps e ≡ true) }
+        ensures answered { is_in self.old.standing ≡ false → Answered found_by self.old Call.Recover result }
     {
         if self.standing.is_in() {
             return Err(LockFault::AlreadyIn);
@@ -159,6 +173,7 @@ impl<L: Ledger> Member<L> {
 
     /// Mends what a crash inside has left, and answers whether there was something to mend (POSIX: pthread_mutex_consistent).
     /// After `NotRecoverable` the member is still inside and has not mended.
+    #[tactic(auto, using(crate::proofs::OneLockAnswers::cut_off, crate::proofs::OneLockAnswers::as_told))]
     pub fn consistent<R: Wait, P: CrashPlan>(
         &mut self,
         rt: &R,
@@ -171,6 +186,7 @@ impl<L: Ledger> Member<L> {
         ensures goes { Goes self.old self.new }
         ensures stands { self.old.standing ≡ Standing.Unmended → self.new.standing ≡ stands_mended result }
         ensures faults { self.old.standing ≡ Standing.Unmended → IfErr result (λ e. of_consistent e ≡ true) }
+        ensures answered { self.old.standing ≡ Standing.Unmended → Answered mended_by self.old Call.Consistent result }
     {
         if self.standing != Standing::Unmended {
             return Err(LockFault::NotInconsistent);
@@ -180,6 +196,7 @@ impl<L: Ledger> Member<L> {
     }
 
     /// Leaves the section. One that has not mended ruins the lock.
+    #[tactic(auto, using(crate::proofs::OneLockAnswers::cut_off, crate::proofs::OneLockAnswers::as_told))]
     pub fn unlock<R: Wait, P: CrashPlan>(&mut self, rt: &R, plan: &mut P) -> Result<(), LockFault>
         ensures refused { IsErrOf result LockFault.NotOwner ↔ (is_in self.old.standing ≡ false) }
         ensures unasked { is_in self.old.standing ≡ false → (self.new ≡ self.old) × (P.asked plan.new ≡ P.asked plan.old) }
@@ -188,6 +205,7 @@ impl<L: Ledger> Member<L> {
         ensures goes { Goes self.old self.new }
         ensures stands { is_in self.old.standing ≡ true → self.new.standing ≡ stands_out result }
         ensures faults { is_in self.old.standing ≡ true → IfErr result (λ e. of_steps e ≡ true) }
+        ensures answered { is_in self.old.standing ≡ true → Answered (λ _. Ok tt) self.old Call.Unlock result }
     {
         if !self.standing.is_in() {
             return Err(LockFault::NotOwner);
@@ -197,6 +215,7 @@ impl<L: Ledger> Member<L> {
     }
 
     /// Reads a word of the board, 0 to 3.
+    #[tactic(auto, using(crate::proofs::OneLockAnswers::cut_off, crate::proofs::OneLockAnswers::as_told))]
     pub fn get<R: Wait, P: CrashPlan>(
         &mut self,
         rt: &R,
@@ -212,6 +231,7 @@ impl<L: Ledger> Member<L> {
         ensures goes { Goes self.old self.new }
         ensures stands { is_in self.old.standing ≡ true → i < 4 → self.new.standing ≡ stands_still self.old.standing result }
         ensures faults { is_in self.old.standing ≡ true → i < 4 → IfErr result (λ e. of_steps e ≡ true) }
+        ensures answered { is_in self.old.standing ≡ true → i < 4 → Answered word_by self.old (Call.Get i) result }
     {
         if !self.standing.is_in() {
             return Err(LockFault::NotOwner);
@@ -225,6 +245,7 @@ impl<L: Ledger> Member<L> {
     }
 
     /// Writes a word of the board, 0 to 3.
+    #[tactic(auto, using(crate::proofs::OneLockAnswers::cut_off, crate::proofs::OneLockAnswers::as_told))]
     pub fn put<R: Wait, P: CrashPlan>(
         &mut self,
         rt: &R,
@@ -241,6 +262,7 @@ impl<L: Ledger> Member<L> {
         ensures goes { Goes self.old self.new }
         ensures stands { is_in self.old.standing ≡ true → i < 4 → self.new.standing ≡ stands_still self.old.standing result }
         ensures faults { is_in self.old.standing ≡ true → i < 4 → IfErr result (λ e. of_steps e ≡ true) }
+        ensures answered { is_in self.old.standing ≡ true → i < 4 → Answered (λ _. Ok tt) self.old (Call.Put i value) result }
     {
         if !self.standing.is_in() {
             return Err(LockFault::NotOwner);
@@ -272,6 +294,7 @@ impl<L: Ledger> Member<L> {
         ensures goes { Goes self.old self.new }
         ensures stands { is_in self.old.standing ≡ false → length value ≡ self.old.layout.width → self.new.standing ≡ stands_out result }
         ensures faults { is_in self.old.standing ≡ false → length value ≡ self.old.layout.width → IfErr result (λ e. of_lock e ≡ true) }
+        ensures answered { IfOk result (λ reply. IsReply self.old.process (Call.Append seq value) reply) }
     {
         self.append_by(rt, seq, value, plan, Some(turns))
     }
@@ -293,6 +316,7 @@ impl<L: Ledger> Member<L> {
         ensures goes { Goes self.old self.new }
         ensures stands { is_in self.old.standing ≡ false → length value ≡ self.old.layout.width → self.new.standing ≡ stands_out result }
         ensures faults { is_in self.old.standing ≡ false → length value ≡ self.old.layout.width → IfErr result (λ e. of_wait e ≡ true) }
+        ensures answered { IfOk result (λ reply. IsReply self.old.process (Call.Append seq value) reply) }
     {
         self.append_by(rt, seq, value, plan, None)
     }
@@ -316,6 +340,7 @@ impl<L: Ledger> Member<L> {
         ensures goes { Goes self.old self.new }
         ensures stands { is_in self.old.standing ≡ false → length value ≡ self.old.layout.width → self.new.standing ≡ stands_out result }
         ensures faults { is_in self.old.standing ≡ false → length value ≡ self.old.layout.width → IfErr result (λ e. of_lock e ≡ true) }
+        ensures answered { IfOk result (λ reply. IsReply self.old.process (Call.Append seq value) reply) }
     {
         if value.width() != self.layout.width {
             return Err(LockFault::BadWidth);
@@ -337,6 +362,7 @@ impl<L: Ledger> Member<L> {
         ensures goes { Goes self.old self.new }
         ensures stands { is_in self.old.standing ≡ false → self.new.standing ≡ stands_out result }
         ensures faults { is_in self.old.standing ≡ false → IfErr result (λ e. of_lock e ≡ true) }
+        ensures answered { IfOk result (λ reply. IsReply self.old.process Call.Close reply) }
     {
         self.mail_by(rt, plan, Call::Close, Some(turns))
     }
@@ -350,6 +376,7 @@ impl<L: Ledger> Member<L> {
         ensures goes { Goes self.old self.new }
         ensures stands { is_in self.old.standing ≡ false → self.new.standing ≡ stands_out result }
         ensures faults { is_in self.old.standing ≡ false → IfErr result (λ e. of_wait e ≡ true) }
+        ensures answered { IfOk result (λ reply. IsReply self.old.process Call.Close reply) }
     {
         self.mail_by(rt, plan, Call::Close, None)
     }
@@ -372,6 +399,7 @@ impl<L: Ledger> Member<L> {
         ensures goes { Goes self.old self.new }
         ensures stands { is_in self.old.standing ≡ false → self.new.standing ≡ stands_out result }
         ensures faults { is_in self.old.standing ≡ false → IfErr result (λ e. of_lock e ≡ true) }
+        ensures answered { IfOk result (λ reply. IsReply self.old.process call reply) }
     {
         if self.standing.is_in() {
             return Err(LockFault::AlreadyIn);
@@ -406,6 +434,7 @@ impl<L: Ledger> Member<L> {
         ensures faults { IfOk result (λ reply. IfErr reply (λ e. e ≡ LockFault.NotRecoverable)) }
         ensures lost { OnErr result (self.new.standing ≡ Standing.Lost) }
         ensures only { IfErr result (λ e. (e ≡ LockFault.Crashed) ⊎ (e ≡ LockFault.OutOfMemory)) }
+        ensures answered { IfOk result (λ answer. IfOk answer (λ reply. IsReply self.old.process call reply)) }
     {
         let mended = self.mend(rt, plan, entry)?;
         let reply = match mended {

@@ -3,6 +3,7 @@
 ghost use Rattle.std.specs.Prelude.{◌≡◌, ℕ, ◌<◌, ◌≤◌, ◌+◌, IfOk, IfErr, OnOk, OnErr, IsNone, IsSome, true};
 ghost use Rattle.rmecore.specs.Simulated.{one_more};
 ghost use Rattle.robust.specs.OneLockMember.{Goes, AskedEach, AskedOnceMore, falls_by, may_start};
+ghost use Rattle.robust.specs.OneLockAnswers.{Gives, IsAnswered};
 
 use crate::lock_fault::LockFault;
 use crate::one_lock::opening::Opening;
@@ -112,6 +113,7 @@ impl<L: Ledger> Member<L> {
         ensures ok { OnOk result (self.new ≡ record self.old { steps = self.old.steps + 1 }) }
         ensures err { OnErr result (self.new ≡ record self.old { standing = Standing.Lost }) }
         ensures only { IfErr result (λ e. (e ≡ LockFault.Crashed) ⊎ (e ≡ LockFault.OutOfMemory)) }
+        ensures gives { IfOk result (λ turn. Gives self.old.process opening turn.answer) }
     {
         self.ask(plan)?;
         let turn = self
@@ -129,6 +131,7 @@ impl<L: Ledger> Member<L> {
 
     /// Takes a call that its process may start to its answer, or until one blocked reading more than it has turns; with no turns it waits as long as
     /// it has to. The asking before the answer is left to the caller.
+    #[tactic(auto, using(crate::proofs::OneLockAnswers::answered_by, crate::proofs::OneLockAnswers::goes_further))]
     pub(super) fn pursue<R: Wait, P: CrashPlan>(
         &mut self,
         rt: &R,
@@ -145,10 +148,11 @@ impl<L: Ledger> Member<L> {
         ensures lost { OnErr result (self.new.standing ≡ Standing.Lost) }
         ensures only { IfErr result (λ e. (e ≡ LockFault.Crashed) ⊎ (e ≡ LockFault.OutOfMemory)) }
         ensures patient { IsNone turns → IfOk result (λ answer. IsSome answer) }
+        ensures answered { IfOk result (λ answer. IsAnswered self.old.process self.old.standing call answer) }
     {
         let mut left = turns;
         let mut opening = Opening {
-            crash: self.standing == Standing::Lost,
+            crash: self.standing.is_lost(),
             call: Some(call),
         };
         let backoff = Backoff::new();

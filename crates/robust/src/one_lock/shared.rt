@@ -5,6 +5,7 @@ ghost use Rattle.rmecore.specs.Simulated.{tally_at};
 ghost use Rattle.rmeworld.specs.Replayed.{advanced, stepped, started, crashed, image_of};
 ghost use Rattle.rmeworld.specs.ImageRules.{IsLawfulImage};
 ghost use Rattle.rmeworld.specs.WorldState.{new_world};
+ghost use Rattle.robust.specs.OneLockAnswers.{opened, Gives};
 
 use crate::one_lock::opening::Opening;
 use rmecore::Refusal;
@@ -39,7 +40,7 @@ pub struct Turn {
 }
 
 impl<L: Ledger> Shared<L> {
-    ghost use Rattle.robust.specs.OneLockStory.{IsLeftBy};
+    ghost use Rattle.robust.specs.OneLockStory.{IsLeftBy, IsTold};
 
     /// A new world, and a book that has counted nothing.
     pub fn new(world: World, book: Book<L>) -> Shared<L>
@@ -57,6 +58,24 @@ impl<L: Ledger> Shared<L> {
         ensures share { OnOk result (share.new.amount ≡ share.old.amount + 1) }
         ensures uncounted { OnErr result ((self.new.total ≡ self.old.total) × (share.new.amount ≡ share.old.amount)) }
         ensures parts { share.new.parts ≡ share.old.parts }
+        ensures gives { IfOk result (λ turn. Gives p opening turn.answer) }
+    {
+        self.told();
+        self.open(p, opening)?;
+        self.advance(share, p)
+    }
+
+    /// What is known whenever the lock is free: the world is one that some run has come to.
+    fn told(&self)
+        ensures { IsTold self.now.world self.now.total }
+    {
+        let _ = &self.world;
+    }
+
+    /// What comes before a step.
+    fn open(&mut self, p: u64, opening: Opening) -> Result<(), Refusal>
+        ensures ok { OnOk result (self.new.world ≡ opened opening p self.old.world) }
+        ensures book { self.new.total ≡ self.old.total }
     {
         if opening.crash {
             self.crash(p)?;
@@ -64,7 +83,7 @@ impl<L: Ledger> Shared<L> {
         if let Some(call) = opening.call {
             self.start(p, call)?;
         }
-        self.advance(share, p)
+        Ok(())
     }
 
     /// One step of the world, counted.

@@ -16,12 +16,19 @@ pub enum Standing {
 
 impl Standing {
     ghost use Rattle.std.specs.Prelude.{◌≡◌};
-    ghost use Rattle.robust.specs.OneLockMember.{is_in as is_in_section};
+    ghost use Rattle.robust.specs.OneLockMember.{is_in as is_in_section, is_lost as has_lost};
 
     /// Whether it is in the section.
     pub fn is_in(self) -> bool
         ensures { result ≡ is_in_section self }
     {
         matches!(self, Standing::Mended | Standing::Unmended)
+    }
+
+    /// Whether it has lost its private memory.
+    pub fn is_lost(self) -> bool
+        ensures { result ≡ has_lost self }
+    {
+        self == Standing::Lost
     }
 }

@@ -126,7 +126,8 @@ fn refuses<L: Ledger, R: Abort + Wait>(rt: &R, alloc: Global, blank: Blank)
     assert_eq!(rt; plan.taken(), 0, "none of them asks");
     assert!(rt; one.put(rt, 3, 7, &mut plan) == Ok(()) && one.get(rt, 3, &mut plan) == Ok(7));
     assert_eq!(rt; plan.taken(), 4);
-    assert!(rt; other.close_within(rt, &mut plan, 0) == Err(LockFault::NotYet));
+    assert!(rt; other.close_within(rt, &mut plan, 3) == Err(LockFault::NotYet));
+    assert_eq!(rt; plan.taken(), 13, "four blocked readings");
 }
 
 #[test]

@@ -93,11 +93,11 @@ all_start_none z y [] h none = All-nil _
 all_start_none z y (e ∷ es) h none =
     All-cons (λ (f : Entry). f.step.start ≡ None) e es (ap (λ (f : Entry). f.step.start) h.1 ∙ none) (all_start_none h.0 y es h.3 h.2.start)
 
-first_start : (x y : Pass) (mine : List Entry) (call : Call) → Takes x mine y → x.start ≡ Some call → (mine ≡ [] → ⊥) → FirstStart call mine
+pub first_start : (x y : Pass) (mine : List Entry) (call : Call) → Takes x mine y → x.start ≡ Some call → (mine ≡ [] → ⊥) → FirstStart call mine
 first_start x y [] call h is some = some refl
 first_start x y (e ∷ es) call h is some = (ap (λ (f : Entry). f.step.start) h.1 ∙ is, all_start_none h.0 y es h.3 h.2.start)
 
-are_moves : (x y : Pass) (mine : List Entry) → Takes x mine y → AreMoves mine
+pub are_moves : (x y : Pass) (mine : List Entry) → Takes x mine y → AreMoves mine
 are_moves x y [] h = All-nil _
 are_moves x y (e ∷ es) h = All-cons (λ (f : Entry). is_glance f.step.kind ≡ false) e es h.4 (are_moves h.0 y es h.3)
 

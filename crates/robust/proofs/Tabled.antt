@@ -12,8 +12,8 @@ use Rattle.rmeworld.proofs.CallWalks.{calls_take_their_steps}
 use Rattle.robust.specs.declared.setup.Setup.{Setup}
 use Rattle.robust.specs.declared.entry.Entry.{Entry}
 use Rattle.robust.specs.Runs.{before, crash_first, taken, happenings, spelled, own, IsRun, end_of, gone, spot_of}
-use Rattle.robust.specs.Running.{Seated}
-use Rattle.robust.specs.Calls.{spot_before, and_answer, answers_from, blocked_from, AreMoves}
+use Rattle.robust.specs.Pass.{Pass, Calls}
+use Rattle.robust.specs.Calls.{spot_before, and_answer, answers_from, blocked_from, answers_of, blocked_of, FirstStart, FirstCrash, AreMoves}
 use Rattle.robust.specs.Tabled.{words_begun, spot_begun, KeepsTable, CallsKeepTheTable}
 use Rattle.robust.proofs.Runs.{own_spelled, spot_in_run, legal_back}
 use Rattle.robust.proofs.Leads.{gone-append}
@@ -116,36 +116,40 @@ module _ (s : Setup) (p : ℕ) where
   starts hs w true call ms story is moves = starts_fallen s.layout s.limit p hs w call ms story is moves
   starts hs w false call ms story is moves = starts_calm s.layout s.limit p hs w call ms story is moves
 
-keeps : (x : Seated) (call : Call) (answers : List Answer) (t : Spot) (blocked steps : ℕ) → Tells x.pass.setup.layout (words_begun x.pass) (spot_begun x.pass).mended call answers t steps blocked → KeepsTable x.pass call answers blocked steps
+keeps : (x : Pass) (call : Call) (answers : List Answer) (t : Spot) (blocked steps : ℕ) → Tells x.setup.layout (words_begun x) (spot_begun x).mended call answers t steps blocked → KeepsTable x call answers blocked steps
 keeps x call [] t blocked steps h = (h.1.0, h.1.2, h.1.3)
 keeps x call (a ∷ []) t blocked steps h = h.1
 keeps x call (a ∷ b ∷ more) t blocked steps h = h
 
-pub calls_keep_the_table : CallsKeepTheTable
-calls_keep_the_table x call answers blocked y [] r = absurd r.first
-calls_keep_the_table x call answers blocked y (e ∷ es) r =
-    let s : Setup = x.pass.setup in
-    let p : ℕ = x.pass.by in
-    let q : Spot = spot_of s p x.pass.seen in
-    let by = subst (All (λ (e : Entry). e.by ≡ p)) r.calls.mine_are (own_are p r.calls.since) in
+-- steps of a call, from what is known of them
+pub keeps_the_table : (x y : Pass) (call : Call) (answers : List Answer) (blocked : ℕ) (mine : List Entry) → Calls x mine y → FirstCrash x.fallen mine → FirstStart call mine → AreMoves mine → answers_of x mine ≡ answers → blocked_of x mine ≡ blocked → KeepsTable x call answers blocked (length mine)
+keeps_the_table x y call answers blocked [] calls crash started moved answered blocks = absurd started
+keeps_the_table x y call answers blocked (e ∷ es) calls crash started moved answered blocks =
+    let s : Setup = x.setup in
+    let p : ℕ = x.by in
+    let q : Spot = spot_of s p x.seen in
+    let by = subst (All (λ (e : Entry). e.by ≡ p)) calls.mine_are (own_are p calls.since) in
     let mine : e.by ≡ p = All-head (λ (e : Entry). e.by ≡ p) e es by in
-    let move : is_glance e.step.kind ≡ false = All-head (λ (e : Entry). is_glance e.step.kind ≡ false) e es r.moves in
-    let plain : ArePlain p es = plain_all p es (All-tail (λ (e : Entry). e.by ≡ p) e es by) r.crash.1 r.first.1 (All-tail (λ (e : Entry). is_glance e.step.kind ≡ false) e es r.moves) in
+    let move : is_glance e.step.kind ≡ false = All-head (λ (e : Entry). is_glance e.step.kind ≡ false) e es moved in
+    let plain : ArePlain p es = plain_all p es (All-tail (λ (e : Entry). e.by ≡ p) e es by) crash.1 started.1 (All-tail (λ (e : Entry). is_glance e.step.kind ≡ false) e es moved) in
     let ms : List Happening = steps_of p (e ∷ es) in
-    let run : IsRun s (x.pass.seen ++ r.calls.since) = subst (λ (t : Setup × List Entry). IsRun t.0 t.1) (λ i. (r.calls.setup i, r.calls.seen i)) r.calls.run in
+    let run : IsRun s (x.seen ++ calls.since) = subst (λ (t : Setup × List Entry). IsRun t.0 t.1) (λ i. (calls.setup i, calls.seen i)) calls.run in
     let first = taken_own p e mine move in
     let later = spelled_plain p es plain in
-    let are : spelled (e ∷ es) ≡ (before x.pass.fallen (Some call) p ++ Moves p e.step.kind e.step.word e.value ∷ []) ++ steps_of p es = λ i. (before (r.crash.0 i) (r.first.0 i) (mine i) ++ first i ∷ []) ++ later i in
-    let own_is : own_happenings p (spelled r.calls.since) ≡ before x.pass.fallen (Some call) p ++ ms = own_spelled p r.calls.since ∙ ap spelled r.calls.mine_are ∙ are ∙ append_assoc (before x.pass.fallen (Some call) p) (Moves p e.step.kind e.step.word e.value ∷ []) (steps_of p es) in
+    let are : spelled (e ∷ es) ≡ (before x.fallen (Some call) p ++ Moves p e.step.kind e.step.word e.value ∷ []) ++ steps_of p es = λ i. (before (crash.0 i) (started.0 i) (mine i) ++ first i ∷ []) ++ later i in
+    let own_is : own_happenings p (spelled calls.since) ≡ before x.fallen (Some call) p ++ ms = own_spelled p calls.since ∙ ap spelled calls.mine_are ∙ are ∙ append_assoc (before x.fallen (Some call) p) (Moves p e.step.kind e.step.word e.value ∷ []) (steps_of p es) in
     let moves : OwnMoves p ms = ((refl, move), own_moves p es plain) in
-    let begun = starts s p (spelled r.calls.since) (end_of s x.pass.seen) x.pass.fallen call ms (legal_back s x.pass.seen r.calls.since run) own_is moves in
-    let told = subst (λ (t : Spot). StartsAt s.layout s.limit p (words_begun x.pass) (gone s t (crash_first x.pass.fallen p)) call ms) (spot_in_run s x.pass.seen p) begun in
-    let start : Spot = next_or_same s.layout s.limit (spot_begun x.pass) (Begins p call) in
-    let there : spot_before s q e ≡ start = (λ i. gone s q (before (r.crash.0 i) (r.first.0 i) (mine i))) ∙ start_leads s p q x.pass.fallen call in
-    let answered : answers_in s.layout s.limit start ms ≡ answers =
-    sym (answers_first s p q e es mine move (answers_plain s p es plain) ∙ ap (λ (t : Spot). answers_in s.layout s.limit t ms) there) ∙ r.answered in
-    let blocks : blocked_in s.layout s.limit start ms ≡ blocked =
-    sym (blocked_first s p q e es mine move (blocked_plain s p es plain) ∙ ap (λ (t : Spot). blocked_in s.layout s.limit t ms) there) ∙ r.blocks in
+    let begun = starts s p (spelled calls.since) (end_of s x.seen) x.fallen call ms (legal_back s x.seen calls.since run) own_is moves in
+    let told = subst (λ (t : Spot). StartsAt s.layout s.limit p (words_begun x) (gone s t (crash_first x.fallen p)) call ms) (spot_in_run s x.seen p) begun in
+    let start : Spot = next_or_same s.layout s.limit (spot_begun x) (Begins p call) in
+    let there : spot_before s q e ≡ start = (λ i. gone s q (before (crash.0 i) (started.0 i) (mine i))) ∙ start_leads s p q x.fallen call in
+    let answers_are : answers_in s.layout s.limit start ms ≡ answers =
+    sym (answers_first s p q e es mine move (answers_plain s p es plain) ∙ ap (λ (t : Spot). answers_in s.layout s.limit t ms) there) ∙ answered in
+    let blocked_are : blocked_in s.layout s.limit start ms ≡ blocked =
+    sym (blocked_first s p q e es mine move (blocked_plain s p es plain) ∙ ap (λ (t : Spot). blocked_in s.layout s.limit t ms) there) ∙ blocks in
     keeps x call answers (last_spot s.layout s.limit start ms) blocked (length (e ∷ es))
-    (subst (λ (t : List Answer × ℕ × ℕ). Tells s.layout (words_begun x.pass) (spot_begun x.pass).mended call t.0 (last_spot s.layout s.limit start ms) t.1 t.2) (λ i. (answered i, steps_length p (e ∷ es) i, blocks i))
-    (calls_take_their_steps s.layout s.limit p (words_begun x.pass) (spot_begun x.pass) call ms told.0 told.1 told.2))
+    (subst (λ (t : List Answer × ℕ × ℕ). Tells s.layout (words_begun x) (spot_begun x).mended call t.0 (last_spot s.layout s.limit start ms) t.1 t.2) (λ i. (answers_are i, steps_length p (e ∷ es) i, blocked_are i))
+    (calls_take_their_steps s.layout s.limit p (words_begun x) (spot_begun x) call ms told.0 told.1 told.2))
+
+pub calls_keep_the_table : CallsKeepTheTable
+calls_keep_the_table x call answers blocked y mine r = keeps_the_table x.pass y.pass call answers blocked mine r.calls r.crash r.first r.moves r.answered r.blocks

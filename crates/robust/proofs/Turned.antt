@@ -61,7 +61,7 @@ module _ (x y z : Seated) (a b : List Entry) (k : ℕ) (t : Turning x a k y) whe
       answers-append x.pass.setup (spot_of x.pass.setup x.pass.by x.pass.seen) a b ∙ ap (λ (l : List Answer). l ++ answers_from x.pass.setup (gone x.pass.setup (spot_of x.pass.setup x.pass.by x.pass.seen) (spelled a)) b) t.answers
       ∙ ap (λ (u : Setup × Spot). answers_from u.0 u.1 b) (λ i. (sym (takes_sizes x.pass y.pass a t.takes).0 i, sym (takes_spot x.pass y.pass a t.takes) i))
 
-  later_blocked : blocked_of x.pass (a ++ b) ≡ k + blocked_of y.pass b
+  pub later_blocked : blocked_of x.pass (a ++ b) ≡ k + blocked_of y.pass b
   later_blocked =
       blocked-append x.pass.setup (spot_of x.pass.setup x.pass.by x.pass.seen) a b ∙ ap (λ (m : ℕ). m + blocked_from x.pass.setup (gone x.pass.setup (spot_of x.pass.setup x.pass.by x.pass.seen) (spelled a)) b) t.blocked
       ∙ ap (λ (u : Setup × Spot). k + blocked_from u.0 u.1 b) (λ i. (sym (takes_sizes x.pass y.pass a t.takes).0 i, sym (takes_spot x.pass y.pass a t.takes) i))

@@ -1,6 +1,6 @@
 -- The own steps of a member's call, by the table of own steps. They go by the lock words of its process as they stood when the
 -- call began, where all that it had seen ends, and by whether it had nothing to mend then.
-use Rattle.std.specs.Prelude.{◌≡◌, ℕ, ◌+◌, ◌<◌, List, [], ◌∷◌, length, drop, Option, Some, None}
+use Rattle.std.specs.Prelude.{◌≡◌, ℕ, ◌+◌, ◌<◌, ◌≤◌, List, [], ◌∷◌, length, drop, Option, Some, None}
 use Rattle.rmecore.specs.declared.own.Own.{Own}
 use Rattle.rmeworld.specs.declared.answer.Answer.{Answer}
 use Rattle.rmeworld.specs.declared.answer.Answer.TheVariants.{NumbersSpent as SpentAnswer, NotRecoverable as RuinedAnswer}
@@ -53,3 +53,7 @@ LockCounts x None y = (k : ℕ) × (k < most_steps x.pass.setup.layout Lock) × 
 abbrev pub LockCountsOut : Seated → Seated → LockFault → Type 0
 LockCountsOut x y e =
     (e ≡ NotYet → LockCounts x None y) × (e ≡ NumbersSpent → LockCounts x (Some SpentAnswer) y) × (e ≡ NotRecoverable → LockCounts x (Some RuinedAnswer) y)
+
+-- no more own steps have been counted than so many
+abbrev pub CountsAtMost : ℕ → Seated → Seated → Type 0
+CountsAtMost most x y = (k : ℕ) × (k ≤ most) × (y.steps ≡ many_more k x.steps)

@@ -1,13 +1,14 @@
 //! A call under way, step by step, with a plan of crashes that is asked before each step.
-ghost use Rattle.std.specs.Prelude.{◌≡◌, ◌≢◌, ℕ, ◌+◌, List, [], ◌∷◌, length, Some, None, true, false, IfOk, IfErr, OnOk, OnErr};
+ghost use Rattle.std.specs.Prelude.{◌≡◌, ◌≢◌, ℕ, ◌+◌, ◌≤◌, List, [], ◌∷◌, length, Some, None, true, false, IfOk, IfErr, OnOk, OnErr};
 ghost use Rattle.rmeworld.specs.declared.call.Call.TheVariants.{Lock};
+ghost use Rattle.rmeworld.specs.OwnSteps.{most_steps};
 ghost use Rattle.rmeworld.specs.Refused.{is_idle};
 ghost use Rattle.robust.specs.declared.entry.Entry.{Entry};
 ghost use Rattle.robust.specs.Pass.{IsPass, spot_now};
-ghost use Rattle.robust.specs.Calls.{Ran, CutOff, Still, Served, Crashes, Calm, Fell};
+ghost use Rattle.robust.specs.Calls.{blocked_of, Ran, CutOff, Still, Served, Crashes, Calm, Fell};
 ghost use Rattle.robust.specs.Lasting.{Lasts};
 ghost use Rattle.robust.specs.Running.{began};
-ghost use Rattle.robust.specs.Tabled.{table_steps};
+ghost use Rattle.robust.specs.Tabled.{table_steps, CountsAtMost};
 ghost use Rattle.robust.specs.Working.{seat_of};
 ghost use Rattle.robust.specs.Faults.{fault_for as fault_of, refusal_now, Fails};
 ghost use Rattle.robust.specs.Under.{IsUnder, Begun, Fits};
@@ -34,7 +35,7 @@ impl Runner {
         ensures ran { IfOk result (λ o. (mine : List Entry) × Ran self.old o self.new mine × Calm (length mine) (C.asked plan.old) (C.asked plan.new) (C.fallen plan.old) (C.fallen plan.new)) }
         ensures still { IfOk result (λ o. Still call.now self.new o) }
         ensures crashed { IfErr result (λ e. e ≡ LockFault.Crashed) }
-        ensures cut { OnErr result ((mine : List Entry) × CutOff self.old mine self.new × Fell (length mine + 1) (C.asked plan.old) (C.asked plan.new) (C.fallen plan.old) (C.fallen plan.new)) }
+        ensures cut { OnErr result ((mine : List Entry) × CutOff self.old mine self.new × Fell (length mine + 1) (C.asked plan.old) (C.asked plan.new) (C.fallen plan.old) (C.fallen plan.new) × (blocked_of self.old.pass mine ≡ 0)) }
     {
         let _ = call;
         for turn in 0..MOST_STEPS {
@@ -61,6 +62,7 @@ impl Runner {
         ensures crashed { IfErr result (λ e. e ≡ LockFault.Crashed) }
         ensures cut { OnErr result ((mine : List Entry) × Crashes self.old call.now self.new mine × Fell (length mine + 1) (C.asked plan.old) (C.asked plan.new) (C.fallen plan.old) (C.fallen plan.new)) }
         ensures idle { self.new.pass.start ≡ None }
+        ensures few { CountsAtMost (most_steps self.old.pass.setup.layout call.now) self.old self.new }
     {
         match self.run(plan, call)? {
             Some(answer) => {
@@ -82,6 +84,7 @@ impl Runner {
         ensures idle { self.new.pass.start ≡ None }
         ensures seat { seat_of self.new ≡ seat_of self.old }
         ensures table { IfOk result (λ a. table_steps self.old.pass call.now a ≡ Some self.new.steps) }
+        ensures few { refusal_now self.old call.now ≡ None → self.new.steps ≤ most_steps self.old.pass.setup.layout call.now }
     {
         match self.begin(call) {
             Ok(()) => self.serve(plan, call),

@@ -2,9 +2,10 @@
 ghost use Rattle.std.specs.Prelude.{◌≡◌, ◌⊎◌, ℕ, ◌≤◌, ◌+◌, List, length, Some, None, true, false, IfOk, IfErr, IfSome, OnOk, OnErr};
 ghost use Rattle.rmecore.specs.declared.refusal.Refusal.{Refusal as RefusalOf};
 ghost use Rattle.rmeworld.specs.declared.call.Call.TheVariants.{Lock, Recover};
+ghost use Rattle.rmeworld.specs.OwnSteps.{most_steps};
 ghost use Rattle.robust.specs.Pass.{IsPass, spot_now};
 ghost use Rattle.robust.specs.Running.{began};
-ghost use Rattle.robust.specs.Tabled.{LockCounts};
+ghost use Rattle.robust.specs.Tabled.{LockCounts, CountsAtMost};
 ghost use Rattle.robust.specs.Under.{Begun, Fits, Leaves};
 ghost use Rattle.robust.specs.Faults.{refusal_now, ready, CutIn, LockBy, LockEnds};
 
@@ -54,6 +55,7 @@ impl Runner {
         ensures fits { IfOk result (λ o. IfSome o (λ a. Fits Lock a × Leaves Lock a (spot_now self.new.pass))) }
         ensures crashed { IfErr result (λ e. e ≡ LockFault.Crashed) }
         ensures cut { OnErr result (CutIn self.old Lock self.new (C.asked plan.old) (C.asked plan.new) (C.fallen plan.old) (C.fallen plan.new)) }
+        ensures few { CountsAtMost (most_steps self.old.pass.setup.layout Lock + turns) self.old self.new }
     {
         let backoff = Backoff::new();
         let mut left = turns;
@@ -109,6 +111,7 @@ impl Runner {
         ensures cut { OnErr result (CutIn self.old Lock self.new (C.asked plan.old) (C.asked plan.new) (C.fallen plan.old) (C.fallen plan.new)) }
         ensures idle { self.new.pass.start ≡ None }
         ensures counts { IfOk result (λ o. LockCounts self.old o self.new) }
+        ensures few { CountsAtMost (most_steps self.old.pass.setup.layout Lock + turns) self.old self.new }
     {
         let answer = self.take_turns(plan, turns)?;
         self.ask(plan)?;

@@ -1,7 +1,8 @@
 //! A process of the running lock.
-ghost use Rattle.std.specs.Prelude.{◌≡◌, ◌≢◌, ℕ, ◌+◌, ◌*◌, ◌⊎◌, List, [], ◌∷◌, length, Some, None, IfOk, IfErr, OnOk, OnErr};
+ghost use Rattle.std.specs.Prelude.{◌≡◌, ◌≢◌, ℕ, ◌+◌, ◌*◌, ◌≤◌, ◌⊎◌, List, [], ◌∷◌, length, Some, None, IfOk, IfErr, OnOk, OnErr};
 ghost use Rattle.redomail.specs.declared.reply.Reply.{Reply as ReplyOf};
 ghost use Rattle.robust.specs.declared.entry.Entry.{Entry as EntryOf};
+ghost use Rattle.rmeworld.specs.OwnSteps.{most_steps};
 ghost use Rattle.robust.specs.Pass.{fresh, spot_now, IsPass};
 ghost use Rattle.robust.specs.Running.{Seated, began};
 ghost use Rattle.robust.specs.Calls.{Served, Calm};
@@ -106,6 +107,7 @@ impl Member {
         ensures fails { IfErr result (Fails self.old Call.Unlock self.new (C.asked plan.old) (C.asked plan.new) (C.fallen plan.old) (C.fallen plan.new)) }
         ensures seat { seat_of self.new ≡ seat_of self.old }
         ensures table { OnOk result (table_steps self.old.pass Call.Unlock Answer.Unlocked ≡ Some self.new.steps) }
+        ensures few { refusal_now self.old Call.Unlock ≡ None → self.new.steps ≤ most_steps self.old.pass.setup.layout Call.Unlock }
     {
         match self.runner.call(plan, &Call::Unlock)? {
             Answer::Unlocked => Ok(()),
@@ -120,6 +122,7 @@ impl Member {
         ensures fails { IfErr result (Fails self.old Call.Withdraw self.new (C.asked plan.old) (C.asked plan.new) (C.fallen plan.old) (C.fallen plan.new)) }
         ensures seat { seat_of self.new ≡ seat_of self.old }
         ensures table { OnOk result (table_steps self.old.pass Call.Withdraw Answer.Withdrawn ≡ Some self.new.steps) }
+        ensures few { refusal_now self.old Call.Withdraw ≡ None → self.new.steps ≤ most_steps self.old.pass.setup.layout Call.Withdraw }
     {
         match self.runner.call(plan, &Call::Withdraw)? {
             Answer::Withdrawn => Ok(()),
@@ -137,6 +140,7 @@ impl Member {
         ensures fails { IfErr result (Fails self.old (Call.Get i) self.new (C.asked plan.old) (C.asked plan.new) (C.fallen plan.old) (C.fallen plan.new)) }
         ensures seat { seat_of self.new ≡ seat_of self.old }
         ensures table { IfOk result (λ v. table_steps self.old.pass (Call.Get i) (Answer.Mail (Reply.Word v)) ≡ Some self.new.steps) }
+        ensures few { refusal_now self.old (Call.Get i) ≡ None → self.new.steps ≤ most_steps self.old.pass.setup.layout (Call.Get i) }
     {
         let _by = self.runner.by();
         match self.runner.call(plan, &Call::Get(i))? {
@@ -153,6 +157,7 @@ impl Member {
         ensures fails { IfErr result (Fails self.old (Call.Put i value) self.new (C.asked plan.old) (C.asked plan.new) (C.fallen plan.old) (C.fallen plan.new)) }
         ensures seat { seat_of self.new ≡ seat_of self.old }
         ensures table { OnOk result ((reply : ReplyOf) × (table_steps self.old.pass (Call.Put i value) (Answer.Mail reply) ≡ Some self.new.steps)) }
+        ensures few { refusal_now self.old (Call.Put i value) ≡ None → self.new.steps ≤ most_steps self.old.pass.setup.layout (Call.Put i value) }
     {
         match self.runner.call(plan, &Call::Put(i, value))? {
             Answer::Mail(_) => Ok(()),
@@ -168,6 +173,7 @@ impl Member {
         ensures seat { seat_of self.new ≡ seat_of self.old }
         ensures table { IfOk result (λ mended. table_steps self.old.pass Call.Consistent (Answer.Mail (Reply.Mended mended)) ≡ Some self.new.steps) }
         ensures table_ruined { IfErr result (λ e. e ≡ LockFault.NotRecoverable → table_steps self.old.pass Call.Consistent Answer.NotRecoverable ≡ Some self.new.steps) }
+        ensures few { refusal_now self.old Call.Consistent ≡ None → self.new.steps ≤ most_steps self.old.pass.setup.layout Call.Consistent }
     {
         match self.runner.call(plan, &Call::Consistent)? {
             Answer::Mail(Reply::Mended(mended)) => Ok(mended),
@@ -184,6 +190,7 @@ impl Member {
         ensures fails { IfErr result (FailsOut self.old Call.Recover self.new (C.asked plan.old) (C.asked plan.new) (C.fallen plan.old) (C.fallen plan.new)) }
         ensures seat { seat_of self.new ≡ seat_of self.old }
         ensures table { IfOk result (λ found. table_steps (ready self.old).pass Call.Recover (Answer.Found found) ≡ Some self.new.steps) }
+        ensures few { IfErr result (λ e. e ≢ LockFault.AlreadyIn → self.new.steps ≤ most_steps self.old.pass.setup.layout Call.Recover) }
     {
         self.runner.set_out(&Call::Recover)?;
         match self.runner.serve(plan, &Call::Recover)? {
@@ -204,6 +211,8 @@ impl Member {
         ensures seat { seat_of self.new ≡ seat_of self.old }
         ensures counts { IfOk result (λ entry. LockCounts (began (ready self.old) Call.Lock) (Some (answer_of entry)) self.new) }
         ensures counts_out { IfErr result (LockCountsOut (began (ready self.old) Call.Lock) self.new) }
+        ensures few { OnOk result (self.new.steps ≤ 3 * self.old.pass.setup.layout.procs + 8 + turns) }
+        ensures few_out { IfErr result (λ e. e ≢ LockFault.AlreadyIn → self.new.steps ≤ 3 * self.old.pass.setup.layout.procs + 8 + turns) }
     {
         self.runner.set_out(&Call::Lock)?;
         match self.runner.wait_turns(plan, turns)? {

@@ -1,4 +1,4 @@
-use Rattle.std.proofs.Common.{rules, ◌≡◌, [], ◌∷◌, Some, Ok, subst}
+use Rattle.std.proofs.Common.{rules, ◌≡◌, ◌≢◌, ◌≤◌, [], ◌∷◌, Some, Ok, subst}
 use Rattle.rmeworld.specs.declared.answer.Answer.{Answer}
 use Rattle.rmeworld.specs.declared.answer.Answer.TheVariants.{Found}
 use Rattle.rmeworld.specs.declared.call.Call.TheVariants.{Recover}
@@ -6,7 +6,10 @@ use Rattle.robust.specs.Running.{Seated}
 use Rattle.robust.specs.Calls.{Served}
 use Rattle.robust.specs.Faults.{ready}
 use Rattle.robust.specs.Tabled.{table_steps}
-use Rattle.robust.proofs.Counted.{called_counts}
+use Rattle.redomail.specs.declared.layout.Layout.{Layout}
+use Rattle.rmeworld.specs.OwnSteps.{most_steps}
+use Rattle.robust.specs.declared.lock_fault.LockFault.TheVariants.{AlreadyIn}
+use Rattle.robust.proofs.Counted.{called_counts, few_out, err_any}
 use Rattle.robust.proofs.member.Member.recover.Goals as goal
 
 pub returns-clause-table : goal.returns-clause-table
@@ -19,3 +22,9 @@ returns-clause-table g c =
     let served = subst (λ (a : Answer). Served c.set_out.new.self Recover (a ∷ []) 0 y r.0) is r.1 in
     subst (λ (u : Seated). table_steps (ready u).pass Recover (Found c.in-Found.found) ≡ Some y.steps) c.self.view_is
     (called_counts (ready x) c.set_out.new.self y Recover _ _ _ _ (Ok (Found c.in-Found.found)) out.0 out.2 (r.0, served, r.2))
+
+pub returns-in_err-found-clause-few : goal.returns-in_err-found-clause-few
+returns-in_err-found-clause-few g c =
+    let y = c.serve.new.self in
+    err_any c.from_residual-in_err-found.result (λ e. e ≢ AlreadyIn) _
+    (subst (λ (u : Seated). y.steps ≤ most_steps u.pass.setup.layout Recover) c.self.view_is (few_out c.self.inside.runner c.set_out.new.self y Recover (λ (l : Layout). most_steps l Recover) c.in_ok-set_out.ensures.out.0 c.serve.ensures.few))

@@ -2,6 +2,7 @@ use Rattle.std.proofs.Common.{◌≡◌, ℕ, ◌+◌, sym, ap, ◌∙◌, subst
 use Rattle.rmecore.specs.Simulated.{one_more}
 use Rattle.robust.specs.Running.{Seated, many_more}
 use Rattle.robust.proofs.Called.{on_err, fell_more, served_ran, served_as, crashes_of, cut_ran}
+use Rattle.robust.proofs.Counted.{few_cut, few_ran}
 use Rattle.robust.proofs.runner.Runner.serve.Goals as goal
 
 pub returns-in_err-answer-clause-cut : goal.returns-in_err-answer-clause-cut
@@ -27,3 +28,20 @@ returns-clause-idle g c =
     let r = c.in_ok-answer.ensures.ran in
     let w = c.in_ok-ask-in-Some.ensures in
     (served_as c.args.self.now c.run.new.self c.ask.new.self c.args.call.now c.in-Some.answer r.0 c.requires.pass c.requires.start c.in-Some.is r.1 w.goes_on.0).idle
+
+pub returns-in_err-answer-clause-few : goal.returns-in_err-answer-clause-few
+returns-in_err-answer-clause-few g c =
+    let r = c.in_err-answer.ensures.cut in
+    few_cut c.args.self.now c.run.new.self c.args.call.now r.0 c.requires.pass c.requires.start r.1 r.3
+
+pub returns-in_err-ask-in-Some-clause-few : goal.returns-in_err-ask-in-Some-clause-few
+returns-in_err-ask-in-Some-clause-few g c =
+    let r = c.in_ok-answer.ensures.ran in
+    let f = c.in_err-ask-in-Some.ensures in
+    few_ran c.args.self.now c.run.new.self c.ask.new.self c.args.call.now c.in-Some.answer r.0 c.in-Some.is c.requires.pass c.requires.start r.1 (ap (λ (u : Seated). u.steps) f.falls.0)
+
+pub returns-clause-few : goal.returns-clause-few
+returns-clause-few g c =
+    let r = c.in_ok-answer.ensures.ran in
+    let w = c.in_ok-ask-in-Some.ensures in
+    few_ran c.args.self.now c.run.new.self c.ask.new.self c.args.call.now c.in-Some.answer r.0 c.in-Some.is c.requires.pass c.requires.start r.1 (ap (λ (u : Seated). u.steps) w.goes_on.0)

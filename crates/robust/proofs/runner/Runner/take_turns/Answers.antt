@@ -8,6 +8,7 @@ use Rattle.robust.proofs.Taken.{none_of}
 use Rattle.robust.proofs.Called.{on_err, crashes_of}
 use Rattle.robust.proofs.Turned.{many_append, many_fell, turned, turned_served, turned_cut, turned_out, turning_first}
 use Rattle.robust.proofs.Chained.{none_more}
+use Rattle.robust.proofs.Counted.{turned_few, turned_few_cut, turned_few_out}
 use Rattle.robust.proofs.runner.Runner.take_turns.Goals as goal
 
 pub loop-answer-init : goal.loop-answer-init
@@ -62,3 +63,22 @@ loop-answer-preserved g c =
       fallen = r.2.1 ∙ i.fallen;
       begun = (still.1, still.2, still.3);
     }
+
+pub returns-in_err-answer-clause-few : goal.returns-in_err-answer-clause-few
+returns-in_err-answer-clause-few g c =
+    let s = c.loop-answer.invariant.so_far in
+    let r = c.in_err-answer.ensures.cut in
+    turned_few_cut c.args.self.now c.loop-answer.self c.run.new.self s.0 r.0 s.1 c.args.turns (let sum = s.2 in omega arith) c.requires.pass c.requires.start s.3 r.1 r.3
+
+pub returns-in-Some-clause-few : goal.returns-in-Some-clause-few
+returns-in-Some-clause-few g c =
+    let s = c.loop-answer.invariant.so_far in
+    let r = c.in_ok-answer.ensures.ran in
+    turned_few c.args.self.now c.loop-answer.self c.run.new.self s.0 r.0 s.1 c.args.turns (let sum = s.2 in omega arith) c.requires.pass c.requires.start s.3 c.in-Some.answer c.in-Some.is r.1
+
+pub returns-then-left-eq0-clause-few : goal.returns-then-left-eq0-clause-few
+returns-then-left-eq0-clause-few g c =
+    let s = c.loop-answer.invariant.so_far in
+    let r = c.in_ok-answer.ensures.ran in
+    let none = none_of _ c.in_default.not-Some in
+    turned_few_out c.args.self.now c.run.new.self (s.0 ++ r.0) s.1 c.args.turns (let sum = s.2 in omega arith) c.requires.pass c.requires.start (turned c.args.self.now c.loop-answer.self c.run.new.self s.0 r.0 s.1 s.3 none r.1)

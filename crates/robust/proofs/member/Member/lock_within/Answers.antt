@@ -1,0 +1,26 @@
+use Rattle.std.proofs.Common.{◌≡◌, ◌≢◌, ◌+◌, ◌≤◌, subst}
+use Rattle.redomail.specs.declared.layout.Layout.{Layout}
+use Rattle.rmeworld.specs.OwnSteps.{most_steps}
+use Rattle.rmeworld.specs.declared.call.Call.TheVariants.{Lock}
+use Rattle.robust.specs.declared.lock_fault.LockFault.TheVariants.{AlreadyIn}
+use Rattle.robust.specs.Running.{Seated}
+use Rattle.robust.proofs.Counted.{few_out, err_any, ok_any}
+use Rattle.robust.proofs.member.Member.lock_within.Goals as goal
+
+pub returns-in_err-answer-clause-few_out : goal.returns-in_err-answer-clause-few_out
+returns-in_err-answer-clause-few_out g c =
+    let y = c.wait_turns.new.self in
+    err_any c.from_residual-in_err-answer.result (λ e. e ≢ AlreadyIn) _
+    (subst (λ (u : Seated). y.steps ≤ most_steps u.pass.setup.layout Lock + c.args.turns) c.self.view_is (few_out c.self.inside.runner c.set_out.new.self y Lock (λ (l : Layout). most_steps l Lock + c.args.turns) c.in_ok-set_out.ensures.out.0 c.wait_turns.ensures.few))
+
+pub returns-clause-few : goal.returns-clause-few
+returns-clause-few g c =
+    let y = c.wait_turns.new.self in
+    ok_any c.match-branch-3.result _
+    (subst (λ (u : Seated). y.steps ≤ most_steps u.pass.setup.layout Lock + c.args.turns) c.self.view_is (few_out c.self.inside.runner c.set_out.new.self y Lock (λ (l : Layout). most_steps l Lock + c.args.turns) c.in_ok-set_out.ensures.out.0 c.wait_turns.ensures.few))
+
+pub returns-clause-few_out : goal.returns-clause-few_out
+returns-clause-few_out g c =
+    let y = c.wait_turns.new.self in
+    err_any c.match-branch-3.result (λ e. e ≢ AlreadyIn) _
+    (subst (λ (u : Seated). y.steps ≤ most_steps u.pass.setup.layout Lock + c.args.turns) c.self.view_is (few_out c.self.inside.runner c.set_out.new.self y Lock (λ (l : Layout). most_steps l Lock + c.args.turns) c.in_ok-set_out.ensures.out.0 c.wait_turns.ensures.few))

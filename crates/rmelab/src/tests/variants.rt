@@ -134,3 +134,22 @@ fn hunt_seeds(rt: HostRuntime) -> Result<(), Fail> {
     prints(&rt, alloc, line, "", "nothing found\n", "", 0)?;
     Ok(())
 }
+
+/// The schedule that `bench/lab`, a program by hand, draws by the same rule.
+const DRAWN: &str =
+    "rme 1 procs 3 limit 1000000 cap 64\nlock 2\nlock 0\nlock 1\ncrash 1\nlock 1\nstep 2\nstep 0\nstep 2\n\
+step 2\nstep 2\nstep 1\nstep 1\nstep 2\ncrash 0\nlock 0\nstep 0\nstep 1\nstep 2\nstep 2\nstep 2\n\
+step 0\nstep 2\nstep 2\nstep 2\nstep 1\ncrash 2\nlock 2\nstep 1\nstep 2\nstep 2\nstep 0\nstep 2\n\
+step 1\nstep 0\nstep 2\nstep 0\nstep 0\nconsistent 2\nstep 1\nstep 1\nstep 2\nstep 1\nstep 0\nstep 0\n\
+step 2\nstep 1\nstep 0\nappend 2 1 1\nstep 1\nstep 2\nstep 2\nstep 0\nstep 0\nstep 2\nstep 0\nstep 1\n\
+step 0\nstep 2\nstep 2\nstep 2\nstep 2\nstep 1\nstep 1\nstep 1\nstep 2\nstep 0\nstep 0\nstep 2\nstep 2\n\
+step 0\nstep 2\nstep 1\nstep 2\nstep 1\nstep 1\nstep 1\nstep 2\nunlock 2\nstep 0\nstep 0\nstep 0\n\
+step 0\nstep 1\nstep 0\nstep 1\nstep 1\nstep 1\nstep 0\nstep 2\nstep 0\nstep 2\nstep 0\nlock 2\nstep 1\n\
+step 0\nstep 1\n";
+
+#[test]
+fn moves_of_a_hunt(rt: HostRuntime) -> Result<(), Fail> {
+    let line = "rmelab hunt --variant no-look --seed 70 --rounds 10000 --steps 1000";
+    prints(&rt, rt.alloc(), line, "", DRAWN, "", 1)?;
+    Ok(())
+}

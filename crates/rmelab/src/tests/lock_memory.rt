@@ -1,70 +1,12 @@
-//! Each request for memory refused in turn, of the running lock.
+//! Each request for memory refused in turn, of a lab over the running lock.
 
 use super::scarce::{PIECES, Scarce};
 use crashlab::Never;
-use redomail::{Message, Reply};
-use rmecore::{Body, Refusal};
-use robust::{Arena, LabFault, LabResult, Member, Spec, run_lab};
+use robust::{LabFault, LabResult, Spec, run_lab};
 use std::alloc::{AllocError, Global};
 use std::sync::Wait;
 use std::test::Fail;
 use std::thread::Threads;
-
-#[test]
-fn an_arena(rt: HostRuntime) -> Result<(), Fail> {
-    let alloc = rt.alloc();
-    let mut scarce = Scarce::new(alloc)?;
-    let mut refused = 0u64;
-    for _ in 0..PIECES {
-        match Arena::new(&rt, alloc, 2, 10, 2, 1) {
-            Ok(members) => {
-                assert_eq!(rt; members.len(), 2);
-                break;
-            }
-            Err(refusal) => assert_eq!(rt; refusal, Refusal::OutOfMemory),
-        }
-        refused = refused.saturating_add(1);
-        scarce.give_back();
-    }
-    assert!(rt; 0 < refused && refused < PIECES as u64);
-    Ok(())
-}
-
-/// A member that has stored a message.
-fn sender<R>(rt: &R, alloc: Global, value: Body) -> Result<Member, Fail> {
-    let mut members = Arena::new(rt, alloc, 1, 10, 2, 1)?;
-    let mut member = members.pop().ok_or("a member")?;
-    let reply = member.append_within(1, value, &mut Never::new(), 0);
-    if reply == Ok(Reply::Stored) {
-        Ok(member)
-    } else {
-        Err("stored".into())
-    }
-}
-
-#[test]
-fn a_reading(rt: HostRuntime) -> Result<(), Fail> {
-    let alloc = rt.alloc();
-    let value = Body::new(&[77])?;
-    let mut member = sender(&rt, alloc, value)?;
-    let shown = [Message {
-        sender: 0,
-        seq: 1,
-        value,
-    }];
-    let mut scarce = Scarce::new(alloc)?;
-    let mut refused = 0u64;
-    for _ in 0..PIECES {
-        if let Ok(messages) = member.read_from(alloc, 0) {
-            assert!(rt; messages.as_slice() == shown.as_slice());
-            break;
-        }
-        refused = refused.saturating_add(1);
-        scarce.give_back();
-    }
-    assert!(rt; 0 < refused && refused < PIECES as u64);
-    Ok(())
-}
 
 const TWO: Spec = Spec {
     procs: 2,

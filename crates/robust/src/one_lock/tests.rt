@@ -1,7 +1,5 @@
 //! The plain reference, on the rows over members.
 
-mod counted;
-mod gated;
 mod gates;
 mod gathers;
 mod labs;

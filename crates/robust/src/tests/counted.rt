@@ -1,6 +1,6 @@
 //! A plan that counts.
 
-use crashlab::CrashPlan;
+use crashlab::{At, CrashPlan, Never};
 
 /// A plan with the askings that it has met.
 #[derive(Drop)]
@@ -31,4 +31,14 @@ impl<P: CrashPlan> CrashPlan for Counted<P> {
         self.askings = self.askings.saturating_add(1);
         self.plan.falls()
     }
+}
+
+/// A plan that never falls, and counts.
+pub fn never() -> Counted<Never> {
+    Counted::new(Never::new())
+}
+
+/// A plan that falls at one asking, and counts.
+pub fn at(place: u64) -> Counted<At> {
+    Counted::new(At::new(place))
 }

@@ -107,3 +107,16 @@ impl Gate for Gated {
         self.mine.answer.store(call, Ordering::SeqCst);
     }
 }
+
+/// Two gates that meet: the second's first asking waits until worker 0 is at its asking 12, inside, and that one until
+/// worker 1 is at this asking.
+pub fn meeting(
+    alloc: Global,
+    asking: u64,
+) -> Result<(Gated, Gated, Arc<Progress>, Arc<Progress>), AllocError> {
+    let zero = Progress::new(alloc)?;
+    let one = Progress::new(alloc)?;
+    let first = Gated::new(12, Until::Asking(asking), &zero, &one)?;
+    let second = Gated::new(1, Until::Asking(12), &one, &zero)?;
+    Ok((first, second, zero, one))
+}

@@ -1,17 +1,14 @@
 //! The lab over the running lock, and workers that meet: each waits at an asking until the other has come far enough.
 
-use super::gated::{Gated, Progress, Until};
-use super::mailbox::message;
-use super::two;
-use crate::{Entry, LabFault, LockFault, Member, Spec, run_lab};
-use crashlab::{CrashPlan, Never, Seeded};
+use super::gated::{Gated, Progress, Until, meeting};
+use super::kit::are;
+use crate::{LabFault, LockFault, Spec, run_lab};
+use crashlab::{Never, Seeded};
 use redomail::{Message, Reply};
-use rmecore::Body;
-use std::alloc::{AllocError, Global};
+use std::alloc::Global;
 use std::process::Abort;
-use std::sync::{Arc, Wait};
+use std::sync::Wait;
 use std::test::Fail;
-use std::thread;
 use std::thread::Threads;
 
 pub const TWO: Spec = Spec {
@@ -22,19 +19,6 @@ pub const TWO: Spec = Spec {
     width: 1,
 };
 
-/// Two gates that meet: the second's first asking waits until worker 0 is at its asking 12, inside, and that one until
-/// worker 1 is at this asking.
-pub fn meeting(
-    alloc: Global,
-    asking: u64,
-) -> Result<(Gated, Gated, Arc<Progress>, Arc<Progress>), AllocError> {
-    let zero = Progress::new(alloc)?;
-    let one = Progress::new(alloc)?;
-    let first = Gated::new(12, Until::Asking(asking), &zero, &one)?;
-    let second = Gated::new(1, Until::Asking(12), &one, &zero)?;
-    Ok((first, second, zero, one))
-}
-
 #[test]
 fn both_at_once(rt: HostRuntime) -> Result<(), Fail> {
     let (first, second, zero, one) = meeting(rt.alloc(), 20)?;
@@ -43,8 +27,13 @@ fn both_at_once(rt: HostRuntime) -> Result<(), Fail> {
     gates.push(second)?;
     let lab = run_lab(&rt, rt.alloc(), TWO, gates)?;
     assert!(rt; !zero.has_given_up() && !one.has_given_up());
-    let shown = [message(0, 1)?, message(1, 1_000_001)?];
-    assert!(rt; lab.messages.as_slice() == shown.as_slice());
+    assert!(rt;
+        are(
+            &rt,
+            lab.messages.as_slice(),
+            &[(0, 1, 1), (1, 1, 1_000_001)]
+        )
+    );
     Ok(())
 }
 
@@ -109,7 +98,10 @@ fn a_full_mailbox(rt: HostRuntime) -> Result<(), Fail> {
 
 /// Each worker's messages stand once, in order and as they were sent, and there are no others.
 pub fn are_all_sent(rt: &impl Abort, spec: Spec, messages: &[Message]) {
-    assert_eq!(rt; messages.len() as u64, spec.procs.saturating_mul(spec.messages));
+    assert_eq!(rt;
+        messages.len() as u64,
+        spec.procs.saturating_mul(spec.messages)
+    );
     for p in 0..spec.procs {
         let mut seq = 0u64;
         for message in messages {
@@ -117,8 +109,14 @@ pub fn are_all_sent(rt: &impl Abort, spec: Spec, messages: &[Message]) {
                 seq = seq.saturating_add(1);
                 assert_eq!(rt; message.seq, seq, "of worker {p}");
                 for j in 0..spec.width {
-                    let word = p.saturating_mul(1_000_000).saturating_add(seq).saturating_add(j);
-                    assert!(rt; message.value.word(j) == Ok(word), "worker {p}, {seq}, word {j}");
+                    let word = p
+                        .saturating_mul(1_000_000)
+                        .saturating_add(seq)
+                        .saturating_add(j);
+                    assert!(rt;
+                        message.value.word(j) == Ok(word),
+                        "worker {p}, {seq}, word {j}"
+                    );
                 }
             }
         }

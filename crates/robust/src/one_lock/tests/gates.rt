@@ -3,11 +3,11 @@
 ghost use Rattle.std.specs.Prelude.{◌≡◌};
 ghost use Rattle.std.specs.Thread.{IsSend, IsSync};
 
-use super::gated::{Gated, Progress, Until};
 use super::two;
 use crate::LockFault;
 use crate::lab::{LabFault, Spec};
 use crate::one_lock::{Entry, Member, run_lab};
+use crate::tests::gated::{Gated, Progress, Until, meeting};
 use crashlab::{CrashPlan, Never};
 use redomail::{Message, Reply};
 use rmecore::Body;
@@ -27,19 +27,6 @@ const TWO: Spec = Spec {
     cap: 2,
     width: 1,
 };
-
-/// Two gates that meet: the second's first asking waits until worker 0 is at its asking 12, inside, and that one until
-/// worker 1 is at this asking.
-fn meeting(
-    alloc: Global,
-    asking: u64,
-) -> Result<(Gated, Gated, Arc<Progress>, Arc<Progress>), AllocError> {
-    let zero = Progress::new(alloc)?;
-    let one = Progress::new(alloc)?;
-    let first = Gated::new(12, Until::Asking(asking), &zero, &one)?;
-    let second = Gated::new(1, Until::Asking(12), &one, &zero)?;
-    Ok((first, second, zero, one))
-}
 
 #[test]
 fn both_at_once(rt: HostRuntime) -> Result<(), Fail> {

@@ -2,6 +2,7 @@
 
 use crate::lab::{LabFault, Spec};
 use crate::one_lock::run_lab;
+use crate::tests::labs::are_all_sent;
 use crashlab::{Never, Seeded};
 use redomail::{Message, Reply};
 use std::alloc::Global;
@@ -9,34 +10,6 @@ use std::process::Abort;
 use std::sync::Wait;
 use std::test::Fail;
 use std::thread::Threads;
-
-/// Each worker's messages stand once, in order and as they were sent, and there are no others.
-fn are_all_sent(rt: &impl Abort, spec: Spec, messages: &[Message]) {
-    assert_eq!(rt;
-        messages.len() as u64,
-        spec.procs.saturating_mul(spec.messages)
-    );
-    for p in 0..spec.procs {
-        let mut seq = 0u64;
-        for message in messages {
-            if message.sender == p {
-                seq = seq.saturating_add(1);
-                assert_eq!(rt; message.seq, seq, "of worker {p}");
-                for j in 0..spec.width {
-                    let word = p
-                        .saturating_mul(1_000_000)
-                        .saturating_add(seq)
-                        .saturating_add(j);
-                    assert!(rt;
-                        message.value.word(j) == Ok(word),
-                        "worker {p}, {seq}, word {j}"
-                    );
-                }
-            }
-        }
-        assert_eq!(rt; seq, spec.messages, "worker {p}");
-    }
-}
 
 /// So many workers, each of which crashes at 20 of 1,000 askings.
 fn sends_all<R: Abort + Threads + Wait + Sync>(

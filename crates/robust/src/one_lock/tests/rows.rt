@@ -2,10 +2,10 @@
 
 ghost use Rattle.std.specs.Prelude.{◌≡◌};
 
-use super::counted::Counted;
 use super::{left_by, own, two};
 use crate::LockFault;
 use crate::one_lock::{Arena, Entry};
+use crate::tests::counted::Counted;
 use crashlab::{At, Never};
 use redomail::Reply;
 use rmecore::Found;

@@ -2,9 +2,10 @@
 
 ghost use Rattle.std.specs.Prelude.{◌≡◌};
 
-use super::counted::Counted;
 use super::{left_by, two};
 use crate::LockFault;
+use crate::tests::counted::Counted;
+use crate::tests::kit::answered_after;
 use crashlab::{At, Never};
 use redomail::{Layout, Message, Reply, content};
 use rmecore::Body;
@@ -14,21 +15,6 @@ use std::process::Abort;
 use std::sync::Wait;
 use std::sync::ledger::{Blank, Ledger};
 use std::test::Fail;
-
-/// The answer of the call after a crash at asking k, and its steps.
-fn answered_after(k: u64) -> (Reply, u64) {
-    match k {
-        1..=4 => (Reply::Stored, 26),
-        5 | 6 => (Reply::Stored, 25),
-        7 => (Reply::Stored, 23),
-        8..=10 => (Reply::Stored, 22),
-        11..=18 => (Reply::Stored, 21),
-        19..=24 => (Reply::Already, 20),
-        25 => (Reply::Already, 11),
-        26 => (Reply::Already, 17),
-        _ => (Reply::Already, 16),
-    }
-}
 
 fn sweeps<L: Ledger, R: Abort + Wait>(
     rt: &R,

@@ -1,0 +1,8 @@
+use Rattle.std.proofs.Common.{ap}
+use Rattle.robust.specs.Working.{seats_of}
+use Rattle.robust.proofs.tests.eight.made.Goals as goal
+
+pub returns : goal.returns
+returns g c =
+    let m = c.in-Ok.ensures.made in
+    (m.0, _, ap seats_of m.1)

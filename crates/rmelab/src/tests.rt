@@ -1,9 +1,11 @@
 //! The worked rows that name the program, on its two functions.
 
 mod images;
+mod lock_memory;
 mod memory;
 mod replays;
 mod runs;
+mod scarce;
 mod texts;
 mod variants;
 mod words;

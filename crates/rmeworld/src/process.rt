@@ -5,7 +5,7 @@
 ghost use Rattle.std.specs.Prelude.{◌≡◌, ◌==◌, true, false, not, if◌then◌else◌, [], ◌∷◌, Some, None, IfSome, OnOk, OnErr, IfErr, is_none};
 ghost use Rattle.rmecore.specs.Place.{Inside, Leaving, started as lock_started};
 ghost use Rattle.rmecore.specs.Refused.{start_refusal as lock_refusal};
-ghost use Rattle.rmecore.specs.Machine.{after_access, quiet, next_access as lock_access, IsAllowed as IsLockAllowed};
+ghost use Rattle.rmecore.specs.Machine.{after_access, progress, quiet, next_access as lock_access, IsAllowed as IsLockAllowed};
 ghost use Rattle.redomail.specs.Left.{left, begun};
 ghost use Rattle.redomail.specs.Refusals.{refused};
 ghost use Rattle.rmeworld.specs.Answered.{by_lock, by_reply, by_script};
@@ -62,7 +62,7 @@ impl Process {
     ghost use Rattle.rmecore.specs.Machine.{word_of};
     ghost use Rattle.rmeworld.specs.Spot.{next_spot, Begins};
     ghost use Rattle.rmeworld.specs.Refused.{start_refusal, is_idle};
-    ghost use Rattle.rmeworld.specs.Stand.{IsSize, Stand, spot_of, resting, crashed, stepped, started, works, ended_by, next_access, spot_after, outcome, IsAllowed, IsLeast, InWords, StoresOwn};
+    ghost use Rattle.rmeworld.specs.Stand.{IsSize, Stand, standing, spot_of, resting, crashed, stepped, started, works, ended_by, next_access, spot_after, outcome, IsAllowed, IsLeast, InWords, StoresOwn};
 
     /// A process at rest, of a world of this size.
     pub fn new(layout: Layout, limit: u64, index: u64) -> Process
@@ -116,33 +116,13 @@ impl Process {
         ensures { result ≡ outcome self.now (next_access self.now) value }
     {
         match self.errand {
-            Errand::Free => {
-                let progress = self.lock.outlook(value);
-                Outcome {
-                    progress,
-                    answer: self.core_answer(progress.done),
-                }
-            }
+            Errand::Free => lock_outcome(self.barred, self.lock.outlook(value)),
             Errand::Asking(_) => asked(value),
             Errand::Doing(why, job) => {
                 let mut job = job;
                 job.feed(value);
-                job_outcome(why, self.mended, job)
+                job_outcome(why, self.mended, &job)
             }
-        }
-    }
-
-    /// What is answered where the lock's part ends.
-    fn core_answer(&self, done: Option<CoreDone>) -> Option<Answer>
-        ensures { result ≡ by_lock self.now.barred done }
-    {
-        match done? {
-            CoreDone::In | CoreDone::InAgain => None,
-            CoreDone::Spent => Some(Answer::NumbersSpent),
-            CoreDone::Out if self.barred => Some(Answer::NotRecoverable),
-            CoreDone::Out => Some(Answer::Unlocked),
-            CoreDone::Found(found) => Some(Answer::Found(found)),
-            CoreDone::Withdrawn => Some(Answer::Withdrawn),
         }
     }
 
@@ -154,28 +134,32 @@ impl Process {
         ensures allowed { IfSome (next_access self.old) (IsAllowed self.old) }
         ensures outcome { result ≡ outcome self.old (next_access self.old) value }
     {
-        let outcome = self.outlook(value);
         let errand = self.errand;
         match errand {
-            Errand::Free => self.move_on(value),
-            Errand::Asking(job) => self.go_on(value, job),
+            Errand::Free => {
+                let barred = self.barred;
+                lock_outcome(barred, self.move_on(value))
+            }
+            Errand::Asking(job) => {
+                self.go_on(value, job);
+                asked(value)
+            }
             Errand::Doing(why, job) => self.job_step(why, job, value),
         }
-        outcome
     }
 
     /// A step of the lock.
-    fn move_on(&mut self, value: u64)
+    fn move_on(&mut self, value: u64) -> Progress
         requires { self.old.errand ≡ Errand.Free }
         ensures exact { self.new ≡ stepped self.old value }
         ensures spot { spot_of self.new ≡ spot_after self.old (next_access self.old) value }
         ensures allowed { IfSome (next_access self.old) (IsAllowed self.old) }
+        ensures progress { result ≡ progress (standing self.old) (lock_access (standing self.old)) value }
     {
-        let (mended, checks) = lock_step(&mut self.lock, self.mended, value);
+        let (progress, mended, checks) = lock_step(&mut self.lock, self.mended, value);
         self.mended = mended;
-        if checks {
-            self.errand = Errand::Doing(Why::Checking, job(self.layout, self.index, Task::Check));
-        }
+        self.errand = errand_next(self.layout, self.index, checks);
+        progress
     }
 
     /// The step with which consistent begins: unless the lock is ruined, the repair comes next.
@@ -192,18 +176,22 @@ impl Process {
     }
 
     /// A step of a job.
-    fn job_step(&mut self, why: Why, job: Job, value: u64)
+    fn job_step(&mut self, why: Why, job: Job, value: u64) -> Outcome
         requires { self.old.errand ≡ Errand.Doing why job }
         ensures exact { self.new ≡ stepped self.old value }
         ensures spot { spot_of self.new ≡ spot_after self.old (next_access self.old) value }
+        ensures outcome { result ≡ outcome self.old (next_access self.old) value }
     {
         let _ = &self.errand;
         let mut job = job;
         job.feed(value);
+        let same = why;
+        let outcome = job_outcome(same, self.mended, &job);
         match job.next() {
             Next::Done(reply) => self.end(why, reply),
             Next::Get(_) | Next::Put(..) => self.errand = Errand::Doing(why, job),
         }
+        outcome
     }
 
     /// The end of a script: inside, or at the exit.
@@ -388,6 +376,30 @@ fn job(layout: Layout, sender: u64, task: Task) -> Job
     }
 }
 
+/// What a step of the lock's part is for its call.
+fn lock_outcome(barred: bool, progress: Progress) -> Outcome
+    ensures { result ≡ record { progress = progress; answer = by_lock barred progress.done } }
+{
+    Outcome {
+        progress,
+        answer: core_answer(barred, progress.done),
+    }
+}
+
+/// What is answered where the lock's part ends.
+fn core_answer(barred: bool, done: Option<CoreDone>) -> Option<Answer>
+    ensures { result ≡ by_lock barred done }
+{
+    match done? {
+        CoreDone::In | CoreDone::InAgain => None,
+        CoreDone::Spent => Some(Answer::NumbersSpent),
+        CoreDone::Out if barred => Some(Answer::NotRecoverable),
+        CoreDone::Out => Some(Answer::Unlocked),
+        CoreDone::Found(found) => Some(Answer::Found(found)),
+        CoreDone::Withdrawn => Some(Answer::Withdrawn),
+    }
+}
+
 /// What the get of ruined with which consistent begins is for its call.
 fn asked(value: u64) -> Outcome
     ensures { result ≡ record { progress = quiet; answer = if value == 1 then Some Answer.NotRecoverable else None } }
@@ -403,8 +415,8 @@ fn asked(value: u64) -> Outcome
 }
 
 /// What a step of a script is for its call, with this job left.
-fn job_outcome(why: Why, mended: bool, job: Job) -> Outcome
-    ensures { result ≡ record { progress = quiet; answer = by_script why mended (left job) } }
+fn job_outcome(why: Why, mended: bool, job: &Job) -> Outcome
+    ensures { result ≡ record { progress = quiet; answer = by_script why mended (left job.now) } }
 {
     let answer = match job.next() {
         Next::Done(reply) => reply_answer(why, mended, reply),
@@ -429,15 +441,30 @@ fn reply_answer(why: Why, mended: bool, reply: Reply) -> Option<Answer>
     }
 }
 
-/// A step of the lock's part: whether the process is mended then, and whether the ruin check comes next. Who enters by a
-/// lock checks, and who enters again is not mended.
-fn lock_step(lock: &mut LockProcess, mended: bool, value: u64) -> (bool, bool)
+/// A step of the lock's part: what it was, whether the process is mended then, and whether the ruin check comes next. Who
+/// enters by a lock checks, and who enters again is not mended.
+fn lock_step(lock: &mut LockProcess, mended: bool, value: u64) -> (Progress, bool, bool)
     ensures lock { lock.new ≡ record lock.old { place = after_access lock.old (lock_access lock.old) value } }
     ensures allowed { IfSome (lock_access lock.old) (IsLockAllowed lock.old) }
-    ensures mended { result.0 ≡ mended_entered mended lock.old.place lock.new.place }
-    ensures checks { result.1 ≡ is_entry lock.old.place lock.new.place }
+    ensures progress { result.0 ≡ progress lock.old (lock_access lock.old) value }
+    ensures mended { result.1 ≡ mended_entered mended lock.old.place lock.new.place }
+    ensures checks { result.2 ≡ is_entry lock.old.place lock.new.place }
 {
-    entry(lock.feed(value).done, mended)
+    let progress = lock.feed(value);
+    let (mended, checks) = entry(progress.done, mended);
+    (progress, mended, checks)
+}
+
+/// What comes behind a step of the lock's part: the ruin check, or nothing.
+fn errand_next(layout: Layout, index: u64, checks: bool) -> Errand
+    requires { refused layout index Task.Check ≡ None }
+    ensures { result ≡ if checks then Errand.Doing Why.Checking (begun layout index Task.Check) else Errand.Free }
+{
+    if checks {
+        Errand::Doing(Why::Checking, job(layout, index, Task::Check))
+    } else {
+        Errand::Free
+    }
 }
 
 fn entry(done: Option<CoreDone>, mended: bool) -> (bool, bool)

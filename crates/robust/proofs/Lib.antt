@@ -23,8 +23,12 @@ pub mod Numbered
 pub mod AllSent
 pub mod Board
 pub mod OneStep
+pub mod Walked
+pub mod Tabled
+pub mod Counted
 pub mod Gathered
 pub mod LawfulEnd
 pub mod OneLockSteps
+pub mod OneLockSeats
 pub mod Working
 pub mod Worked

@@ -177,7 +177,7 @@ prolongs s es e run lt goes reads =
 pub legal_front : (s : Setup) (xs ys : List Entry) → IsRun s (xs ++ ys) → IsRun s xs
 legal_front s xs ys run = story_front s.layout s.limit at_first (spelled xs) (spelled ys) (subst (Story s.layout s.limit at_first) (spelled-append xs ys) run)
 
-legal_back : (s : Setup) (xs ys : List Entry) → IsRun s (xs ++ ys) → Story s.layout s.limit (end_of s xs) (spelled ys)
+pub legal_back : (s : Setup) (xs ys : List Entry) → IsRun s (xs ++ ys) → Story s.layout s.limit (end_of s xs) (spelled ys)
 legal_back s xs ys run = story_back s.layout s.limit at_first (spelled xs) (spelled ys) (subst (Story s.layout s.limit at_first) (spelled-append xs ys) run)
 
 -- what a step leaves of the words

@@ -6,6 +6,7 @@ pub mod Running
 pub mod Calls
 pub mod Under
 pub mod Faults
+pub mod Tabled
 pub mod Whole
 pub mod Making
 pub mod Lab
@@ -13,7 +14,9 @@ pub mod Headline
 pub mod Board
 pub mod OneLockStory
 pub mod OneLockMember
+pub mod OneLockLab
 pub mod Reading
 pub mod Gathering
 pub mod Working
+pub mod Sending
 pub mod Worked

@@ -7,6 +7,8 @@ ghost use Rattle.robust.specs.Pass.{IsPass, spot_now};
 ghost use Rattle.robust.specs.Calls.{Ran, CutOff, Still, Served, Crashes, Calm, Fell};
 ghost use Rattle.robust.specs.Lasting.{Lasts};
 ghost use Rattle.robust.specs.Running.{began};
+ghost use Rattle.robust.specs.Tabled.{table_steps};
+ghost use Rattle.robust.specs.Working.{seat_of};
 ghost use Rattle.robust.specs.Faults.{fault_for as fault_of, refusal_now, Fails};
 ghost use Rattle.robust.specs.Under.{IsUnder, Begun, Fits};
 
@@ -78,6 +80,8 @@ impl Runner {
         ensures fits { IfOk result (λ a. Fits call.now a) }
         ensures fails { IfErr result (Fails self.old call.now self.new (C.asked plan.old) (C.asked plan.new) (C.fallen plan.old) (C.fallen plan.new)) }
         ensures idle { self.new.pass.start ≡ None }
+        ensures seat { seat_of self.new ≡ seat_of self.old }
+        ensures table { IfOk result (λ a. table_steps self.old.pass call.now a ≡ Some self.new.steps) }
     {
         match self.begin(call) {
             Ok(()) => self.serve(plan, call),

@@ -2,6 +2,7 @@
 
 ghost use Rattle.robust.specs.Headline.{EveryRunIsSound};
 ghost use Rattle.robust.specs.Reading.{LoadsTell, RunsShow, EntriesStandInRuns};
+ghost use Rattle.robust.specs.Tabled.{CallsKeepTheTable};
 
 /// The headline, for any number of processes, limit and room, and any list of entries that is a run, crashes and all: its
 /// deeds are legal by the judge's whole table; so no two are inside, one that crashed inside is the next to enter, whose
@@ -28,4 +29,10 @@ pub fn runs_show()
 /// Entries below count never change later in a run, and count doesn't fall.
 pub fn entries_stand_in_runs()
     ensures { EntriesStandInRuns }
+{}
+
+/// Each call of a member takes just the own steps of the table beside its blocked ones, whatever the others do meanwhile; and
+/// while it has no answer it has taken fewer than such a call takes at most.
+pub fn calls_keep_the_table()
+    ensures { CallsKeepTheTable }
 {}

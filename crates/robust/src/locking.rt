@@ -4,6 +4,7 @@ ghost use Rattle.rmecore.specs.declared.refusal.Refusal.{Refusal as RefusalOf};
 ghost use Rattle.rmeworld.specs.declared.call.Call.TheVariants.{Lock, Recover};
 ghost use Rattle.robust.specs.Pass.{IsPass, spot_now};
 ghost use Rattle.robust.specs.Running.{began};
+ghost use Rattle.robust.specs.Tabled.{LockCounts};
 ghost use Rattle.robust.specs.Under.{Begun, Fits, Leaves};
 ghost use Rattle.robust.specs.Faults.{refusal_now, ready, CutIn, LockBy, LockEnds};
 
@@ -107,6 +108,7 @@ impl Runner {
         ensures crashed { IfErr result (λ e. e ≡ LockFault.Crashed) }
         ensures cut { OnErr result (CutIn self.old Lock self.new (C.asked plan.old) (C.asked plan.new) (C.fallen plan.old) (C.fallen plan.new)) }
         ensures idle { self.new.pass.start ≡ None }
+        ensures counts { IfOk result (λ o. LockCounts self.old o self.new) }
     {
         let answer = self.take_turns(plan, turns)?;
         self.ask(plan)?;
@@ -123,6 +125,7 @@ impl Runner {
         ensures crashed { IfErr result (λ e. e ≡ LockFault.Crashed) }
         ensures cut { OnErr result (CutIn self.old Lock self.new (C.asked plan.old) (C.asked plan.new) (C.fallen plan.old) (C.fallen plan.new)) }
         ensures idle { self.new.pass.start ≡ None }
+        ensures counts { IfOk result (λ a. LockCounts self.old (Some a) self.new) }
     {
         let answer = self.take_all(rt, plan)?;
         self.ask(plan)?;

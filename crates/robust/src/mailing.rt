@@ -5,6 +5,7 @@ ghost use Rattle.redomail.specs.Mailbox.{IsAmong};
 ghost use Rattle.robust.specs.Running.{began};
 ghost use Rattle.robust.specs.Faults.{refusal_now, ready};
 ghost use Rattle.robust.specs.Headline.{shown_by};
+ghost use Rattle.robust.specs.Working.{seat_of};
 ghost use Rattle.robust.specs.Whole.{WholeEnds, WholeFails, AppendFails};
 
 use crate::laws;
@@ -31,6 +32,7 @@ impl Member {
         ensures replied { IfOk result (λ reply. WholeEnds (began (ready self.old) Call.Lock) turns (Call.Append seq value) (Ok reply) self.new (C.asked plan.old) (C.asked plan.new) (C.fallen plan.old) (C.fallen plan.new)) }
         ensures fails { IfErr result (AppendFails self.old turns seq value self.new (C.asked plan.old) (C.asked plan.new) (C.fallen plan.old) (C.fallen plan.new)) }
         ensures shown { IfOk result (λ reply. (reply ≡ Reply.Stored) ⊎ (reply ≡ Reply.Already) → IsAmong self.old.pass.by seq (shown_by self.new.pass.setup self.new.pass.seen)) }
+        ensures seat { seat_of self.new ≡ seat_of self.old }
     {
         laws::every_run_is_sound();
         if value.width() != self.runner.setup().layout.width {
@@ -50,6 +52,7 @@ impl Member {
         ensures accepted { OnOk result (refusal_now (ready self.old) Call.Lock ≡ None) }
         ensures replied { IfOk result (λ reply. WholeEnds (began (ready self.old) Call.Lock) turns Call.Close (Ok reply) self.new (C.asked plan.old) (C.asked plan.new) (C.fallen plan.old) (C.fallen plan.new)) }
         ensures fails { IfErr result (WholeFails self.old turns Call.Close self.new (C.asked plan.old) (C.asked plan.new) (C.fallen plan.old) (C.fallen plan.new)) }
+        ensures seat { seat_of self.new ≡ seat_of self.old }
     {
         self.runner.mail_within(plan, &Call::Close, turns)
     }
@@ -69,6 +72,7 @@ impl Member {
         ensures fails { IfErr result (λ e. (turns : ℕ) × AppendFails self.old turns seq value self.new (C.asked plan.old) (C.asked plan.new) (C.fallen plan.old) (C.fallen plan.new) e) }
         ensures patient { IfErr result (λ e. e ≢ LockFault.NotYet) }
         ensures shown { IfOk result (λ reply. (reply ≡ Reply.Stored) ⊎ (reply ≡ Reply.Already) → IsAmong self.old.pass.by seq (shown_by self.new.pass.setup self.new.pass.seen)) }
+        ensures seat { seat_of self.new ≡ seat_of self.old }
     {
         laws::every_run_is_sound();
         if value.width() != self.runner.setup().layout.width {
@@ -83,6 +87,7 @@ impl Member {
         ensures replied { IfOk result (λ reply. (turns : ℕ) × WholeEnds (began (ready self.old) Call.Lock) turns Call.Close (Ok reply) self.new (C.asked plan.old) (C.asked plan.new) (C.fallen plan.old) (C.fallen plan.new)) }
         ensures fails { IfErr result (λ e. (turns : ℕ) × WholeFails self.old turns Call.Close self.new (C.asked plan.old) (C.asked plan.new) (C.fallen plan.old) (C.fallen plan.new) e) }
         ensures patient { IfErr result (λ e. e ≢ LockFault.NotYet) }
+        ensures seat { seat_of self.new ≡ seat_of self.old }
     {
         self.runner.mail(rt, plan, &Call::Close)
     }

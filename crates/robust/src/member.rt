@@ -8,6 +8,8 @@ ghost use Rattle.robust.specs.Calls.{Served, Calm};
 ghost use Rattle.robust.specs.Under.{Fits};
 ghost use Rattle.robust.specs.Reading.{ReadsFrom, ReadsCount};
 ghost use Rattle.robust.specs.Headline.{IsSoundRun};
+ghost use Rattle.robust.specs.Tabled.{table_steps, LockCounts, LockCountsOut};
+ghost use Rattle.robust.specs.Working.{seat_of};
 ghost use Rattle.robust.specs.Board.{last_put, value_or, LastIsOwn};
 ghost use Rattle.robust.specs.Faults.{refusal_now, ready, Fails, FailsOut, AnsweredIn, LockEnds, LockFails, answer_of};
 
@@ -92,6 +94,7 @@ impl Member {
     pub fn read_from(&mut self, alloc: Global, place: u64) -> Result<Vec<Message>, AllocError>
         ensures messages { IfOk result (λ v. ReadsFrom self.old place v.items self.new) }
         ensures no_room { OnErr result (ReadsCount self.old place self.new) }
+        ensures seat { seat_of self.new ≡ seat_of self.old }
     {
         self.runner.read_from(alloc, place)
     }
@@ -101,6 +104,8 @@ impl Member {
         ensures accepted { OnOk result (refusal_now self.old Call.Unlock ≡ None) }
         ensures served { OnOk result ((mine : List EntryOf) × Served (began self.old Call.Unlock) Call.Unlock (Answer.Unlocked ∷ []) 0 self.new mine × Calm (length mine + 1) (C.asked plan.old) (C.asked plan.new) (C.fallen plan.old) (C.fallen plan.new)) }
         ensures fails { IfErr result (Fails self.old Call.Unlock self.new (C.asked plan.old) (C.asked plan.new) (C.fallen plan.old) (C.fallen plan.new)) }
+        ensures seat { seat_of self.new ≡ seat_of self.old }
+        ensures table { OnOk result (table_steps self.old.pass Call.Unlock Answer.Unlocked ≡ Some self.new.steps) }
     {
         match self.runner.call(plan, &Call::Unlock)? {
             Answer::Unlocked => Ok(()),
@@ -113,6 +118,8 @@ impl Member {
         ensures accepted { OnOk result (refusal_now self.old Call.Withdraw ≡ None) }
         ensures served { OnOk result ((mine : List EntryOf) × Served (began self.old Call.Withdraw) Call.Withdraw (Answer.Withdrawn ∷ []) 0 self.new mine × Calm (length mine + 1) (C.asked plan.old) (C.asked plan.new) (C.fallen plan.old) (C.fallen plan.new)) }
         ensures fails { IfErr result (Fails self.old Call.Withdraw self.new (C.asked plan.old) (C.asked plan.new) (C.fallen plan.old) (C.fallen plan.new)) }
+        ensures seat { seat_of self.new ≡ seat_of self.old }
+        ensures table { OnOk result (table_steps self.old.pass Call.Withdraw Answer.Withdrawn ≡ Some self.new.steps) }
     {
         match self.runner.call(plan, &Call::Withdraw)? {
             Answer::Withdrawn => Ok(()),
@@ -128,6 +135,8 @@ impl Member {
         ensures last { IfOk result (λ v. v ≡ value_or (last_put self.old.pass.setup i self.new.pass.seen) 0) }
         ensures own { OnOk result (LastIsOwn self.old.pass.setup self.old.pass.by i self.new.pass.seen) }
         ensures fails { IfErr result (Fails self.old (Call.Get i) self.new (C.asked plan.old) (C.asked plan.new) (C.fallen plan.old) (C.fallen plan.new)) }
+        ensures seat { seat_of self.new ≡ seat_of self.old }
+        ensures table { IfOk result (λ v. table_steps self.old.pass (Call.Get i) (Answer.Mail (Reply.Word v)) ≡ Some self.new.steps) }
     {
         let _by = self.runner.by();
         match self.runner.call(plan, &Call::Get(i))? {
@@ -142,6 +151,8 @@ impl Member {
         ensures served { OnOk result ((reply : ReplyOf) × (mine : List EntryOf) × Served (began self.old (Call.Put i value)) (Call.Put i value) (Answer.Mail reply ∷ []) 0 self.new mine × Calm (length mine + 1) (C.asked plan.old) (C.asked plan.new) (C.fallen plan.old) (C.fallen plan.new)) }
         ensures last { OnOk result ((e : EntryOf) × (last_put self.old.pass.setup i self.new.pass.seen ≡ Some e) × (e.by ≡ self.old.pass.by) × (e.value ≡ value)) }
         ensures fails { IfErr result (Fails self.old (Call.Put i value) self.new (C.asked plan.old) (C.asked plan.new) (C.fallen plan.old) (C.fallen plan.new)) }
+        ensures seat { seat_of self.new ≡ seat_of self.old }
+        ensures table { OnOk result ((reply : ReplyOf) × (table_steps self.old.pass (Call.Put i value) (Answer.Mail reply) ≡ Some self.new.steps)) }
     {
         match self.runner.call(plan, &Call::Put(i, value))? {
             Answer::Mail(_) => Ok(()),
@@ -154,6 +165,9 @@ impl Member {
         ensures accepted { OnOk result (refusal_now self.old Call.Consistent ≡ None) }
         ensures served { IfOk result (λ mended. (mine : List EntryOf) × Served (began self.old Call.Consistent) Call.Consistent (Answer.Mail (Reply.Mended mended) ∷ []) 0 self.new mine × Calm (length mine + 1) (C.asked plan.old) (C.asked plan.new) (C.fallen plan.old) (C.fallen plan.new)) }
         ensures fails { IfErr result (λ e. Fails self.old Call.Consistent self.new (C.asked plan.old) (C.asked plan.new) (C.fallen plan.old) (C.fallen plan.new) e ⊎ (e ≡ LockFault.NotRecoverable) × ((mine : List EntryOf) × Served (began self.old Call.Consistent) Call.Consistent (Answer.NotRecoverable ∷ []) 0 self.new mine × Calm (length mine + 1) (C.asked plan.old) (C.asked plan.new) (C.fallen plan.old) (C.fallen plan.new))) }
+        ensures seat { seat_of self.new ≡ seat_of self.old }
+        ensures table { IfOk result (λ mended. table_steps self.old.pass Call.Consistent (Answer.Mail (Reply.Mended mended)) ≡ Some self.new.steps) }
+        ensures table_ruined { IfErr result (λ e. e ≡ LockFault.NotRecoverable → table_steps self.old.pass Call.Consistent Answer.NotRecoverable ≡ Some self.new.steps) }
     {
         match self.runner.call(plan, &Call::Consistent)? {
             Answer::Mail(Reply::Mended(mended)) => Ok(mended),
@@ -168,6 +182,8 @@ impl Member {
         ensures accepted { OnOk result (refusal_now (ready self.old) Call.Recover ≡ None) }
         ensures served { IfOk result (λ found. AnsweredIn (began (ready self.old) Call.Recover) Call.Recover (Answer.Found found ∷ []) 0 self.new (C.asked plan.old) (C.asked plan.new) (C.fallen plan.old) (C.fallen plan.new)) }
         ensures fails { IfErr result (FailsOut self.old Call.Recover self.new (C.asked plan.old) (C.asked plan.new) (C.fallen plan.old) (C.fallen plan.new)) }
+        ensures seat { seat_of self.new ≡ seat_of self.old }
+        ensures table { IfOk result (λ found. table_steps (ready self.old).pass Call.Recover (Answer.Found found) ≡ Some self.new.steps) }
     {
         self.runner.set_out(&Call::Recover)?;
         match self.runner.serve(plan, &Call::Recover)? {
@@ -185,6 +201,9 @@ impl Member {
         ensures accepted { OnOk result (refusal_now (ready self.old) Call.Lock ≡ None) }
         ensures entered { IfOk result (λ entry. LockEnds (began (ready self.old) Call.Lock) turns (Some (answer_of entry)) self.new (C.asked plan.old) (C.asked plan.new) (C.fallen plan.old) (C.fallen plan.new)) }
         ensures fails { IfErr result (LockFails self.old turns self.new (C.asked plan.old) (C.asked plan.new) (C.fallen plan.old) (C.fallen plan.new)) }
+        ensures seat { seat_of self.new ≡ seat_of self.old }
+        ensures counts { IfOk result (λ entry. LockCounts (began (ready self.old) Call.Lock) (Some (answer_of entry)) self.new) }
+        ensures counts_out { IfErr result (LockCountsOut (began (ready self.old) Call.Lock) self.new) }
     {
         self.runner.set_out(&Call::Lock)?;
         match self.runner.wait_turns(plan, turns)? {
@@ -199,6 +218,9 @@ impl Member {
         ensures entered { IfOk result (λ entry. (turns : ℕ) × LockEnds (began (ready self.old) Call.Lock) turns (Some (answer_of entry)) self.new (C.asked plan.old) (C.asked plan.new) (C.fallen plan.old) (C.fallen plan.new)) }
         ensures fails { IfErr result (λ e. (turns : ℕ) × LockFails self.old turns self.new (C.asked plan.old) (C.asked plan.new) (C.fallen plan.old) (C.fallen plan.new) e) }
         ensures patient { IfErr result (λ e. e ≢ LockFault.NotYet) }
+        ensures seat { seat_of self.new ≡ seat_of self.old }
+        ensures counts { IfOk result (λ entry. LockCounts (began (ready self.old) Call.Lock) (Some (answer_of entry)) self.new) }
+        ensures counts_out { IfErr result (LockCountsOut (began (ready self.old) Call.Lock) self.new) }
     {
         self.runner.set_out(&Call::Lock)?;
         entered(self.runner.wait(rt, plan)?)

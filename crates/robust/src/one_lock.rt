@@ -6,6 +6,7 @@
 pub mod arena;
 mod calls;
 pub mod gathering;
+pub mod lab;
 pub mod member;
 mod opening;
 mod shared;
@@ -15,5 +16,9 @@ pub use crate::entry_kind::Entry;
 pub use crate::gather_fault::GatherFault;
 pub use arena::Arena;
 pub use gathering::gather;
+pub use lab::run_lab;
 pub use member::Member;
 pub use standing::Standing;
+
+#[cfg(test)]
+mod tests;

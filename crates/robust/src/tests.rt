@@ -1,3 +1,11 @@
+//! Worked rows over members, on one thread and on several.
+
+mod counted;
+mod gated;
+mod labs;
+mod mailbox;
+mod threads;
+
 use crate::{Arena, Entry, LockFault, Member};
 use crashlab::{At, Never};
 use rmecore::{Found, Refusal};

@@ -59,6 +59,15 @@ pub fn index(setup: &Setup, word: Word) -> u64
     }
 }
 
+/// The start has been told.
+fn forget(start: &mut Option<Call>)
+    ensures { start.new ≡ None }
+{
+    if start.is_some() {
+        *start = None;
+    }
+}
+
 impl Walker {
     /// The seat of the next process is cut off.
     pub fn first(
@@ -118,7 +127,7 @@ impl Walker {
         let at = index(&self.setup, word);
         let found = steps::load(&self.board.shared, &mut self.seat, step, at as usize);
         self.fallen = false;
-        self.start = None;
+        forget(&mut self.start);
         found
     }
 
@@ -138,7 +147,7 @@ impl Walker {
         let at = index(&self.setup, word);
         steps::store(&self.board.shared, &mut self.seat, step, at as usize, new);
         self.fallen = false;
-        self.start = None;
+        forget(&mut self.start);
     }
 
     /// A step at a data word that there is not: no word changes, and a load reads 0. It loads a word for nothing.
@@ -156,7 +165,7 @@ impl Walker {
         };
         steps::pass(&self.board.shared, &mut self.seat, step, value);
         self.fallen = false;
-        self.start = None;
+        forget(&mut self.start);
     }
 
     /// Reads any word, wherever the process stands. What is owed stays owed.

@@ -1,62 +1,12 @@
-//! Each request for memory refused in turn: all memory is taken, but for a reserve that is given back piece by piece, until
-//! a call meets no refusal.
+//! Each request for memory refused in turn, of worlds, images and replays.
 
+use super::scarce::{PIECES, Scarce};
 use rmecore::Refusal;
-use rmeworld::{Image, World, read_image, write_image};
+use rmeworld::{Call, Image, World, read_image, write_image};
 use schedule::{ReplayFault, Text, ToWriter, Verdict, replay};
-use std::alloc::{AllocError, Global};
+use std::alloc::Global;
 use std::io::Cursor;
 use std::test::Fail;
-
-const LARGEST: usize = 8 * 1024 * 1024 * 1024;
-
-const BLOCKS: usize = 200_000;
-
-const PIECES: usize = 400;
-
-const PIECE: usize = 240;
-
-/// All memory but for a reserve.
-#[derive(Drop)]
-struct Scarce {
-    reserve: Vec<Vec<u8>>,
-    taken: Vec<Vec<u8>>,
-}
-
-impl Scarce {
-    fn new(alloc: Global) -> Result<Scarce, AllocError> {
-        let mut reserve = Vec::with_capacity(alloc, PIECES)?;
-        for _ in 0..PIECES {
-            reserve.push(Vec::<u8>::with_capacity(alloc, PIECE)?)?;
-        }
-        let taken = all_that_is_left(alloc)?;
-        Ok(Scarce { reserve, taken })
-    }
-
-    /// Gives back one piece, while there is one.
-    fn give_back(&mut self) {
-        let piece = self.reserve.pop();
-        drop(piece);
-    }
-}
-
-/// Blocks that shrink, until the smallest is refused.
-fn all_that_is_left(alloc: Global) -> Result<Vec<Vec<u8>>, AllocError> {
-    let mut blocks = Vec::with_capacity(alloc, BLOCKS)?;
-    let mut size = LARGEST;
-    for _ in 0..2 * BLOCKS {
-        if blocks.len() + 1 >= BLOCKS {
-            break;
-        }
-        match Vec::<u8>::with_capacity(alloc, size) {
-            Ok(block) => blocks.push(block)?,
-            Err(_) if size <= 16 => break,
-            Err(_) if size <= 4096 => size -= 16,
-            Err(_) => size /= 2,
-        }
-    }
-    Ok(blocks)
-}
 
 #[test]
 fn a_new_world(rt: HostRuntime) -> Result<(), Fail> {
@@ -157,5 +107,38 @@ fn a_read_image(rt: HostRuntime) -> Result<(), Fail> {
         scarce.give_back();
     }
     assert!(rt; 0 < refused && refused < PIECES as u64);
+    Ok(())
+}
+
+/// A world whose process has just started a lock.
+fn locking(alloc: Global) -> Result<World, Refusal> {
+    let mut world = World::new(alloc, 1, 10, 1, 1)?;
+    world.start(0, Call::Lock)?;
+    Ok(world)
+}
+
+#[test]
+fn steps_of_a_world(rt: HostRuntime) -> Result<(), Fail> {
+    let alloc = rt.alloc();
+    let mut ample = locking(alloc)?;
+    for _ in 0..8 {
+        ample.advance(0)?;
+    }
+    let mut world = locking(alloc)?;
+    let mut scarce = Scarce::new(alloc)?;
+    let mut refused = 0u64;
+    let mut taken = 0u64;
+    while taken < 8 && refused < PIECES as u64 {
+        match world.advance(0) {
+            Ok(_) => taken = taken.saturating_add(1),
+            Err(refusal) => {
+                assert!(rt; refusal == Refusal::OutOfMemory && world.steps(0) == Ok(taken));
+                refused = refused.saturating_add(1);
+                scarce.give_back();
+            }
+        }
+    }
+    assert!(rt; 0 < refused && world.history() == ample.history());
+    assert!(rt; world.steps(0) == ample.steps(0));
     Ok(())
 }

@@ -1,9 +1,9 @@
 //! The making of members, and taking them back.
 
-ghost use Rattle.std.specs.Prelude.{◌≡◌, ◌≢◌, ℕ, ◌<◌, ◌⊎◌, IfOk, IfErr, OnOk, IsErrOf, None, Some, vec_len, slice_get, All};
+ghost use Rattle.std.specs.Prelude.{◌≡◌, ◌≤◌, IfOk, IfErr, OnOk, None, All};
 ghost use Rattle.rmecore.specs.Simulated.{cause};
 ghost use Rattle.rmeworld.specs.WorldState.{new_refusal};
-ghost use Rattle.robust.specs.OneLockMember.{new_seats};
+ghost use Rattle.robust.specs.OneLockMember.{new_seats, AreAll};
 
 use crate::one_lock::member::Member;
 use crate::one_lock::shared::Shared;
@@ -34,6 +34,8 @@ impl Arena {
         ensures accepted { OnOk result (new_refusal (record { procs = procs; cap = cap; width = width }) limit ≡ None) }
         ensures refused { IfErr result (λ e. new_refusal (record { procs = procs; cap = cap; width = width }) limit ≡ cause e) }
         ensures ok { IfOk result (λ members. members.items ≡ new_seats (record { procs = procs; cap = cap; width = width }) procs) }
+        ensures arena { IfOk result (λ members. All (λ m. m.layout.procs ≡ L.parts) members.items) }
+        ensures all { IfOk result (λ members. AreAll L.parts members.items) }
     {
         let world = World::new(alloc, procs, limit, cap, width)?;
         let layout = Layout { procs, cap, width };
@@ -50,6 +52,7 @@ fn members_of<L: Ledger>(
     shared: Arc<Mutex<Shared<L>>>,
     mut all: Share<L>,
 ) -> Result<Vec<Member<L>>, Refusal>
+    requires few { layout.procs ≤ 64 }
     requires parts { all.parts ≡ layout.procs }
     requires none { all.amount ≡ 0 }
     ensures memory { IfErr result (λ e. e ≡ Refusal.OutOfMemory) }

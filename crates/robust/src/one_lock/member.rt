@@ -27,14 +27,14 @@ pub struct Member<L: Ledger> {
 }
 
 impl<L: Ledger> Model for Member<L> {
-    ghost use Rattle.std.specs.Prelude.{◌≡◌};
+    ghost use Rattle.std.specs.Prelude.{◌≡◌, ◌<◌};
     ghost use Rattle.robust.specs.OneLockMember.{Seat};
 
     ghost Value = { Seat };
 
     ghost view = { λ m. record { process = m.process; layout = m.layout; standing = m.standing; steps = m.share.amount } };
 
-    ghost invariant = { λ m. m.share.parts ≡ 1 };
+    ghost invariant = { λ m. (m.share.parts ≡ 1) × (m.process < 64) };
 }
 
 impl<L: Ledger> Member<L> {
@@ -47,7 +47,8 @@ impl<L: Ledger> Member<L> {
         shared: Arc<Mutex<Shared<L>>>,
         share: Share<L>,
     ) -> Member<L>
-        requires { share.parts ≡ 1 }
+        requires part { share.parts ≡ 1 }
+        requires few { process < 64 }
         ensures { result ≡ record { process = process; layout = layout; standing = Standing.Out; steps = share.amount } }
     {
         Member {
@@ -61,7 +62,8 @@ impl<L: Ledger> Member<L> {
 
     /// Its process.
     pub fn process(&self) -> u64
-        ensures { result ≡ self.now.process }
+        ensures value { result ≡ self.now.process }
+        ensures few { result < 64 }
     {
         self.process
     }

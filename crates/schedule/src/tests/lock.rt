@@ -198,11 +198,7 @@ verdict fine
     Ok(())
 }
 
-#[test]
-fn ruined(rt: HostRuntime) -> Result<(), Fail> {
-    replays(
-        &rt,
-        b"rme 1 procs 2 limit 10 cap 1
+const RUINED: &[u8] = b"rme 1 procs 2 limit 10 cap 1
 lock 0
 step 0 11
 crash 0
@@ -214,7 +210,13 @@ lock 1
 step 1 13
 lock 0
 step 0 13
-",
+";
+
+#[test]
+fn ruined(rt: HostRuntime) -> Result<(), Fail> {
+    replays(
+        &rt,
+        RUINED,
         b"begin 0
 ready 0
 enter 0

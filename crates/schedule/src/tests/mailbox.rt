@@ -234,6 +234,11 @@ mail 0 closed 0 ruined 0
 verdict fine
 ",
     )?;
+    Ok(())
+}
+
+#[test]
+fn wide_torn_and_mended(rt: HostRuntime) -> Result<(), Fail> {
     replays(
         &rt,
         b"rme 2 procs 1 limit 10 cap 1 width 3

@@ -56,6 +56,11 @@ unlock 0
         b"",
         (2, 5),
     )?;
+    Ok(())
+}
+
+#[test]
+fn refusals_of_the_unmended(rt: HostRuntime) -> Result<(), Fail> {
     refuses(
         &rt,
         b"rme 1 procs 1 limit 10 cap 1

@@ -8,10 +8,10 @@ use Rattle.rmeworld.proofs.process.lock_step.Goals as goal
 
 pub returns-clause-mended : goal.returns-clause-mended
 returns-clause-mended c =
-    let e = all_entered c.args.lock.now c.args.value c.feed.ensures.allowed in
-    c.entry.ensures.mended ∙ ap (λ (p : Progress). mended_done c.args.mended p.done) c.feed.ensures.progress ∙ e.1 c.args.mended ∙ sym (ap (λ (s : Standing). mended_entered c.args.mended c.args.lock.now.place s.place) c.feed.ensures.place)
+    let e = all_entered c.args.lock.now c.args.value c.feed-progress.ensures.allowed in
+    c.entry-mended.ensures.mended ∙ ap (λ (p : Progress). mended_done c.args.mended p.done) c.feed-progress.ensures.progress ∙ e.1 c.args.mended ∙ sym (ap (λ (s : Standing). mended_entered c.args.mended c.args.lock.now.place s.place) c.feed-progress.ensures.place)
 
 pub returns-clause-checks : goal.returns-clause-checks
 returns-clause-checks c =
-    let e = all_entered c.args.lock.now c.args.value c.feed.ensures.allowed in
-    c.entry.ensures.checks ∙ ap (λ (p : Progress). checks_done p.done) c.feed.ensures.progress ∙ e.0 ∙ sym (ap (λ (s : Standing). is_entry c.args.lock.now.place s.place) c.feed.ensures.place)
+    let e = all_entered c.args.lock.now c.args.value c.feed-progress.ensures.allowed in
+    c.entry-mended.ensures.checks ∙ ap (λ (p : Progress). checks_done p.done) c.feed-progress.ensures.progress ∙ e.0 ∙ sym (ap (λ (s : Standing). is_entry c.args.lock.now.place s.place) c.feed-progress.ensures.place)

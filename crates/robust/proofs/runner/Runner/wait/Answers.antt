@@ -2,6 +2,7 @@ use Rattle.std.proofs.Common.{◌≡◌, Some, sym, ap, ◌∙◌}
 use Rattle.robust.specs.Running.{Seated}
 use Rattle.robust.proofs.Called.{on_err}
 use Rattle.robust.proofs.Chained.{lock_asked, lock_cut, lock_idle}
+use Rattle.robust.proofs.Counted.{lock_counts}
 use Rattle.robust.proofs.runner.Runner.wait.Goals as goal
 
 pub returns-in_err-ask-clause-cut : goal.returns-in_err-ask-clause-cut
@@ -27,3 +28,8 @@ returns-clause-idle g c =
     let ends = c.in_ok-answer.ensures.ends in
     ap (λ (u : Seated). u.pass.start) c.in_ok-ask.ensures.goes_on.0
     ∙ lock_idle c.args.self.now c.take_all.new.self ends.0 (Some c.in_ok-answer.answer) (g.C.CrashPlan.asked c.args.plan.now) (g.C.CrashPlan.asked c.take_all.new.plan) (g.C.CrashPlan.fallen c.args.plan.now) (g.C.CrashPlan.fallen c.take_all.new.plan) ends.1
+
+pub returns-clause-counts : goal.returns-clause-counts
+returns-clause-counts g c =
+    let ends = returns-clause-ends g c in
+    lock_counts c.args.self.now c.ask.new.self ends.0 _ _ _ _ (Some c.in_ok-answer.answer) ends.1

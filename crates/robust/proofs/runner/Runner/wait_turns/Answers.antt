@@ -2,6 +2,7 @@ use Rattle.std.proofs.Common.{◌≡◌, sym, ap, ◌∙◌}
 use Rattle.robust.specs.Running.{Seated}
 use Rattle.robust.proofs.Called.{on_err}
 use Rattle.robust.proofs.Chained.{lock_asked, lock_cut, lock_idle}
+use Rattle.robust.proofs.Counted.{lock_counts}
 use Rattle.robust.proofs.runner.Runner.wait_turns.Goals as goal
 
 pub returns-in_err-ask-clause-cut : goal.returns-in_err-ask-clause-cut
@@ -17,3 +18,7 @@ returns-clause-ends g c =
 pub returns-clause-idle : goal.returns-clause-idle
 returns-clause-idle g c =
     ap (λ (u : Seated). u.pass.start) c.in_ok-ask.ensures.goes_on.0 ∙ lock_idle c.args.self.now c.take_turns.new.self c.args.turns _ _ _ _ _ c.in_ok-answer.ensures.ends
+
+pub returns-clause-counts : goal.returns-clause-counts
+returns-clause-counts g c =
+    lock_counts c.args.self.now c.ask.new.self c.args.turns _ _ _ _ c.in_ok-answer.answer (returns-clause-ends g c)

@@ -1,0 +1,9 @@
+-- The sizes of the work.
+use Rattle.std.specs.Prelude.{ℕ, ◌≤◌}
+use Rattle.rmebench.specs.declared.order.Order.{Order}
+use Rattle.rmebench.specs.declared.order.Order.TheVariants.{Lock, Append}
+
+-- each thread has a member, and the mailbox has room for each message
+abbrev pub IsFit : Order → Type 0
+IsFit (Lock procs threads rounds) = (1 ≤ threads) × (threads ≤ procs) × (procs ≤ 64)
+IsFit (Append procs width rounds) = (1 ≤ procs) × (procs ≤ 64) × (1 ≤ width) × (width ≤ 8) × (rounds ≤ 65536)

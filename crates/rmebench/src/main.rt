@@ -1,0 +1,48 @@
+//! `rmebench`: what members of the running lock do again and again, so that it can be timed from outside.
+#![tactic(auto)]
+
+mod fault;
+mod order;
+#[cfg(test)]
+mod tests;
+mod work;
+
+use crate::fault::Fault;
+use crate::order::Order;
+use crate::work::done;
+use std::alloc::Global;
+use std::io;
+use std::process::ExitCode;
+use std::rt::Env;
+
+const USAGE: &str =
+    "usage: rmebench lock PROCS THREADS ROUNDS      each of THREADS members locks and unlocks ROUNDS times
+       rmebench append PROCS WIDTH ROUNDS      one member appends ROUNDS messages, at most 65536, of WIDTH words
+PROCS is 1 to 64, THREADS 1 to PROCS, WIDTH 1 to 8.";
+
+fn words_given<R: Env + Alloc<A = Global>>(rt: &R) -> io::Result<Vec<String>> {
+    Ok(std::env::args(rt)?.collect(rt.alloc())?)
+}
+
+fn told<R: Eprint>(rt: &R, fault: Fault) -> ExitCode {
+    let _ = eprintln!(rt; "rmebench: {fault}");
+    ExitCode::from(3)
+}
+
+fn main(rt: HostRuntime) -> ExitCode {
+    let Ok(words) = words_given(&rt) else {
+        return told(&rt, Fault::OutOfMemory);
+    };
+    let Some(order) = Order::of_words(&words) else {
+        let _ = eprintln!(rt; "{USAGE}");
+        return ExitCode::from(2);
+    };
+    let name = order.counted();
+    match done(&rt, rt.alloc(), order) {
+        Ok(count) => match println!(rt; "{name} {count}") {
+            Ok(()) => ExitCode::from(0),
+            Err(_) => ExitCode::from(3),
+        },
+        Err(fault) => told(&rt, fault),
+    }
+}

@@ -1,0 +1,108 @@
+//! The work itself. No member crashes.
+
+ghost use Rattle.std.specs.Prelude.{◌≡◌, ◌≤◌, IfOk};
+ghost use Rattle.rmebench.specs.Sizes.{IsFit};
+
+use crate::fault::Fault;
+use crate::order::{MOST_MESSAGES, Order};
+use crashlab::Never;
+use redomail::Reply;
+use rmecore::Body;
+use robust::{Arena, LockFault, Member};
+use std::alloc::Global;
+use std::sync::Wait;
+use std::thread;
+use std::thread::Threads;
+
+/// The greatest limit that a lock can have.
+const MOST: u64 = 1 << 62;
+
+/// Does what an order says, and tells how many entries or messages that were.
+pub fn done<R: Threads + Wait + Sync>(rt: &R, alloc: Global, order: Order) -> Result<u64, Fault>
+    requires { IsFit order }
+{
+    match order {
+        Order::Lock {
+            procs,
+            threads,
+            rounds,
+        } => {
+            let members = members(rt, alloc, procs, 1)?;
+            enter_all(rt, members, threads, rounds)
+        }
+        Order::Append {
+            procs,
+            width,
+            rounds,
+        } => {
+            let mut members = members(rt, alloc, procs, width)?;
+            match members.pop() {
+                Some(mut member) => send(rt, &mut member, width, rounds),
+                None => Err(Fault::OutOfMemory),
+            }
+        }
+    }
+}
+
+/// A member for each process of a new arena.
+fn members<R>(rt: &R, alloc: Global, procs: u64, width: u64) -> Result<Vec<Member>, Fault> {
+    match Arena::new(rt, alloc, procs, MOST, MOST_MESSAGES, width) {
+        Ok(members) => Ok(members),
+        Err(_) => Err(Fault::OutOfMemory),
+    }
+}
+
+/// Locks and unlocks so many times.
+pub fn enter<R: Wait>(rt: &R, mut member: Member, rounds: u64) -> Result<u64, LockFault>
+    ensures { IfOk result (λ count. count ≡ rounds) }
+{
+    let mut plan = Never::new();
+    for _ in 0..rounds {
+        member.lock(rt, &mut plan)?;
+        member.unlock(&mut plan)?;
+    }
+    Ok(rounds)
+}
+
+/// The first members lock and unlock, each on a thread of its own.
+fn enter_all<R: Threads + Wait + Sync>(
+    rt: &R,
+    mut members: Vec<Member>,
+    threads: u64,
+    rounds: u64,
+) -> Result<u64, Fault> {
+    members.truncate(threads as usize);
+    let work = |member: Member| -> Result<u64, LockFault> { enter(rt, member, rounds) };
+    let Ok(ended) = thread::map_vec(rt, members, &work) else {
+        return Err(Fault::OutOfMemory);
+    };
+    let mut count = 0u64;
+    for end in ended {
+        match end {
+            Ok(entries) => count = count.saturating_add(entries),
+            Err(fault) => return Err(Fault::Lock(fault)),
+        }
+    }
+    Ok(count)
+}
+
+/// Appends so many messages, numbered from 1.
+pub fn send<R: Wait>(rt: &R, member: &mut Member, width: u64, rounds: u64) -> Result<u64, Fault>
+    requires least { 1 ≤ width }
+    requires most { width ≤ 8 }
+    requires rounds { rounds ≤ 65536 }
+    ensures { IfOk result (λ count. count ≡ rounds) }
+{
+    let Ok(value) = Body::new(&[1, 2, 3, 4, 5, 6, 7, 8][..width as usize]) else {
+        unreachable!()
+    };
+    let mut plan = Never::new();
+    for seq in 1..rounds + 1 {
+        match member.append(rt, seq, value, &mut plan) {
+            Ok(Reply::Stored) => {}
+            Ok(_) => return Err(Fault::Refused),
+            Err(fault) => return Err(Fault::Lock(fault)),
+        }
+    }
+    Ok(rounds)
+}

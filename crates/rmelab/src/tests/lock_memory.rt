@@ -1,0 +1,119 @@
+//! Each request for memory refused in turn, of the running lock.
+
+use super::scarce::{PIECES, Scarce};
+use crashlab::Never;
+use redomail::{Message, Reply};
+use rmecore::{Body, Refusal};
+use robust::{Arena, LabFault, LabResult, Member, Spec, run_lab};
+use std::alloc::{AllocError, Global};
+use std::sync::Wait;
+use std::test::Fail;
+use std::thread::Threads;
+
+#[test]
+fn an_arena(rt: HostRuntime) -> Result<(), Fail> {
+    let alloc = rt.alloc();
+    let mut scarce = Scarce::new(alloc)?;
+    let mut refused = 0u64;
+    for _ in 0..PIECES {
+        match Arena::new(&rt, alloc, 2, 10, 2, 1) {
+            Ok(members) => {
+                assert_eq!(rt; members.len(), 2);
+                break;
+            }
+            Err(refusal) => assert_eq!(rt; refusal, Refusal::OutOfMemory),
+        }
+        refused = refused.saturating_add(1);
+        scarce.give_back();
+    }
+    assert!(rt; 0 < refused && refused < PIECES as u64);
+    Ok(())
+}
+
+/// A member that has stored a message.
+fn sender<R>(rt: &R, alloc: Global, value: Body) -> Result<Member, Fail> {
+    let mut members = Arena::new(rt, alloc, 1, 10, 2, 1)?;
+    let mut member = members.pop().ok_or("a member")?;
+    let reply = member.append_within(1, value, &mut Never::new(), 0);
+    if reply == Ok(Reply::Stored) {
+        Ok(member)
+    } else {
+        Err("stored".into())
+    }
+}
+
+#[test]
+fn a_reading(rt: HostRuntime) -> Result<(), Fail> {
+    let alloc = rt.alloc();
+    let value = Body::new(&[77])?;
+    let mut member = sender(&rt, alloc, value)?;
+    let shown = [Message {
+        sender: 0,
+        seq: 1,
+        value,
+    }];
+    let mut scarce = Scarce::new(alloc)?;
+    let mut refused = 0u64;
+    for _ in 0..PIECES {
+        if let Ok(messages) = member.read_from(alloc, 0) {
+            assert!(rt; messages.as_slice() == shown.as_slice());
+            break;
+        }
+        refused = refused.saturating_add(1);
+        scarce.give_back();
+    }
+    assert!(rt; 0 < refused && refused < PIECES as u64);
+    Ok(())
+}
+
+const TWO: Spec = Spec {
+    procs: 2,
+    messages: 1,
+    limit: 10,
+    cap: 2,
+    width: 1,
+};
+
+/// The gates of a lab, one for each worker, as many times as there are pieces, and once more.
+fn gates(alloc: Global) -> Result<Vec<Vec<Never>>, AllocError> {
+    let mut all = Vec::with_capacity(alloc, PIECES + 1)?;
+    for _ in 0..PIECES + 1 {
+        let mut two = Vec::with_capacity(alloc, 2)?;
+        two.push(Never::new())?;
+        two.push(Never::new())?;
+        all.push(two)?;
+    }
+    Ok(all)
+}
+
+fn lab<R: Threads + Wait + Sync>(
+    rt: &R,
+    alloc: Global,
+    gates: &mut Vec<Vec<Never>>,
+) -> Result<LabResult, LabFault> {
+    run_lab(rt, alloc, TWO, gates.pop().unwrap_or(Vec::new(alloc)))
+}
+
+/// A thread needs more than the reserve, so the last run has all memory again.
+#[test]
+fn a_lab(rt: HostRuntime) -> Result<(), Fail> {
+    let alloc = rt.alloc();
+    let mut gates = gates(alloc)?;
+    let mut scarce = Scarce::new(alloc)?;
+    let mut refused = 0u64;
+    for _ in 0..PIECES {
+        match lab(&rt, alloc, &mut gates) {
+            Ok(left) => assert_eq!(rt; left.messages.len(), 2),
+            Err(fault) => {
+                assert_eq!(rt; fault, LabFault::OutOfMemory);
+                refused = refused.saturating_add(1);
+            }
+        }
+        scarce.give_back();
+    }
+    scarce.end();
+    assert!(rt; 0 < refused);
+    let left = lab(&rt, alloc, &mut gates)?;
+    assert_eq!(rt; left.messages.len(), 2);
+    Ok(())
+}

@@ -1,0 +1,34 @@
+//! A plan that counts.
+
+use crashlab::CrashPlan;
+
+/// A plan with the askings that it has met.
+#[derive(Drop)]
+pub struct Counted<P> {
+    plan: P,
+    askings: u64,
+}
+
+impl<P: CrashPlan> Counted<P> {
+    pub fn new(plan: P) -> Counted<P> {
+        Counted { plan, askings: 0 }
+    }
+
+    /// The askings since it was last asked for them.
+    pub fn taken(&mut self) -> u64 {
+        let askings = self.askings;
+        self.askings = 0;
+        askings
+    }
+}
+
+impl<P: CrashPlan> CrashPlan for Counted<P> {
+    ghost asked = { λ c. P.asked c.plan };
+
+    ghost fallen = { λ c. P.fallen c.plan };
+
+    fn falls(&mut self) -> bool {
+        self.askings = self.askings.saturating_add(1);
+        self.plan.falls()
+    }
+}

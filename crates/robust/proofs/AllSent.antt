@@ -28,7 +28,7 @@ use Rattle.robust.specs.Rule.{Begins as Starts, count_from}
 use Rattle.robust.specs.Running.{Seated}
 use Rattle.robust.specs.Runs.{before, taken, happenings, spelled, own, IsRun, end_of}
 use Rattle.robust.specs.Worked.{sizes_of}
-use Rattle.robust.specs.Working.{OfStart, IsSending, AreSending, HasSent}
+use Rattle.robust.specs.Sending.{OfStart, IsSending, AreSending, HasSent}
 use Rattle.robust.proofs.Appended.{own_taken, own_passed, among_more}
 use Rattle.robust.proofs.LawfulEnd.{length-counted, cells_counted}
 use Rattle.robust.proofs.Numbered.{many, few, sent_by, senders, counted_all}

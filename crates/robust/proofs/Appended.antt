@@ -30,7 +30,7 @@ use Rattle.robust.specs.Pass.{Pass, IsPass, spot_now, Calls}
 use Rattle.robust.specs.Running.{Seated, fell, began}
 use Rattle.robust.specs.Runs.{before, own, spelled, gone, spot_of, IsRun}
 use Rattle.robust.specs.Whole.{WholeEnds, calls_inside, answers_inside}
-use Rattle.robust.specs.Working.{OfStart}
+use Rattle.robust.specs.Sending.{OfStart}
 use Rattle.robust.proofs.Errands.{Only, Brings, each_start, only_begun, Answering, find, IsStored, task_mails}
 use Rattle.robust.proofs.Leads.{gone-append}
 use Rattle.robust.proofs.Running.{spot_begun}

@@ -31,7 +31,7 @@ use Rattle.robust.specs.declared.entry.Entry.{Entry}
 use Rattle.robust.specs.Runs.{before, taken, happenings, spelled, gone}
 use Rattle.robust.specs.Calls.{spot_before, and_answer, answers_from, and_call, starts}
 use Rattle.robust.specs.Under.{Replies, Mends}
-use Rattle.robust.specs.Working.{OfStart}
+use Rattle.robust.specs.Sending.{OfStart}
 use Rattle.robust.proofs.Begun.{mends_consistent}
 use Rattle.robust.proofs.Leads.{gone-append}
 use Rattle.robust.proofs.Runs.{by_kind}

@@ -16,7 +16,7 @@ use Rattle.robust.specs.Pass.{spot_now, own_of, Calls}
 use Rattle.robust.specs.Running.{Seated, began, fell}
 use Rattle.robust.specs.Runs.{own}
 use Rattle.robust.specs.Whole.{WholeEnds, WholeFails, AppendFails, Comes, IsFront, IsWithin, calls_inside}
-use Rattle.robust.specs.Working.{OfStart, IsSending, AreSending, SendsOnly}
+use Rattle.robust.specs.Sending.{OfStart, IsSending, AreSending, SendsOnly}
 use Rattle.robust.proofs.Errands.{each_start}
 use Rattle.robust.proofs.Gathered.{all_left}
 use Rattle.robust.proofs.Runs.{own-append}

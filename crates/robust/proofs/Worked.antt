@@ -17,7 +17,8 @@ use Rattle.robust.specs.Rule.{count_from}
 use Rattle.robust.specs.Running.{Seated}
 use Rattle.robust.specs.Making.{fresh_member, fresh_members}
 use Rattle.robust.specs.Gathering.{OneArena, has_member, procs_of, IsMissing}
-use Rattle.robust.specs.Working.{seat_of, seats_of, IsNew, HasSent}
+use Rattle.robust.specs.Sending.{IsNew, HasSent}
+use Rattle.robust.specs.Working.{seat_of, seats_of}
 use Rattle.robust.proofs.Keeps.{count_has}
 
 abbrev Seat : Type 0

@@ -14,7 +14,8 @@ use Rattle.robust.specs.Running.{Seated, began, fell}
 use Rattle.robust.specs.Faults.{ready, CutBy, AnsweredBy}
 use Rattle.robust.specs.Whole.{WholeEnds, WholeFails, AppendFails, IsWithin}
 use Rattle.robust.specs.Lab.{words_sent}
-use Rattle.robust.specs.Working.{seat_of, IsSending}
+use Rattle.robust.specs.Sending.{IsSending}
+use Rattle.robust.specs.Working.{seat_of}
 
 either_seat : (b : Bool) (x : Seated) → seat_of (if b then x else fell x) ≡ seat_of x
 either_seat true x = refl

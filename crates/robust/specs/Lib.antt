@@ -19,4 +19,5 @@ pub mod OneLockLab
 pub mod Reading
 pub mod Gathering
 pub mod Working
+pub mod Sending
 pub mod Worked

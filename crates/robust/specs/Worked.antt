@@ -6,7 +6,8 @@ use Rattle.robust.specs.declared.lab.spec.Spec.{Spec}
 use Rattle.robust.specs.declared.lab.worker.Done.{Done}
 use Rattle.robust.specs.declared.lab.worker.Ending.TheVariants.{AllSent}
 use Rattle.robust.specs.declared.lab.worker.HandsBack.{HandsBack}
-use Rattle.robust.specs.Working.{seat_of, SendsOnly, HasShown}
+use Rattle.robust.specs.Sending.{SendsOnly, HasShown}
+use Rattle.robust.specs.Working.{seat_of}
 
 -- the seat of the member that a worker has handed back
 abbrev pub seat_done : Done → TableId × Setup × ℕ

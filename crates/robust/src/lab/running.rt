@@ -10,7 +10,8 @@ ghost use Rattle.robust.specs.declared.lab.spec.Spec.{Spec as SpecOf};
 ghost use Rattle.robust.specs.Lab.{AreAllSent, IsBadSpec};
 ghost use Rattle.robust.specs.Making.{fresh_members};
 ghost use Rattle.robust.specs.Worked.{seat_done, seat_promised, sizes_of, HasWorked};
-ghost use Rattle.robust.specs.Working.{seats_of, IsNew};
+ghost use Rattle.robust.specs.Sending.{IsNew};
+ghost use Rattle.robust.specs.Working.{seats_of};
 
 use crate::arena::Arena;
 use crate::gather_fault::GatherFault;

@@ -3,7 +3,8 @@
 ghost use Rattle.std.specs.Prelude.{◌≡◌, ◌≤◌, ◌↔◌, ◌⊎◌, ℕ, IsTrue, IfOk};
 ghost use Rattle.rmeworld.specs.declared.call.Call.TheVariants.{Append};
 ghost use Rattle.robust.specs.Worked.{HasWorked};
-ghost use Rattle.robust.specs.Working.{seat_of, IsNew, IsSending, SendsOnly, HasShown};
+ghost use Rattle.robust.specs.Sending.{IsNew, IsSending, SendsOnly, HasShown};
+ghost use Rattle.robust.specs.Working.{seat_of};
 
 use crate::lab::sending::value_sent;
 use crate::lab::{Gate, Spec};

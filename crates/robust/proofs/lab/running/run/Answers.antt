@@ -5,7 +5,8 @@ use Rattle.redomail.specs.Shape.{entries, IsNumbered}
 use Rattle.robust.specs.declared.lab.worker.Ending.TheVariants.{AllSent}
 use Rattle.robust.specs.Lab.{AreAllSent}
 use Rattle.robust.specs.Worked.{sizes_of}
-use Rattle.robust.specs.Working.{seats_of, HasSent}
+use Rattle.robust.specs.Sending.{HasSent}
+use Rattle.robust.specs.Working.{seats_of}
 use Rattle.robust.proofs.AllSent.{lab_sent, gathered_layout}
 use Rattle.robust.proofs.Worked.{one_arena, none_missing, all_setups, good_sizes, good_messages, good_layout, members_seats, members_sent, if_on}
 use Rattle.robust.proofs.lab.running.run.Goals as goal

@@ -4,7 +4,8 @@ use Rattle.std.proofs.lemmas.Grind.{common_steps}
 use Rattle.std.proofs.lemmas.List.Elements.{All-push, All-head, All-tail}
 use Rattle.robust.specs.declared.lab.worker.HandsBack.{HandsBack}
 use Rattle.robust.specs.Worked.{seat_promised}
-use Rattle.robust.specs.Working.{seat_of, IsNew}
+use Rattle.robust.specs.Sending.{IsNew}
+use Rattle.robust.specs.Working.{seat_of}
 use Rattle.robust.proofs.Worked.{moved_on}
 use Rattle.robust.proofs.lab.running.start_all.Goals as goal
 

@@ -1,6 +1,7 @@
 use Rattle.std.proofs.Common.{◌≡◌, ℕ}
 use Rattle.rmeworld.specs.declared.call.Call.TheVariants.{Append}
-use Rattle.robust.specs.Working.{seat_of, IsSending, SendsOnly}
+use Rattle.robust.specs.Sending.{IsSending, SendsOnly}
+use Rattle.robust.specs.Working.{seat_of}
 use Rattle.robust.proofs.lab.worker.send.Given as goal
 
 abbrev pub invariant-loop : goal.invariant-loop

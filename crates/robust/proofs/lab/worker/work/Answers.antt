@@ -1,6 +1,6 @@
 use Rattle.std.proofs.Common.{◌≡◌, ◌∙◌, ◌+◌, ◌<◌, ◌≤◌, ℕ, refl, subst, arith}
 use Rattle.rmeworld.specs.declared.call.Call.TheVariants.{Append}
-use Rattle.robust.specs.Working.{IsSending, SendsOnly, HasShown}
+use Rattle.robust.specs.Sending.{IsSending, SendsOnly, HasShown}
 use Rattle.robust.proofs.Working.{sends_value}
 use Rattle.robust.proofs.lab.worker.work.Goals as goal
 

@@ -1,5 +1,6 @@
 use Rattle.std.proofs.Common.{◌≡◌, ℕ, ◌+◌, ◌<◌}
-use Rattle.robust.specs.Working.{seat_of, SendsOnly, HasShown}
+use Rattle.robust.specs.Sending.{SendsOnly, HasShown}
+use Rattle.robust.specs.Working.{seat_of}
 use Rattle.robust.proofs.lab.worker.work.Given as goal
 
 abbrev pub invariant-loop-seq : goal.invariant-loop-seq

@@ -1,14 +1,7 @@
--- What a member keeps, whatever it does; and what a worker of a lab does with it.
-use Rattle.std.specs.Prelude.{◌≡◌, ℕ, ◌≤◌, List, [], map, Option, Some, None, All}
+-- What a member keeps, whatever it does.
+use Rattle.std.specs.Prelude.{ℕ, List, map}
 use Rattle.atomic_table.specs.Seated.{TableId}
-use Rattle.redomail.specs.Mailbox.{IsAmong}
-use Rattle.rmeworld.specs.declared.call.Call.{Call}
-use Rattle.rmeworld.specs.declared.call.Call.TheVariants.{Append}
-use Rattle.robust.specs.declared.entry.Entry.{Entry}
 use Rattle.robust.specs.declared.setup.Setup.{Setup}
-use Rattle.robust.specs.Headline.{shown_by}
-use Rattle.robust.specs.Lab.{words_sent}
-use Rattle.robust.specs.Pass.{own_of}
 use Rattle.robust.specs.Running.{Seated}
 
 -- which seat it is: at which table, with its sizes, and of which process
@@ -17,33 +10,3 @@ seat_of x = (x.pass.table, x.pass.setup, x.pass.by)
 
 abbrev pub seats_of : List Seated → List (TableId × Setup × ℕ)
 seats_of xs = map seat_of xs
-
--- what holds of the call that a step starts, if it does
-abbrev pub OfStart : (Call → Type 0) → Option Call → Type 0
-OfStart P None = Unit {0}
-OfStart P (Some call) = P call
-
--- a call that appends nothing but one of the first k messages of worker p
-abbrev pub IsSending : ℕ → ℕ → ℕ → Call → Type 0
-IsSending width k p (Append seq value) = (seq ≤ k) × (value ≡ words_sent p seq width)
-IsSending width k p call = Unit {0}
-
--- all calls that these entries start are such
-abbrev pub AreSending : ℕ → ℕ → ℕ → List Entry → Type 0
-AreSending width k p es = All (λ (e : Entry). OfStart (IsSending width k p) e.step.start) es
-
--- the member has appended nothing but its worker's first k messages
-abbrev pub SendsOnly : ℕ → ℕ → Seated → Type 0
-SendsOnly width k x = AreSending width k x.pass.by (own_of x.pass)
-
--- its message with this number is shown
-abbrev pub HasShown : ℕ → Seated → Type 0
-HasShown seq x = IsAmong x.pass.by seq (shown_by x.pass.setup x.pass.seen)
-
--- the member has appended just its worker's first k messages, and the last of them is shown
-abbrev pub HasSent : ℕ → ℕ → Seated → Type 0
-HasSent width k x = SendsOnly width k x × HasShown k x
-
--- the member has taken no step
-abbrev pub IsNew : Seated → Type 0
-IsNew x = own_of x.pass ≡ []

@@ -151,6 +151,11 @@ impl Runner {
         requires { is_idle (spot_now self.old.pass) ≡ false }
         ensures { TakesStep self.old result self.new }
     {
+        if let Some((scan, access)) = self.process.scan() {
+            let value = perform(&mut self.walker, access);
+            self.steps = self.steps.saturating_add(1);
+            return self.process.scan_on(scan, value);
+        }
         let Some(access) = self.process.next() else {
             unreachable!()
         };

@@ -152,9 +152,9 @@ impl Runner {
         ensures { TakesStep self.old result self.new }
     {
         if let Some((scan, access)) = self.process.scan() {
-            let value = perform(&mut self.walker, access);
+            let found = perform(&mut self.walker, access);
             self.steps = self.steps.saturating_add(1);
-            return self.process.scan_on(scan, value);
+            return self.process.scan_on(scan, found);
         }
         let Some(access) = self.process.next() else {
             unreachable!()

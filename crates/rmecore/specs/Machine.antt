@@ -9,6 +9,8 @@ use Rattle.rmecore.specs.declared.found.Found.TheVariants.{Idle, Left, Doorway, 
 use Rattle.rmecore.specs.declared.access.Access.{Access}
 use Rattle.rmecore.specs.declared.access.Access.TheVariants.{Load, Store}
 use Rattle.rmecore.specs.declared.progress.Progress.{Progress}
+use Rattle.rmecore.specs.declared.scan.Scan.{Scan}
+use Rattle.rmecore.specs.declared.scan.Scan.TheVariants.{Peeking, Waiting as Waits}
 use Rattle.rmecore.specs.declared.stage.Stage.{Stage}
 use Rattle.rmecore.specs.declared.stage.Stage.TheVariants.{Rest as AtRest, Dead as AtDead, ReadingChoosing, ReadingNumber, ReadingInside, Opening as AtOpening, Door as AtDoor, Shutting as AtShutting, Wait as AtWait, Inside as AtInside, Leaving as AtLeaving, Withdrawing as AtWithdrawing, Unmarking as AtUnmarking}
 use Rattle.rmecore.specs.declared.core_call.CoreCall.{CoreCall}
@@ -148,6 +150,11 @@ at_door s i m = record { procs = s.procs; limit = s.limit; index = s.index; plac
 
 abbrev pub at_wait : Standing → ℕ → ℕ → Bool → Standing
 at_wait s k i looked = record { procs = s.procs; limit = s.limit; index = s.index; place = place_of s.procs s.index (AtWait k i looked) }
+
+-- the process in a scan
+abbrev pub at_scan : Standing → Scan → Standing
+at_scan s (Peeking i m) = at_door s i m
+at_scan s (Waits k i looked) = at_wait s k i looked
 
 -- whose lock word it is. A data word is nobody's
 abbrev pub owner : Word → ℕ

@@ -12,6 +12,7 @@ use crate::outer::Outer;
 use crate::progress::{BLOCKED, Progress, QUIET};
 use crate::refusal::Refusal;
 use crate::restart::{after_shut, after_unmark, restarted};
+use crate::scan::Scan;
 use crate::stage::Stage;
 use crate::word::Word;
 use std::marker::Model;
@@ -41,7 +42,7 @@ impl LockProcess {
     ghost use Rattle.rmecore.specs.Place.{Rest, Dead, started};
     ghost use Rattle.rmecore.specs.Refused.{start_refusal, is_idle};
     ghost use Rattle.rmecore.specs.Named.{own_number, own_call};
-    ghost use Rattle.rmecore.specs.Machine.{Standing, first, place_of, next_access, after_access, at_door, at_wait, progress, word_of, InLock, IsAllowed, IsLeast, StoresOwn};
+    ghost use Rattle.rmecore.specs.Machine.{Standing, first, place_of, next_access, after_access, at_door, at_wait, at_scan, progress, word_of, InLock, IsAllowed, IsLeast, StoresOwn};
 
     /// A process at rest.
     pub fn new(procs: u64, limit: u64, index: u64) -> LockProcess
@@ -107,6 +108,48 @@ impl LockProcess {
                 Some(Access::Store(Kind::Drop, Word::Number(own), 0))
             }
             Stage::Unmarking { .. } => Some(Access::Store(Kind::Mark, Word::Inside(own), 0)),
+        }
+    }
+
+    /// A scan that goes on, and the load that comes next in it. It is what `next` answers, for a scan alone.
+    pub fn scan(&self) -> Option<(Scan, Access)>
+        ensures at { IfSome result (λ r. at_scan self.now r.0 ≡ self.now) }
+        ensures next { IfSome result (λ r. next_access self.now ≡ Some r.1) }
+        ensures allowed { IfSome result (λ r. IsAllowed self.now r.1) }
+        ensures within { IfSome result (λ r. InLock self.now.procs (word_of r.1)) }
+        ensures own { IfSome result (λ r. StoresOwn self.now.index r.1) }
+    {
+        let _ = &self.stage;
+        self.scanned()
+    }
+
+    fn scanned(&self) -> Option<(Scan, Access)>
+        ensures at { IfSome result (λ r. at_scan self.now r.0 ≡ self.now) }
+        ensures next { IfSome result (λ r. next_access self.now ≡ Some r.1) }
+    {
+        match self.stage {
+            Stage::Door { next, greatest } => {
+                let j = self.first(next)?;
+                let access = Access::Load(Kind::Peek, Word::Number(j));
+                Some((Scan::Peeking { next, greatest }, access))
+            }
+            Stage::Wait {
+                number,
+                next,
+                looked,
+            } => {
+                let j = self.first(next)?;
+                let scan = Scan::Waiting {
+                    number,
+                    next,
+                    looked,
+                };
+                if looked {
+                    return Some((scan, Access::Load(Kind::Weigh, Word::Number(j))));
+                }
+                Some((scan, Access::Load(Kind::Look, Word::Choosing(j))))
+            }
+            _ => None,
         }
     }
 
@@ -238,6 +281,32 @@ impl LockProcess {
         let (stage, progress) = self.after(value);
         self.stage = stage;
         progress
+    }
+
+    /// Takes the next step of a scan that goes on, as `feed` does.
+    pub fn scan_on(&mut self, scan: Scan, value: u64) -> Progress
+        requires { at_scan self.old scan ≡ self.old }
+        ensures place { self.new ≡ record self.old { place = after_access self.old (next_access self.old) value } }
+        ensures allowed { IfSome (next_access self.old) (IsAllowed self.old) }
+        ensures progress { result ≡ progress self.old (next_access self.old) value }
+    {
+        let (to, progress) = self.after_scan(scan, value);
+        self.stage = to;
+        progress
+    }
+
+    fn after_scan(&self, scan: Scan, value: u64) -> (Stage, Progress)
+        ensures place { place_of self.now.procs self.now.index result.0 ≡ after_access (at_scan self.now scan) (next_access (at_scan self.now scan)) value }
+        ensures progress { result.1 ≡ progress (at_scan self.now scan) (next_access (at_scan self.now scan)) value }
+    {
+        match scan {
+            Scan::Peeking { next, greatest } => self.after_door(next, greatest, value),
+            Scan::Waiting {
+                number,
+                next,
+                looked,
+            } => self.after_wait(number, next, looked, value),
+        }
     }
 
     /// What the next step will be with this value. Nothing is taken yet.

@@ -5,7 +5,7 @@
 ghost use Rattle.std.specs.Prelude.{◌≡◌, ◌==◌, true, false, not, if◌then◌else◌, [], ◌∷◌, Some, None, IfSome, OnOk, OnErr, IfErr, is_none};
 ghost use Rattle.rmecore.specs.Place.{Inside, Leaving, started as lock_started};
 ghost use Rattle.rmecore.specs.Refused.{start_refusal as lock_refusal};
-ghost use Rattle.rmecore.specs.Machine.{after_access, progress, quiet, next_access as lock_access, IsAllowed as IsLockAllowed};
+ghost use Rattle.rmecore.specs.Machine.{after_access, at_scan, progress, quiet, next_access as lock_access, IsAllowed as IsLockAllowed};
 ghost use Rattle.redomail.specs.Left.{left, begun};
 ghost use Rattle.redomail.specs.Refusals.{refused};
 ghost use Rattle.rmeworld.specs.Answered.{by_lock, by_reply, by_script};
@@ -20,7 +20,9 @@ use crate::errand::Errand;
 use crate::outcome::Outcome;
 use crate::why::Why;
 use redomail::{Job, Layout, Next, Reply, Task};
-use rmecore::{Access, CoreCall, CoreDone, Found, Kind, LockProcess, Progress, Refusal, Word};
+use rmecore::{
+    Access, CoreCall, CoreDone, Found, Kind, LockProcess, Progress, Refusal, Scan, Word,
+};
 use std::marker::Model;
 
 /// The index of the data word that says whether the lock is ruined.
@@ -158,7 +160,50 @@ impl Process {
     {
         let (progress, mended, checks) = lock_step(&mut self.lock, self.mended, value);
         self.mended = mended;
-        self.errand = errand_next(self.layout, self.index, checks);
+        check_next(&mut self.errand, self.layout, self.index, checks);
+        progress
+    }
+
+    /// A scan that goes on, and the load that comes next in it. It is what `next` answers, for a scan alone.
+    pub fn scan(&self) -> Option<(Scan, Access)>
+        ensures free { IfSome result (λ r. self.now.errand ≡ Errand.Free) }
+        ensures at { IfSome result (λ r. at_scan (standing self.now) r.0 ≡ standing self.now) }
+        ensures next { IfSome result (λ r. next_access self.now ≡ Some r.1) }
+        ensures allowed { IfSome result (λ r. IsAllowed self.now r.1) }
+        ensures within { IfSome result (λ r. InWords self.now.layout.procs (word_of r.1)) }
+        ensures own { IfSome result (λ r. StoresOwn self.now.index r.1) }
+    {
+        match &self.errand {
+            Errand::Free => self.lock.scan(),
+            Errand::Asking(_) | Errand::Doing(..) => None,
+        }
+    }
+
+    /// Takes the next step of a scan that goes on, as `feed` does.
+    pub fn scan_on(&mut self, scan: Scan, value: u64) -> Outcome
+        requires free { self.old.errand ≡ Errand.Free }
+        requires at { at_scan (standing self.old) scan ≡ standing self.old }
+        ensures exact { self.new ≡ stepped self.old value }
+        ensures spot { spot_of self.new ≡ spot_after self.old (next_access self.old) value }
+        ensures allowed { IfSome (next_access self.old) (IsAllowed self.old) }
+        ensures outcome { result ≡ outcome self.old (next_access self.old) value }
+    {
+        let barred = self.barred;
+        lock_outcome(barred, self.move_by(scan, value))
+    }
+
+    /// A step of the lock in a scan that goes on.
+    fn move_by(&mut self, scan: Scan, value: u64) -> Progress
+        requires free { self.old.errand ≡ Errand.Free }
+        requires at { at_scan (standing self.old) scan ≡ standing self.old }
+        ensures exact { self.new ≡ stepped self.old value }
+        ensures spot { spot_of self.new ≡ spot_after self.old (next_access self.old) value }
+        ensures allowed { IfSome (next_access self.old) (IsAllowed self.old) }
+        ensures progress { result ≡ progress (standing self.old) (lock_access (standing self.old)) value }
+    {
+        let (progress, mended, checks) = lock_scan(&mut self.lock, scan, self.mended, value);
+        self.mended = mended;
+        check_next(&mut self.errand, self.layout, self.index, checks);
         progress
     }
 
@@ -455,16 +500,29 @@ fn lock_step(lock: &mut LockProcess, mended: bool, value: u64) -> (Progress, boo
     (progress, mended, checks)
 }
 
-/// What comes behind a step of the lock's part: the ruin check, or nothing.
-fn errand_next(layout: Layout, index: u64, checks: bool) -> Errand
-    requires { refused layout index Task.Check ≡ None }
-    ensures { result ≡ if checks then Errand.Doing Why.Checking (begun layout index Task.Check) else Errand.Free }
+/// Behind an entry the ruin check comes next.
+fn check_next(errand: &mut Errand, layout: Layout, index: u64, checks: bool)
+    requires free { errand.old ≡ Errand.Free }
+    requires fits { refused layout index Task.Check ≡ None }
+    ensures { errand.new ≡ if checks then Errand.Doing Why.Checking (begun layout index Task.Check) else Errand.Free }
 {
     if checks {
-        Errand::Doing(Why::Checking, job(layout, index, Task::Check))
-    } else {
-        Errand::Free
+        *errand = Errand::Doing(Why::Checking, job(layout, index, Task::Check));
     }
+}
+
+/// A step of the lock's part in a scan that goes on, as `lock_step`.
+fn lock_scan(lock: &mut LockProcess, scan: Scan, mended: bool, value: u64) -> (Progress, bool, bool)
+    requires { at_scan lock.old scan ≡ lock.old }
+    ensures lock { lock.new ≡ record lock.old { place = after_access lock.old (lock_access lock.old) value } }
+    ensures allowed { IfSome (lock_access lock.old) (IsLockAllowed lock.old) }
+    ensures progress { result.0 ≡ progress lock.old (lock_access lock.old) value }
+    ensures mended { result.1 ≡ mended_entered mended lock.old.place lock.new.place }
+    ensures checks { result.2 ≡ is_entry lock.old.place lock.new.place }
+{
+    let progress = lock.scan_on(scan, value);
+    let (mended, checks) = entry(progress.done, mended);
+    (progress, mended, checks)
 }
 
 fn entry(done: Option<CoreDone>, mended: bool) -> (bool, bool)

@@ -2,6 +2,7 @@
 ghost use Rattle.std.specs.Prelude.{◌≡◌, ℕ, ◌<◌, ◌^◌, true, false, Some, None, IsSome, is_none, IfErr, OnOk, OnErr, IsTrue};
 ghost use Rattle.rmecore.specs.Machine.{kind_of, word_of, carried};
 ghost use Rattle.rmecore.specs.Simulated.{one_more};
+ghost use Rattle.rmecore.specs.World.{is_store};
 ghost use Rattle.redomail.specs.Layout.{size};
 ghost use Rattle.rmeworld.specs.Refused.{start_refusal, is_idle};
 ghost use Rattle.rmeworld.specs.Stand.{IsSize, InWords, StoresOwn};
@@ -14,7 +15,7 @@ use crate::setup::Setup;
 use crate::walker::Walker;
 use crashlab::CrashPlan;
 use redomail::Layout;
-use rmecore::{Access, Refusal, Word};
+use rmecore::{Access, Kind, Refusal, Word};
 use rmeworld::{Call, Outcome, Process};
 use std::marker::Model;
 
@@ -57,6 +58,21 @@ fn in_table(setup: &Setup, word: Word) -> bool
     }
 }
 
+/// One load of the machine.
+fn read(walker: &mut Walker, kind: Kind, word: Word) -> u64
+    requires within { InWords walker.old.setup.layout.procs word }
+    requires kind { is_store kind ≡ false }
+    requires allowed { (v : ℕ) → IsSome (moved_spot walker.old kind word v) }
+    ensures { Advances walker.old kind word result walker.new }
+{
+    let setup = walker.setup();
+    if in_table(&setup, word) {
+        return walker.load(kind, word);
+    }
+    walker.pass(kind, word, 0);
+    0
+}
+
 /// One access of the machine: one load or store of the table.
 fn perform(walker: &mut Walker, access: Access) -> u64
     requires within { InWords walker.old.setup.layout.procs (word_of access) }
@@ -66,13 +82,7 @@ fn perform(walker: &mut Walker, access: Access) -> u64
 {
     let setup = walker.setup();
     match access {
-        Access::Load(kind, word) => {
-            if in_table(&setup, word) {
-                return walker.load(kind, word);
-            }
-            walker.pass(kind, word, 0);
-            0
-        }
+        Access::Load(kind, word) => read(walker, kind, word),
         Access::Store(kind, word, value) => {
             if in_table(&setup, word) {
                 walker.store(kind, word, value);
@@ -151,6 +161,11 @@ impl Runner {
         requires { is_idle (spot_now self.old.pass) ≡ false }
         ensures { TakesStep self.old result self.new }
     {
+        if let Some((scan, Access::Load(kind, word))) = self.process.scan() {
+            let found = read(&mut self.walker, kind, word);
+            self.steps = self.steps.saturating_add(1);
+            return self.process.scan_on(scan, found);
+        }
         let Some(access) = self.process.next() else {
             unreachable!()
         };

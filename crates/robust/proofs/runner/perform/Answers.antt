@@ -4,14 +4,11 @@ use Rattle.rmecore.specs.declared.access.Access.{Access}
 use Rattle.robust.specs.Pass.{moved_spot}
 use Rattle.robust.proofs.runner.perform.Goals as goal
 
-pub load-requires-clause-may : goal.load-requires-clause-may
-load-requires-clause-may c = λ found small. subst (λ (a : Access). (v : ℕ) → IsSome (moved_spot c.args.walker.now (kind_of a) (word_of a) (carried a v))) c.in-Load.is c.requires.allowed found
-
-pub pass-requires-clause-may : goal.pass-requires-clause-may
-pass-requires-clause-may c = subst (λ (a : Access). (v : ℕ) → IsSome (moved_spot c.args.walker.now (kind_of a) (word_of a) (carried a v))) c.in-Load.is c.requires.allowed 0
+pub read-requires-clause-allowed : goal.read-requires-clause-allowed
+read-requires-clause-allowed c = subst (λ (a : Access). (v : ℕ) → IsSome (moved_spot c.args.walker.now (kind_of a) (word_of a) (carried a v))) c.in-Load.is c.requires.allowed
 
 pub store-requires-clause-may : goal.store-requires-clause-may
 store-requires-clause-may c = subst (λ (a : Access). (v : ℕ) → IsSome (moved_spot c.args.walker.now (kind_of a) (word_of a) (carried a v))) c.in-Store.is c.requires.allowed 0
 
-pub pass-requires-else-in_table-2-clause-may : goal.pass-requires-else-in_table-2-clause-may
-pass-requires-else-in_table-2-clause-may c = subst (λ (a : Access). (v : ℕ) → IsSome (moved_spot c.args.walker.now (kind_of a) (word_of a) (carried a v))) c.in-Store.is c.requires.allowed 0
+pub pass-requires-clause-may : goal.pass-requires-clause-may
+pass-requires-clause-may c = subst (λ (a : Access). (v : ℕ) → IsSome (moved_spot c.args.walker.now (kind_of a) (word_of a) (carried a v))) c.in-Store.is c.requires.allowed 0

@@ -36,7 +36,7 @@ returns-clause-exact c =
     let limit : c.lock_step-mended.new.lock.limit ≡ now.limit = ap (λ (s : Standing). s.limit) c.lock_step-mended.ensures.lock ∙ ap (λ (s : Stand). s.limit) view in
     let mended : c.lock_step-mended.result.1 ≡ mended_entered now.mended now.lock t = c.lock_step-mended.ensures.mended ∙ (λ i. mended_entered (view i).mended (view i).lock (place i)) in
     let checks : c.lock_step-mended.result.2 ≡ is_entry now.lock t = c.lock_step-mended.ensures.checks ∙ (λ i. is_entry (view i).lock (place i)) in
-    let errand : c.errand_next-self-inside.result ≡ (if is_entry now.lock t then Does Checking (begun now.layout now.index Check) else IsFree) = c.errand_next-self-inside.ensures ∙ (λ i. if checks i then Does Checking (begun (view i).layout (view i).index Check) else IsFree) in
+    let errand : c.check_next.new.errand ≡ (if is_entry now.lock t then Does Checking (begun now.layout now.index Check) else IsFree) = c.check_next.ensures ∙ (λ i. if checks i then Does Checking (begun (view i).layout (view i).index Check) else IsFree) in
     (λ i. record { layout = (view i).layout; limit = limit i; index = (view i).index; lock = place i; mended = mended i; barred = (view i).barred; errand = errand i }) ∙ ap (λ e. stepped_by now e c.args.value) (sym c.requires)
 
 pub returns-clause-spot : goal.returns-clause-spot

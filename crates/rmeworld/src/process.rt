@@ -5,19 +5,17 @@
 ghost use Rattle.std.specs.Prelude.{◌≡◌, ◌==◌, true, false, not, if◌then◌else◌, [], ◌∷◌, Some, None, IfSome, OnOk, OnErr, IfErr, is_none};
 ghost use Rattle.rmecore.specs.Place.{Inside, Leaving, started as lock_started};
 ghost use Rattle.rmecore.specs.Refused.{start_refusal as lock_refusal};
-ghost use Rattle.rmecore.specs.Machine.{after_access, at_scan, progress, quiet, next_access as lock_access, IsAllowed as IsLockAllowed};
+ghost use Rattle.rmecore.specs.Machine.{after_access, at_scan, progress, next_access as lock_access, IsAllowed as IsLockAllowed};
 ghost use Rattle.redomail.specs.Left.{left, begun};
 ghost use Rattle.redomail.specs.Refusals.{refused};
-ghost use Rattle.rmeworld.specs.Answered.{by_lock, by_reply, by_script};
 ghost use Rattle.rmeworld.specs.Spot.{mended_entered};
 ghost use Rattle.rmeworld.specs.Whys.{task_of};
 ghost use Rattle.rmeworld.specs.Entered.{is_entry, mended_done, checks_done};
 ghost use Rattle.rmeworld.specs.Refused.{first_cause, Needs, is_inside, is_waiting};
 
-use crate::answer::Answer;
 use crate::call::Call;
 use crate::errand::Errand;
-use crate::outcome::Outcome;
+use crate::outcome::{Outcome, asked, job_outcome, lock_outcome};
 use crate::why::Why;
 use redomail::{Job, Layout, Next, Reply, Task};
 use rmecore::{
@@ -27,13 +25,6 @@ use std::marker::Model;
 
 /// The index of the data word that says whether the lock is ruined.
 const RUINED: u64 = 0;
-
-/// Nothing that others see of the lock.
-const QUIET: Progress = Progress {
-    outer: None,
-    done: None,
-    blocked: false,
-};
 
 /// One process, with its whole private memory. It takes no memory.
 #[derive(Debug, Drop)]
@@ -418,71 +409,6 @@ fn job(layout: Layout, sender: u64, task: Task) -> Job
     match Job::new(layout, sender, task) {
         Ok(job) => job,
         Err(_) => unreachable!(),
-    }
-}
-
-/// What a step of the lock's part is for its call.
-fn lock_outcome(barred: bool, progress: Progress) -> Outcome
-    ensures { result ≡ record { progress = progress; answer = by_lock barred progress.done } }
-{
-    Outcome {
-        progress,
-        answer: core_answer(barred, progress.done),
-    }
-}
-
-/// What is answered where the lock's part ends.
-fn core_answer(barred: bool, done: Option<CoreDone>) -> Option<Answer>
-    ensures { result ≡ by_lock barred done }
-{
-    match done? {
-        CoreDone::In | CoreDone::InAgain => None,
-        CoreDone::Spent => Some(Answer::NumbersSpent),
-        CoreDone::Out if barred => Some(Answer::NotRecoverable),
-        CoreDone::Out => Some(Answer::Unlocked),
-        CoreDone::Found(found) => Some(Answer::Found(found)),
-        CoreDone::Withdrawn => Some(Answer::Withdrawn),
-    }
-}
-
-/// What the get of ruined with which consistent begins is for its call.
-fn asked(value: u64) -> Outcome
-    ensures { result ≡ record { progress = quiet; answer = if value == 1 then Some Answer.NotRecoverable else None } }
-{
-    Outcome {
-        progress: QUIET,
-        answer: if value == 1 {
-            Some(Answer::NotRecoverable)
-        } else {
-            None
-        },
-    }
-}
-
-/// What a step of a script is for its call, with this job left.
-fn job_outcome(why: Why, mended: bool, job: &Job) -> Outcome
-    ensures { result ≡ record { progress = quiet; answer = by_script why mended (left job.now) } }
-{
-    let answer = match job.next() {
-        Next::Done(reply) => reply_answer(why, mended, reply),
-        Next::Get(_) | Next::Put(..) => None,
-    };
-    Outcome {
-        progress: QUIET,
-        answer,
-    }
-}
-
-/// What is answered where a script ends.
-fn reply_answer(why: Why, mended: bool, reply: Reply) -> Option<Answer>
-    ensures { result ≡ by_reply why mended reply }
-{
-    match (why, reply) {
-        (Why::Checking, Reply::Ruined(true)) | (Why::Ruining, _) => None,
-        (Why::Checking, _) if mended => Some(Answer::Clean),
-        (Why::Checking, _) => Some(Answer::OwnerDied),
-        (Why::Mending, Reply::Ruined(_)) => Some(Answer::NotRecoverable),
-        (Why::Mending | Why::Working(_), _) => Some(Answer::Mail(reply)),
     }
 }
 

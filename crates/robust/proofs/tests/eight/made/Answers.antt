@@ -5,4 +5,4 @@ use Rattle.robust.proofs.tests.eight.made.Goals as goal
 pub returns : goal.returns
 returns g c =
     let m = c.in-Ok.ensures.made in
-    (m.0, _, ap seats_of m.1)
+    (m.0, record { layout = record { procs = 8; cap = 1; width = 1 }; limit = 1000000 }, ap seats_of m.1)

@@ -5,4 +5,4 @@ use Rattle.robust.proofs.tests.eight.eight_threads_that_crash.Goals as goal
 pub gathered_all-image-requires : goal.gathered_all-image-requires
 gathered_all-image-requires g c =
     let s = c.made-members.ensures in
-    one_arena s.0 s.1 c.in_ok-work_all.field-0 (c.in_ok-work_all.ensures ∙ s.2)
+    one_arena s.0 s.1 c.in_ok-members.members.items (c.in_ok-members.ensures ∙ s.2)

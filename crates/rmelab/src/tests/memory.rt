@@ -117,20 +117,31 @@ fn locking(alloc: Global) -> Result<World, Refusal> {
     Ok(world)
 }
 
+/// One step of the process.
+fn advanced(world: &mut World) -> Result<(), Refusal> {
+    match world.advance(0) {
+        Ok(_) => Ok(()),
+        Err(refusal) => Err(refusal),
+    }
+}
+
 #[test]
 fn steps_of_a_world(rt: HostRuntime) -> Result<(), Fail> {
     let alloc = rt.alloc();
     let mut ample = locking(alloc)?;
     for _ in 0..8 {
-        ample.advance(0)?;
+        advanced(&mut ample)?;
     }
     let mut world = locking(alloc)?;
     let mut scarce = Scarce::new(alloc)?;
     let mut refused = 0u64;
     let mut taken = 0u64;
-    while taken < 8 && refused < PIECES as u64 {
-        match world.advance(0) {
-            Ok(_) => taken = taken.saturating_add(1),
+    for _ in 0..PIECES + 8 {
+        if taken == 8 {
+            break;
+        }
+        match advanced(&mut world) {
+            Ok(()) => taken = taken.saturating_add(1),
             Err(refusal) => {
                 assert!(rt; refusal == Refusal::OutOfMemory && world.steps(0) == Ok(taken));
                 refused = refused.saturating_add(1);

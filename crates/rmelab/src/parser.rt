@@ -10,20 +10,24 @@ input, 3 a fault of a device, of memory or of a member.";
 const REPLAY_HELP: &str =
     "In: a schedule, as `rme 1 procs 2 limit 10 cap 1`, then lines such as `lock 0`, `step 0 5`, \
 `crash 0`, each ended by a line feed.\nOut: its report: the deeds and answers of each step, the last words, the mailbox and \
-the verdict.\n\nExample: rmelab replay examples/tie.rme";
+the verdict.\nExit status: 0 where the verdict is fine, 1 where it is against, 2 after a fault of the words, the schedule or the image, 3 \
+after one of a device or of memory.\n\nExample: rmelab replay examples/tie.rme";
 
 const RUN_HELP: &str =
     "In: nothing. Each sender sends its messages through one running lock, on a thread of its own, and sends a message \
 again after each crash.\nOut: what stands in the mailbox of each sender, as `sender 0 messages 50 twice 0 order yes`, and the \
-total.\n\nExample: rmelab run --procs 4 --messages 50 --crash 20 --seed 7";
+total.\nExit status: 0 where each message stands once and in its order, 1 where not, 2 after a fault of the words, 3 after one of a \
+device, of memory or of a sender.\n\nExample: rmelab run --procs 4 --messages 50 --crash 20 --seed 7";
 
 const HUNT_HELP: &str =
     "In: nothing.\nOut: the schedule found, which `rmelab replay --variant V` replays to its fault, or `nothing \
-found`.\n\nExample: rmelab hunt --variant no-look --seed 1 --rounds 10000 --steps 1000";
+found`.\nExit status: 0 where nothing was found, 1 where a schedule was, 2 after a fault of the words, 3 after one of a device or \
+of memory.\n\nExample: rmelab hunt --variant no-look --seed 1 --rounds 10000 --steps 1000";
 
 const JUDGE_HELP: &str =
     "In: a trace, as `trace 1 procs 2 cap 1`, then deeds such as `begin 0`, `ready 0`, `enter 0`.\nOut: the verdict \
-line.\n\nExample: rmelab judge examples/overtaken.trace";
+line.\nExit status: 0 where the verdict is fine, 1 where it is against, 2 after a fault of the words or the trace, 3 after one of a \
+device or of memory.\n\nExample: rmelab judge examples/overtaken.trace";
 
 fn option<'a>(alloc: Global, name: &'a str, value: &'a str, help: &'a str) -> Arg<'a> {
     Arg::new(alloc, name)

@@ -25,7 +25,7 @@ pub struct Outcome {
 }
 
 /// What a step of the lock's part is for its call.
-pub fn lock_outcome(barred: bool, progress: Progress) -> Outcome
+pub(crate) fn lock_outcome(barred: bool, progress: Progress) -> Outcome
     ensures { result ≡ record { progress = progress; answer = by_lock barred progress.done } }
 {
     Outcome {
@@ -49,7 +49,7 @@ fn core_answer(barred: bool, done: Option<CoreDone>) -> Option<Answer>
 }
 
 /// What the get of ruined with which consistent begins is for its call.
-pub fn asked(value: u64) -> Outcome
+pub(crate) fn asked(value: u64) -> Outcome
     ensures { result ≡ record { progress = quiet; answer = if value == 1 then Some Answer.NotRecoverable else None } }
 {
     Outcome {
@@ -63,7 +63,7 @@ pub fn asked(value: u64) -> Outcome
 }
 
 /// What a step of a script is for its call, with this job left.
-pub fn job_outcome(why: Why, mended: bool, job: &Job) -> Outcome
+pub(crate) fn job_outcome(why: Why, mended: bool, job: &Job) -> Outcome
     ensures { result ≡ record { progress = quiet; answer = by_script why mended (left job.now) } }
 {
     let answer = match job.next() {

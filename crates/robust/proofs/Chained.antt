@@ -20,7 +20,7 @@ use Rattle.robust.proofs.Called.{ends_cons, calls_fell, served_ran, crashes_of}
 use Rattle.robust.proofs.Turned.{answers-append, blocked-append, many_append, many_add}
 
 -- the spot behind some own entries
-calls_spot : (x y : Pass) (mine : List Entry) → Calls x mine y → spot_of y.setup y.by y.seen ≡ gone x.setup (spot_of x.setup x.by x.seen) (spelled mine)
+pub calls_spot : (x y : Pass) (mine : List Entry) → Calls x mine y → spot_of y.setup y.by y.seen ≡ gone x.setup (spot_of x.setup x.by x.seen) (spelled mine)
 calls_spot x y mine c =
     let own_are : own x.by y.seen ≡ own x.by x.seen ++ mine = ap (own x.by) c.seen ∙ own-append x.by x.seen c.since ∙ ap (λ (l : List Entry). own x.by x.seen ++ l) c.mine_are in
     ap (λ (t : Setup × ℕ). spot_of t.0 t.1 y.seen) (λ i. (c.setup i, c.by i))

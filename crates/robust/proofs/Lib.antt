@@ -12,6 +12,8 @@ pub mod Called
 pub mod Turned
 pub mod Chained
 pub mod WholeCalls
+pub mod Mended
+pub mod WholeSteps
 pub mod OneLockStories
 pub mod Shown
 pub mod Glanced

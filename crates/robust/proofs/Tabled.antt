@@ -21,26 +21,26 @@ use Rattle.robust.proofs.Running.{taken_moves}
 use Rattle.robust.proofs.Walked.{OwnMoves, StartsAt, starts_calm, starts_fallen}
 
 -- entries of p as its steps
-abbrev steps_of : ℕ → List Entry → List Happening
+abbrev pub steps_of : ℕ → List Entry → List Happening
 steps_of p [] = []
 steps_of p (e ∷ es) = Moves p e.step.kind e.step.word e.value ∷ steps_of p es
 
 -- a step of p, no glance, that carries nothing
-abbrev IsPlain : ℕ → Entry → Type 0
+abbrev pub IsPlain : ℕ → Entry → Type 0
 IsPlain p e = (e.by ≡ p) × (e.step.crashed ≡ false) × (e.step.start ≡ None) × (is_glance e.step.kind ≡ false)
 
-abbrev ArePlain : ℕ → List Entry → Type 0
+abbrev pub ArePlain : ℕ → List Entry → Type 0
 ArePlain p [] = Unit {0}
 ArePlain p (e ∷ es) = IsPlain p e × ArePlain p es
 
-plain_all : (p : ℕ) (es : List Entry) → All (λ (e : Entry). e.by ≡ p) es → All (λ (e : Entry). e.step.crashed ≡ false) es → All (λ (e : Entry). e.step.start ≡ None) es → AreMoves es → ArePlain p es
+pub plain_all : (p : ℕ) (es : List Entry) → All (λ (e : Entry). e.by ≡ p) es → All (λ (e : Entry). e.step.crashed ≡ false) es → All (λ (e : Entry). e.step.start ≡ None) es → AreMoves es → ArePlain p es
 plain_all p [] by crashed start moves = tt
 plain_all p (e ∷ es) by crashed start moves = (
   (All-head (λ (e : Entry). e.by ≡ p) e es by, All-head (λ (e : Entry). e.step.crashed ≡ false) e es crashed, All-head (λ (e : Entry). e.step.start ≡ None) e es start, All-head (λ (e : Entry). is_glance e.step.kind ≡ false) e es moves),
   plain_all p es (All-tail (λ (e : Entry). e.by ≡ p) e es by) (All-tail (λ (e : Entry). e.step.crashed ≡ false) e es crashed) (All-tail (λ (e : Entry). e.step.start ≡ None) e es start) (All-tail (λ (e : Entry). is_glance e.step.kind ≡ false) e es moves),
 )
 
-own_moves : (p : ℕ) (es : List Entry) → ArePlain p es → OwnMoves p (steps_of p es)
+pub own_moves : (p : ℕ) (es : List Entry) → ArePlain p es → OwnMoves p (steps_of p es)
 own_moves p [] plain = tt
 own_moves p (e ∷ es) plain = ((refl, plain.0.3), own_moves p es plain.1)
 
@@ -49,7 +49,7 @@ steps_length p [] = refl
 steps_length p (e ∷ es) = ap suc (steps_length p es)
 
 -- the own entries are of the process
-own_are : (p : ℕ) (es : List Entry) → All (λ (e : Entry). e.by ≡ p) (own p es)
+pub own_are : (p : ℕ) (es : List Entry) → All (λ (e : Entry). e.by ≡ p) (own p es)
 own_are p [] = All-nil _
 own_are p (e ∷ es) = go (own_are p es) (e.by == p) refl
   where
@@ -57,10 +57,10 @@ own_are p (e ∷ es) = go (own_are p es) (e.by == p) refl
     go later true is = rw is (All-cons (λ (e : Entry). e.by ≡ p) e (own p es) (eqb-true e.by p is) later)
     go later false is = rw is later
 
-taken_own : (p : ℕ) (e : Entry) → e.by ≡ p → is_glance e.step.kind ≡ false → taken e.by e.step.kind e.step.word e.value ≡ Moves p e.step.kind e.step.word e.value
+pub taken_own : (p : ℕ) (e : Entry) → e.by ≡ p → is_glance e.step.kind ≡ false → taken e.by e.step.kind e.step.word e.value ≡ Moves p e.step.kind e.step.word e.value
 taken_own p e by moves = taken_moves e.by e.step.kind e.step.word e.value moves ∙ ap (λ (q : ℕ). Moves q e.step.kind e.step.word e.value) by
 
-spelled_plain : (p : ℕ) (es : List Entry) → ArePlain p es → spelled es ≡ steps_of p es
+pub spelled_plain : (p : ℕ) (es : List Entry) → ArePlain p es → spelled es ≡ steps_of p es
 spelled_plain p [] plain = refl
 spelled_plain p (e ∷ es) plain =
     let here = taken_own p e plain.0.0 plain.0.3 in
@@ -83,13 +83,13 @@ module _ (s : Setup) (p : ℕ) where
   nothing_before : (q : Spot) (e : Entry) → IsPlain p e → spot_before s q e ≡ q
   nothing_before q e plain = λ i. gone s q (before (plain.1 i) (plain.2 i) e.by)
 
-  answers_first : (q : Spot) (e : Entry) (es : List Entry) → e.by ≡ p → is_glance e.step.kind ≡ false → ((t : Spot) → answers_from s t es ≡ answers_in s.layout s.limit t (steps_of p es))
+  pub answers_first : (q : Spot) (e : Entry) (es : List Entry) → e.by ≡ p → is_glance e.step.kind ≡ false → ((t : Spot) → answers_from s t es ≡ answers_in s.layout s.limit t (steps_of p es))
       → answers_from s q (e ∷ es) ≡ answers_in s.layout s.limit (spot_before s q e) (steps_of p (e ∷ es))
   answers_first q e es by moves later =
       and_same (answer_at (spot_before s q e) e.step.kind e.value) (answers_from s (gone s q (happenings e)) es)
       ∙ ap (and_answer_in (answer_at (spot_before s q e) e.step.kind e.value)) (ap (λ (t : Spot). answers_from s t es) (step_leads q e by moves) ∙ later (from (spot_before s q e) e))
 
-  answers_plain : (es : List Entry) → ArePlain p es → (q : Spot) → answers_from s q es ≡ answers_in s.layout s.limit q (steps_of p es)
+  pub answers_plain : (es : List Entry) → ArePlain p es → (q : Spot) → answers_from s q es ≡ answers_in s.layout s.limit q (steps_of p es)
   answers_plain [] plain q = refl
   answers_plain (e ∷ es) plain q =
       answers_first q e es plain.0.0 plain.0.3 (answers_plain es plain.1) ∙ ap (λ (t : Spot). answers_in s.layout s.limit t (steps_of p (e ∷ es))) (nothing_before q e plain.0)
@@ -107,7 +107,7 @@ module _ (s : Setup) (p : ℕ) where
       blocked_first q e es plain.0.0 plain.0.3 (blocked_plain es plain.1) ∙ ap (λ (t : Spot). blocked_in s.layout s.limit t (steps_of p (e ∷ es))) (nothing_before q e plain.0)
 
   -- a start, with the crash that was owed
-  start_leads : (q : Spot) (c : Bool) (call : Call) → gone s q (before c (Some call) p) ≡ next_or_same s.layout s.limit (gone s q (crash_first c p)) (Begins p call)
+  pub start_leads : (q : Spot) (c : Bool) (call : Call) → gone s q (before c (Some call) p) ≡ next_or_same s.layout s.limit (gone s q (crash_first c p)) (Begins p call)
   start_leads q true call = refl
   start_leads q false call = refl
 

@@ -19,7 +19,9 @@ use Rattle.robust.specs.Running.{Seated, fell, began, behind}
 use Rattle.robust.specs.Calls.{starts, Ran, CutOff, ServedAll, Crashes}
 use Rattle.robust.specs.Under.{Fits}
 use Rattle.robust.specs.Faults.{refusal_now, ready, CutBy, CutIn, AnsweredBy, LockBy, answer_of}
+use Rattle.robust.specs.WholeSteps.{mended_by, SumCounts, InsideCounts}
 use Rattle.robust.specs.Whole.{IsTask, IsFront, IsInner, IsWithin, Inner, Comes, WholeBy, WholeEnds, WholeGoes, WholeFails, calls_inside, answers_inside}
+use Rattle.robust.proofs.WholeSteps.{whole_counts}
 use Rattle.robust.proofs.Chained.{asked_behind, cut_asked, answered-append, cut_after, ran_behind, cut_behind, lock_setup}
 
 pub unlocked_is : (a : Answer) → Fits call.Unlock a → a ≡ answer.Unlocked
@@ -88,22 +90,26 @@ inner_some : (entry : Entering) (task : Call) (r : Result Reply LockFault) (orde
 inner_some entry task (Ok it) order answers h none = inside_some entry task (sym h.1 ∙ none)
 inner_some entry task (Err e) order answers h none = absurd (let k : call.Consistent ∷ call.Unlock ∷ [] ≡ [] = sym h.2 ∙ none in cc)
 
+-- the asking before the answer is no step
+counts_here : (x y z : Seated) (order : List Call) (answers : List Answer) (blocked : ℕ) → z ≡ y → SumCounts x order answers blocked y → SumCounts x order answers blocked z
+counts_here x y z order answers blocked e h = subst (λ (u : Seated). SumCounts x order answers blocked u) (sym e) h
+
 module _ (x y z : Seated) (a0 a1 a2 f0 f1 f2 : ℕ) where
   behind_lock : (order : List Call) (a : Answer) (told : List Answer) (j : ℕ) → (order ≡ [] → ⊥) → AnsweredBy 0 x (call.Lock ∷ []) (a ∷ []) j y a0 a1 f0 f1 → AnsweredBy 0 y order told 0 z a1 a2 f1 f2 → AnsweredBy 0 x (call.Lock ∷ order) (a ∷ told) (j + 0) z a0 a2 f0 f2
   behind_lock [] a told j some h t = absurd (some refl)
   behind_lock (d ∷ ds) a told j some h t = answered-append x y z call.Lock d [] ds (a ∷ []) told j 0 0 a0 a1 a2 f0 f1 f2 h t
 
-  pub whole_of : (turns : ℕ) (entry : Entering) (task : Call) (r : Result Reply LockFault) (order : List Call) (answers : List Answer) → LockBy 0 x turns (Some (answer_of entry)) y a0 a1 f0 f1 → Inner entry task r order answers → AnsweredBy 0 y order answers 0 z a1 a2 f1 f2 → WholeBy 0 x turns task r z a0 a2 f0 f2
-  whole_of turns entry task r order answers h i t =
+  pub whole_of : (turns : ℕ) (entry : Entering) (task : Call) (r : Result Reply LockFault) (order : List Call) (answers : List Answer) → LockBy 0 x turns (Some (answer_of entry)) y a0 a1 f0 f1 → Inner entry task r order answers → AnsweredBy 0 y order answers 0 z a1 a2 f1 f2 → InsideCounts y (mended_by true (answer_of entry)) order answers z → WholeBy 0 x turns task r z a0 a2 f0 f2
+  whole_of turns entry task r order answers h i t counts =
       let few : h.0 + 0 ≤ turns = (let k = h.1 in omega arith) in
-      (call.Lock ∷ order, answer_of entry ∷ answers, h.0 + 0, inner_comes turns entry task r order answers (h.0 + 0) few i, behind_lock order (answer_of entry) answers h.0 (inner_some entry task r order answers i) h.2 t)
+      (call.Lock ∷ order, answer_of entry ∷ answers, h.0 + 0, inner_comes turns entry task r order answers (h.0 + 0) few i, behind_lock order (answer_of entry) answers h.0 (inner_some entry task r order answers i) h.2 t, whole_counts x y z turns entry order answers a0 a1 f0 f1 h counts)
 
   pub cut_of : (turns : ℕ) (entry : Entering) (task : Call) → LockBy 0 x turns (Some (answer_of entry)) y a0 a1 f0 f1 → CutBy y (IsInner entry task) z a1 a2 f1 f2 → CutBy x (IsWithin task) z a0 a2 f0 f2
   cut_of turns entry task h t =
       cut_after x y z call.Lock [] (answer_of entry ∷ []) h.0 a0 a1 a2 f0 f1 f2 (IsInner entry task) (IsWithin task) h.2 t (within_lock task) (λ done p. within_inner entry task done p)
 
   pub whole_asked : (turns : ℕ) (task : Call) (r : Result Reply LockFault) → WholeBy 0 x turns task r y a0 a1 f0 f1 → z ≡ y → a2 ≡ one_more a1 → f2 ≡ f1 → WholeEnds x turns task r z a0 a2 f0 f2
-  whole_asked turns task r h e k f = (h.0, h.1, h.2, h.3, asked_behind x y z h.0 h.1 h.2 a0 a1 a2 f0 f1 f2 h.4 e k f)
+  whole_asked turns task r h e k f = (h.0, h.1, h.2, h.3, asked_behind x y z h.0 h.1 h.2 a0 a1 a2 f0 f1 f2 h.4 e k f, counts_here x y z h.0 h.1 h.2 e h.5)
 
   cut_at_lock : (order more : List Call) (told : List Answer) (j : ℕ) (task : Call) → order ≡ call.Lock ∷ more → IsWithin task (call.Lock ∷ more) → AnsweredBy 0 x order told j y a0 a1 f0 f1 → z ≡ fell y → a2 ≡ one_more a1 → f2 ≡ one_more f1 → CutBy x (IsWithin task) z a0 a2 f0 f2
   cut_at_lock order more told j task is in_it h e k f = cut_asked x y z call.Lock more told j a0 a1 a2 f0 f1 f2 (IsWithin task) (subst (λ (o : List Call). AnsweredBy 0 x o told j y a0 a1 f0 f1) is h) e k f in_it

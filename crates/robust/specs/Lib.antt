@@ -7,6 +7,7 @@ pub mod Calls
 pub mod Under
 pub mod Faults
 pub mod Tabled
+pub mod WholeSteps
 pub mod Whole
 pub mod Making
 pub mod Lab

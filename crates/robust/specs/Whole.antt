@@ -14,6 +14,7 @@ use Rattle.robust.specs.declared.entry_kind.Entry.{Entry as Entering}
 use Rattle.robust.specs.declared.entry_kind.Entry.TheVariants as entering
 use Rattle.robust.specs.Running.{Seated, began}
 use Rattle.robust.specs.Faults.{refusal_now, ready, CutBy, AnsweredBy, answer_of}
+use Rattle.robust.specs.WholeSteps.{SumCounts}
 
 -- the tasks of the mailbox, with a value as wide as its messages
 abbrev pub IsTask : Layout → Call → Type 0
@@ -48,10 +49,11 @@ Comes turns task (Err e) order answers blocked =
     ⊎ (e ≡ NotRecoverable) × (order ≡ Lock ∷ []) × (answers ≡ RuinedAnswer ∷ [])
     ⊎ (e ≡ NotRecoverable) × (order ≡ Lock ∷ Consistent ∷ Unlock ∷ []) × (answers ≡ OwnerDied ∷ RuinedAnswer ∷ Unlocked ∷ []))
 
--- the whole call, from right after the start of its lock, with so many askings beside those of its steps
+-- the whole call, from right after the start of its lock, with so many askings beside those of its steps: what it comes to, its
+-- events, and its own steps by the table
 abbrev pub WholeBy : ℕ → Seated → ℕ → Call → Result Reply LockFault → Seated → (asked asked_now fallen fallen_now : ℕ) → Type 0
 WholeBy more x turns task r y asked asked_now fallen fallen_now =
-    (order : List Call) × (answers : List Answer) × (blocked : ℕ) × Comes turns task r order answers blocked × AnsweredBy more x order answers blocked y asked asked_now fallen fallen_now
+    (order : List Call) × (answers : List Answer) × (blocked : ℕ) × Comes turns task r order answers blocked × AnsweredBy more x order answers blocked y asked asked_now fallen fallen_now × SumCounts x order answers blocked y
 
 -- the same, up to the asking before its one answer
 abbrev pub WholeEnds : Seated → ℕ → Call → Result Reply LockFault → Seated → (asked asked_now fallen fallen_now : ℕ) → Type 0

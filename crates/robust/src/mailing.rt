@@ -1,11 +1,12 @@
 //! The whole mailbox calls of a member: each locks, mends where the owner died, does its task and unlocks. Its one answer is
 //! the task's reply.
-ghost use Rattle.std.specs.Prelude.{◌≡◌, ◌≢◌, ◌⊎◌, ℕ, length, Ok, IfOk, IfErr, OnOk};
+ghost use Rattle.std.specs.Prelude.{◌≡◌, ◌≢◌, ◌⊎◌, ℕ, ◌+◌, ◌≤◌, length, Ok, IfOk, IfErr, OnOk};
 ghost use Rattle.redomail.specs.Mailbox.{IsAmong};
 ghost use Rattle.robust.specs.Running.{began};
 ghost use Rattle.robust.specs.Faults.{refusal_now, ready};
 ghost use Rattle.robust.specs.Headline.{shown_by};
 ghost use Rattle.robust.specs.Working.{seat_of};
+ghost use Rattle.robust.specs.WholeSteps.{most_whole};
 ghost use Rattle.robust.specs.Whole.{WholeEnds, WholeFails, AppendFails};
 
 use crate::laws;
@@ -31,6 +32,8 @@ impl Member {
         ensures accepted { OnOk result (refusal_now (ready self.old) Call.Lock ≡ None) }
         ensures replied { IfOk result (λ reply. WholeEnds (began (ready self.old) Call.Lock) turns (Call.Append seq value) (Ok reply) self.new (C.asked plan.old) (C.asked plan.new) (C.fallen plan.old) (C.fallen plan.new)) }
         ensures fails { IfErr result (AppendFails self.old turns seq value self.new (C.asked plan.old) (C.asked plan.new) (C.fallen plan.old) (C.fallen plan.new)) }
+        ensures few { OnOk result (self.new.steps ≤ most_whole self.old.pass.setup.layout (Call.Append seq value) + turns) }
+        ensures few_out { IfErr result (λ e. e ≢ LockFault.AlreadyIn → e ≢ LockFault.BadWidth → self.new.steps ≤ most_whole self.old.pass.setup.layout (Call.Append seq value) + turns) }
         ensures shown { IfOk result (λ reply. (reply ≡ Reply.Stored) ⊎ (reply ≡ Reply.Already) → IsAmong self.old.pass.by seq (shown_by self.new.pass.setup self.new.pass.seen)) }
         ensures seat { seat_of self.new ≡ seat_of self.old }
     {
@@ -52,6 +55,8 @@ impl Member {
         ensures accepted { OnOk result (refusal_now (ready self.old) Call.Lock ≡ None) }
         ensures replied { IfOk result (λ reply. WholeEnds (began (ready self.old) Call.Lock) turns Call.Close (Ok reply) self.new (C.asked plan.old) (C.asked plan.new) (C.fallen plan.old) (C.fallen plan.new)) }
         ensures fails { IfErr result (WholeFails self.old turns Call.Close self.new (C.asked plan.old) (C.asked plan.new) (C.fallen plan.old) (C.fallen plan.new)) }
+        ensures few { OnOk result (self.new.steps ≤ most_whole self.old.pass.setup.layout Call.Close + turns) }
+        ensures few_out { IfErr result (λ e. e ≢ LockFault.AlreadyIn → self.new.steps ≤ most_whole self.old.pass.setup.layout Call.Close + turns) }
         ensures seat { seat_of self.new ≡ seat_of self.old }
     {
         self.runner.mail_within(plan, &Call::Close, turns)

@@ -1,14 +1,17 @@
 //! What a whole mailbox call does behind the start of its lock.
-ghost use Rattle.std.specs.Prelude.{◌≡◌, ◌≢◌, ℕ, List, [], ◌∷◌, Ok, Err, Some, None, true, IfOk, IfErr, IfSome, OnOk, OnErr};
+ghost use Rattle.std.specs.Prelude.{◌≡◌, ◌≢◌, ℕ, ◌+◌, ◌≤◌, List, [], ◌∷◌, Ok, Err, Some, None, true, false, IfOk, IfErr, IfSome, OnOk, OnErr};
 ghost use Rattle.redomail.specs.declared.reply.Reply.{Reply as ReplyOf};
 ghost use Rattle.rmeworld.specs.declared.call.Call.{Call as CallOf};
 ghost use Rattle.rmeworld.specs.declared.call.Call.TheVariants.{Lock, Unlock};
 ghost use Rattle.rmeworld.specs.declared.answer.Answer.{Answer as AnswerOf};
 ghost use Rattle.rmeworld.specs.declared.answer.Answer.TheVariants.{Mail, Unlocked};
+ghost use Rattle.rmeworld.specs.OwnSteps.{most_steps};
 ghost use Rattle.robust.specs.Pass.{spot_now};
 ghost use Rattle.robust.specs.Running.{Seated, began};
+ghost use Rattle.robust.specs.Tabled.{CountsAtMost};
 ghost use Rattle.robust.specs.Under.{Fits, Leaves, IsHolder};
 ghost use Rattle.robust.specs.Faults.{refusal_now, ready, CutIn, CutBy, AnsweredBy, LockBy, answer_of};
+ghost use Rattle.robust.specs.WholeSteps.{InsideCounts, most_inside, most_whole};
 ghost use Rattle.robust.specs.Whole.{IsTask, IsFront, IsInner, IsWithin, Inner, WholeBy, WholeGoes, WholeEnds, WholeFails};
 
 use crate::entry_kind::Entry;
@@ -30,6 +33,7 @@ impl Runner {
         ensures leaves { IfOk result (λ a. Fits call.now a × Leaves call.now a (spot_now self.new.pass)) }
         ensures crashed { IfErr result (λ e. e ≡ LockFault.Crashed) }
         ensures cut { OnErr result (CutIn self.old call.now self.new (C.asked plan.old) (C.asked plan.new) (C.fallen plan.old) (C.fallen plan.new)) }
+        ensures few { CountsAtMost (most_steps self.old.pass.setup.layout call.now) self.old self.new }
     {
         match self.go_on(call) {
             Ok(()) => match self.run(plan, call)? {
@@ -48,6 +52,8 @@ impl Runner {
         ensures done { IfOk result (λ reply. AnsweredBy 0 self.old (task.now ∷ Unlock ∷ []) (Mail reply ∷ Unlocked ∷ []) 0 self.new (C.asked plan.old) (C.asked plan.new) (C.fallen plan.old) (C.fallen plan.new)) }
         ensures crashed { IfErr result (λ e. e ≡ LockFault.Crashed) }
         ensures cut { OnErr result (CutBy self.old (λ order. IsFront order (task.now ∷ Unlock ∷ [])) self.new (C.asked plan.old) (C.asked plan.new) (C.fallen plan.old) (C.fallen plan.new)) }
+        ensures counts { IfOk result (λ reply. InsideCounts self.old true (task.now ∷ Unlock ∷ []) (Mail reply ∷ Unlocked ∷ []) self.new) }
+        ensures few { CountsAtMost (most_steps self.old.pass.setup.layout task.now + most_steps self.old.pass.setup.layout Unlock) self.old self.new }
     {
         let answer = self.follow(plan, task)?;
         self.follow(plan, &Call::Unlock)?;
@@ -66,9 +72,10 @@ impl Runner {
         requires idle { self.old.pass.start ≡ None }
         requires holder { Leaves Lock (answer_of Entry.OwnerDied) (spot_now self.old.pass) }
         requires task { IsTask self.old.pass.setup.layout task.now }
-        ensures done { IfOk result (λ r. (order : List CallOf) × (answers : List AnswerOf) × Inner Entry.OwnerDied task.now r order answers × AnsweredBy 0 self.old order answers 0 self.new (C.asked plan.old) (C.asked plan.new) (C.fallen plan.old) (C.fallen plan.new)) }
+        ensures done { IfOk result (λ r. (order : List CallOf) × (answers : List AnswerOf) × Inner Entry.OwnerDied task.now r order answers × AnsweredBy 0 self.old order answers 0 self.new (C.asked plan.old) (C.asked plan.new) (C.fallen plan.old) (C.fallen plan.new) × InsideCounts self.old false order answers self.new) }
         ensures crashed { IfErr result (λ e. e ≡ LockFault.Crashed) }
         ensures cut { OnErr result (CutBy self.old (IsInner Entry.OwnerDied task.now) self.new (C.asked plan.old) (C.asked plan.new) (C.fallen plan.old) (C.fallen plan.new)) }
+        ensures few { CountsAtMost (most_inside self.old.pass.setup.layout task.now) self.old self.new }
     {
         match self.follow(plan, &Call::Consistent)? {
             Answer::Mail(_) => {
@@ -97,6 +104,7 @@ impl Runner {
         ensures patient { IfOk result (λ r. r ≡ Err LockFault.NotYet → answer ≡ None) }
         ensures crashed { IfErr result (λ e. e ≡ LockFault.Crashed) }
         ensures cut { OnErr result ((x : Seated) (turns asked fallen : ℕ) → LockBy 0 x turns answer self.old asked (C.asked plan.old) fallen (C.fallen plan.old) → CutBy x (IsWithin task.now) self.new asked (C.asked plan.new) fallen (C.fallen plan.new)) }
+        ensures few { CountsAtMost (most_inside self.old.pass.setup.layout task.now) self.old self.new }
     {
         match answer {
             Some(answer) => match answer {
@@ -127,6 +135,7 @@ impl Runner {
         requires task { IsTask self.old.pass.setup.layout task.now }
         ensures goes { (x : Seated) (turns asked fallen : ℕ) → LockBy 0 x turns answer self.old asked (C.asked plan.old) fallen (C.fallen plan.old) → WholeGoes x turns task.now result self.new asked (C.asked plan.new) fallen (C.fallen plan.new) }
         ensures patient { result ≡ Err LockFault.NotYet → answer ≡ None }
+        ensures few { CountsAtMost (most_inside self.old.pass.setup.layout task.now) self.old self.new }
     {
         let reply = self.come(plan, answer, task)?;
         match self.ask(plan) {
@@ -149,6 +158,8 @@ impl Runner {
         ensures replied { IfOk result (λ reply. WholeEnds (began (ready self.old) Lock) turns task.now (Ok reply) self.new (C.asked plan.old) (C.asked plan.new) (C.fallen plan.old) (C.fallen plan.new)) }
         ensures fails { IfErr result (WholeFails self.old turns task.now self.new (C.asked plan.old) (C.asked plan.new) (C.fallen plan.old) (C.fallen plan.new)) }
         ensures idle { self.new.pass.start ≡ None }
+        ensures few { OnOk result (self.new.steps ≤ most_whole self.old.pass.setup.layout task.now + turns) }
+        ensures few_out { IfErr result (λ e. e ≢ LockFault.AlreadyIn → self.new.steps ≤ most_whole self.old.pass.setup.layout task.now + turns) }
     {
         self.set_out(&Call::Lock)?;
         match self.take_turns(plan, turns) {

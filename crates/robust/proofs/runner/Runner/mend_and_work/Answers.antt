@@ -7,6 +7,7 @@ use Rattle.robust.specs.declared.entry_kind.Entry.TheVariants.{OwnerDied}
 use Rattle.robust.specs.Whole.{IsFront, IsInner}
 use Rattle.robust.proofs.Called.{on_err}
 use Rattle.robust.proofs.WholeCalls.{cut_first, cut_then, one_then, two_done, front_one, front_all, front_cons, unlocked_is, mends_is}
+use Rattle.robust.proofs.WholeSteps.{mend_counts, ruined_counts, mend_few, ruined_few}
 use Rattle.robust.proofs.runner.Runner.mend_and_work.Goals as goal
 
 pub returns-in_err-follow-clause-cut : goal.returns-in_err-follow-clause-cut
@@ -28,6 +29,8 @@ returns-in_ok-follow-in-NotRecoverable-clause-done g c = (
   NotRecoverable ∷ Unlocked ∷ [],
   (refl, refl, refl, refl),
   two_done c.args.self.now c.follow.new.self c.follow-in-NotRecoverable.new.self _ _ _ _ _ _ Consistent Unlock c.in_ok-follow.field-0 NotRecoverable c.in_ok-follow-in-NotRecoverable.field-0 Unlocked c.in-NotRecoverable.is (unlocked_is c.in_ok-follow-in-NotRecoverable.field-0 c.in_ok-follow-in-NotRecoverable.ensures.leaves.0) c.in_ok-follow.ensures.answered c.in_ok-follow-in-NotRecoverable.ensures.answered,
+  ruined_counts c.args.self.now c.follow.new.self c.follow-in-NotRecoverable.new.self c.in_ok-follow.field-0 c.in_ok-follow-in-NotRecoverable.field-0 _ _ _ _ _ _ c.requires.idle c.requires.holder.0 c.requires.holder.1 c.in-NotRecoverable.is
+      (unlocked_is c.in_ok-follow-in-NotRecoverable.field-0 c.in_ok-follow-in-NotRecoverable.ensures.leaves.0) c.in_ok-follow.ensures.answered c.in_ok-follow-in-NotRecoverable.ensures.answered,
 )
 
 pub returns-in_err-reply-in-Mail-clause-cut : goal.returns-in_err-reply-in-Mail-clause-cut
@@ -46,4 +49,17 @@ returns-in_ok-reply-in-Mail-clause-done g c =
       Mail (Mended m.0) ∷ Mail c.in_ok-reply-in-Mail.reply ∷ Unlocked ∷ [],
       (m.0, refl, refl),
       one_then c.args.self.now c.follow.new.self c.work.new.self _ _ _ _ _ _ Consistent task (Unlock ∷ []) c.in_ok-follow.field-0 (Mail (Mended m.0)) (Mail c.in_ok-reply-in-Mail.reply ∷ Unlocked ∷ []) m.1 c.in_ok-follow.ensures.answered c.in_ok-reply-in-Mail.ensures.done,
+      mend_counts c.args.self.now c.follow.new.self c.work.new.self c.in_ok-follow.field-0 _ _ _ _ m.0 (task ∷ Unlock ∷ []) (Mail c.in_ok-reply-in-Mail.reply ∷ Unlocked ∷ []) m.1 c.in_ok-follow.ensures.answered c.in_ok-reply-in-Mail.ensures.counts,
     )
+
+pub returns-in_err-reply-in-Mail-clause-few : goal.returns-in_err-reply-in-Mail-clause-few
+returns-in_err-reply-in-Mail-clause-few g c = mend_few c.args.self.now c.follow.new.self c.work.new.self c.args.task.now c.in_ok-follow.ensures.answered.1.calls.setup c.in_ok-follow.ensures.few c.in_err-reply-in-Mail.ensures.few
+
+pub returns-in_ok-reply-in-Mail-clause-few : goal.returns-in_ok-reply-in-Mail-clause-few
+returns-in_ok-reply-in-Mail-clause-few g c = mend_few c.args.self.now c.follow.new.self c.work.new.self c.args.task.now c.in_ok-follow.ensures.answered.1.calls.setup c.in_ok-follow.ensures.few c.in_ok-reply-in-Mail.ensures.few
+
+pub returns-in_err-follow-in-NotRecoverable-clause-few : goal.returns-in_err-follow-in-NotRecoverable-clause-few
+returns-in_err-follow-in-NotRecoverable-clause-few g c = ruined_few c.args.self.now c.follow.new.self c.follow-in-NotRecoverable.new.self c.args.task.now c.in_ok-follow.ensures.few c.in_err-follow-in-NotRecoverable.ensures.few
+
+pub returns-in_ok-follow-in-NotRecoverable-clause-few : goal.returns-in_ok-follow-in-NotRecoverable-clause-few
+returns-in_ok-follow-in-NotRecoverable-clause-few g c = ruined_few c.args.self.now c.follow.new.self c.follow-in-NotRecoverable.new.self c.args.task.now c.in_ok-follow.ensures.few c.in_ok-follow-in-NotRecoverable.ensures.few

@@ -2,9 +2,11 @@ use Rattle.std.proofs.Common.{◌≡◌, List, [], ◌∷◌, sym, subst}
 use Rattle.rmeworld.specs.declared.call.Call.{Call as CallOf}
 use Rattle.rmeworld.specs.declared.call.Call.TheVariants.{Unlock}
 use Rattle.rmeworld.specs.declared.answer.Answer.TheVariants.{Mail, Unlocked}
+use Rattle.rmeworld.specs.OwnSteps.{most_steps}
 use Rattle.robust.specs.Whole.{IsFront}
 use Rattle.robust.proofs.Called.{on_err}
 use Rattle.robust.proofs.WholeCalls.{cut_first, cut_then, two_done, front_one, front_all, unlocked_is}
+use Rattle.robust.proofs.WholeSteps.{work_counts, at_most_both}
 use Rattle.robust.proofs.runner.Runner.work.Goals as goal
 
 pub returns-in_err-answer-clause-cut : goal.returns-in_err-answer-clause-cut
@@ -24,3 +26,16 @@ returns-in_err-follow-clause-cut g c =
 pub returns-clause-done : goal.returns-clause-done
 returns-clause-done g c =
     two_done c.args.self.now c.follow.new.self c.follow-2.new.self _ _ _ _ _ _ c.args.task.now Unlock c.in_ok-answer.answer (Mail c.in-Mail.reply) c.in_ok-follow.field-0 Unlocked c.in-Mail.is (unlocked_is c.in_ok-follow.field-0 c.in_ok-follow.ensures.leaves.0) c.in_ok-answer.ensures.answered c.in_ok-follow.ensures.answered
+
+pub returns-clause-counts : goal.returns-clause-counts
+returns-clause-counts g c =
+    work_counts c.args.self.now c.follow.new.self c.follow-2.new.self c.in_ok-answer.answer c.in_ok-follow.field-0 _ _ _ _ _ _ c.requires.idle c.args.task.now c.in-Mail.reply c.requires.holder.0 c.requires.holder.1 c.requires.task c.in-Mail.is (unlocked_is c.in_ok-follow.field-0 c.in_ok-follow.ensures.leaves.0)
+    c.in_ok-answer.ensures.answered c.in_ok-follow.ensures.answered
+
+pub returns-in_err-follow-clause-few : goal.returns-in_err-follow-clause-few
+returns-in_err-follow-clause-few g c =
+    at_most_both c.args.self.now c.follow.new.self c.follow-2.new.self (most_steps c.args.self.now.pass.setup.layout c.args.task.now) 3 c.in_ok-answer.ensures.few c.in_err-follow.ensures.few
+
+pub returns-clause-few : goal.returns-clause-few
+returns-clause-few g c =
+    at_most_both c.args.self.now c.follow.new.self c.follow-2.new.self (most_steps c.args.self.now.pass.setup.layout c.args.task.now) 3 c.in_ok-answer.ensures.few c.in_ok-follow.ensures.few

@@ -8,15 +8,15 @@ use Rattle.rmecore.specs.declared.kind.Kind.TheVariants.{Get as Gets, Put as Put
 use Rattle.rmecore.specs.declared.word.Word.{Word}
 use Rattle.rmecore.specs.declared.word.Word.TheVariants.{Data as DataAt}
 use Rattle.redomail.specs.Script.{Script, Get as Asks, Put as Writes, Done}
-use Rattle.redomail.specs.Tasks.{script, consistent}
+use Rattle.redomail.specs.Tasks.{script}
 use Rattle.redomail.specs.declared.layout.Layout.{Layout}
 use Rattle.redomail.specs.declared.reply.Reply.{Reply}
 use Rattle.redomail.specs.declared.reply.Reply.TheVariants.{Mended}
 use Rattle.redomail.specs.declared.task.Task.{Task}
 use Rattle.redomail.specs.declared.task.Task.TheVariants as task
 use Rattle.rmeworld.specs.Answered.{by_script, answer_by, answer_at}
-use Rattle.rmeworld.specs.CallWalk.{next_or_same, and_answer, answer_to, answers_in}
-use Rattle.rmeworld.specs.Spot.{Errand, Free, Doing, Spot, Happening, Begins, Falls, Moves, Glances, next_spot, moved_by, begun_from, at_lock, only_spot, settled}
+use Rattle.rmeworld.specs.CallWalk.{next_or_same, and_answer, answers_in}
+use Rattle.rmeworld.specs.Spot.{Errand, Free, Doing, Spot, Happening, Begins, Falls, Moves, Glances, moved_by, begun_from, at_lock, only_spot, settled}
 use Rattle.rmeworld.specs.declared.answer.Answer.{Answer}
 use Rattle.rmeworld.specs.declared.answer.Answer.TheVariants.{NotRecoverable, Mail}
 use Rattle.rmeworld.specs.declared.call.Call.{Call}
@@ -24,7 +24,7 @@ use Rattle.rmeworld.specs.declared.call.Call.TheVariants.{Append, Close, Consist
 use Rattle.rmeworld.specs.declared.why.Why.TheVariants.{Mending, Working}
 use Rattle.robust.specs.declared.setup.Setup.{Setup}
 use Rattle.robust.specs.declared.entry.Entry.{Entry}
-use Rattle.robust.specs.Runs.{before, crash_first, taken, spelled, gone, own, spot_of}
+use Rattle.robust.specs.Runs.{before, crash_first, spelled, gone, spot_of}
 use Rattle.robust.specs.Pass.{Pass, Calls, spot_now}
 use Rattle.robust.specs.Running.{Seated}
 use Rattle.robust.specs.Calls.{FirstStart, FirstCrash, AreMoves, answers_of, Served, spot_before}

@@ -1,5 +1,5 @@
 -- What a whole mailbox call counts is the sum of the table, and no more than its most.
-use Rattle.std.proofs.Common.{◌≡◌, ℕ, ◌+◌, ◌<◌, ◌≤◌, Bool, true, false, List, [], ◌∷◌, length, Option, Some, None, IfSome, Ok, Err, refl, sym, ap, ◌∙◌, subst, inl, inr, arith}
+use Rattle.std.proofs.Common.{◌≡◌, ℕ, ◌+◌, ◌*◌, ◌≤◌, Bool, true, false, List, [], ◌∷◌, Option, Some, None, IfSome, Err, refl, sym, ap, ◌∙◌, subst, inl, inr, arith}
 use Rattle.rmecore.specs.declared.own.Own.{Own}
 use Rattle.redomail.specs.declared.layout.Layout.{Layout}
 use Rattle.redomail.specs.declared.reply.Reply.{Reply}
@@ -18,7 +18,7 @@ use Rattle.robust.specs.Running.{Seated, many_more, behind, began}
 use Rattle.robust.specs.Under.{IsHolder, Fits}
 use Rattle.robust.specs.Faults.{ready, AnsweredBy, LockBy, answer_of}
 use Rattle.robust.specs.Tabled.{words_begun, spot_begun, table_steps, CountsAtMost}
-use Rattle.robust.specs.WholeSteps.{both, mended_by, table_sum, SumCounts, InsideCounts, most_inside, most_whole}
+use Rattle.robust.specs.WholeSteps.{both, mended_by, table_sum, SumCounts, StoredAppendSteps, InsideCounts, most_inside, most_whole}
 use Rattle.robust.specs.Whole.{IsTask, WholeBy}
 use Rattle.robust.proofs.Counted.{few_out}
 use Rattle.robust.proofs.Mended.{still_mended, still_unmended}
@@ -209,3 +209,10 @@ module _ (x u y z : Seated) (task : Call) (turns : ℕ) (e : u ≡ began (ready 
     where
       sums : (a b c : ℕ) → a + b ≤ (a + c) + b
       sums a b c = omega arith
+
+-- an append that stores, in numbers
+pub stored_append_steps : StoredAppendSteps
+stored_append_steps l mended seq value = ap (λ (k : ℕ). Some k) (sums l.procs l.width)
+  where
+    sums : (n w : ℕ) → (3 * n + 4 + 1) + ((11 + 2 * w) + (2 + 0)) ≡ 3 * n + 18 + 2 * w
+    sums n w = omega arith

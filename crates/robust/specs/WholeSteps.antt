@@ -1,12 +1,12 @@
 -- The own steps of calls one after another, as a whole mailbox call makes them: the sum of what the table says of each.
-use Rattle.std.specs.Prelude.{◌≡◌, ℕ, ◌+◌, ◌<◌, Bool, true, false, List, [], ◌∷◌, Option, Some, None}
+use Rattle.std.specs.Prelude.{◌≡◌, ℕ, ◌+◌, ◌*◌, ◌<◌, Bool, true, false, List, [], ◌∷◌, Option, Some, None}
 use Rattle.rmecore.specs.declared.own.Own.{Own}
 use Rattle.redomail.specs.declared.layout.Layout.{Layout}
-use Rattle.redomail.specs.declared.reply.Reply.TheVariants.{Mended}
+use Rattle.redomail.specs.declared.reply.Reply.TheVariants.{Mended, Stored}
 use Rattle.rmeworld.specs.declared.answer.Answer.{Answer}
-use Rattle.rmeworld.specs.declared.answer.Answer.TheVariants.{Clean, OwnerDied, Mail}
+use Rattle.rmeworld.specs.declared.answer.Answer.TheVariants.{Clean, OwnerDied, Mail, Unlocked}
 use Rattle.rmeworld.specs.declared.call.Call.{Call}
-use Rattle.rmeworld.specs.declared.call.Call.TheVariants.{Lock, Unlock, Consistent}
+use Rattle.rmeworld.specs.declared.call.Call.TheVariants.{Lock, Unlock, Consistent, Append}
 use Rattle.rmeworld.specs.OwnSteps.{own_steps, most_steps}
 use Rattle.robust.specs.Running.{Seated, many_more}
 use Rattle.robust.specs.Tabled.{words_begun, spot_begun}
@@ -29,6 +29,12 @@ abbrev pub table_sum : Layout → Own → Bool → List Call → List Answer →
 table_sum l words mended [] [] = Some 0
 table_sum l words mended (call ∷ order) (a ∷ answers) = both (own_steps l words mended call a) (table_sum l words (mended_by mended a) order answers)
 table_sum l words mended _ _ = None
+
+-- what that comes to for an append that stores, from words that are all 0
+abbrev pub StoredAppendSteps : Type 0
+StoredAppendSteps =
+    (l : Layout) (mended : Bool) (seq : ℕ) (value : List ℕ)
+    → table_sum l (record { choosing = 0; number = 0; inside = 0 }) mended (Lock ∷ Append seq value ∷ Unlock ∷ []) (Clean ∷ Mail Stored ∷ Unlocked ∷ []) ≡ Some (3 * l.procs + 18 + 2 * l.width)
 
 -- How many own steps a lock and the calls behind it have counted that were answered so: the sum of the table, and the blocked
 -- ones. A lock without an answer has counted fewer than a lock takes at most, and the blocked ones

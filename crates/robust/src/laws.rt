@@ -3,6 +3,7 @@
 ghost use Rattle.robust.specs.Headline.{EveryRunIsSound};
 ghost use Rattle.robust.specs.Reading.{LoadsTell, RunsShow, EntriesStandInRuns};
 ghost use Rattle.robust.specs.Tabled.{CallsKeepTheTable};
+ghost use Rattle.robust.specs.WholeSteps.{StoredAppendSteps};
 
 /// The headline, for any number of processes, limit and room, and any list of entries that is a run, crashes and all: its
 /// deeds are legal by the judge's whole table; so no two are inside, one that crashed inside is the next to enter, whose
@@ -35,4 +36,9 @@ pub fn entries_stand_in_runs()
 /// while it has no answer it has taken fewer than such a call takes at most.
 pub fn calls_keep_the_table()
     ensures { CallsKeepTheTable }
+{}
+
+/// The own steps of an append that stores, from lock words that are all 0, come to 3n + 18 + 2W beside its blocked readings.
+pub fn steps_of_a_stored_append()
+    ensures { StoredAppendSteps }
 {}

@@ -10,6 +10,7 @@ pub mod Tabled
 pub mod Whole
 pub mod Making
 pub mod Lab
+pub mod Endings
 pub mod Headline
 pub mod Board
 pub mod OneLockStory

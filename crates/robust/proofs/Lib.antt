@@ -30,6 +30,7 @@ pub mod Tabled
 pub mod Counted
 pub mod Gathered
 pub mod LawfulEnd
+pub mod Endings
 pub mod OneLockSteps
 pub mod OneLockSeats
 pub mod OneLockAnswers

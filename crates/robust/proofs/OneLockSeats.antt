@@ -21,11 +21,11 @@ length_more (x ∷ xs) m = ap suc (length_more xs m)
 
 pub new_fit : (l : Layout) (n : ℕ) → FitAll l.procs (new_seats l n)
 new_fit l zero = All-nil _
-new_fit l (suc n) = fit_more l.procs (new_seats l n) (record { process = n; layout = l; standing = Out; steps = 0 }) (new_fit l n) refl
+new_fit l (suc n) = fit_more l.procs (new_seats l n) (record { process = n; layout = l; standing = Out; steps = 0; counted = 0 }) (new_fit l n) refl
 
 pub new_count : (l : Layout) (n : ℕ) → length (new_seats l n) ≡ n
 new_count l zero = refl
-new_count l (suc n) = length_more (new_seats l n) (record { process = n; layout = l; standing = Out; steps = 0 }) ∙ ap suc (new_count l n)
+new_count l (suc n) = length_more (new_seats l n) (record { process = n; layout = l; standing = Out; steps = 0; counted = 0 }) ∙ ap suc (new_count l n)
 
 -- the members of a new arena, told by how many parts its ledger has
 pub new_arena : (l : Layout) (n : ℕ) (ms : List Seat) → ms ≡ new_seats l l.procs → l.procs ≡ n → FitAll n ms

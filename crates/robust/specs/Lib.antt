@@ -11,6 +11,7 @@ pub mod WholeSteps
 pub mod Whole
 pub mod Making
 pub mod Lab
+pub mod Endings
 pub mod Headline
 pub mod Board
 pub mod OneLockStory

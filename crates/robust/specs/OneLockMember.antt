@@ -1,5 +1,5 @@
 -- A member of an arena over one world: what contracts see of it, what its calls may answer, and where they leave it.
-use Rattle.std.specs.Prelude.{◌≡◌, ℕ, Bool, true, false, not, ◌+◌, ◌-◌, ◌^◌, ◌<◌, ◌≤◌, zero, suc, List, [], ◌∷◌, ◌++◌, length, Option, Some, None, Result, Ok, Err}
+use Rattle.std.specs.Prelude.{◌≡◌, ℕ, Bool, true, false, not, ◌+◌, ◌-◌, ◌^◌, ◌<◌, ◌≤◌, min, zero, suc, List, [], ◌∷◌, ◌++◌, length, Option, Some, None, Result, Ok, Err}
 use Rattle.rmecore.specs.Simulated.{one_more}
 use Rattle.rmecore.specs.declared.found.Found.{Found}
 use Rattle.rmecore.specs.declared.found.Found.TheVariants.{Inside as FoundInside}
@@ -13,18 +13,19 @@ use Rattle.robust.specs.declared.entry_kind.Entry.TheVariants.{Clean, OwnerDied}
 use Rattle.robust.specs.declared.one_lock.standing.Standing.{Standing}
 use Rattle.robust.specs.declared.one_lock.standing.Standing.TheVariants.{Out, Lost, Mended, Unmended}
 
--- a member: its process, the sizes of its arena, where it stands between its calls, and its own steps so far, its share of
--- the ledger
+-- a member: its process, the sizes of its arena, where it stands between its calls, its own steps so far, its share of the
+-- ledger, and how many it has counted of the last call that was started, held at the greatest u64
 pub record Seat : Type 0 where
   pub process : ℕ
   pub layout : Layout
   pub standing : Standing
   pub steps : ℕ
+  pub counted : ℕ
 
 -- the members of a new arena: as many at rest, from process 0 on
 abbrev pub new_seats : Layout → ℕ → List Seat
 new_seats l zero = []
-new_seats l (suc n) = new_seats l n ++ record { process = n; layout = l; standing = Out; steps = 0 } ∷ []
+new_seats l (suc n) = new_seats l n ++ record { process = n; layout = l; standing = Out; steps = 0; counted = 0 } ∷ []
 
 abbrev pub is_in : Standing → Bool
 is_in Mended = true
@@ -58,6 +59,14 @@ AskedEach old new a b = b < 2 ^ 64 - 1 → b + old.steps ≡ a + new.steps
 
 abbrev pub AskedOnceMore : Seat → Seat → ℕ → ℕ → Type 0
 AskedOnceMore old new a b = b < 2 ^ 64 - 1 → b + old.steps ≡ a + new.steps + 1
+
+-- a call that was started has counted what it added to the member's share; and a part of it has gone on counting. Counts
+-- are held at the greatest u64
+abbrev pub Counts : Seat → Seat → Type 0
+Counts old new = new.counted ≡ min (new.steps - old.steps) (2 ^ 64 - 1)
+
+abbrev pub CountsOn : Seat → Seat → Type 0
+CountsOn old new = new.counted ≡ min (old.counted + (new.steps - old.steps)) (2 ^ 64 - 1)
 
 -- the falls after a call, from those before it: it ends with the first asking that fell
 abbrev pub falls_with : LockFault → ℕ → ℕ

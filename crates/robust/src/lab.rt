@@ -1,15 +1,15 @@
 //! The laboratory: workers that send numbered messages through one mailbox while their plans let them crash.
 
-pub mod appends;
-pub mod crew;
-pub mod gate;
-pub mod lab_fault;
-pub mod lab_result;
-pub mod running;
-pub mod sending;
-pub mod showing;
-pub mod spec;
-pub mod worker;
+pub(crate) mod appends;
+pub(crate) mod crew;
+mod gate;
+mod lab_fault;
+mod lab_result;
+mod running;
+mod sending;
+pub(crate) mod showing;
+mod spec;
+mod worker;
 
 pub use gate::Gate;
 pub use lab_fault::LabFault;

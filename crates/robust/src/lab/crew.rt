@@ -1,7 +1,8 @@
 //! The workers of a lab, over the members of whatever lock.
 
-ghost use Rattle.std.specs.Prelude.{◌≡◌, ◌≢◌, ◌≤◌, ℕ, IfOk, IfSome, map, vec_len};
+ghost use Rattle.std.specs.Prelude.{◌≡◌, ◌≢◌, ◌≤◌, ◌↔◌, Some, IsNone, IsTrue, IfOk, IfSome, map, vec_len};
 ghost use Rattle.std.specs.Thread.{IsSend, IsSync};
+ghost use Rattle.robust.specs.Endings.{HaveAllSent, WantedMemory, IsOfLeast};
 
 use crate::lab::appends::Appends;
 use crate::lab::sending::value_sent;
@@ -161,24 +162,46 @@ fn join_all<M: Appends + Drop, R: Threads>(
     Ok(all)
 }
 
-/// What ended the least worker that has ended early; but want of memory of any worker comes first.
+/// The fault that is told of how these workers ended, if any ended early: want of memory of any of them, else what ended the
+/// least.
 pub fn first_fault<M>(ended: &[Done<M>]) -> Option<LabFault>
+    ensures none { IsNone result ↔ HaveAllSent (map (λ d. d.ending) ended.now) }
+    ensures memory { (result ≡ Some LabFault.OutOfMemory) ↔ WantedMemory (map (λ d. d.ending) ended.now) }
+    ensures least { IfSome result (λ fault. fault ≢ LabFault.OutOfMemory → IsOfLeast (map (λ d. d.ending) ended.now) fault) }
     ensures bad_spec { IfSome result (λ fault. fault ≢ LabFault.BadSpec) }
-    ensures memory { IfSome result (λ fault. (p : ℕ) → fault ≢ LabFault.Member p LockFault.OutOfMemory) }
 {
-    let mut first = None;
-    for (p, done) in ended.iter().enumerate() {
-        let fault = match done.ending {
-            Ending::AllSent => continue,
-            Ending::Fault(LockFault::OutOfMemory) => return Some(LabFault::OutOfMemory),
-            Ending::Fault(fault) => LabFault::Member { p: p as u64, fault },
-            Ending::Refused(reply) => LabFault::Reply { p: p as u64, reply },
-        };
-        if first.is_none() {
-            first = Some(fault);
+    if want_memory(ended) {
+        return Some(LabFault::OutOfMemory);
+    }
+    least_fault(ended)
+}
+
+/// Whether one of these workers ended for want of memory.
+#[tactic(auto, using(crate::proofs::Endings::one_wanted))]
+fn want_memory<M>(ended: &[Done<M>]) -> bool
+    ensures { IsTrue result ↔ WantedMemory (map (λ d. d.ending) ended.now) }
+{
+    for done in ended {
+        if done.ending == Ending::Fault(LockFault::OutOfMemory) {
+            return true;
         }
     }
-    first
+    false
+}
+
+/// What ended the least worker that has ended early.
+fn least_fault<M>(ended: &[Done<M>]) -> Option<LabFault>
+    ensures none { IsNone result → HaveAllSent (map (λ d. d.ending) ended.now) }
+    ensures least { IfSome result (λ fault. IsOfLeast (map (λ d. d.ending) ended.now) fault) }
+{
+    for p in 0..ended.len() {
+        match ended[p].ending {
+            Ending::AllSent => {}
+            Ending::Fault(fault) => return Some(LabFault::Member { p: p as u64, fault }),
+            Ending::Refused(reply) => return Some(LabFault::Reply { p: p as u64, reply }),
+        }
+    }
+    None
 }
 
 /// The members of workers that have ended.

@@ -5,7 +5,7 @@
 
 ghost use Rattle.std.specs.Prelude.{◌≡◌, ◌≢◌, ◌<◌, ◌≤◌, ◌⊎◌, ◌↔◌, ℕ, Ok, IfOk, IfErr, IsErrOf, OnOk, OnErr, IsNone, IsSome, true, false, length};
 ghost use Rattle.robust.specs.OneLockAnswers.{Answered, IsReply, entry_by, found_by, mended_by, word_by, reply_by};
-ghost use Rattle.robust.specs.OneLockMember.{Goes, AskedEach, AskedOnceMore, is_in, may_start, of_lock, of_wait, of_steps, of_consistent, falls_by, stands_entered, stands_out, stands_found, stands_mended, stands_still};
+ghost use Rattle.robust.specs.OneLockMember.{Goes, AskedEach, AskedOnceMore, Counts, CountsOn, is_in, may_start, of_lock, of_wait, of_steps, of_consistent, falls_by, stands_entered, stands_out, stands_found, stands_mended, stands_still};
 
 use crate::entry_kind::Entry;
 use crate::lock_fault::LockFault;
@@ -25,6 +25,7 @@ const BOARD: u64 = 4;
 fn entered(answer: Option<Answer>) -> (Result<Entry, LockFault>, Standing)
     ensures told { result.0 ≡ entry_by answer }
     ensures stands { result.1 ≡ stands_entered result.0 }
+    ensures inside { OnOk result.0 (is_in result.1 ≡ true) }
     ensures falls { (f : ℕ) → falls_by result.0 f ≡ f }
     ensures faults { IfErr result.0 (λ e. of_lock e ≡ true) }
     ensures patient { IsErrOf result.0 LockFault.NotYet → IsNone answer }
@@ -99,6 +100,7 @@ impl<L: Ledger> Member<L> {
         ensures refused { IsErrOf result LockFault.AlreadyIn ↔ (is_in self.old.standing ≡ true) }
         ensures unasked { is_in self.old.standing ≡ true → (self.new ≡ self.old) × (P.asked plan.new ≡ P.asked plan.old) }
         ensures asked { is_in self.old.standing ≡ false → AskedOnceMore self.old self.new (P.asked plan.old) (P.asked plan.new) }
+        ensures counted { is_in self.old.standing ≡ false → Counts self.old self.new }
         ensures fallen { P.fallen plan.new ≡ falls_by result (P.fallen plan.old) }
         ensures goes { Goes self.old self.new }
         ensures stands { is_in self.old.standing ≡ false → self.new.standing ≡ stands_entered result }
@@ -113,6 +115,7 @@ impl<L: Ledger> Member<L> {
         ensures refused { IsErrOf result LockFault.AlreadyIn ↔ (is_in self.old.standing ≡ true) }
         ensures unasked { is_in self.old.standing ≡ true → (self.new ≡ self.old) × (P.asked plan.new ≡ P.asked plan.old) }
         ensures asked { is_in self.old.standing ≡ false → AskedOnceMore self.old self.new (P.asked plan.old) (P.asked plan.new) }
+        ensures counted { is_in self.old.standing ≡ false → Counts self.old self.new }
         ensures fallen { P.fallen plan.new ≡ falls_by result (P.fallen plan.old) }
         ensures goes { Goes self.old self.new }
         ensures stands { is_in self.old.standing ≡ false → self.new.standing ≡ stands_entered result }
@@ -134,6 +137,7 @@ impl<L: Ledger> Member<L> {
         ensures unasked { is_in self.old.standing ≡ true → (self.new ≡ self.old) × (P.asked plan.new ≡ P.asked plan.old) }
         ensures patient { IsErrOf result LockFault.NotYet → IsSome turns }
         ensures asked { is_in self.old.standing ≡ false → AskedOnceMore self.old self.new (P.asked plan.old) (P.asked plan.new) }
+        ensures counted { is_in self.old.standing ≡ false → Counts self.old self.new }
         ensures fallen { P.fallen plan.new ≡ falls_by result (P.fallen plan.old) }
         ensures goes { Goes self.old self.new }
         ensures stands { is_in self.old.standing ≡ false → self.new.standing ≡ stands_entered result }
@@ -143,7 +147,7 @@ impl<L: Ledger> Member<L> {
         if self.standing.is_in() {
             return Err(LockFault::AlreadyIn);
         }
-        let (entry, standing) = entered(self.pursue(rt, plan, Call::Lock, turns)?);
+        let (entry, standing) = entered(self.begin(rt, plan, Call::Lock, turns)?);
         self.conclude(plan, entry, standing)
     }
 
@@ -158,6 +162,7 @@ impl<L: Ledger> Member<L> {
         ensures refused { IsErrOf result LockFault.AlreadyIn ↔ (is_in self.old.standing ≡ true) }
         ensures unasked { is_in self.old.standing ≡ true → (self.new ≡ self.old) × (P.asked plan.new ≡ P.asked plan.old) }
         ensures asked { is_in self.old.standing ≡ false → AskedOnceMore self.old self.new (P.asked plan.old) (P.asked plan.new) }
+        ensures counted { is_in self.old.standing ≡ false → Counts self.old self.new }
         ensures fallen { P.fallen plan.new ≡ falls_by result (P.fallen plan.old) }
         ensures goes { Goes self.old self.new }
         ensures stands { is_in self.old.standing ≡ false → self.new.standing ≡ stands_found result }
@@ -167,7 +172,7 @@ impl<L: Ledger> Member<L> {
         if self.standing.is_in() {
             return Err(LockFault::AlreadyIn);
         }
-        let (found, standing) = found(self.pursue(rt, plan, Call::Recover, None)?);
+        let (found, standing) = found(self.begin(rt, plan, Call::Recover, None)?);
         self.conclude(plan, found, standing)
     }
 
@@ -182,6 +187,7 @@ impl<L: Ledger> Member<L> {
         ensures refused { IsErrOf result LockFault.NotInconsistent ↔ (self.old.standing ≢ Standing.Unmended) }
         ensures unasked { self.old.standing ≢ Standing.Unmended → (self.new ≡ self.old) × (P.asked plan.new ≡ P.asked plan.old) }
         ensures asked { self.old.standing ≡ Standing.Unmended → AskedOnceMore self.old self.new (P.asked plan.old) (P.asked plan.new) }
+        ensures counted { self.old.standing ≡ Standing.Unmended → Counts self.old self.new }
         ensures fallen { P.fallen plan.new ≡ falls_by result (P.fallen plan.old) }
         ensures goes { Goes self.old self.new }
         ensures stands { self.old.standing ≡ Standing.Unmended → self.new.standing ≡ stands_mended result }
@@ -191,7 +197,7 @@ impl<L: Ledger> Member<L> {
         if self.standing != Standing::Unmended {
             return Err(LockFault::NotInconsistent);
         }
-        let (repaired, standing) = mended(self.pursue(rt, plan, Call::Consistent, None)?);
+        let (repaired, standing) = mended(self.begin(rt, plan, Call::Consistent, None)?);
         self.conclude(plan, repaired, standing)
     }
 
@@ -201,6 +207,7 @@ impl<L: Ledger> Member<L> {
         ensures refused { IsErrOf result LockFault.NotOwner ↔ (is_in self.old.standing ≡ false) }
         ensures unasked { is_in self.old.standing ≡ false → (self.new ≡ self.old) × (P.asked plan.new ≡ P.asked plan.old) }
         ensures asked { is_in self.old.standing ≡ true → AskedOnceMore self.old self.new (P.asked plan.old) (P.asked plan.new) }
+        ensures counted { is_in self.old.standing ≡ true → Counts self.old self.new }
         ensures fallen { P.fallen plan.new ≡ falls_by result (P.fallen plan.old) }
         ensures goes { Goes self.old self.new }
         ensures stands { is_in self.old.standing ≡ true → self.new.standing ≡ stands_out result }
@@ -210,7 +217,7 @@ impl<L: Ledger> Member<L> {
         if !self.standing.is_in() {
             return Err(LockFault::NotOwner);
         }
-        self.pursue(rt, plan, Call::Unlock, None)?;
+        self.begin(rt, plan, Call::Unlock, None)?;
         self.conclude(plan, Ok(()), Standing::Out)
     }
 
@@ -227,6 +234,7 @@ impl<L: Ledger> Member<L> {
         ensures unasked { is_in self.old.standing ≡ false → (self.new ≡ self.old) × (P.asked plan.new ≡ P.asked plan.old) }
         ensures untaken { 4 ≤ i → (self.new ≡ self.old) × (P.asked plan.new ≡ P.asked plan.old) }
         ensures asked { is_in self.old.standing ≡ true → i < 4 → AskedOnceMore self.old self.new (P.asked plan.old) (P.asked plan.new) }
+        ensures counted { is_in self.old.standing ≡ true → i < 4 → Counts self.old self.new }
         ensures fallen { P.fallen plan.new ≡ falls_by result (P.fallen plan.old) }
         ensures goes { Goes self.old self.new }
         ensures stands { is_in self.old.standing ≡ true → i < 4 → self.new.standing ≡ stands_still self.old.standing result }
@@ -240,7 +248,7 @@ impl<L: Ledger> Member<L> {
             return Err(LockFault::BadIndex);
         }
         let standing = self.standing;
-        let word = word_read(self.pursue(rt, plan, Call::Get(i), None)?);
+        let word = word_read(self.begin(rt, plan, Call::Get(i), None)?);
         self.conclude(plan, Ok(word), standing)
     }
 
@@ -258,6 +266,7 @@ impl<L: Ledger> Member<L> {
         ensures unasked { is_in self.old.standing ≡ false → (self.new ≡ self.old) × (P.asked plan.new ≡ P.asked plan.old) }
         ensures untaken { 4 ≤ i → (self.new ≡ self.old) × (P.asked plan.new ≡ P.asked plan.old) }
         ensures asked { is_in self.old.standing ≡ true → i < 4 → AskedOnceMore self.old self.new (P.asked plan.old) (P.asked plan.new) }
+        ensures counted { is_in self.old.standing ≡ true → i < 4 → Counts self.old self.new }
         ensures fallen { P.fallen plan.new ≡ falls_by result (P.fallen plan.old) }
         ensures goes { Goes self.old self.new }
         ensures stands { is_in self.old.standing ≡ true → i < 4 → self.new.standing ≡ stands_still self.old.standing result }
@@ -271,7 +280,7 @@ impl<L: Ledger> Member<L> {
             return Err(LockFault::BadIndex);
         }
         let standing = self.standing;
-        self.pursue(rt, plan, Call::Put(i, value), None)?;
+        self.begin(rt, plan, Call::Put(i, value), None)?;
         self.conclude(plan, Ok(()), standing)
     }
 
@@ -290,6 +299,7 @@ impl<L: Ledger> Member<L> {
         ensures unasked { is_in self.old.standing ≡ true → (self.new ≡ self.old) × (P.asked plan.new ≡ P.asked plan.old) }
         ensures untaken { length value ≢ self.old.layout.width → (self.new ≡ self.old) × (P.asked plan.new ≡ P.asked plan.old) }
         ensures asked { is_in self.old.standing ≡ false → length value ≡ self.old.layout.width → AskedOnceMore self.old self.new (P.asked plan.old) (P.asked plan.new) }
+        ensures counted { is_in self.old.standing ≡ false → length value ≡ self.old.layout.width → Counts self.old self.new }
         ensures fallen { P.fallen plan.new ≡ falls_by result (P.fallen plan.old) }
         ensures goes { Goes self.old self.new }
         ensures stands { is_in self.old.standing ≡ false → length value ≡ self.old.layout.width → self.new.standing ≡ stands_out result }
@@ -312,6 +322,7 @@ impl<L: Ledger> Member<L> {
         ensures unasked { is_in self.old.standing ≡ true → (self.new ≡ self.old) × (P.asked plan.new ≡ P.asked plan.old) }
         ensures untaken { length value ≢ self.old.layout.width → (self.new ≡ self.old) × (P.asked plan.new ≡ P.asked plan.old) }
         ensures asked { is_in self.old.standing ≡ false → length value ≡ self.old.layout.width → AskedOnceMore self.old self.new (P.asked plan.old) (P.asked plan.new) }
+        ensures counted { is_in self.old.standing ≡ false → length value ≡ self.old.layout.width → Counts self.old self.new }
         ensures fallen { P.fallen plan.new ≡ falls_by result (P.fallen plan.old) }
         ensures goes { Goes self.old self.new }
         ensures stands { is_in self.old.standing ≡ false → length value ≡ self.old.layout.width → self.new.standing ≡ stands_out result }
@@ -336,6 +347,7 @@ impl<L: Ledger> Member<L> {
         ensures untaken { length value ≢ self.old.layout.width → (self.new ≡ self.old) × (P.asked plan.new ≡ P.asked plan.old) }
         ensures patient { IsErrOf result LockFault.NotYet → IsSome turns }
         ensures asked { is_in self.old.standing ≡ false → length value ≡ self.old.layout.width → AskedOnceMore self.old self.new (P.asked plan.old) (P.asked plan.new) }
+        ensures counted { is_in self.old.standing ≡ false → length value ≡ self.old.layout.width → Counts self.old self.new }
         ensures fallen { P.fallen plan.new ≡ falls_by result (P.fallen plan.old) }
         ensures goes { Goes self.old self.new }
         ensures stands { is_in self.old.standing ≡ false → length value ≡ self.old.layout.width → self.new.standing ≡ stands_out result }
@@ -358,6 +370,7 @@ impl<L: Ledger> Member<L> {
         ensures refused { IsErrOf result LockFault.AlreadyIn ↔ (is_in self.old.standing ≡ true) }
         ensures unasked { is_in self.old.standing ≡ true → (self.new ≡ self.old) × (P.asked plan.new ≡ P.asked plan.old) }
         ensures asked { is_in self.old.standing ≡ false → AskedOnceMore self.old self.new (P.asked plan.old) (P.asked plan.new) }
+        ensures counted { is_in self.old.standing ≡ false → Counts self.old self.new }
         ensures fallen { P.fallen plan.new ≡ falls_by result (P.fallen plan.old) }
         ensures goes { Goes self.old self.new }
         ensures stands { is_in self.old.standing ≡ false → self.new.standing ≡ stands_out result }
@@ -372,6 +385,7 @@ impl<L: Ledger> Member<L> {
         ensures refused { IsErrOf result LockFault.AlreadyIn ↔ (is_in self.old.standing ≡ true) }
         ensures unasked { is_in self.old.standing ≡ true → (self.new ≡ self.old) × (P.asked plan.new ≡ P.asked plan.old) }
         ensures asked { is_in self.old.standing ≡ false → AskedOnceMore self.old self.new (P.asked plan.old) (P.asked plan.new) }
+        ensures counted { is_in self.old.standing ≡ false → Counts self.old self.new }
         ensures fallen { P.fallen plan.new ≡ falls_by result (P.fallen plan.old) }
         ensures goes { Goes self.old self.new }
         ensures stands { is_in self.old.standing ≡ false → self.new.standing ≡ stands_out result }
@@ -395,6 +409,7 @@ impl<L: Ledger> Member<L> {
         ensures unasked { is_in self.old.standing ≡ true → (self.new ≡ self.old) × (P.asked plan.new ≡ P.asked plan.old) }
         ensures patient { IsErrOf result LockFault.NotYet → IsSome turns }
         ensures asked { is_in self.old.standing ≡ false → AskedOnceMore self.old self.new (P.asked plan.old) (P.asked plan.new) }
+        ensures counted { is_in self.old.standing ≡ false → Counts self.old self.new }
         ensures fallen { P.fallen plan.new ≡ falls_by result (P.fallen plan.old) }
         ensures goes { Goes self.old self.new }
         ensures stands { is_in self.old.standing ≡ false → self.new.standing ≡ stands_out result }
@@ -404,11 +419,11 @@ impl<L: Ledger> Member<L> {
         if self.standing.is_in() {
             return Err(LockFault::AlreadyIn);
         }
-        let (entry, standing) = entered(self.pursue(rt, plan, Call::Lock, turns)?);
+        let (entry, standing) = entered(self.begin(rt, plan, Call::Lock, turns)?);
         match entry {
-            Ok(entry) => {
+            Ok(_) => {
                 self.standing = standing;
-                let reply = self.work(rt, plan, entry, call)?;
+                let reply = self.work(rt, plan, call)?;
                 self.conclude(plan, reply, Standing::Out)
             }
             Err(fault) => self.conclude(plan, Err(fault), standing),
@@ -421,12 +436,12 @@ impl<L: Ledger> Member<L> {
         &mut self,
         rt: &R,
         plan: &mut P,
-        entry: Entry,
         call: Call,
     ) -> Result<Result<Reply, LockFault>, LockFault>
-        requires inside { self.old.standing ≡ stands_entered (Ok entry) }
+        requires inside { is_in self.old.standing ≡ true }
         requires task { may_start Standing.Mended call ≡ true }
         ensures goes { Goes self.old self.new }
+        ensures counted { CountsOn self.old self.new }
         ensures asked { OnOk result (AskedEach self.old self.new (P.asked plan.old) (P.asked plan.new)) }
         ensures ended { OnErr result (AskedOnceMore self.old self.new (P.asked plan.old) (P.asked plan.new)) }
         ensures fallen { P.fallen plan.new ≡ falls_by result (P.fallen plan.old) }
@@ -436,7 +451,7 @@ impl<L: Ledger> Member<L> {
         ensures only { IfErr result (λ e. (e ≡ LockFault.Crashed) ⊎ (e ≡ LockFault.OutOfMemory)) }
         ensures answered { IfOk result (λ answer. IfOk answer (λ reply. IsReply self.old.process call reply)) }
     {
-        let mended = self.mend(rt, plan, entry)?;
+        let mended = self.mend(rt, plan)?;
         let reply = match mended {
             Ok(_) => Ok(replied(self.pursue(rt, plan, call, None)?)),
             Err(fault) => Err(fault),
@@ -450,10 +465,10 @@ impl<L: Ledger> Member<L> {
         &mut self,
         rt: &R,
         plan: &mut P,
-        entry: Entry,
     ) -> Result<Result<bool, LockFault>, LockFault>
-        requires { self.old.standing ≡ stands_entered (Ok entry) }
+        requires { is_in self.old.standing ≡ true }
         ensures goes { Goes self.old self.new }
+        ensures counted { CountsOn self.old self.new }
         ensures asked { OnOk result (AskedEach self.old self.new (P.asked plan.old) (P.asked plan.new)) }
         ensures ended { OnErr result (AskedOnceMore self.old self.new (P.asked plan.old) (P.asked plan.new)) }
         ensures fallen { P.fallen plan.new ≡ falls_by result (P.fallen plan.old) }
@@ -462,7 +477,7 @@ impl<L: Ledger> Member<L> {
         ensures lost { OnErr result (self.new.standing ≡ Standing.Lost) }
         ensures only { IfErr result (λ e. (e ≡ LockFault.Crashed) ⊎ (e ≡ LockFault.OutOfMemory)) }
     {
-        if entry == Entry::Clean {
+        if self.standing == Standing::Mended {
             return Ok(Ok(false));
         }
         let (repaired, standing) = mended(self.pursue(rt, plan, Call::Consistent, None)?);

@@ -2,7 +2,7 @@
 
 ghost use Rattle.std.specs.Prelude.{◌≡◌, ℕ, ◌<◌, ◌≤◌, ◌+◌, IfOk, IfErr, OnOk, OnErr, IsNone, IsSome, true};
 ghost use Rattle.rmecore.specs.Simulated.{one_more};
-ghost use Rattle.robust.specs.OneLockMember.{Goes, AskedEach, AskedOnceMore, falls_by, may_start};
+ghost use Rattle.robust.specs.OneLockMember.{Goes, AskedEach, AskedOnceMore, Counts, CountsOn, falls_by, may_start};
 ghost use Rattle.robust.specs.OneLockAnswers.{Gives, IsAnswered};
 
 use crate::lock_fault::LockFault;
@@ -17,7 +17,8 @@ use std::marker::Model;
 use std::sync::ledger::{Ledger, Share};
 use std::sync::{Arc, Mutex, Wait};
 
-/// One process's way to the world. It may move to a thread. Its share of the ledger counts its own steps.
+/// One process's way to the world. It may move to a thread. Its share of the ledger counts its own steps, and takes no
+/// bytes; those of its last call it counts itself.
 #[derive(Drop)]
 pub struct Member<L: Ledger> {
     pub(super) process: u64,
@@ -25,6 +26,7 @@ pub struct Member<L: Ledger> {
     pub(super) standing: Standing,
     pub(super) shared: Arc<Mutex<Shared<L>>>,
     pub(super) share: Share<L>,
+    pub(super) counted: u64,
 }
 
 impl<L: Ledger> Model for Member<L> {
@@ -33,7 +35,7 @@ impl<L: Ledger> Model for Member<L> {
 
     ghost Value = { Seat };
 
-    ghost view = { λ m. record { process = m.process; layout = m.layout; standing = m.standing; steps = m.share.amount } };
+    ghost view = { λ m. record { process = m.process; layout = m.layout; standing = m.standing; steps = m.share.amount; counted = m.counted } };
 
     ghost invariant = { λ m. (m.share.parts ≡ 1) × (m.process < 64) };
 }
@@ -50,7 +52,7 @@ impl<L: Ledger> Member<L> {
     ) -> Member<L>
         requires part { share.parts ≡ 1 }
         requires few { process < 64 }
-        ensures { result ≡ record { process = process; layout = layout; standing = Standing.Out; steps = share.amount } }
+        ensures { result ≡ record { process = process; layout = layout; standing = Standing.Out; steps = share.amount; counted = 0 } }
     {
         Member {
             process,
@@ -58,6 +60,7 @@ impl<L: Ledger> Member<L> {
             standing: Standing::Out,
             shared,
             share,
+            counted: 0,
         }
     }
 
@@ -74,6 +77,15 @@ impl<L: Ledger> Member<L> {
         ensures { result ≡ self.now.standing }
     {
         self.standing
+    }
+
+    /// The own steps of the last call that was started: what it added to the member's share, held at the greatest u64. A step
+    /// that the world refused for want of memory is none, and a call that is answered without an asking was not started.
+    /// Before any call 0.
+    pub fn steps(&self) -> u64
+        ensures { result ≡ self.now.counted }
+    {
+        self.counted
     }
 
     /// Its share of the ledger, one part with its own steps.
@@ -110,7 +122,7 @@ impl<L: Ledger> Member<L> {
     ) -> Result<Turn, LockFault>
         ensures asked { P.asked plan.new ≡ one_more (P.asked plan.old) }
         ensures fallen { P.fallen plan.new ≡ falls_by result (P.fallen plan.old) }
-        ensures ok { OnOk result (self.new ≡ record self.old { steps = self.old.steps + 1 }) }
+        ensures ok { OnOk result (self.new ≡ record self.old { steps = self.old.steps + 1; counted = one_more self.old.counted }) }
         ensures err { OnErr result (self.new ≡ record self.old { standing = Standing.Lost }) }
         ensures only { IfErr result (λ e. (e ≡ LockFault.Crashed) ⊎ (e ≡ LockFault.OutOfMemory)) }
         ensures gives { IfOk result (λ turn. Gives self.old.process opening turn.answer) }
@@ -121,7 +133,10 @@ impl<L: Ledger> Member<L> {
             .lock(rt)
             .step(&mut self.share, self.process, opening);
         match turn {
-            Ok(turn) => Ok(turn),
+            Ok(turn) => {
+                self.counted = self.counted.saturating_add(1);
+                Ok(turn)
+            }
             Err(_) => {
                 self.standing = Standing::Lost;
                 Err(LockFault::OutOfMemory)
@@ -129,8 +144,32 @@ impl<L: Ledger> Member<L> {
         }
     }
 
-    /// Takes a call that its process may start to its answer, or until one blocked reading more than it has turns; with no turns it waits as long as
-    /// it has to. The asking before the answer is left to the caller.
+    /// Starts a call, and pursues it. Its own steps are counted from nothing.
+    pub(super) fn begin<R: Wait, P: CrashPlan>(
+        &mut self,
+        rt: &R,
+        plan: &mut P,
+        call: Call,
+        turns: Option<u64>,
+    ) -> Result<Option<Answer>, LockFault>
+        requires { may_start self.old.standing call ≡ true }
+        ensures goes { Goes self.old self.new }
+        ensures counted { Counts self.old self.new }
+        ensures asked { OnOk result (AskedEach self.old self.new (P.asked plan.old) (P.asked plan.new)) }
+        ensures ended { OnErr result (AskedOnceMore self.old self.new (P.asked plan.old) (P.asked plan.new)) }
+        ensures fallen { P.fallen plan.new ≡ falls_by result (P.fallen plan.old) }
+        ensures kept { OnOk result (self.new.standing ≡ self.old.standing) }
+        ensures lost { OnErr result (self.new.standing ≡ Standing.Lost) }
+        ensures only { IfErr result (λ e. (e ≡ LockFault.Crashed) ⊎ (e ≡ LockFault.OutOfMemory)) }
+        ensures patient { IsNone turns → IfOk result (λ answer. IsSome answer) }
+        ensures answered { IfOk result (λ answer. IsAnswered self.old.process self.old.standing call answer) }
+    {
+        self.counted = 0;
+        self.pursue(rt, plan, call, turns)
+    }
+
+    /// Takes a call that its process may start to its answer, or until one blocked reading more than it has turns; with no
+    /// turns it waits as long as it has to. Its own steps are counted on. The asking before the answer is left to the caller.
     #[tactic(auto, using(crate::proofs::OneLockAnswers::answered_by, crate::proofs::OneLockAnswers::goes_further))]
     pub(super) fn pursue<R: Wait, P: CrashPlan>(
         &mut self,
@@ -141,6 +180,7 @@ impl<L: Ledger> Member<L> {
     ) -> Result<Option<Answer>, LockFault>
         requires { may_start self.old.standing call ≡ true }
         ensures goes { Goes self.old self.new }
+        ensures counted { CountsOn self.old self.new }
         ensures asked { OnOk result (AskedEach self.old self.new (P.asked plan.old) (P.asked plan.new)) }
         ensures ended { OnErr result (AskedOnceMore self.old self.new (P.asked plan.old) (P.asked plan.new)) }
         ensures fallen { P.fallen plan.new ≡ falls_by result (P.fallen plan.old) }

@@ -94,3 +94,12 @@ pub fn answered_after(k: u64) -> (Reply, u64) {
         _ => (Reply::Already, 16),
     }
 }
+
+/// The steps of a lock of member 1 that is not answered yet, after such a crash of member 0; where there are none it enters.
+pub fn blocked_after(k: u64) -> Option<u64> {
+    match k {
+        5..=7 => Some(8),
+        8..=25 => Some(9),
+        _ => None,
+    }
+}

@@ -4,7 +4,7 @@ ghost use Rattle.std.specs.Prelude.{◌≡◌};
 ghost use Rattle.robust.specs.Working.{seat_of};
 
 use super::counted::{Counted, at, never};
-use super::kit::{answered_after, are, body, gathered, shows, two};
+use super::kit::{answered_after, are, blocked_after, body, gathered, shows, two};
 use crate::{Entry, LockFault, Member};
 use crashlab::{Both, CrashPlan};
 use redomail::Reply;
@@ -83,14 +83,12 @@ fn blocked_by_a_crash(rt: HostRuntime) -> Result<(), Fail> {
         cut(&rt, &mut one, &mut at(k));
         let mut plan = never();
         let entered = other.lock_within(&mut plan, 0);
-        if 5 <= k && k <= 25 {
-            let steps = if k <= 7 { 8 } else { 9 };
-            assert!(rt;
-                entered == Err(LockFault::NotYet) && other.steps() == steps,
-                "at {k}"
-            );
-        } else {
-            assert!(rt; entered == Ok(Entry::Clean), "at {k}");
+        match blocked_after(k) {
+            Some(steps) => {
+                assert!(rt; entered == Err(LockFault::NotYet), "at {k}");
+                assert_eq!(rt; other.steps(), steps, "at {k}");
+            }
+            None => assert!(rt; entered == Ok(Entry::Clean), "at {k}"),
         }
         assert!(rt; plan.taken() == other.steps().saturating_add(1), "at {k}");
         gathered(&rt, rt.alloc(), one, other);

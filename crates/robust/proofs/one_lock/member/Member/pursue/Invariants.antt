@@ -1,11 +1,11 @@
 use Rattle.std.proofs.Common.{◌≡◌, IsNone}
-use Rattle.robust.specs.OneLockMember.{Goes, AskedEach}
+use Rattle.robust.specs.OneLockMember.{Goes, AskedEach, CountsOn}
 use Rattle.robust.specs.OneLockAnswers.{IsUnderWay}
 use Rattle.robust.proofs.one_lock.member.Member.pursue.Given as goal
 
 abbrev pub invariant-loop : goal.invariant-loop
 invariant-loop g l =
-    Goes l.initial.self l.self × AskedEach l.initial.self l.self (g.P.CrashPlan.asked l.initial.plan) (g.P.CrashPlan.asked l.plan)
+    Goes l.initial.self l.self × CountsOn l.initial.self l.self × AskedEach l.initial.self l.self (g.P.CrashPlan.asked l.initial.plan) (g.P.CrashPlan.asked l.plan)
     × (g.P.CrashPlan.fallen l.plan ≡ g.P.CrashPlan.fallen l.initial.plan) × (IsNone l.fn.turns → IsNone l.left)
     × (l.self.standing ≡ l.initial.self.standing)
     × IsUnderWay l.initial.self.process l.initial.self.standing l.fn.call l.opening

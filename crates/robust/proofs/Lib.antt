@@ -12,6 +12,7 @@ pub mod Called
 pub mod Turned
 pub mod Chained
 pub mod WholeCalls
+pub mod Outside
 pub mod OneLockStories
 pub mod Shown
 pub mod Glanced
@@ -19,8 +20,11 @@ pub mod Headline
 pub mod Errands
 pub mod Appended
 pub mod Sending
+pub mod Failing
 pub mod Numbered
+pub mod Together
 pub mod AllSent
+pub mod LabEnds
 pub mod Board
 pub mod OneStep
 pub mod Walked

@@ -11,6 +11,7 @@ pub mod Whole
 pub mod Making
 pub mod Lab
 pub mod Headline
+pub mod Telling
 pub mod Board
 pub mod OneLockStory
 pub mod OneLockMember
@@ -20,4 +21,5 @@ pub mod Reading
 pub mod Gathering
 pub mod Working
 pub mod Sending
+pub mod LabFaults
 pub mod Worked

@@ -5,6 +5,7 @@ use Rattle.rmeworld.specs.declared.answer.Answer.TheVariants.{Clean, OwnerDied, 
 use Rattle.robust.specs.declared.entry_kind.Entry.TheVariants as entry
 use Rattle.robust.specs.Whole.{IsFront, IsInner}
 use Rattle.robust.proofs.Called.{on_err}
+use Rattle.robust.proofs.Outside.{cut_out}
 use Rattle.robust.proofs.WholeCalls.{whole_of, cut_of, cut_more, lock_is}
 use Rattle.robust.proofs.runner.Runner.come.Goals as goal
 
@@ -31,3 +32,9 @@ pub returns-in_err-ended-in-OwnerDied-clause-cut : goal.returns-in_err-ended-in-
 returns-in_err-ended-in-OwnerDied-clause-cut g c =
     on_err _ c.from_residual-in_err-ended-in-OwnerDied.result (λ x turns asked fallen h.
     cut_of x c.args.self.now c.mend_and_work.new.self asked _ _ fallen _ _ turns entry.OwnerDied c.args.task.now (lock_is x c.args.self.now turns asked _ fallen _ c.args.answer (Some OwnerDied) (c.in-Some.is ∙ ap (λ a. Some a) c.in-OwnerDied.is) h) c.in_err-ended-in-OwnerDied.ensures.cut)
+
+pub returns-in_err-reply-in-Clean-clause-out : goal.returns-in_err-reply-in-Clean-clause-out
+returns-in_err-reply-in-Clean-clause-out g c = λ none. cut_out c.args.self.now c.work.new.self _ _ _ _ _ c.in_err-reply-in-Clean.ensures.cut
+
+pub returns-in_err-ended-in-OwnerDied-clause-out : goal.returns-in_err-ended-in-OwnerDied-clause-out
+returns-in_err-ended-in-OwnerDied-clause-out g c = λ none. cut_out c.args.self.now c.mend_and_work.new.self _ _ _ _ _ c.in_err-ended-in-OwnerDied.ensures.cut

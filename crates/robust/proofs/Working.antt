@@ -46,6 +46,10 @@ sent_seat x y task seq value a b c d (Ok reply) h k = whole_seat x h.0 task (Ok 
 sent_seat x y task seq value a b c d (Err e) h k = append_seat x k.0 seq value y a b c d e k.1
 
 -- any whole mailbox call
+pub within_seat : (x y : Seated) (turns : ℕ) (task : Call) (a b c d : ℕ) (r : Result Reply LockFault) → IfOk r (λ reply. WholeEnds (began (ready x) Lock) turns task (Ok reply) y a b c d) → IfErr r (WholeFails x turns task y a b c d) → seat_of y ≡ seat_of x
+within_seat x y turns task a b c d (Ok reply) h k = whole_seat x turns task (Ok reply) y a b c d h
+within_seat x y turns task a b c d (Err e) h k = fails_seat x turns task y a b c d e k
+
 pub mail_seat : (x y : Seated) (task : Call) (a b c d : ℕ) (r : Result Reply LockFault) → IfOk r (λ reply. (turns : ℕ) × WholeEnds (began (ready x) Lock) turns task (Ok reply) y a b c d) → IfErr r (λ e. (turns : ℕ) × WholeFails x turns task y a b c d e) → seat_of y ≡ seat_of x
 mail_seat x y task a b c d (Ok reply) h k = whole_seat x h.0 task (Ok reply) y a b c d h.1
 mail_seat x y task a b c d (Err e) h k = fails_seat x k.0 task y a b c d e k.1

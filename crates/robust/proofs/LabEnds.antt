@@ -41,7 +41,7 @@ use Rattle.robust.proofs.Shown.{shown_on}
 use Rattle.robust.proofs.Together.{Keeps, Holds, all_hold, each_holds}
 
 -- a story is its processes' own
-story_within : (l : Layout) (limit : ℕ) (w : Scene) (hs : List Happening) → Story l limit w hs → All (λ (h : Happening). who h < l.procs) hs
+pub story_within : (l : Layout) (limit : ℕ) (w : Scene) (hs : List Happening) → Story l limit w hs → All (λ (h : Happening). who h < l.procs) hs
 story_within l limit w [] story = All-nil _
 story_within l limit w (h ∷ hs) story = All-cons (λ (x : Happening). who x < l.procs) h hs story.0.0 (story_within l limit (onward l limit w h) hs story.1)
 

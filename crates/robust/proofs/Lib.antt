@@ -25,6 +25,8 @@ pub mod Numbered
 pub mod Together
 pub mod AllSent
 pub mod LabEnds
+pub mod Ruins
+pub mod Unruined
 pub mod Board
 pub mod OneStep
 pub mod Walked

@@ -18,6 +18,7 @@ pub mod OneLockMember
 pub mod OneLockAnswers
 pub mod OneLockLab
 pub mod Reading
+pub mod Ruins
 pub mod Gathering
 pub mod Working
 pub mod Sending

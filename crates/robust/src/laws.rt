@@ -2,6 +2,7 @@
 
 ghost use Rattle.robust.specs.Headline.{EveryRunIsSound};
 ghost use Rattle.robust.specs.Reading.{LoadsTell, RunsShow, EntriesStandInRuns};
+ghost use Rattle.robust.specs.Ruins.{NobodyRuins};
 ghost use Rattle.robust.specs.Tabled.{CallsKeepTheTable};
 
 /// The headline, for any number of processes, limit and room, and any list of entries that is a run, crashes and all: its
@@ -36,3 +37,12 @@ pub fn entries_stand_in_runs()
 pub fn calls_keep_the_table()
     ensures { CallsKeepTheTable }
 {}
+
+/// In a run whose processes all start their calls as the workers of a lab do, an unlock only behind a mending or an append,
+/// nobody ruins the lock, however often they crash.
+pub fn nobody_ruins()
+    ensures { NobodyRuins }
+{
+    rmeworld::laws::messages_were_sent();
+    loads_tell();
+}

@@ -1,5 +1,5 @@
 -- What ended a lab early, from the one run of its members.
-use Rattle.std.proofs.Common.{◌≡◌, ℕ, ◌+◌, ◌*◌, ◌<◌, ◌≤◌, true, List, [], ◌∷◌, ◌++◌, length, slice_index, map, All, refl, sym, ap, ◌∙◌, subst, inl, inr, arith, append_assoc, append-nil, length-append}
+use Rattle.std.proofs.Common.{◌≡◌, ℕ, ◌+◌, ◌*◌, ◌<◌, ◌≤◌, true, List, [], ◌∷◌, ◌++◌, length, slice_index, map, None, All, refl, sym, ap, ◌∙◌, subst, inl, inr, arith, append_assoc, append-nil, length-append}
 use Rattle.std.proofs.lemmas.Bool.{cases_lt}
 use Rattle.std.proofs.lemmas.List.Elements.{All-nil, All-cons, All-head, All-tail, All-contains}
 use Rattle.redomail.specs.declared.message.Message.{Message}
@@ -25,7 +25,8 @@ use Rattle.robust.specs.declared.lab.worker.Ending.TheVariants.{AllSent, Fault, 
 use Rattle.robust.specs.Gathering.{Gathers, IsGlance, has_member, image_at}
 use Rattle.robust.specs.Headline.{judged_by, shown_by}
 use Rattle.robust.specs.LabFaults.{IsFaultOf, IsFirstFault, EndsSo, EndsLab}
-use Rattle.robust.specs.Reading.{cells_of, RunsShow}
+use Rattle.robust.specs.Reading.{cells_of, RunsShow, LoadsTell}
+use Rattle.robust.specs.Ruins.{AreInOrder, NobodyRuins}
 use Rattle.robust.specs.Rule.{Begins as Starts}
 use Rattle.robust.specs.Running.{Seated}
 use Rattle.robust.specs.Runs.{own, spelled, IsRun, end_of}
@@ -38,12 +39,9 @@ use Rattle.robust.proofs.LawfulEnd.{cells_counted}
 use Rattle.robust.proofs.Numbered.{senders, has_all, fewer_all}
 use Rattle.robust.proofs.Runs.{own-append, legal_front}
 use Rattle.robust.proofs.Shown.{shown_on}
+use Rattle.robust.proofs.Ordered.{order_more}
+use Rattle.robust.proofs.Unruined.{story_within, none_read}
 use Rattle.robust.proofs.Together.{Keeps, Holds, all_hold, each_holds}
-
--- a story is its processes' own
-pub story_within : (l : Layout) (limit : ℕ) (w : Scene) (hs : List Happening) → Story l limit w hs → All (λ (h : Happening). who h < l.procs) hs
-story_within l limit w [] story = All-nil _
-story_within l limit w (h ∷ hs) story = All-cons (λ (x : Happening). who x < l.procs) h hs story.0.0 (story_within l limit (onward l limit w h) hs story.1)
 
 -- one of those that are mapped
 all_mapped : {A B : Type 0} (f : A → B) (P : B → Type 0) (xs : List A) (x : A) (ys : List A) → All P (map f (xs ++ x ∷ ys)) → P (f x)
@@ -103,8 +101,8 @@ abbrev pub member_of : Done → Seated
 member_of d = d.member
 
 pub lab_ends : (s : Spec) (ended : List Done) (image : Image) (cause : LabFault) → IsLayout (sizes_of s).layout → All (λ (x : Seated). x.pass.setup ≡ sizes_of s) (map member_of ended) → All (HasWorked s) ended → IsFirstFault ended cause → Gathers (map member_of ended) image
-    → IsLawfulImage image → EveryMessageWasSent → EveryCloseWasAsked → RunsShow → EndsLab s cause
-lab_ends s ended image cause layout setups worked f g lawful was closes shows = by f.done.ending has.1 f.cause_is
+    → IsLawfulImage image → EveryMessageWasSent → EveryCloseWasAsked → RunsShow → LoadsTell → NobodyRuins → EndsLab s cause
+lab_ends s ended image cause layout setups worked f g lawful was closes shows loads nobody = by f.done.ending has.1 f.cause_is
   where
     z : Setup
     z = sizes_of s
@@ -147,6 +145,18 @@ lab_ends s ended image cause layout setups worked f g lawful was closes shows = 
         let there : has_member p (g.first ∷ g.others) ≡ true = subst (λ (l : List Seated). has_member p l ≡ true) g.are (g.all p (subst (λ (u : Setup). p < u.layout.procs) (sym same) low)) in
         each_holds Q more g.first g.others (length g.others) g.run g.told keeps p there
 
+    O : ℕ → List Entry → Type 0
+    O p es = AreInOrder None es
+
+    keep_order : All (Keeps O order_more g.first g.others (length g.others) g.run g.told) (g.first ∷ g.others)
+    keep_order =
+        subst (All (Keeps O order_more g.first g.others (length g.others) g.run g.told)) g.are (to_mapped member_of (Keeps O order_more g.first g.others (length g.others) g.run g.told) (HasWorked s) ended (λ d h. h.2) worked)
+
+    ordered : (p : ℕ) → p < s.procs → AreInOrder None (own p g.run)
+    ordered p low =
+        let there : has_member p (g.first ∷ g.others) ≡ true = subst (λ (l : List Seated). has_member p l ≡ true) g.are (g.all p (subst (λ (u : Setup). p < u.layout.procs) (sym same) low)) in
+        each_holds O order_more g.first g.others (length g.others) g.run g.told keep_order p there
+
     w : Words
     w = words_of image.cells
 
@@ -170,7 +180,8 @@ lab_ends s ended image cause layout setups worked f g lawful was closes shows = 
 
     by : (e : Ending) → EndsSo s x e → IsFaultOf x.pass.by e cause → EndsLab s cause
     by AllSent h is = absurd is
-    by (Fault why) h is = subst (EndsLab s) (sym is) (below, h)
+    by (Fault why) (inl spent) is = subst (EndsLab s) (sym is) (below, spent)
+    by (Fault why) (inr ruin) is = absurd (none_read z x.pass.seen starts.0 x.pass.by layout (subst (IsRun z) starts.1 legal) (λ p low. subst (λ (es : List Entry). AreInOrder None (own p es)) starts.1 (ordered p low)) loads nobody ruin.1)
     by (Refused reply) h is =
         let at = h.1.3 in
         let seq = h.1.0 in

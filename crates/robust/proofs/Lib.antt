@@ -27,6 +27,8 @@ pub mod AllSent
 pub mod LabEnds
 pub mod Ruins
 pub mod Unruined
+pub mod Ordered
+pub mod Told
 pub mod Board
 pub mod OneStep
 pub mod Walked

@@ -32,11 +32,11 @@ use Rattle.robust.proofs.OneStep.{goes_front, goes_back}
 use Rattle.robust.proofs.Runs.{by_kind}
 
 -- each reply of what comes behind the reading is such
-abbrev IsMended : Reply → Type 0
+abbrev pub IsMended : Reply → Type 0
 IsMended (reply.Mended repaired) = Unit {0}
 IsMended _ = ⊥
 
-abbrev check : Script Reply
+abbrev pub check : Script Reply
 check = Asks 0 (λ x. Done (reply.Ruined (x == 1)))
 
 -- how a worker's process stands that has read no ruin, by the call that it has started last
@@ -48,7 +48,7 @@ Stands l last s b c (Doing Mending left) = (c ≡ false) × (((q : ℕ) × (left
 Stands l last s b c (Doing (Working t) left) = (c ≡ false) × (settles last ≡ true → b ≡ true)
 
 -- this step reads a ruin
-abbrev IsRuin : Kind → Word → ℕ → Type 0
+abbrev pub IsRuin : Kind → Word → ℕ → Type 0
 IsRuin kind word v = (is_store kind ≡ false) × (word ≡ DataAt 0) × (v ≡ 1)
 
 settled_not : {A : Type 0} {b : Bool} → b ≡ false → b ≡ true → A
@@ -194,7 +194,7 @@ module _ (s : Setup) where
   may_dead last Unlock h = absurd (let k : true ≡ false = h.0 in cc)
   may_dead last _ h = absurd h
 
-  before_stands : (last : Option Call) (crashed : Bool) (o : Option Call) (p : ℕ) (q : Spot) → StandsAt s.layout last q → MayStart last crashed o → Goes s q (before crashed o p) → StandsAt s.layout (last_call last crashed o) (gone s q (before crashed o p))
+  pub before_stands : (last : Option Call) (crashed : Bool) (o : Option Call) (p : ℕ) (q : Spot) → StandsAt s.layout last q → MayStart last crashed o → Goes s q (before crashed o p) → StandsAt s.layout (last_call last crashed o) (gone s q (before crashed o p))
   before_stands last true None p q h may goes = (refl, λ e. absurd (cc))
   before_stands last true (Some call) p q h may goes = starts_stand s.layout p None call Dead true false Free dead (refl, λ e. absurd (cc)) (may_dead last call may) goes.1.0
   before_stands last false None p q h may goes = h
@@ -205,7 +205,7 @@ module _ (s : Setup) where
       by_kind (λ (k : Kind) (e : Happening). IsSome (next_spot s.layout s.limit q e) → IsRuin k word v ⊎ StandsAt s.layout last (unwrap_or (next_spot s.layout s.limit q e) q)) p word v (λ some. inr h)
       (λ k some. moves s.layout last q.lock q.mended q.barred s.limit p q q.errand k word v h some) kind
 
-  entry_stands : (last : Option Call) (q : Spot) (e : Entry) → StandsAt s.layout last q → MayStart last e.step.crashed e.step.start → Goes s q (happenings e) → ReadsRuin e ⊎ StandsAt s.layout (last_call last e.step.crashed e.step.start) (gone s q (happenings e))
+  pub entry_stands : (last : Option Call) (q : Spot) (e : Entry) → StandsAt s.layout last q → MayStart last e.step.crashed e.step.start → Goes s q (happenings e) → ReadsRuin e ⊎ StandsAt s.layout (last_call last e.step.crashed e.step.start) (gone s q (happenings e))
   entry_stands last q e h may goes =
       let hs = before e.step.crashed e.step.start e.by in
       let x = taken e.by e.step.kind e.step.word e.value in

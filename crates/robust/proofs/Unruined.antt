@@ -18,10 +18,14 @@ use Rattle.robust.specs.Reading.{cells_of, LoadsTell}
 use Rattle.robust.specs.Ruins.{ReadsRuin, HasReadRuin, last_call, last_of, settles, MayStart, AreInOrder, NobodyRuins}
 use Rattle.robust.specs.Runs.{crash_first, before, taken, happenings, spelled, own, gone, Goes, spot_of, IsRun, end_of}
 use Rattle.robust.proofs.Appended.{Own, own_split, own_taken, all_at}
-use Rattle.robust.proofs.LabEnds.{story_within}
 use Rattle.robust.proofs.OneStep.{run_goes, goes_back}
 use Rattle.robust.proofs.Ruins.{StandsAt, walk, unlocks_mended}
 use Rattle.robust.proofs.Runs.{own-append, spelled-append, spot_in_run, legal_front, by_kind}
+
+-- a story is its processes' own
+pub story_within : (l : Layout) (limit : ℕ) (w : Scene) (hs : List Happening) → Story l limit w hs → All (λ (h : Happening). who h < l.procs) hs
+story_within l limit w [] story = All-nil _
+story_within l limit w (h ∷ hs) story = All-cons (λ (x : Happening). who x < l.procs) h hs story.0.0 (story_within l limit (onward l limit w h) hs story.1)
 
 -- where one list's element falls in two lists
 cut_at : {A : Type 0} (xs ys front : List A) (h : A) (back : List A) → xs ++ ys ≡ front ++ h ∷ back → ((mid : List A) × (xs ≡ front ++ h ∷ mid)) ⊎ ((mid : List A) × (front ≡ xs ++ mid) × (ys ≡ mid ++ h ∷ back))
@@ -188,3 +192,16 @@ module _ (s : Setup) (layout : IsLayout s.layout) (asked : EveryRuinWasAsked) (l
 
 pub nobody_ruins : EveryRuinWasAsked → LoadsTell → NobodyRuins
 nobody_ruins asked loads s es layout run ordered = unruined s layout asked loads (suc (length es)) es (omega arith) run ordered
+
+-- so no process reads a ruin
+pub none_read : (s : Setup) (es rest : List Entry) (p : ℕ) → IsLayout s.layout → IsRun s (es ++ rest) → ((q : ℕ) → q < s.layout.procs → AreInOrder None (own q (es ++ rest))) → LoadsTell → NobodyRuins → HasReadRuin (own p es) → ⊥
+none_read s es rest p layout run ordered loads nobody r =
+    let o : Own p es r.front r.entry = own_split p es r.front r.entry r.back r.is in
+    let parts : es ++ rest ≡ (o.earlier ++ r.entry ∷ []) ++ (o.later ++ rest) =
+    ap (λ (l : List Entry). l ++ rest) (o.is ∙ sym (append_assoc o.earlier (r.entry ∷ []) o.later)) ∙ append_assoc (o.earlier ++ r.entry ∷ []) o.later rest in
+    let whole : es ++ rest ≡ o.earlier ++ (r.entry ∷ (o.later ++ rest)) = parts ∙ append_assoc o.earlier (r.entry ∷ []) (o.later ++ rest) in
+    let told = loads s o.earlier r.entry (legal_front s (o.earlier ++ r.entry ∷ []) (o.later ++ rest) (subst (IsRun s) parts run)) r.reads.0 in
+    let one : cells_of s o.earlier 0 ≡ 1 = ap (reading (end_of s o.earlier)) (sym r.reads.1) ∙ told ∙ r.reads.2 in
+    let before_it = λ (q : ℕ) (low : q < s.layout.procs). order_front None (own q o.earlier) (own q (r.entry ∷ (o.later ++ rest))) (subst (AreInOrder None) (ap (own q) whole ∙ own-append q o.earlier (r.entry ∷ (o.later ++ rest))) (ordered q low)) in
+    let none = nobody s o.earlier layout (legal_front s o.earlier (r.entry ∷ (o.later ++ rest)) (subst (IsRun s) whole run)) before_it in
+    omega (arith, one, none)

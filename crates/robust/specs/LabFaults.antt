@@ -12,6 +12,8 @@ use Rattle.robust.specs.declared.lab.worker.Done.{Done}
 use Rattle.robust.specs.declared.lab.worker.Ending.{Ending}
 use Rattle.robust.specs.declared.lab.worker.Ending.TheVariants.{AllSent, Fault, Refused}
 use Rattle.robust.specs.Headline.{judged_by}
+use Rattle.robust.specs.Pass.{own_of}
+use Rattle.robust.specs.Ruins.{HasReadRuin}
 use Rattle.robust.specs.Running.{Seated}
 use Rattle.robust.specs.Sending.{HasShown}
 
@@ -38,16 +40,16 @@ pub record RefusedAt (x : Seated) (seq : ℕ) (reply : Reply) : Type 0 where
   pub seen : x.pass.seen ≡ front ++ later
   pub tells : ReplyTells x.pass.setup.layout x.pass.by seq reply (judged_by x.pass.setup front).mail
 
--- How a worker ends: its last message is shown; or it is out of numbers, or was told of a ruined lock; or one of its messages
+-- How a worker ends: its last message is shown; or it is out of numbers, or has read that the lock is ruined; or one of its messages
 -- was answered Full or Closed.
 abbrev pub EndsSo : Spec → Seated → Ending → Type 0
 EndsSo s x AllSent = HasShown s.messages x
-EndsSo s x (Fault why) = (why ≡ fault.NumbersSpent) ⊎ (why ≡ fault.NotRecoverable)
+EndsSo s x (Fault why) = (why ≡ fault.NumbersSpent) ⊎ ((why ≡ fault.NotRecoverable) × HasReadRuin (own_of x.pass))
 EndsSo s x (Refused reply) = ((reply ≡ Full) ⊎ (reply ≡ Closed)) × ((seq : ℕ) × (1 ≤ seq) × (seq ≤ s.messages) × RefusedAt x seq reply)
 
 -- What may end a lab early: want of memory; a worker that is out of numbers; or a mailbox with less room than messages.
 abbrev pub EndsLab : Spec → LabFault → Type 0
 EndsLab s BadSpec = ⊥
 EndsLab s OutOfMemory = Unit {0}
-EndsLab s (Member p why) = (p < s.procs) × ((why ≡ fault.NumbersSpent) ⊎ (why ≡ fault.NotRecoverable))
+EndsLab s (Member p why) = (p < s.procs) × (why ≡ fault.NumbersSpent)
 EndsLab s (Replied p reply) = (p < s.procs) × (reply ≡ Full) × (s.cap < s.procs * s.messages)

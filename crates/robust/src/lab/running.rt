@@ -62,6 +62,8 @@ fn run<G: Gate + Send + Drop, R: Threads + Wait + Sync>(
     ensures ends { IfErr result (EndsLab spec) }
 {
     laws::runs_show();
+    laws::loads_tell();
+    laws::nobody_ruins();
     rmeworld::laws::messages_were_sent();
     let members = made(rt, alloc, spec)?;
     let Ok(ended) = work_all(rt, alloc, spec, members, gates) else {

@@ -3,6 +3,8 @@
 ghost use Rattle.std.specs.Prelude.{◌≡◌, ◌≤◌, ◌↔◌, ◌⊎◌, ℕ, None, IsTrue, IfOk, IfErr, length};
 ghost use Rattle.rmeworld.specs.declared.call.Call.TheVariants.{Lock, Append};
 ghost use Rattle.robust.specs.Faults.{refusal_now, ready};
+ghost use Rattle.robust.specs.Pass.{own_of};
+ghost use Rattle.robust.specs.Ruins.{AreInOrder, HasReadRuin};
 ghost use Rattle.robust.specs.Telling.{ToldIn};
 ghost use Rattle.robust.specs.Under.{Appends};
 ghost use Rattle.robust.specs.Worked.{HasWorked, sizes_of};
@@ -107,6 +109,8 @@ fn send<G: Gate, R: Wait>(
     ensures kind { IfOk result (Appends seq) }
     ensures tells { IfOk result (λ reply. ToldIn member.old seq reply member.new) }
     ensures faults { IfErr result (λ why. (why ≡ LockFault.NumbersSpent) ⊎ (why ≡ LockFault.NotRecoverable)) }
+    ensures ordered { AreInOrder None (own_of member.old.pass) → AreInOrder None (own_of member.new.pass) }
+    ensures ruin { IfErr result (λ why. AreInOrder None (own_of member.old.pass) → why ≡ LockFault.NotRecoverable → HasReadRuin (own_of member.new.pass)) }
     ensures seat { seat_of member.new ≡ seat_of member.old }
     ensures only { (width k : ℕ) → IsSending width k member.old.pass.by (Append seq value) → SendsOnly width k member.old → SendsOnly width k member.new }
     ensures shown { IfOk result (λ reply. (reply ≡ Reply.Stored) ⊎ (reply ≡ Reply.Already) → HasShown seq member.new) }

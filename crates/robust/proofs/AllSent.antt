@@ -1,8 +1,7 @@
 -- What the mailbox list shows at the end of a lab: just what its workers sent.
-use Rattle.std.proofs.Common.{◌≡◌, ◌≢◌, ℕ, zero, suc, ◌+◌, ◌*◌, ◌<◌, ◌≤◌, ◌==◌, ◌||◌, ◌⊎◌, Bool, true, false, List, [], ◌∷◌, ◌++◌, length, slice_index, map, Option, Some, None, All, refl, sym, ap, ◌∙◌, subst, inl, inr, arith, eqb-true, eq-eqb}
+use Rattle.std.proofs.Common.{◌≡◌, ◌≢◌, ℕ, zero, suc, ◌+◌, ◌*◌, ◌<◌, ◌≤◌, ◌==◌, ◌⊎◌, Bool, true, false, List, [], ◌∷◌, ◌++◌, length, slice_index, map, Option, Some, None, All, refl, sym, ap, ◌∙◌, subst, inl, inr, arith, eq-eqb}
 use Rattle.std.proofs.lemmas.Bool.{cases_eq}
 use Rattle.std.proofs.lemmas.List.Elements.{All-nil, All-cons, All-head, All-tail, All-append, All-weaker, All-contains}
-use Rattle.rmecore.specs.declared.kind.Kind.{Kind}
 use Rattle.redomail.specs.declared.layout.Layout.{Layout}
 use Rattle.redomail.specs.declared.message.Message.{Message}
 use Rattle.redomail.specs.Content.{IsContent, EntriesHold}
@@ -20,7 +19,7 @@ use Rattle.rmeworld.specs.Spot.{Happening, Begins, Falls}
 use Rattle.robust.specs.declared.entry.Entry.{Entry}
 use Rattle.robust.specs.declared.lab.spec.Spec.{Spec}
 use Rattle.robust.specs.declared.setup.Setup.{Setup}
-use Rattle.robust.specs.Gathering.{Gathers, IsGlance, IsTold, IsWhole, has_member, image_at}
+use Rattle.robust.specs.Gathering.{Gathers, IsGlance, IsTold, has_member, image_at}
 use Rattle.robust.specs.Headline.{deeds_of, shown_by}
 use Rattle.robust.specs.Lab.{AreAllSent, words_sent, messages_sent, messages_by}
 use Rattle.robust.specs.Reading.{cells_of, RunsShow}
@@ -34,13 +33,11 @@ use Rattle.robust.proofs.LawfulEnd.{length-counted, cells_counted}
 use Rattle.robust.proofs.Numbered.{many, few, sent_by, senders, counted_all}
 use Rattle.robust.proofs.Runs.{by_kind}
 use Rattle.robust.proofs.Shown.{shown_on}
-
-all_both : {X : Type 0} (P Q : X → Type 0) (xs : List X) → All P xs → All Q xs → All (λ (x : X). P x × Q x) xs
-all_both P Q [] h g = All-nil _
-all_both P Q (x ∷ xs) h g = All-cons (λ x. P x × Q x) x xs (All-head P x xs h, All-head Q x xs g) (all_both P Q xs (All-tail P x xs h) (All-tail Q x xs g))
+use Rattle.robust.proofs.Together.{all_both, member_at, Keeps, Holds, all_hold}
+use Rattle.rmecore.specs.declared.kind.Kind.{Kind}
 
 -- what holds of each call that a process starts
-OfBegins : (Call → Type 0) → ℕ → Happening → Type 0
+pub OfBegins : (Call → Type 0) → ℕ → Happening → Type 0
 OfBegins P p (Begins q call) = q ≡ p → P call
 OfBegins P p _ = Unit {0}
 
@@ -75,11 +72,11 @@ module _ (P : Call → Type 0) (p : ℕ) where
       go true is = All-tail F e (own p es) (subst (All F) (own_taken p e es is) h)
       go false is = subst (All F) (own_passed p e es is) h
 
-  begins_all : (es : List Entry) → All F (own p es) → All Q (spelled es)
+  pub begins_all : (es : List Entry) → All F (own p es) → All Q (spelled es)
   begins_all [] h = All-nil Q
   begins_all (e ∷ es) h = All-append Q (happenings e) (spelled es) (begins_entry e (own_first e es h)) (begins_all es (own_rest e es h))
 
-begins_it : (P : Call → Type 0) (p : ℕ) (call : Call) → OfBegins P p (Begins p call) → P call
+pub begins_it : (P : Call → Type 0) (p : ℕ) (call : Call) → OfBegins P p (Begins p call) → P call
 unfolding OfBegins
 begins_it P p call h = h refl
 
@@ -114,9 +111,9 @@ shown_entries s run layout legal shows =
     let h = (shows s run layout legal).0 in
     ap (λ (t : State). t.mail.shown) (sym (state_led (empty s.layout.procs s.layout.cap) h.0 (deeds_of s run) h.1)) ∙ h.2
 
--- each sender's are what it sent, where each process of the run has started just its own appends
+-- the messages shown are such as are sent, where each process of the run has started just its own appends
 module _ (s : Spec) (run : List Entry) (w : Words) (n : ℕ) (layout : IsLayout (sizes_of s).layout) (legal : IsRun (sizes_of s) run) (numbered : IsNumbered (sizes_of s).layout w n) (sent : EveryMessageWasSent)
-    (shown : shown_by (sizes_of s) run ≡ entries (sizes_of s).layout w n) (each : (p : ℕ) → p < s.procs → AreSending s.width s.messages p (own p run) × IsAmong p s.messages (shown_by (sizes_of s) run)) where
+    (shown : shown_by (sizes_of s) run ≡ entries (sizes_of s).layout w n) (sending : (p : ℕ) → p < s.procs → AreSending s.width s.messages p (own p run)) where
   abbrev z : Setup
   z = sizes_of s
 
@@ -129,35 +126,40 @@ module _ (s : Spec) (run : List Entry) (w : Words) (n : ℕ) (layout : IsLayout 
   was_sent : (m : Message) → (m.sender < s.procs) × IsSent (spelled run) m → Fits m
   was_sent m h =
       let P = IsSending s.width s.messages m.sender in
-      begins_it P m.sender (Append m.seq m.value) (All-contains (OfBegins P m.sender) (spelled run) (Begins m.sender (Append m.seq m.value)) (begins_all P m.sender run (each m.sender h.0).0) h.1)
+      begins_it P m.sender (Append m.seq m.value) (All-contains (OfBegins P m.sender) (spelled run) (Begins m.sender (Append m.seq m.value)) (begins_all P m.sender run (sending m.sender h.0)) h.1)
 
   all_fit : All Fits ms
   all_fit =
       let were : All (IsSent (spelled run)) ms = subst (All (IsSent (spelled run))) shown (sent z.layout z.limit (spelled run) layout legal) in
       All-weaker (λ (m : Message). (m.sender < s.procs) × IsSent (spelled run) m) Fits was_sent ms (all_both (λ (m : Message). m.sender < s.procs) (IsSent (spelled run)) ms (senders z.layout w n numbered) were)
 
-  counted : (p : ℕ) → p < s.procs → count_of p ms ≡ s.messages
-  counted p below =
-      let most = few z.layout w p s.messages n numbered (All-weaker Fits (λ (m : Message). m.sender ≡ p → m.seq ≤ s.messages) (λ m h e. h.0) ms all_fit) in
-      let least = many z.layout w n p s.messages numbered (subst (IsAmong p s.messages) shown (each p below).1) in
-      omega (arith, most, least)
+  pub at_most : (p : ℕ) → count_of p ms ≤ s.messages
+  at_most p = few z.layout w p s.messages n numbered (All-weaker Fits (λ (m : Message). m.sender ≡ p → m.seq ≤ s.messages) (λ m h e. h.0) ms all_fit)
 
-  its : (p : ℕ) → p < s.procs → messages_by p ms ≡ messages_sent s.width p s.messages
-  its p below =
-      let values = All-weaker Fits (λ (m : Message). m.sender ≡ p → m.value ≡ words_sent p m.seq s.width) (λ m h e. h.1 ∙ ap (λ (q : ℕ). words_sent q m.seq s.width) e) ms all_fit in
-      sent_by z.layout w p n numbered values ∙ ap (messages_sent s.width p) (counted p below)
+  -- each sender's are what it sent, where its last message is shown
+  module _ (last : (p : ℕ) → p < s.procs → IsAmong p s.messages (shown_by z run)) where
+    counted : (p : ℕ) → p < s.procs → count_of p ms ≡ s.messages
+    counted p below =
+        let most = at_most p in
+        let least = many z.layout w n p s.messages numbered (subst (IsAmong p s.messages) shown (last p below)) in
+        omega (arith, most, least)
 
-  pub are_all_sent : AreAllSent s ms
-  are_all_sent = record { each = its; total = counted_all s.procs s.messages ms (senders z.layout w n numbered) counted }
+    its : (p : ℕ) → p < s.procs → messages_by p ms ≡ messages_sent s.width p s.messages
+    its p below =
+        let values = All-weaker Fits (λ (m : Message). m.sender ≡ p → m.value ≡ words_sent p m.seq s.width) (λ m h e. h.1 ∙ ap (λ (q : ℕ). words_sent q m.seq s.width) e) ms all_fit in
+        sent_by z.layout w p n numbered values ∙ ap (messages_sent s.width p) (counted p below)
 
--- a member of each process
-member_at : (P : Seated → Type 0) (p : ℕ) (xs : List Seated) → has_member p xs ≡ true → All P xs → (x : Seated) × (x.pass.by ≡ p) × P x
-member_at P p [] h all = absurd (cc)
-member_at P p (x ∷ xs) h all = go (x.pass.by == p) refl (member_at P p xs)
-  where
-    go : (b : Bool) → (x.pass.by == p) ≡ b → (has_member p xs ≡ true → All P xs → (x : Seated) × (x.pass.by ≡ p) × P x) → (x : Seated) × (x.pass.by ≡ p) × P x
-    go true is later = (x, eqb-true x.pass.by p is, All-head P x xs all)
-    go false is later = later (subst (λ (b : Bool). (b || has_member p xs) ≡ true) is h) (All-tail P x xs all)
+    pub are_all_sent : AreAllSent s ms
+    are_all_sent = record { each = its; total = counted_all s.procs s.messages ms (senders z.layout w n numbered) counted }
+
+-- glances start nothing
+glance_starts : (P : Call → Type 0) (e : Entry) → IsGlance e → OfStart P e.step.start
+glance_starts P e h = subst (OfStart P) (sym (ap (λ s. s.start) h.1)) tt
+
+pub sending_more : (width k p : ℕ) (es glances : List Entry) → All IsGlance glances → AreSending width k p es → AreSending width k p (es ++ glances)
+sending_more width k p es glances are h =
+    let F : Entry → Type 0 = λ e. OfStart (IsSending width k p) e.step.start in
+    All-append F es glances h (All-weaker IsGlance F (glance_starts (IsSending width k p)) glances are)
 
 -- of the one run, where each member has sent its own
 module _ (z : Setup) (width k : ℕ) (first : Seated) (others : List Seated) (run : List Entry) (told : IsTold first others (length others) run) where
@@ -173,27 +175,12 @@ module _ (z : Setup) (width k : ℕ) (first : Seated) (others : List Seated) (ru
       let more = shown_on z x.pass.seen starts.0 in
       subst (λ (es : List Entry). IsAmong x.pass.by k (shown_by z es)) (sym starts.1) (subst (IsAmong x.pass.by k) (sym more.1) (among_more x.pass.by k (shown_by z x.pass.seen) more.0 here))
 
-  glance_starts : (P : Call → Type 0) (e : Entry) → IsGlance e → OfStart P e.step.start
-  glance_starts P e h = subst (OfStart P) (sym (ap (λ s. s.start) h.1)) tt
-
-  first_has : Known first → Has first
-  first_has h =
-      let p = first.pass.by in
-      let F : Entry → Type 0 = λ e. OfStart (IsSending width k p) e.step.start in
-      let all = All-append F (own p first.pass.seen) told.glances h.1.0 (All-weaker IsGlance F (glance_starts (IsSending width k p)) told.glances told.are_glances) in
-      (subst (AreSending width k p) (sym told.own_is) all, still_shown first h told.begins)
-
-  other_has : Has first → (x : Seated) → IsWhole first run x × Known x → Has x
-  other_has of_first x h =
-      elim (cases_eq x.pass.by first.pass.by) [
-        | inl same ↦ (subst (λ (p : ℕ). AreSending width k p (own p run)) (sym same) of_first.0, still_shown x h.1 h.0.begins)
-        | inr other ↦ (subst (AreSending width k x.pass.by) (sym (h.0.own_is other)) h.1.1.0, still_shown x h.1 h.0.begins)
-      ]
-
   all_have : All Known (first ∷ others) → All Has (first ∷ others)
   all_have h =
-      let one = first_has (All-head Known first others h) in
-      All-cons Has first others one (All-weaker (λ (x : Seated). IsWhole first run x × Known x) Has (other_has one) others (all_both (IsWhole first run) Known others told.whole (All-tail Known first others h)))
+      let Q = AreSending width k in
+      let held = all_hold Q (sending_more width k) first others (length others) run told (All-weaker Known (Keeps Q (sending_more width k) first others (length others) run told) (λ x known. known.1.0) (first ∷ others) h) in
+      let Here = Holds Q (sending_more width k) first others (length others) run told in
+      All-weaker (λ (x : Seated). Here x × Known x) Has (λ x both. (both.0.0, still_shown x both.1 both.0.1)) (first ∷ others) (all_both Here Known (first ∷ others) held h)
 
   pub each_has : All Known (first ∷ others) → (p : ℕ) → has_member p (first ∷ others) ≡ true → AreSending width k p (own p run) × IsAmong p k (shown_by z run)
   each_has h p there =
@@ -214,7 +201,7 @@ lab_sent s xs image messages layout setups sent g was shows are numbered =
     let count : slice_index image.cells 2 ≡ cells_of z g.run 2 = ap (λ (w : Words). w 2) words in
     let shown = shown_entries z g.run layout legal shows ∙ (λ i. entries z.layout (sym words i) (sym count i)) in
     let each = λ (p : ℕ) (below : p < s.procs). each_has z s.width s.messages g.first g.others g.run g.told known p (subst (λ (l : List Seated). has_member p l ≡ true) g.are (g.all p (subst (λ (u : Setup). p < u.layout.procs) (sym same) below))) in
-    subst (AreAllSent s) (sym are) (are_all_sent s g.run (words_of image.cells) (slice_index image.cells 2) layout legal numbered was shown each)
+    subst (AreAllSent s) (sym are) (are_all_sent s g.run (words_of image.cells) (slice_index image.cells 2) layout legal numbered was shown (λ p below. (each p below).0) (λ p below. (each p below).1))
 
 pub gathered_layout : (s : Setup) (xs : List Seated) (image : Image) → All (λ (x : Seated). x.pass.setup ≡ s) xs → Gathers xs image → layout_of image ≡ s.layout
 gathered_layout s xs image setups g =

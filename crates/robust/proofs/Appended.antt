@@ -1,12 +1,13 @@
--- Where a whole mailbox call is answered Stored or Already, its message is shown.
-use Rattle.std.proofs.Common.{◌≡◌, ℕ, ◌+◌, ◌==◌, Bool, true, false, if◌then◌else◌, List, [], ◌∷◌, ◌++◌, length, Option, Some, None, Result, Ok, Err, IfOk, OnOk, All, refl, sym, ap, ◌∙◌, subst, inl, inr, append_assoc, eqb-true}
+-- At which point of a whole mailbox call its append was answered, and what that tells: where the answer was Stored or Already
+-- the message is shown; what another reply says of the mailbox held there.
+use Rattle.std.proofs.Common.{◌≡◌, ℕ, ◌+◌, ◌==◌, Bool, true, false, if◌then◌else◌, List, [], ◌∷◌, ◌++◌, length, Option, Some, None, Result, Ok, Err, IfOk, OnOk, All, refl, sym, ap, ◌∙◌, subst, inl, inr, append_assoc, eqb-true, ◌⊎◌}
 use Rattle.std.proofs.lemmas.List.Elements.{All-nil, All-cons, All-head, All-tail}
 use Rattle.rmecore.specs.Paid.{is_glance}
 use Rattle.rmecore.specs.Place.{Place}
 use Rattle.rmecore.specs.declared.refusal.Refusal.{Refusal}
 use Rattle.redomail.specs.declared.message.Message.{Message}
 use Rattle.redomail.specs.declared.reply.Reply.{Reply}
-use Rattle.redomail.specs.declared.reply.Reply.TheVariants.{Mended}
+use Rattle.redomail.specs.declared.reply.Reply.TheVariants.{Stored, Already, Mended}
 use Rattle.redomail.specs.declared.task.Task.{Task}
 use Rattle.redomail.specs.declared.task.Task.TheVariants as task
 use Rattle.redomail.specs.Layout.{IsLayout}
@@ -17,7 +18,9 @@ use Rattle.rmeworld.specs.declared.call.Call.{Call}
 use Rattle.rmeworld.specs.declared.call.Call.TheVariants.{Lock, Unlock, Consistent, Append}
 use Rattle.rmeworld.specs.Answered.{answer_at}
 use Rattle.rmeworld.specs.Refused.{is_idle, is_idle_by}
-use Rattle.rmeworld.specs.Spot.{Errand, Free, Doing, Spot, at_rest}
+use Rattle.rmeworld.specs.Sent.{mail_after, ReplyTells, RepliesTell}
+use Rattle.rmeworld.specs.Spot.{Errand, Free, Doing, Spot, Happening, Moves, at_rest}
+use Rattle.rmeworld.specs.World.{Scene, at_first, last_scene, Story}
 use Rattle.robust.specs.declared.entry_kind.Entry.{Entry as Entering}
 use Rattle.robust.specs.declared.entry_kind.Entry.TheVariants as entering
 use Rattle.robust.specs.declared.entry.Entry.{Entry}
@@ -25,16 +28,19 @@ use Rattle.robust.specs.declared.lock_fault.LockFault.{LockFault}
 use Rattle.robust.specs.declared.setup.Setup.{Setup}
 use Rattle.robust.specs.Calls.{spot_before, starts, answers_of, FirstCrash, FirstStarts, AreMoves, ServedAll}
 use Rattle.robust.specs.Faults.{refusal_now, ready, answer_of}
-use Rattle.robust.specs.Headline.{shown_by, spot_at, EndsAppend, EveryRunIsSound}
+use Rattle.robust.specs.Headline.{judged_by, shown_by, spot_at, EndsAppend, EveryRunIsSound}
 use Rattle.robust.specs.Pass.{Pass, IsPass, spot_now, Calls}
 use Rattle.robust.specs.Running.{Seated, fell, began}
 use Rattle.robust.specs.Runs.{before, own, spelled, gone, spot_of, IsRun}
 use Rattle.robust.specs.Whole.{WholeEnds, calls_inside, answers_inside}
 use Rattle.robust.specs.Sending.{OfStart}
-use Rattle.robust.proofs.Errands.{Only, Brings, each_start, only_begun, Answering, find, IsStored, task_mails}
+use Rattle.robust.specs.Telling.{ToldIn}
+use Rattle.robust.specs.Under.{Appends}
+use Rattle.robust.proofs.Errands.{Only, Brings, each_start, only_begun, Answering, find, IsTasks, task_mails}
 use Rattle.robust.proofs.Leads.{gone-append}
-use Rattle.robust.proofs.Running.{spot_begun}
-use Rattle.robust.proofs.Runs.{own-append, spelled-append}
+use Rattle.robust.proofs.Headline.{scene_at, spot_is, spelled_to}
+use Rattle.robust.proofs.Running.{spot_begun, taken_moves}
+use Rattle.robust.proofs.Runs.{own-append, spelled-append, scene-append}
 use Rattle.robust.proofs.Shown.{shown_on}
 
 -- an entry of a process, and those before it and behind it
@@ -87,16 +93,25 @@ among_more p seq xs more h = record {
   found = ap (λ (l : List Message). l ++ more) h.found ∙ append_assoc h.before (message p seq h.value ∷ h.later) more;
 }
 
--- calls one after another, of which at most the append with this number does a task: where one of their answers is Stored or
--- Already, its message is shown
+-- the step that ends the append with this number in what y's pass has more than z's, and the entries around it
+pub record Ended (z y : Seated) (seq : ℕ) (r : Reply) : Type 0 where
+  pub earlier : List Entry
+  pub entry : Entry
+  pub later : List Entry
+  pub seen : y.pass.seen ≡ ((z.pass.seen ++ earlier) ++ entry ∷ []) ++ later
+  pub by : entry.by ≡ z.pass.by
+  pub ends : EndsAppend z.pass.setup (z.pass.seen ++ earlier) entry seq r
+  pub setup : y.pass.setup ≡ z.pass.setup
+  pub run : IsRun z.pass.setup y.pass.seen
+
+-- calls one after another, of which at most the append with this number does a task, and one of their answers is its reply
 module _ (z y : Seated) (c d : Call) (order : List Call) (answers told rest : List Answer) (blocked seq : ℕ) (value : List ℕ) (r : Reply) where
   abbrev t : Task
   t = task.Append seq value
 
-  pub stored_shown : (mine : List Entry) → ServedAll z (c ∷ d ∷ order) answers blocked y mine → z.pass.start ≡ Some c → Only t (spot_now z.pass).errand → All (Brings t) (c ∷ d ∷ order) → answers ≡ told ++ Mail r ∷ rest
-      → IsLayout z.pass.setup.layout → EveryRunIsSound → IsStored r → IsAmong z.pass.by seq (shown_by y.pass.setup y.pass.seen)
-  stored_shown [] served start only brings is layout every stored = absurd (let k : [] ≡ c ∷ d ∷ order = served.started in cc)
-  stored_shown (e ∷ es) served start only brings is layout every stored =
+  pub append_ended : (mine : List Entry) → ServedAll z (c ∷ d ∷ order) answers blocked y mine → z.pass.start ≡ Some c → Only t (spot_now z.pass).errand → All (Brings t) (c ∷ d ∷ order) → answers ≡ told ++ Mail r ∷ rest → IsTasks r → Ended z y seq r
+  append_ended [] served start only brings is its = absurd (let k : [] ≡ c ∷ d ∷ order = served.started in cc)
+  append_ended (e ∷ es) served start only brings is its =
       let s = z.pass.setup in
       let p = z.pass.by in
       let here = spot_of s p z.pass.seen in
@@ -113,16 +128,57 @@ module _ (z y : Seated) (c d : Call) (order : List Call) (answers told rest : Li
       let there : spot_of s f.by front ≡ gone s here (spelled found.front) =
       ap (λ (q : ℕ). spot_of s q front) o.by ∙ ap (λ (l : List Entry). gone s at_rest (spelled l)) mine ∙ ap (gone s at_rest) (spelled-append (own p z.pass.seen) found.front) ∙ gone-append s at_rest (spelled (own p z.pass.seen)) (spelled found.front) in
       let spot : spot_at s front f ≡ spot_before s (gone s here (spelled found.front)) f = ap (λ (u : Spot). spot_before s u f) there in
-      let work = task_mails t _ _ _ _ f.step.kind f.value r found.only stored found.answer in
+      let work = task_mails t _ _ _ _ f.step.kind f.value r found.only its found.answer in
       let move = all_at (λ (g : Entry). is_glance g.step.kind ≡ false) found.front f found.back (subst AreMoves found.is served.moves) in
-      let ends : EndsAppend s front f seq r = record { value = value; left = work.0; step = move; append = ap (λ (u : Spot). u.errand) spot ∙ work.1; answer = ap (λ (u : Spot). answer_at u f.step.kind f.value) spot ∙ found.answer } in
       let whole : y.pass.seen ≡ (front ++ f ∷ []) ++ o.later =
       calls.seen ∙ ap (λ (l : List Entry). z.pass.seen ++ l) o.is ∙ sym (append_assoc z.pass.seen o.earlier (f ∷ o.later)) ∙ sym (append_assoc front (f ∷ []) o.later) in
-      let run : IsRun s y.pass.seen = subst (λ (u : Setup). IsRun u y.pass.seen) calls.setup calls.run in
-      let told : IsAmong f.by seq (shown_by s (front ++ f ∷ [])) = (every s y.pass.seen layout run).answered front f o.later seq r whole ends stored in
-      let grown = shown_on s (front ++ f ∷ []) o.later in
-      let among : IsAmong f.by seq (shown_by s ((front ++ f ∷ []) ++ o.later)) = subst (IsAmong f.by seq) (sym grown.1) (among_more f.by seq (shown_by s (front ++ f ∷ [])) grown.0 told) in
-      subst (λ (u : ℕ × Setup × List Entry). IsAmong u.0 seq (shown_by u.1 u.2)) (λ i. (o.by i, sym calls.setup i, sym whole i)) among
+      record {
+        earlier = o.earlier;
+        entry = f;
+        later = o.later;
+        seen = whole;
+        by = o.by;
+        ends = record { value = value; left = work.0; step = move; append = ap (λ (u : Spot). u.errand) spot ∙ work.1; answer = ap (λ (u : Spot). answer_at u f.step.kind f.value) spot ∙ found.answer };
+        setup = calls.setup;
+        run = subst (λ (u : Setup). IsRun u y.pass.seen) calls.setup calls.run;
+      }
+
+-- what was answered Stored or Already is shown from then on
+stored_shown : (z y : Seated) (seq : ℕ) (r : Reply) → Ended z y seq r → IsLayout z.pass.setup.layout → EveryRunIsSound → (r ≡ Stored) ⊎ (r ≡ Already) → IsAmong z.pass.by seq (shown_by y.pass.setup y.pass.seen)
+stored_shown z y seq r h layout every stored =
+    let s = z.pass.setup in
+    let front = z.pass.seen ++ h.earlier in
+    let f = h.entry in
+    let told : IsAmong f.by seq (shown_by s (front ++ f ∷ [])) = (every s y.pass.seen layout h.run).answered front f h.later seq r h.seen h.ends stored in
+    let grown = shown_on s (front ++ f ∷ []) h.later in
+    let among : IsAmong f.by seq (shown_by s ((front ++ f ∷ []) ++ h.later)) = subst (IsAmong f.by seq) (sym grown.1) (among_more f.by seq (shown_by s (front ++ f ∷ [])) grown.0 told) in
+    subst (λ (u : ℕ × Setup × List Entry). IsAmong u.0 seq (shown_by u.1 u.2)) (λ i. (h.by i, sym h.setup i, sym h.seen i)) among
+
+-- a reply of an append holds of the mailbox at its point of the run
+reply_told : (s : Setup) (es front : List Entry) (e : Entry) (back : List Entry) (seq : ℕ) (r : Reply) → IsLayout s.layout → IsRun s es → RepliesTell → es ≡ (front ++ e ∷ []) ++ back → EndsAppend s front e seq r → ReplyTells s.layout e.by seq r (judged_by s (front ++ e ∷ [])).mail
+reply_told s es front e back seq r layout run tell split ends =
+    let l = s.layout in
+    let hs = spelled front ++ before e.step.crashed e.step.start e.by in
+    let h = Moves e.by e.step.kind e.step.word e.value in
+    let to : spelled (front ++ e ∷ []) ≡ hs ++ h ∷ [] = spelled_to s front e ∙ ap (λ (x : Happening). hs ++ x ∷ []) (taken_moves e.by e.step.kind e.step.word e.value ends.step) in
+    let whole : spelled es ≡ hs ++ h ∷ spelled back = ap spelled split ∙ spelled-append (front ++ e ∷ []) back ∙ ap (λ (xs : List Happening). xs ++ spelled back) to ∙ append_assoc hs (h ∷ []) (spelled back) in
+    let here : last_scene l s.limit at_first hs ≡ scene_at s front e = scene-append l s.limit at_first (spelled front) (before e.step.crashed e.step.start e.by) in
+    let spot : (last_scene l s.limit at_first hs).spots e.by ≡ spot_at s front e = ap (λ (w : Scene). w.spots e.by) here ∙ spot_is s front e in
+    let told = tell l s.limit hs e.by e.step.kind e.step.word e.value (spelled back) seq r layout (subst (Story l s.limit at_first) whole run)
+    (record { value = ends.value; left = ends.left; append = ap (λ (u : Spot). u.errand) spot ∙ ends.append; answer = ap (λ (u : Spot). answer_at u e.step.kind e.value) spot ∙ ends.answer }) in
+    subst (λ (xs : List Happening). ReplyTells l e.by seq r (mail_after l s.limit xs)) (sym to) told
+
+ended_told : (z y : Seated) (seq : ℕ) (r : Reply) → Ended z y seq r → IsLayout z.pass.setup.layout → RepliesTell → ToldIn z seq r y
+ended_told z y seq r h layout tell =
+    let s = z.pass.setup in
+    let all : (z.pass.seen ++ h.earlier) ++ h.entry ∷ [] ≡ z.pass.seen ++ (h.earlier ++ h.entry ∷ []) = append_assoc z.pass.seen h.earlier (h.entry ∷ []) in
+    let told : ReplyTells s.layout h.entry.by seq r (judged_by s ((z.pass.seen ++ h.earlier) ++ h.entry ∷ [])).mail = reply_told s y.pass.seen (z.pass.seen ++ h.earlier) h.entry h.later seq r layout h.run tell h.seen h.ends in
+    record {
+      since = h.earlier ++ h.entry ∷ [];
+      later = h.later;
+      seen = h.seen ∙ ap (λ (es : List Entry). es ++ h.later) all;
+      tells = subst (λ (u : ℕ × List Entry). ReplyTells s.layout u.0 seq r (judged_by s u.1).mail) (λ i. (h.by i, all i)) told;
+    }
 
 -- a call that sets out from outside the section has no task under way
 idle_only : (t : Task) (s : Place) (e : Errand) (o : Option Refusal) (why : Refusal) → (if is_idle_by s e then o else Some why) ≡ None → Only t e
@@ -151,31 +207,62 @@ brings_all entering.OwnerDied seq value =
     let P = Brings (task.Append seq value) in
     All-cons P Lock (Consistent ∷ Append seq value ∷ Unlock ∷ []) tt (All-cons P Consistent (Append seq value ∷ Unlock ∷ []) tt (All-cons P (Append seq value) (Unlock ∷ []) refl (All-cons P Unlock [] tt (All-nil P))))
 
-module _ (x y : Seated) (turns seq : ℕ) (value : List ℕ) (r : Reply) (a b c d : ℕ) (none : x.pass.start ≡ None) (pass : IsPass x.pass) (may : refusal_now (ready x) Lock ≡ None) (every : EveryRunIsSound) (stored : IsStored r) where
+either_seen : (b : Bool) (x : Seated) → (if b then x else fell x).pass.seen ≡ x.pass.seen
+either_seen true x = refl
+either_seen false x = refl
+
+module _ (x y : Seated) (turns seq : ℕ) (value : List ℕ) (r : Reply) (a b c d : ℕ) (none : x.pass.start ≡ None) (may : refusal_now (ready x) Lock ≡ None) (its : IsTasks r) where
   abbrev z : Seated
   z = began (ready x) Lock
 
   outset : Only (task.Append seq value) (spot_now z.pass).errand
   outset = outset_only (task.Append seq value) (ready x) (either_start (is_idle (spot_now x.pass)) x none) may
 
-  layout : IsLayout z.pass.setup.layout
-  layout = subst (λ (s : Setup). IsLayout s.layout) (sym (either_pass (is_idle (spot_now x.pass)) x).0) pass.size.layout
+  inside_ended : (entry : Entering) (mended : Bool) (order : List Call) (answers : List Answer) (blocked : ℕ) (mine : List Entry) → order ≡ Lock ∷ calls_inside entry (Append seq value) → answers ≡ answer_of entry ∷ answers_inside entry mended r
+      → ServedAll z order answers blocked y mine → Ended z y seq r
+  inside_ended entering.Clean mended order answers blocked mine is told h =
+      append_ended z y Lock (Append seq value) (Unlock ∷ []) answers (answer_of entering.Clean ∷ []) (Unlocked ∷ []) blocked seq value r mine (subst (λ (l : List Call). ServedAll z l answers blocked y mine) is h) refl outset (brings_all entering.Clean seq value) told its
+  inside_ended entering.OwnerDied mended order answers blocked mine is told h =
+      append_ended z y Lock Consistent (Append seq value ∷ Unlock ∷ []) answers (answer_of entering.OwnerDied ∷ Mail (Mended mended) ∷ []) (Unlocked ∷ []) blocked seq value r mine (subst (λ (l : List Call). ServedAll z l answers blocked y mine) is h) refl outset
+      (brings_all entering.OwnerDied seq value) told its
 
-  inside_shown : (entry : Entering) (mended : Bool) (order : List Call) (answers : List Answer) (blocked : ℕ) (mine : List Entry) → order ≡ Lock ∷ calls_inside entry (Append seq value) → answers ≡ answer_of entry ∷ answers_inside entry mended r
-      → ServedAll z order answers blocked y mine → IsAmong z.pass.by seq (shown_by y.pass.setup y.pass.seen)
-  inside_shown entering.Clean mended order answers blocked mine is told h =
-      stored_shown z y Lock (Append seq value) (Unlock ∷ []) answers (answer_of entering.Clean ∷ []) (Unlocked ∷ []) blocked seq value r mine (subst (λ (l : List Call). ServedAll z l answers blocked y mine) is h) refl outset (brings_all entering.Clean seq value) told layout every stored
-  inside_shown entering.OwnerDied mended order answers blocked mine is told h =
-      stored_shown z y Lock Consistent (Append seq value ∷ Unlock ∷ []) answers (answer_of entering.OwnerDied ∷ Mail (Mended mended) ∷ []) (Unlocked ∷ []) blocked seq value r mine (subst (λ (l : List Call). ServedAll z l answers blocked y mine) is h) refl outset
-      (brings_all entering.OwnerDied seq value) told layout every stored
+  pub ended_append : WholeEnds z turns (Append seq value) (Ok r) y a b c d → Ended z y seq r
+  ended_append h = inside_ended h.3.1 h.3.2 h.0 h.1 h.2 h.4.0 h.3.3 h.3.4 h.4.1
 
-  pub appended : WholeEnds z turns (Append seq value) (Ok r) y a b c d → IsAmong x.pass.by seq (shown_by y.pass.setup y.pass.seen)
-  appended h =
-      let among = inside_shown h.3.1 h.3.2 h.0 h.1 h.2 h.4.0 h.3.3 h.3.4 h.4.1 in
-      subst (λ (p : ℕ). IsAmong p seq (shown_by y.pass.setup y.pass.seen)) (either_pass (is_idle (spot_now x.pass)) x).1 among
+begun_layout : (x : Seated) → IsPass x.pass → IsLayout (began (ready x) Lock).pass.setup.layout
+begun_layout x pass = subst (λ (s : Setup). IsLayout s.layout) (sym (either_pass (is_idle (spot_now x.pass)) x).0) pass.size.layout
+
+stored_its : (r : Reply) → (r ≡ Stored) ⊎ (r ≡ Already) → IsTasks r
+stored_its r (inl e) = subst IsTasks (sym e) tt
+stored_its r (inr e) = subst IsTasks (sym e) tt
+
+appends_its : (seq : ℕ) (r : Reply) → Appends seq r → IsTasks r
+appends_its seq (Mended repaired) h = h
+appends_its seq _ h = tt
 
 -- an append, however often it was blocked
 pub append_shown : (x y : Seated) (seq : ℕ) (value : List ℕ) (result : Result Reply LockFault) (a b c d : ℕ) → x.pass.start ≡ None → IsPass x.pass → EveryRunIsSound → OnOk result (refusal_now (ready x) Lock ≡ None)
-    → IfOk result (λ (r : Reply). (turns : ℕ) × WholeEnds (began (ready x) Lock) turns (Append seq value) (Ok r) y a b c d) → IfOk result (λ (r : Reply). IsStored r → IsAmong x.pass.by seq (shown_by y.pass.setup y.pass.seen))
-append_shown x y seq value (Ok r) a b c d none pass every may h = λ stored. appended x y h.0 seq value r a b c d none pass may every stored h.1
+    → IfOk result (λ (r : Reply). (turns : ℕ) × WholeEnds (began (ready x) Lock) turns (Append seq value) (Ok r) y a b c d) → IfOk result (λ (r : Reply). (r ≡ Stored) ⊎ (r ≡ Already) → IsAmong x.pass.by seq (shown_by y.pass.setup y.pass.seen))
+append_shown x y seq value (Ok r) a b c d none pass every may h = λ stored.
+    let ended = ended_append x y h.0 seq value r a b c d none may (stored_its r stored) h.1 in
+    let among = stored_shown (began (ready x) Lock) y seq r ended (begun_layout x pass) every stored in
+    subst (λ (p : ℕ). IsAmong p seq (shown_by y.pass.setup y.pass.seen)) (either_pass (is_idle (spot_now x.pass)) x).1 among
 append_shown x y seq value (Err e) a b c d none pass every may h = tt
+
+told_began : (x y : Seated) (seq : ℕ) (r : Reply) → ToldIn (began (ready x) Lock) seq r y → ToldIn x seq r y
+told_began x y seq r h =
+    let idle = is_idle (spot_now x.pass) in
+    let same = either_pass idle x in
+    let seen = either_seen idle x in
+    record {
+      since = h.since;
+      later = h.later;
+      seen = h.seen ∙ ap (λ (es : List Entry). (es ++ h.since) ++ h.later) seen;
+      tells = subst (λ (u : Setup × ℕ × List Entry). ReplyTells u.0.layout u.1 seq r (judged_by u.0 (u.2 ++ h.since)).mail) (λ i. (same.0 i, same.1 i, seen i)) h.tells;
+    }
+
+pub append_tells : (x y : Seated) (seq : ℕ) (value : List ℕ) (result : Result Reply LockFault) (a b c d : ℕ) → x.pass.start ≡ None → IsPass x.pass → RepliesTell → OnOk result (refusal_now (ready x) Lock ≡ None) → IfOk result (Appends seq)
+    → IfOk result (λ (r : Reply). (turns : ℕ) × WholeEnds (began (ready x) Lock) turns (Append seq value) (Ok r) y a b c d) → IfOk result (λ (r : Reply). ToldIn x seq r y)
+append_tells x y seq value (Ok r) a b c d none pass tell may its h =
+    told_began x y seq r (ended_told (began (ready x) Lock) y seq r (ended_append x y h.0 seq value r a b c d none may (appends_its seq r its) h.1) (begun_layout x pass) tell)
+append_tells x y seq value (Err e) a b c d none pass tell may its h = tt

@@ -1,6 +1,6 @@
 -- A call that has been started is under way, and has not many steps left.
 use Rattle.std.proofs.Common.{◌≡◌, ℕ, zero, suc, ◌+◌, ◌*◌, ◌<◌, ◌≤◌, Bool, true, false, ◌&&◌, ◌==◌, nat_lt, nat_le, if◌then◌else◌, List, [], ◌∷◌, ◌++◌, length, Option, Some, None, IsSome, unwrap_or, refl, sym, ap, ◌∙◌, subst, arith, length-append, eqb-true}
-use Rattle.std.proofs.lemmas.Bool.{and_parts}
+use Rattle.std.proofs.lemmas.Bool.{and_parts, ltb-true}
 use Rattle.rmecore.specs.Place.{Place, Rest, Dead, Reread, Opening, Door, Shutting, Wait, Inside, Leaving, Withdrawing, Unmarking}
 use Rattle.redomail.specs.declared.layout.Layout.{Layout}
 use Rattle.redomail.specs.declared.reply.Reply.{Reply}
@@ -12,14 +12,14 @@ use Rattle.redomail.specs.Tasks.{script, append, decided, repair, redo, consiste
 use Rattle.rmeworld.specs.declared.call.Call.{Call}
 use Rattle.rmeworld.specs.declared.call.Call.TheVariants.{Lock, Unlock, Consistent, Recover, Append, Close, Get, Put, Withdraw}
 use Rattle.rmeworld.specs.declared.why.Why.{Why}
-use Rattle.rmeworld.specs.Refused.{is_idle}
 use Rattle.rmeworld.specs.Spot.{Errand, Free, Doing, Spot, begun_from, only_spot, working, inside_only}
 use Rattle.rmeworld.specs.Spot.{Begins, next_spot}
 use Rattle.robust.specs.declared.setup.Setup.{Setup}
 use Rattle.robust.specs.Pass.{Pass, IsPass, spot_now}
 use Rattle.robust.proofs.Running.{spot_begun}
 use Rattle.robust.specs.Lasting.{Within, Lasts}
-use Rattle.robust.specs.Under.{Replies, Mends, IsWord, IsUnder, Begun}
+use Rattle.robust.specs.Under.{Replies, Mends, IsWord, IsUnder, Begun, Appends}
+use Rattle.rmeworld.specs.Refused.{is_idle}
 
 within_puts : (xs : List (ℕ × ℕ)) (r : Script Reply) (k : ℕ) → Within k r → Within (length xs + k) (puts xs r)
 within_puts [] r k h = let e : k ≡ 0 + k = omega arith in subst (λ (m : ℕ). Within m r) e h
@@ -69,18 +69,28 @@ within_append l p seq value few = λ closed count last.
 within_redo : (l : Layout) (p at seq : ℕ) (value : List ℕ) → length value ≤ 8 → Within 20 (redo l p at seq value)
 within_redo l p at seq value few = within_more (length (apply_steps l p (record_of at seq value)) + 0) 20 (redo l p at seq value) (let s = apply_length l p (record_of at seq value) in omega arith) (within_puts (apply_steps l p (record_of at seq value)) (Done (reply.Mended true)) 0 tt)
 
--- each reply of the repair is Mended
-mends_puts : (xs : List (ℕ × ℕ)) (r : Script Reply) → Replies Mends r → Replies Mends (puts xs r)
-mends_puts [] r h = h
-mends_puts (x ∷ xs) r h = mends_puts xs r h
+-- each reply of a script
+module _ (P : Reply → Type 0) where
+  replies_puts : (xs : List (ℕ × ℕ)) (r : Script Reply) → Replies P r → Replies P (puts xs r)
+  replies_puts [] r h = h
+  replies_puts (x ∷ xs) r h = replies_puts xs r h
 
-mends_gets : (i n : ℕ) (read : List ℕ) (next : List ℕ → Script Reply) → ((ys : List ℕ) → Replies Mends (next ys)) → Replies Mends (gets i n read next)
-mends_gets i zero read next h = h read
-mends_gets i (suc n) read next h = λ x. mends_gets (i + 1) n (read ++ x ∷ []) next h
+  replies_gets : (i n : ℕ) (read : List ℕ) (next : List ℕ → Script Reply) → ((ys : List ℕ) → Replies P (next ys)) → Replies P (gets i n read next)
+  replies_gets i zero read next h = h read
+  replies_gets i (suc n) read next h = λ x. replies_gets (i + 1) n (read ++ x ∷ []) next h
 
-mends_if : (b : Bool) (x y : Script Reply) → Replies Mends x → Replies Mends y → Replies Mends (if b then x else y)
-mends_if true x y h i = h
-mends_if false x y h i = i
+  replies_if : (b : Bool) (x y : Script Reply) → (b ≡ true → Replies P x) → (b ≡ false → Replies P y) → Replies P (if b then x else y)
+  replies_if true x y h i = h refl
+  replies_if false x y h i = i refl
+
+-- those of an append
+appends : (l : Layout) (p seq : ℕ) (value : List ℕ) → Replies (Appends seq) (append l p seq value)
+appends l p seq value = λ closed count last.
+    let P = Appends seq in
+    replies_if P (seq == 0) _ _ (λ e one. let none = eqb-true seq 0 e in omega arith) (λ some.
+    replies_if P (nat_le seq last) _ _ (λ e. tt) (λ above.
+    replies_if P (nat_lt (last + 1) seq) _ _ (λ e one. let late = ltb-true (last + 1) seq e in omega arith) (λ next.
+    replies_if P (closed == 1) _ _ (λ e. tt) (λ opened. replies_if P (count == l.cap) _ _ (λ e. tt) (λ room. replies_puts P (store_steps l p (record_of count seq value)) (Done reply.Stored) tt)))))
 
 within_repair : (l : Layout) (p : ℕ) → l.width ≤ 8 → Within 40 (repair l p)
 within_repair l p narrow = λ armed.
@@ -88,13 +98,13 @@ within_repair l p narrow = λ armed.
     within_more (l.width + 20) 37 (gets 6 l.width [] (redo l p at seq)) (omega arith) (within_gets 6 l.width [] (redo l p at seq) 20 (λ ys e. within_redo l p at seq ys (omega arith))))
 
 mends_repair : (l : Layout) (p : ℕ) → Replies Mends (repair l p)
-mends_repair l p = λ armed. mends_if (armed == 0) _ _ tt (λ at seq. mends_gets 6 l.width [] (redo l p at seq) (λ ys. mends_puts (apply_steps l p (record_of at seq ys)) (Done (reply.Mended true)) tt))
+mends_repair l p = λ armed. replies_if Mends (armed == 0) _ _ (λ e. tt) (λ e at seq. replies_gets Mends 6 l.width [] (redo l p at seq) (λ ys. replies_puts Mends (apply_steps l p (record_of at seq ys)) (Done (reply.Mended true)) tt))
 
 within_consistent : (l : Layout) (p : ℕ) → l.width ≤ 8 → Within 41 (consistent l p)
 within_consistent l p narrow = λ ruined. within_if 40 (ruined == 1) _ _ tt (within_repair l p narrow)
 
 pub mends_consistent : (l : Layout) (p : ℕ) → Replies Mends (consistent l p)
-mends_consistent l p = λ ruined. mends_if (ruined == 1) _ _ tt (mends_repair l p)
+mends_consistent l p = λ ruined. replies_if Mends (ruined == 1) _ _ (λ e. tt) (λ e. mends_repair l p)
 
 module _ (l : Layout) (p : ℕ) (fits : IsLayout l) where
   lock_few : 3 * l.procs + 11 ≤ 256
@@ -139,7 +149,7 @@ module _ (l : Layout) (p : ℕ) (fits : IsLayout l) where
   begins Consistent s b Free d some = begins_consistent s b d some
   begins (Append seq value) s b Free d some =
       works (Append seq value) 43 _ (append l p seq value) s b (b && (length value == l.width)) d (λ fit. let wide : length value ≡ l.width = eqb-true (length value) l.width (and_parts b (length value == l.width) fit).1 in
-      (tt, refl, (43, within_append l p seq value (let m = fits.most in omega arith), omega arith, tt))) some
+      (appends l p seq value, refl, (43, within_append l p seq value (let m = fits.most in omega arith), omega arith, tt))) some
   begins Close s b Free d some = works Close 2 _ _ s b b d (λ fit. (tt, refl, (2, (λ closed. within_if 1 (closed == 1) _ _ tt tt), omega arith, tt))) some
   begins (Get i) s b Free d some = works (Get i) 1 _ _ s b (nat_lt i 4) d (λ fit. ((λ x. tt), refl, (1, (λ x. tt), omega arith, tt))) some
   begins (Put i v) s b Free d some = works (Put i v) 1 _ _ s b (nat_lt i 4) d (λ fit. (tt, refl, (1, tt, omega arith, tt))) some

@@ -1,5 +1,5 @@
--- At which spots of a whole mailbox call a reply can come: its task's alone is Stored or Already.
-use Rattle.std.proofs.Common.{◌≡◌, ℕ, ◌+◌, ◌==◌, ◌&&◌, nat_lt, Bool, true, false, if◌then◌else◌, ◌⊎◌, List, [], ◌∷◌, ◌++◌, length, Option, Some, None, All, unwrap_or, refl, sym, ap, ◌∙◌, subst, inl, inr}
+-- At which spots of a whole mailbox call a reply can come: but for a mending's only its task's.
+use Rattle.std.proofs.Common.{◌≡◌, ℕ, ◌+◌, ◌==◌, ◌&&◌, nat_lt, Bool, true, false, if◌then◌else◌, List, [], ◌∷◌, ◌++◌, length, Option, Some, None, All, unwrap_or, refl, sym, ap, ◌∙◌, subst}
 use Rattle.std.proofs.lemmas.List.Elements.{All-nil, All-cons, All-head, All-tail}
 use Rattle.rmecore.specs.Place.{Place, Rest, Dead, Reread, Opening, Door, Shutting, Wait, Inside, Leaving, Withdrawing, Unmarking, next, started}
 use Rattle.rmecore.specs.Machine.{answer}
@@ -189,9 +189,10 @@ module _ (t : Task) where
         (find (gone s spot (happenings e)) f fs a more rest (All-tail (λ (g : Entry). OfStart (Brings t) g.step.start) f fs fine)
         (only_before f.step.crashed f.step.start f.by (gone s spot (happenings e)) (All-head (λ (g : Entry). OfStart (Brings t) g.step.start) f fs fine) (only_after spot e only)) k))
 
--- no answer of the lock, of the ruin check or of a mending is Stored or Already
-abbrev pub IsStored : Reply → Type 0
-IsStored r = (r ≡ reply.Stored) ⊎ (r ≡ reply.Already)
+-- the lock and the ruin check answer with no reply, and a mending with such a one alone
+abbrev pub IsTasks : Reply → Type 0
+IsTasks (reply.Mended repaired) = ⊥
+IsTasks r = Unit {0}
 
 lock_mails : (c : Bool) (o : Option CoreDone) (r : Reply) → by_lock c o ≡ Some (Mail r) → ⊥
 lock_mails c None r e = absurd (cc)
@@ -210,9 +211,8 @@ check_mails (reply.Ruined false) false r e = absurd (cc)
 check_mails _ true r e = absurd (cc)
 check_mails _ false r e = absurd (cc)
 
-mend_mails : (told : Reply) (b : Bool) (r : Reply) → Mends told → IsStored r → by_reply Mending b told ≡ Some (Mail r) → ⊥
-mend_mails (reply.Mended x) b r h (inl s) e = absurd (cc)
-mend_mails (reply.Mended x) b r h (inr s) e = absurd (cc)
+mend_mails : (told : Reply) (b : Bool) (r : Reply) → Mends told → IsTasks r → by_reply Mending b told ≡ Some (Mail r) → ⊥
+mend_mails (reply.Mended x) b r h s e = subst IsTasks (let same : r ≡ reply.Mended x = cc in same) s
 mend_mails (reply.Ruined x) b r h s e = absurd (cc)
 mend_mails _ b r h s e = absurd h
 
@@ -226,7 +226,7 @@ ruined b (Done told) r e = absurd (cc)
 ruined b (Asks i rest) r e = absurd (cc)
 ruined b (Writes i v rest) r e = absurd (cc)
 
-mended : (b : Bool) (left : Script Reply) (r : Reply) → Replies Mends left → IsStored r → by_script Mending b left ≡ Some (Mail r) → ⊥
+mended : (b : Bool) (left : Script Reply) (r : Reply) → Replies Mends left → IsTasks r → by_script Mending b left ≡ Some (Mail r) → ⊥
 mended b (Done told) r h s e = mend_mails told b r h s e
 mended b (Asks i rest) r h s e = absurd (cc)
 mended b (Writes i v rest) r h s e = absurd (cc)
@@ -237,9 +237,9 @@ mends_tail (Asks i rest) v h = h v
 mends_tail (Writes i x rest) v h = h
 
 -- the task's alone is
-pub task_mails : (t : Task) (s : Place) (b c : Bool) (e : Errand) (kind : Kind) (v : ℕ) (r : Reply) → Only t e → IsStored r → answer_by s b c e kind v ≡ Some (Mail r) → (left : Script Reply) × (e ≡ Doing (Working t) left)
-task_mails t s b c Free kind v r h stored e = absurd (lock_mails c (answer s kind v) r e)
-task_mails t s b c (Doing Checking left) kind v r h stored e = absurd (checked b (tail left v) r e)
-task_mails t s b c (Doing Ruining left) kind v r h stored e = absurd (ruined b (tail left v) r e)
-task_mails t s b c (Doing Mending left) kind v r h stored e = absurd (mended b (tail left v) r (mends_tail left v h) stored e)
-task_mails t s b c (Doing (Working u) left) kind v r h stored e = (left, ap (λ (w : Task). Doing (Working w) left) h)
+pub task_mails : (t : Task) (s : Place) (b c : Bool) (e : Errand) (kind : Kind) (v : ℕ) (r : Reply) → Only t e → IsTasks r → answer_by s b c e kind v ≡ Some (Mail r) → (left : Script Reply) × (e ≡ Doing (Working t) left)
+task_mails t s b c Free kind v r h its e = absurd (lock_mails c (answer s kind v) r e)
+task_mails t s b c (Doing Checking left) kind v r h its e = absurd (checked b (tail left v) r e)
+task_mails t s b c (Doing Ruining left) kind v r h its e = absurd (ruined b (tail left v) r e)
+task_mails t s b c (Doing Mending left) kind v r h its e = absurd (mended b (tail left v) r (mends_tail left v h) its e)
+task_mails t s b c (Doing (Working u) left) kind v r h its e = (left, ap (λ (w : Task). Doing (Working w) left) h)

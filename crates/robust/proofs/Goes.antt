@@ -2,7 +2,6 @@
 use Rattle.std.proofs.Common.{◌≡◌, ℕ, zero, suc, ◌+◌, ◌<◌, ◌≤◌, Bool, true, false, ◌&&◌, ◌==◌, if◌then◌else◌, ◌⊎◌, List, [], ◌∷◌, Option, Some, None, IsSome, unwrap_or, refl, sym, ap, ◌∙◌, subst, inl, inr, arith}
 use Rattle.rmecore.specs.Place.{Place, Rest, Dead, Reread, Opening, Door, Shutting, Wait, Inside, Leaving, Withdrawing, Unmarking, next}
 use Rattle.rmecore.specs.Machine.{answer, is_blocked}
-use Rattle.rmecore.specs.Refused.{is_idle as is_idle_place}
 use Rattle.rmecore.specs.Paid.{is_glance}
 use Rattle.rmecore.specs.declared.core_call.CoreCall.TheVariants as core
 use Rattle.rmecore.specs.declared.kind.Kind.{Kind}
@@ -27,6 +26,7 @@ use Rattle.rmeworld.specs.declared.answer.Answer.TheVariants.{Mail}
 use Rattle.robust.specs.Under.{under_place, Replies, Mends, IsWord, UnderScript, IsUnder, Fits, Leaves}
 use Rattle.robust.proofs.Lasting.{Burns, burns}
 use Rattle.robust.proofs.Under.{LockTo, lock_to}
+use Rattle.rmecore.specs.Refused.{is_idle as is_idle_place}
 
 -- a step with this answer, blocked or not: the call is at its end, or goes on, with a step fewer unless it was blocked
 abbrev pub SpotTo : Call → ℕ → ℕ → Option Answer → Bool → Spot → Type 0
@@ -66,7 +66,7 @@ module _ (l : Layout) (p k : ℕ) where
   -- the lock's part
   to_place : (call : Call) (s : Place) (b c : Bool) (a : Option Answer) (blocked : Bool) (t : Place) (f : Errand) → LockTo call c s a t → Burns l.procs blocked s t → IsFair s → lock_left l.procs s ≤ suc k
       → SpotTo call l.procs k a blocked (lock_spot s b c t (if is_entry s t then Doing Checking (Asks 0 (λ x. Done (reply.Ruined (x == 1)))) else Free))
-  to_place call s b c (Some a) blocked t f to burnt fair few = (to.0, to.1 (lock_spot s b c t (if is_entry s t then Doing Checking (Asks 0 (λ x. Done (reply.Ruined (x == 1)))) else Free)))
+  to_place call s b c (Some a) blocked t f to burnt fair few = (to.0, to.1 (lock_spot s b c t (if is_entry s t then Doing Checking (Asks 0 (λ x. Done (reply.Ruined (x == 1)))) else Free)) refl)
   to_place call s b c None true t f (inl h) burnt fair few = absurd (let bad : is_entry s s ≡ true = ap (is_entry s) (sym burnt) ∙ h.0 in let no = not_itself s in cc)
   to_place call s b c None false t f (inl h) burnt fair few =
       let less : lock_left l.procs Inside < lock_left l.procs s = subst (λ (u : Place). lock_left l.procs u < lock_left l.procs s) (entry_inside s t h.0) burnt.1 in
@@ -141,7 +141,7 @@ module _ (l : Layout) (p k : ℕ) where
   goes Lock b c Checking (Done r) m u w few = check_ends b c r m few
   goes Unlock b c Ruining (Done r) m u w few = (refl, subst (λ (d : Bool). under_place Unlock d Leaving ≡ true) (sym u) refl, (tt, omega arith))
   goes Consistent b c Mending (Done r) m u w few = mend_ends b c r u
-  goes (Append seq value) b c (Working task) (Done r) m u w few = (tt, (refl, refl))
+  goes (Append seq value) b c (Working task) (Done r) m u w few = (u, (refl, refl))
   goes Close b c (Working task) (Done r) m u w few = (tt, (refl, refl))
   goes (Get i) b c (Working task) (Done r) m u w few = (word_ends i r u, tt)
   goes (Put i v) b c (Working task) (Done r) m u w few = (tt, tt)
@@ -151,7 +151,7 @@ module _ (l : Layout) (p k : ℕ) where
   under_next Lock c Checking i x rest u = tt
   under_next Unlock c Ruining i x rest u = u
   under_next Consistent c Mending i x rest u = u x
-  under_next (Append seq value) c (Working task) i x rest u = tt
+  under_next (Append seq value) c (Working task) i x rest u = u x
   under_next Close c (Working task) i x rest u = tt
   under_next (Get j) c (Working task) i x rest u = u x
   under_next (Put j v) c (Working task) i x rest u = tt
@@ -161,7 +161,7 @@ module _ (l : Layout) (p k : ℕ) where
   under_put Lock c Checking i v rest u = tt
   under_put Unlock c Ruining i v rest u = u
   under_put Consistent c Mending i v rest u = u
-  under_put (Append seq value) c (Working task) i v rest u = tt
+  under_put (Append seq value) c (Working task) i v rest u = u
   under_put Close c (Working task) i v rest u = tt
   under_put (Get j) c (Working task) i v rest u = u
   under_put (Put j x) c (Working task) i v rest u = tt

@@ -14,6 +14,7 @@ pub mod Chained
 pub mod WholeCalls
 pub mod Mended
 pub mod WholeSteps
+pub mod Outside
 pub mod OneLockStories
 pub mod Shown
 pub mod Glanced
@@ -21,8 +22,15 @@ pub mod Headline
 pub mod Errands
 pub mod Appended
 pub mod Sending
+pub mod Failing
 pub mod Numbered
+pub mod Together
 pub mod AllSent
+pub mod LabEnds
+pub mod Ruins
+pub mod Unruined
+pub mod Ordered
+pub mod Told
 pub mod Board
 pub mod OneStep
 pub mod Walked

@@ -1,6 +1,6 @@
 -- Numbered entries, of which each sender's are such as it sent: how many each has, and how many there are.
 use Rattle.std.proofs.Common.{◌≡◌, ℕ, zero, suc, ◌+◌, ◌*◌, ◌<◌, ◌≤◌, ◌==◌, Bool, true, false, List, [], ◌∷◌, ◌++◌, length, filter, count_by, All, refl, sym, ap, ◌∙◌, subst, inl, inr, arith, append-nil, eqb-true, eq-eqb}
-use Rattle.std.proofs.lemmas.Bool.{cases_Bool, cases_eq}
+use Rattle.std.proofs.lemmas.Bool.{cases_Bool, cases_eq, cases_lt}
 use Rattle.std.proofs.lemmas.List.Elements.{All-nil, All-head, All-tail, All-push, All-weaker, filter-append}
 use Rattle.redomail.specs.declared.layout.Layout.{Layout}
 use Rattle.redomail.specs.declared.message.Message.{Message}
@@ -10,7 +10,7 @@ use Rattle.redomail.specs.Shape.{entry, entries, count_of, IsNumbered}
 use Rattle.redomail.proofs.Changes.{count_of-push}
 use Rattle.judge.proofs.Counts.{one_if, count_cons}
 use Rattle.robust.specs.Lab.{words_sent, message_sent, messages_sent, messages_by}
-use Rattle.robust.proofs.Appended.{all_at}
+use Rattle.robust.proofs.Appended.{all_at, among_more}
 use Rattle.robust.proofs.Gathered.{all_left, all_right}
 
 -- the last of one more
@@ -62,6 +62,27 @@ module _ (l : Layout) (w : Words) where
             let seq : e.seq ≡ count_of p (es k) + 1 = (h k (omega arith)).1 ∙ ap (λ (q : ℕ). count_of q (es k) + 1) same in
             omega (arith, c, one, seq, last))
         | inr other ↦ (let none = not_its p e.sender other in omega (arith, c, none, old))
+      ]
+
+  -- each sender has all numbers up to its count
+  pub has_all : (k p seq : ℕ) → IsNumbered l w k → 1 ≤ seq → seq ≤ count_of p (es k) → IsAmong p seq (es k)
+  has_all zero p seq h some within = absurd (omega (arith, some, within))
+  has_all (suc k) p seq h some within =
+      let e = entry l w k in
+      let c = count_of-push p (es k) e in
+      elim (cases_lt (count_of p (es k)) seq) [
+        | inr old ↦ among_more p seq (es k) (e ∷ []) (has_all k p seq (fewer k h) some old)
+        | inl above ↦
+            elim (cases_eq e.sender p) [
+              | inl same ↦
+                  (let one = is_its p e.sender same in
+                  let count : count_of e.sender (es k) ≡ count_of p (es k) = ap (λ (q : ℕ). count_of q (es k)) same in
+                  let number = (h k (omega arith)).1 in
+                  let its : e.seq ≡ seq = omega (arith, c, one, count, number, within, above) in
+                  let it : e ≡ message p seq e.value = λ i. message (same i) (its i) e.value in
+                  record { before = es k; value = e.value; later = []; found = ap (λ (m : Message). es k ++ m ∷ []) it })
+              | inr other ↦ absurd (let none = not_its p e.sender other in omega (arith, c, none, within, above))
+            ]
       ]
 
   -- each sender's entries are what it sent
@@ -144,3 +165,32 @@ totals_each (suc n) each ms h =
 
 pub counted_all : (n each : ℕ) (ms : List Message) → All (λ (m : Message). m.sender < n) ms → ((p : ℕ) → p < n → count_of p ms ≡ each) → length ms ≡ n * each
 counted_all n each ms all h = all_counted n ms all ∙ totals_each n each ms h
+
+totals_most : (n each : ℕ) (ms : List Message) → ((p : ℕ) → p < n → count_of p ms ≤ each) → totals n ms ≤ n * each
+unfolding totals
+totals_most zero each ms h = omega arith
+totals_most (suc n) each ms h =
+    let old = totals_most n each ms (λ p low. h p (omega (arith, low))) in
+    let here = h n (omega arith) in
+    let product : suc n * each ≡ n * each + each = grind arith in
+    omega (arith, old, here, product)
+
+totals_less : (n each p : ℕ) (ms : List Message) → ((q : ℕ) → q < n → count_of q ms ≤ each) → p < n → count_of p ms < each → totals n ms < n * each
+unfolding totals
+totals_less zero each p ms h below less = absurd (omega (arith, below))
+totals_less (suc n) each p ms h below less =
+    let product : suc n * each ≡ n * each + each = grind arith in
+    elim (cases_eq p n) [
+      | inl same ↦
+          (let old = totals_most n each ms (λ q low. h q (omega (arith, low))) in
+          let count : count_of n ms ≡ count_of p ms = ap (λ (q : ℕ). count_of q ms) (sym same) in
+          omega (arith, old, count, less, product))
+      | inr other ↦
+          (let old = totals_less n each p ms (λ q low. h q (omega (arith, low))) (omega (arith, below, other)) less in
+          let here = h n (omega arith) in
+          omega (arith, old, here, product))
+    ]
+
+-- where one sender has fewer, there are fewer
+pub fewer_all : (n each p : ℕ) (ms : List Message) → All (λ (m : Message). m.sender < n) ms → ((q : ℕ) → q < n → count_of q ms ≤ each) → p < n → count_of p ms < each → length ms < n * each
+fewer_all n each p ms all h below less = subst (λ (k : ℕ). k < n * each) (sym (all_counted n ms all)) (totals_less n each p ms h below less)

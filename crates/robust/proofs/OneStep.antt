@@ -62,14 +62,14 @@ module _ (s : Setup) where
           let here : u.spots p ≡ w.spots p = put_other w.spots (who h) _ p (λ e. eqb-false (who h) p is (sym e)) in
           rw is (subst (λ (x : Spot). Goes s x (own_happenings p hs)) here later)
 
-  run_goes : (es : List Entry) (p : ℕ) → IsRun s es → Goes s at_rest (spelled (own p es))
+  pub run_goes : (es : List Entry) (p : ℕ) → IsRun s es → Goes s at_rest (spelled (own p es))
   run_goes es p run = subst (Goes s at_rest) (own_spelled p es) (own_goes at_first (spelled es) p run)
 
-  goes_front : (spot : Spot) (xs ys : List Happening) → Goes s spot (xs ++ ys) → Goes s spot xs
+  pub goes_front : (spot : Spot) (xs ys : List Happening) → Goes s spot (xs ++ ys) → Goes s spot xs
   goes_front spot [] ys g = tt
   goes_front spot (x ∷ xs) ys g = (g.0, goes_front (unwrap_or (next_spot s.layout s.limit spot x) spot) xs ys g.1)
 
-  goes_back : (spot : Spot) (xs ys : List Happening) → Goes s spot (xs ++ ys) → Goes s (gone s spot xs) ys
+  pub goes_back : (spot : Spot) (xs ys : List Happening) → Goes s spot (xs ++ ys) → Goes s (gone s spot xs) ys
   goes_back spot [] ys g = g
   goes_back spot (x ∷ xs) ys g = goes_back (unwrap_or (next_spot s.layout s.limit spot x) spot) xs ys g.1
 

@@ -14,6 +14,7 @@ use Rattle.rmecore.proofs.Runs.{guard}
 use Rattle.rmeworld.specs.declared.call.Call.{Call}
 use Rattle.rmeworld.specs.declared.call.Call.TheVariants.{Lock, Unlock, Consistent, Recover, Append, Close, Get, Put, Withdraw}
 use Rattle.rmeworld.specs.declared.answer.Answer.{Answer}
+use Rattle.rmeworld.specs.declared.answer.Answer.TheVariants.{NumbersSpent, NotRecoverable, Unlocked}
 use Rattle.rmeworld.specs.Entered.{is_entry}
 use Rattle.rmeworld.specs.Answered.{by_lock}
 use Rattle.rmeworld.specs.Spot.{Spot}
@@ -21,7 +22,7 @@ use Rattle.robust.specs.Under.{under_place, Fits, Leaves}
 
 -- what a step of the lock's part leads to
 abbrev pub LockTo : Call → Bool → Place → Option Answer → Place → Type 0
-LockTo call c s (Some a) t = Fits call a × ((u : Spot) → Leaves call a u)
+LockTo call c s (Some a) t = Fits call a × ((u : Spot) → u.lock ≡ t → Leaves call a u)
 LockTo call c s None t = ((is_entry s t ≡ true) × (call ≡ Lock)) ⊎ ((is_entry s t ≡ false) × (is_idle_place t ≡ false) × (under_place call c t ≡ true))
 
 module _ (n limit p : ℕ) where
@@ -34,12 +35,12 @@ module _ (n limit p : ℕ) where
   relock zero (suc y) (suc v) = inl (refl, refl)
 
   recover : (x y v : ℕ) → LockTo Recover false (Reread core.Recover (x ∷ y ∷ [])) (by_lock false (found x y v)) (recovered x y v)
-  recover (suc x) zero v = (tt, λ u. tt)
+  recover (suc x) zero v = (tt, λ u e. tt)
   recover (suc x) (suc y) v = inr (refl, refl, refl)
-  recover zero zero zero = (tt, λ u. tt)
+  recover zero zero zero = (tt, λ u e. tt)
   recover zero zero (suc v) = inr (refl, refl, refl)
-  recover zero (suc y) zero = (tt, λ u. tt)
-  recover zero (suc y) (suc v) = (tt, λ u. tt)
+  recover zero (suc y) zero = (tt, λ u e. tt)
+  recover zero (suc y) (suc v) = (tt, λ u e. tt)
 
   -- a step of a lock on its way in
   lock_in : (s : Place) (kind : Kind) (word : Word) (v : ℕ) → under_place Lock false s ≡ true → IsSome (next n limit p s kind word v) → is_glance kind ≡ false → LockTo Lock false s (by_lock false (answer s kind v)) (unwrap_or (next n limit p s kind word v) s)
@@ -50,7 +51,7 @@ module _ (n limit p : ℕ) where
   lock_in Opening Opens (ChoosingOf q) v u some moves = guard _ (Door (others n p) 0) _ (LockTo Lock false Opening None) some (λ e. inr (refl, refl, refl))
   lock_in (Door unread m) Peeks (NumberOf j) v u some moves = guard _ (Door (without j unread) (max m v)) _ (LockTo Lock false (Door unread m) None) some (λ e. inr (refl, refl, refl))
   lock_in (Door [] m) Takes (NumberOf q) v u some moves = guard _ (Shutting core.Lock v) _ (LockTo Lock false (Door [] m) None) some (λ e. inr (refl, refl, refl))
-  lock_in (Door [] m) Shuts (ChoosingOf q) v u some moves = (tt, λ u. tt)
+  lock_in (Door [] m) Shuts (ChoosingOf q) v u some moves = guard _ Rest _ (LockTo Lock false (Door [] m) (Some NumbersSpent)) some (λ e. (tt, λ t is. is))
   lock_in (Shutting core.Lock k) Shuts (ChoosingOf q) v u some moves = guard _ (Wait k (others n p) None) _ (LockTo Lock false (Shutting core.Lock k) None) some (λ e. inr (refl, refl, refl))
   lock_in (Wait k unpassed None) Looks (ChoosingOf j) v u some moves =
       guard (has unpassed j) (if v == 0 then Wait k unpassed (Some j) else Wait k unpassed None) (Wait k unpassed None) (LockTo Lock false (Wait k unpassed None) None) some
@@ -66,7 +67,7 @@ module _ (n limit p : ℕ) where
   -- a step of a lock that was turned away
   lock_out : (s : Place) (kind : Kind) (word : Word) (v : ℕ) → under_place Lock true s ≡ true → IsSome (next n limit p s kind word v) → is_glance kind ≡ false → LockTo Lock true s (by_lock true (answer s kind v)) (unwrap_or (next n limit p s kind word v) s)
   lock_out Leaving Drops (NumberOf q) v u some moves = guard _ (Unmarking core.Unlock) _ (LockTo Lock true Leaving None) some (λ e. inr (refl, refl, refl))
-  lock_out (Unmarking core.Unlock) Marks (InsideOf q) v u some moves = (tt, λ u. tt)
+  lock_out (Unmarking core.Unlock) Marks (InsideOf q) v u some moves = guard _ Rest _ (LockTo Lock true (Unmarking core.Unlock) (Some NotRecoverable)) some (λ e. (tt, λ t is. is))
   lock_out s Glances word v u some moves = absurd (cc)
   lock_out _ _ _ v u some moves = absurd (cc)
 
@@ -75,19 +76,19 @@ module _ (n limit p : ℕ) where
   recovers (Reread core.Recover (x ∷ [])) Rereads (NumberOf q) v u some moves = guard _ (Reread core.Recover (x ∷ v ∷ [])) _ (LockTo Recover false (Reread core.Recover (x ∷ [])) None) some (λ e. inr (refl, refl, refl))
   recovers (Reread core.Recover (x ∷ y ∷ [])) Rereads (InsideOf q) v u some moves =
       guard _ (recovered x y v) _ (LockTo Recover false (Reread core.Recover (x ∷ y ∷ [])) (by_lock false (found x y v))) some (λ e. recover x y v)
-  recovers (Shutting core.Recover k) Shuts (ChoosingOf q) v u some moves = (tt, λ u. tt)
-  recovers (Unmarking core.Recover) Marks (InsideOf q) v u some moves = (tt, λ u. tt)
+  recovers (Shutting core.Recover k) Shuts (ChoosingOf q) v u some moves = (tt, λ t is. tt)
+  recovers (Unmarking core.Recover) Marks (InsideOf q) v u some moves = (tt, λ t is. tt)
   recovers s Glances word v u some moves = absurd (cc)
   recovers _ _ _ v u some moves = absurd (cc)
 
   unlocks : (s : Place) (kind : Kind) (word : Word) (v : ℕ) → under_place Unlock false s ≡ true → IsSome (next n limit p s kind word v) → is_glance kind ≡ false → LockTo Unlock false s (by_lock false (answer s kind v)) (unwrap_or (next n limit p s kind word v) s)
   unlocks Leaving Drops (NumberOf q) v u some moves = guard _ (Unmarking core.Unlock) _ (LockTo Unlock false Leaving None) some (λ e. inr (refl, refl, refl))
-  unlocks (Unmarking core.Unlock) Marks (InsideOf q) v u some moves = (tt, λ u. tt)
+  unlocks (Unmarking core.Unlock) Marks (InsideOf q) v u some moves = guard _ Rest _ (LockTo Unlock false (Unmarking core.Unlock) (Some Unlocked)) some (λ e. (tt, λ t is. is))
   unlocks s Glances word v u some moves = absurd (cc)
   unlocks _ _ _ v u some moves = absurd (cc)
 
   withdraws : (s : Place) (kind : Kind) (word : Word) (v : ℕ) → under_place Withdraw false s ≡ true → IsSome (next n limit p s kind word v) → is_glance kind ≡ false → LockTo Withdraw false s (by_lock false (answer s kind v)) (unwrap_or (next n limit p s kind word v) s)
-  withdraws Withdrawing Drops (NumberOf q) v u some moves = (tt, λ u. tt)
+  withdraws Withdrawing Drops (NumberOf q) v u some moves = (tt, λ t is. tt)
   withdraws s Glances word v u some moves = absurd (cc)
   withdraws _ _ _ v u some moves = absurd (cc)
 

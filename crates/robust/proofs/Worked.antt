@@ -1,6 +1,5 @@
 -- What a lab has of its arena when its workers have handed their members back.
 use Rattle.std.proofs.Common.{◌≡◌, ◌≢◌, ◌⊎◌, ℕ, zero, suc, ◌+◌, ◌<◌, ◌≤◌, ◌==◌, ◌||◌, Bool, true, false, List, [], ◌∷◌, ◌++◌, map, length, Result, Ok, Err, IfOk, OnOk, All, refl, sym, ap, ◌∙◌, subst, inl, inr, arith, append-nil, append_assoc}
-use Rattle.std.specs.List.{list_any}
 use Rattle.std.proofs.lemmas.List.{map-append}
 use Rattle.std.proofs.lemmas.Bool.{true≢false, cases_eq, cases_lt}
 use Rattle.std.proofs.lemmas.List.Elements.{All-nil, All-cons, All-head, All-tail}
@@ -17,9 +16,11 @@ use Rattle.robust.specs.Rule.{count_from}
 use Rattle.robust.specs.Running.{Seated}
 use Rattle.robust.specs.Making.{fresh_member, fresh_members}
 use Rattle.robust.specs.Gathering.{OneArena, has_member, procs_of, IsMissing}
+use Rattle.robust.specs.LabFaults.{EndsSo}
 use Rattle.robust.specs.Sending.{IsNew, HasSent}
 use Rattle.robust.specs.Working.{seat_of, seats_of}
 use Rattle.robust.proofs.Keeps.{count_has}
+use Rattle.std.specs.List.{list_any}
 
 abbrev Seat : Type 0
 Seat = TableId × Setup × ℕ
@@ -103,11 +104,11 @@ module _ (t : TableId) (s : Setup) where
       let there = same_members h.0 xs (fresh_members t s) e ∙ fresh_has h.0 0 s.layout.procs ∙ count_has h.0 0 s.layout.procs (omega arith) (omega (arith, h.1, procs)) in
       true≢false (sym there ∙ h.2)
 
-  new_counted : (k n : ℕ) → All IsNew (map (fresh_member t s) (count_from k n))
-  new_counted k zero = All-nil _
-  new_counted k (suc n) = All-cons IsNew (fresh_member t s k) (map (fresh_member t s) (count_from (suc k) n)) refl (new_counted (suc k) n)
+  new_counted : (k n : ℕ) → All (IsNew s) (map (fresh_member t s) (count_from k n))
+  new_counted k zero = All-nil (IsNew s)
+  new_counted k (suc n) = All-cons (IsNew s) (fresh_member t s k) (map (fresh_member t s) (count_from (suc k) n)) (refl, refl, refl) (new_counted (suc k) n)
 
-  pub fresh_new : All IsNew (fresh_members t s)
+  pub fresh_new : All (IsNew s) (fresh_members t s)
   fresh_new = new_counted 0 s.layout.procs
 
   length_counted : (k n : ℕ) → length (map (fresh_member t s) (count_from k n)) ≡ n
@@ -150,7 +151,7 @@ members_sent s [] worked ended = All-nil _
 members_sent s (d ∷ ds) worked ended =
     let here = All-head (HasWorked s) d ds worked in
     let all = All-head (λ (d : Done). d.ending ≡ AllSent) d ds ended in
-    All-cons (HasSent s.width s.messages) d.member (map (λ (d : Done). d.member) ds) (here.0, here.1 all) (members_sent s ds (All-tail (HasWorked s) d ds worked) (All-tail (λ (d : Done). d.ending ≡ AllSent) d ds ended))
+    All-cons (HasSent s.width s.messages) d.member (map (λ (d : Done). d.member) ds) (here.0, subst (EndsSo s d.member) all here.1) (members_sent s ds (All-tail (HasWorked s) d ds worked) (All-tail (λ (d : Done). d.ending ≡ AllSent) d ds ended))
 
 -- two facts of an answer
 pub if_both : {T E : Type 0} (P Q R : T → Type 0) (r : Result T E) → IfOk r P → IfOk r Q → ((x : T) → P x → Q x → R x) → IfOk r R

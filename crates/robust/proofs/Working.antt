@@ -3,7 +3,6 @@ use Rattle.std.proofs.Common.{◌≡◌, ◌⊎◌, ℕ, ◌+◌, ◌<◌, Bool,
 use Rattle.atomic_table.specs.Seated.{TableId}
 use Rattle.rmeworld.specs.declared.call.Call.{Call}
 use Rattle.rmeworld.specs.declared.call.Call.TheVariants.{Lock, Append}
-use Rattle.rmeworld.specs.declared.answer.Answer.{Answer}
 use Rattle.rmeworld.specs.Refused.{is_idle}
 use Rattle.redomail.specs.declared.reply.Reply.{Reply}
 use Rattle.robust.specs.declared.entry.Entry.{Entry}
@@ -16,6 +15,7 @@ use Rattle.robust.specs.Whole.{WholeEnds, WholeFails, AppendFails, IsWithin}
 use Rattle.robust.specs.Lab.{words_sent}
 use Rattle.robust.specs.Sending.{IsSending}
 use Rattle.robust.specs.Working.{seat_of}
+use Rattle.rmeworld.specs.declared.answer.Answer.{Answer}
 
 either_seat : (b : Bool) (x : Seated) → seat_of (if b then x else fell x) ≡ seat_of x
 either_seat true x = refl
@@ -44,6 +44,15 @@ pub sent_seat : (x y : Seated) (task : Call) (seq : ℕ) (value : List ℕ) (a b
     → IfOk r (λ reply. (turns : ℕ) × WholeEnds (began (ready x) Lock) turns task (Ok reply) y a b c d) → IfErr r (λ e. (turns : ℕ) × AppendFails x turns seq value y a b c d e) → seat_of y ≡ seat_of x
 sent_seat x y task seq value a b c d (Ok reply) h k = whole_seat x h.0 task (Ok reply) y a b c d h.1
 sent_seat x y task seq value a b c d (Err e) h k = append_seat x k.0 seq value y a b c d e k.1
+
+-- any whole mailbox call
+pub within_seat : (x y : Seated) (turns : ℕ) (task : Call) (a b c d : ℕ) (r : Result Reply LockFault) → IfOk r (λ reply. WholeEnds (began (ready x) Lock) turns task (Ok reply) y a b c d) → IfErr r (WholeFails x turns task y a b c d) → seat_of y ≡ seat_of x
+within_seat x y turns task a b c d (Ok reply) h k = whole_seat x turns task (Ok reply) y a b c d h
+within_seat x y turns task a b c d (Err e) h k = fails_seat x turns task y a b c d e k
+
+pub mail_seat : (x y : Seated) (task : Call) (a b c d : ℕ) (r : Result Reply LockFault) → IfOk r (λ reply. (turns : ℕ) × WholeEnds (began (ready x) Lock) turns task (Ok reply) y a b c d) → IfErr r (λ e. (turns : ℕ) × WholeFails x turns task y a b c d e) → seat_of y ≡ seat_of x
+mail_seat x y task a b c d (Ok reply) h k = whole_seat x h.0 task (Ok reply) y a b c d h.1
+mail_seat x y task a b c d (Err e) h k = fails_seat x k.0 task y a b c d e k.1
 
 -- the same seat sends the same
 pub fits_seat : (width k : ℕ) (x y : Seated) (seq : ℕ) (value : List ℕ) → seat_of x ≡ seat_of y → IsSending width k y.pass.by (Append seq value) → IsSending width k x.pass.by (Append seq value)

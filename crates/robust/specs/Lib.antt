@@ -13,13 +13,16 @@ pub mod Making
 pub mod Lab
 pub mod Endings
 pub mod Headline
+pub mod Telling
 pub mod Board
 pub mod OneLockStory
 pub mod OneLockMember
 pub mod OneLockAnswers
 pub mod OneLockLab
 pub mod Reading
+pub mod Ruins
 pub mod Gathering
 pub mod Working
 pub mod Sending
+pub mod LabFaults
 pub mod Worked

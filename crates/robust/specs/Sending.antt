@@ -2,8 +2,10 @@
 use Rattle.std.specs.Prelude.{◌≡◌, ℕ, ◌≤◌, List, [], Option, Some, None, All}
 use Rattle.redomail.specs.Mailbox.{IsAmong}
 use Rattle.rmeworld.specs.declared.call.Call.{Call}
-use Rattle.rmeworld.specs.declared.call.Call.TheVariants.{Append}
+use Rattle.rmeworld.specs.declared.call.Call.TheVariants.{Lock, Unlock, Consistent, Append}
 use Rattle.robust.specs.declared.entry.Entry.{Entry}
+use Rattle.robust.specs.declared.setup.Setup.{Setup}
+use Rattle.robust.specs.Faults.{refusal_now, ready}
 use Rattle.robust.specs.Headline.{shown_by}
 use Rattle.robust.specs.Lab.{words_sent}
 use Rattle.robust.specs.Pass.{own_of}
@@ -14,16 +16,19 @@ abbrev pub OfStart : (Call → Type 0) → Option Call → Type 0
 OfStart P None = Unit {0}
 OfStart P (Some call) = P call
 
--- a call that appends nothing but one of the first k messages of worker p
+-- a call of worker p: it locks, mends and unlocks, and appends one of its first k messages
 abbrev pub IsSending : ℕ → ℕ → ℕ → Call → Type 0
 IsSending width k p (Append seq value) = (seq ≤ k) × (value ≡ words_sent p seq width)
-IsSending width k p call = Unit {0}
+IsSending width k p Lock = Unit {0}
+IsSending width k p Consistent = Unit {0}
+IsSending width k p Unlock = Unit {0}
+IsSending width k p _ = ⊥
 
 -- all calls that these entries start are such
 abbrev pub AreSending : ℕ → ℕ → ℕ → List Entry → Type 0
 AreSending width k p es = All (λ (e : Entry). OfStart (IsSending width k p) e.step.start) es
 
--- the member has appended nothing but its worker's first k messages
+-- the member has started no other calls than these, of its own worker
 abbrev pub SendsOnly : ℕ → ℕ → Seated → Type 0
 SendsOnly width k x = AreSending width k x.pass.by (own_of x.pass)
 
@@ -35,6 +40,6 @@ HasShown seq x = IsAmong x.pass.by seq (shown_by x.pass.setup x.pass.seen)
 abbrev pub HasSent : ℕ → ℕ → Seated → Type 0
 HasSent width k x = SendsOnly width k x × HasShown k x
 
--- the member has taken no step
-abbrev pub IsNew : Seated → Type 0
-IsNew x = own_of x.pass ≡ []
+-- the member, of an arena of this setup, has taken no step, and may lock
+abbrev pub IsNew : Setup → Seated → Type 0
+IsNew z x = (x.pass.setup ≡ z) × (own_of x.pass ≡ []) × (refusal_now (ready x) Lock ≡ None)

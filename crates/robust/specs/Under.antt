@@ -1,9 +1,9 @@
 -- Which call a process is about, from its spot alone, and which answers the call can have.
-use Rattle.std.specs.Prelude.{◌≡◌, ℕ, Bool, true, false, List, Option, Some, None}
-use Rattle.rmecore.specs.Place.{Place, Reread, Opening, Door, Shutting, Wait, Inside, Leaving, Withdrawing, Unmarking}
+use Rattle.std.specs.Prelude.{◌≡◌, ℕ, Bool, true, false, List, Option, Some, None, ◌≢◌}
+use Rattle.rmecore.specs.Place.{Place, Rest, Reread, Opening, Door, Shutting, Wait, Inside, Leaving, Withdrawing, Unmarking}
 use Rattle.rmecore.specs.declared.core_call.CoreCall.TheVariants as core
 use Rattle.redomail.specs.declared.reply.Reply.{Reply}
-use Rattle.redomail.specs.declared.reply.Reply.TheVariants.{Mended, Ruined, Word}
+use Rattle.redomail.specs.declared.reply.Reply.TheVariants.{Stored, Already, OutOfOrder, Full, Closed, Mended, Ruined, Word}
 use Rattle.redomail.specs.Script.{Script, Get as Asks, Put as Writes, Done}
 use Rattle.rmeworld.specs.declared.call.Call.{Call}
 use Rattle.rmeworld.specs.declared.call.Call.TheVariants.{Lock, Unlock, Consistent, Recover, Append, Close, Get, Put, Withdraw}
@@ -48,12 +48,21 @@ abbrev pub IsWord : Reply → Type 0
 IsWord (Word v) = Unit {0}
 IsWord _ = ⊥
 
+-- the replies of an append with this number. The first one is never out of order
+abbrev pub Appends : ℕ → Reply → Type 0
+Appends seq Stored = Unit {0}
+Appends seq Already = Unit {0}
+Appends seq OutOfOrder = seq ≢ 1
+Appends seq Full = Unit {0}
+Appends seq Closed = Unit {0}
+Appends seq _ = ⊥
+
 -- a script of a call
 abbrev pub UnderScript : Call → Bool → Why → Script Reply → Type 0
 UnderScript Lock c Checking left = Unit {0}
 UnderScript Unlock c Ruining left = c ≡ false
 UnderScript Consistent c Mending left = Replies Mends left
-UnderScript (Append seq value) c (Working task) left = Unit {0}
+UnderScript (Append seq value) c (Working task) left = Replies (Appends seq) left
 UnderScript Close c (Working task) left = Unit {0}
 UnderScript (Get i) c (Working task) left = Replies IsWord left
 UnderScript (Put i v) c (Working task) left = Unit {0}
@@ -78,7 +87,7 @@ Fits Unlock Unlocked = Unit {0}
 Fits Withdraw Withdrawn = Unit {0}
 Fits Consistent NotRecoverable = Unit {0}
 Fits Consistent (Mail (Mended repaired)) = Unit {0}
-Fits (Append seq value) (Mail reply) = Unit {0}
+Fits (Append seq value) (Mail reply) = Appends seq reply
 Fits Close (Mail reply) = Unit {0}
 Fits (Get i) (Mail (Word v)) = Unit {0}
 Fits (Put i v) (Mail reply) = Unit {0}
@@ -88,11 +97,14 @@ Fits _ _ = ⊥
 abbrev pub IsHolder : Spot → Type 0
 IsHolder t = (t.lock ≡ Inside) × (t.errand ≡ Free)
 
--- the spot that the answer of a call leaves, for the calls of a holder: it is inside, and after a lock or a mending it has
--- nothing to mend but where the owner died
+-- the spot that the answer of a call leaves: a holder is inside, and after a lock or a mending it has nothing to mend but where
+-- the owner died; after an unlock, or a lock that was turned away, the process is at rest
 abbrev pub Leaves : Call → Answer → Spot → Type 0
 Leaves Lock Clean t = IsHolder t × (t.mended ≡ true)
 Leaves Lock OwnerDied t = IsHolder t × (t.mended ≡ false)
+Leaves Lock NumbersSpent t = t.lock ≡ Rest
+Leaves Lock NotRecoverable t = t.lock ≡ Rest
+Leaves Unlock Unlocked t = t.lock ≡ Rest
 Leaves Consistent NotRecoverable t = IsHolder t
 Leaves Consistent (Mail reply) t = IsHolder t × (t.mended ≡ true)
 Leaves (Append seq value) (Mail reply) t = IsHolder t

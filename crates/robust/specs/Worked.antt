@@ -1,12 +1,14 @@
 -- What workers that have ended hand back.
-use Rattle.std.specs.Prelude.{◌≡◌, ℕ}
+use Rattle.std.specs.Prelude.{ℕ, None}
 use Rattle.atomic_table.specs.Seated.{TableId}
 use Rattle.robust.specs.declared.setup.Setup.{Setup}
 use Rattle.robust.specs.declared.lab.spec.Spec.{Spec}
 use Rattle.robust.specs.declared.lab.worker.Done.{Done}
-use Rattle.robust.specs.declared.lab.worker.Ending.TheVariants.{AllSent}
 use Rattle.robust.specs.declared.lab.worker.HandsBack.{HandsBack}
-use Rattle.robust.specs.Sending.{SendsOnly, HasShown}
+use Rattle.robust.specs.LabFaults.{EndsSo}
+use Rattle.robust.specs.Pass.{own_of}
+use Rattle.robust.specs.Ruins.{AreInOrder}
+use Rattle.robust.specs.Sending.{SendsOnly}
 use Rattle.robust.specs.Working.{seat_of}
 
 -- the seat of the member that a worker has handed back
@@ -20,6 +22,7 @@ seat_promised promise = seat_of promise.0.value
 abbrev pub sizes_of : Spec → Setup
 sizes_of s = record { layout = record { procs = s.procs; cap = s.cap; width = s.width }; limit = s.limit }
 
--- A worker that has ended has appended nothing but messages of its own, and where it came to its end the last is shown.
+-- A worker that has ended has appended nothing but messages of its own, has ended as workers do, and has started its calls in
+-- order.
 abbrev pub HasWorked : Spec → Done → Type 0
-HasWorked s done = SendsOnly s.width s.messages done.member × (done.ending ≡ AllSent → HasShown s.messages done.member)
+HasWorked s done = SendsOnly s.width s.messages done.member × EndsSo s done.member done.ending × AreInOrder None (own_of done.member.pass)

@@ -2,6 +2,7 @@
 
 ghost use Rattle.robust.specs.Headline.{EveryRunIsSound};
 ghost use Rattle.robust.specs.Reading.{LoadsTell, RunsShow, EntriesStandInRuns};
+ghost use Rattle.robust.specs.Ruins.{NobodyRuins};
 ghost use Rattle.robust.specs.Tabled.{CallsKeepTheTable};
 ghost use Rattle.robust.specs.WholeSteps.{StoredAppendSteps};
 
@@ -42,3 +43,12 @@ pub fn calls_keep_the_table()
 pub fn steps_of_a_stored_append()
     ensures { StoredAppendSteps }
 {}
+
+/// In a run whose processes all start their calls as the workers of a lab do, an unlock only behind a mending or an append,
+/// nobody ruins the lock, however often they crash.
+pub fn nobody_ruins()
+    ensures { NobodyRuins }
+{
+    rmeworld::laws::messages_were_sent();
+    loads_tell();
+}

@@ -3,6 +3,7 @@ ghost use Rattle.std.specs.Prelude.{◌≡◌, ◌⊎◌, ℕ, ◌≤◌, ◌+�
 ghost use Rattle.rmecore.specs.declared.refusal.Refusal.{Refusal as RefusalOf};
 ghost use Rattle.rmeworld.specs.declared.call.Call.TheVariants.{Lock, Recover};
 ghost use Rattle.rmeworld.specs.OwnSteps.{most_steps};
+ghost use Rattle.rmeworld.specs.Refused.{is_idle};
 ghost use Rattle.robust.specs.Pass.{IsPass, spot_now};
 ghost use Rattle.robust.specs.Running.{began};
 ghost use Rattle.robust.specs.Tabled.{LockCounts, CountsAtMost};
@@ -53,6 +54,7 @@ impl Runner {
         requires start { self.old.pass.start ≡ Some Lock }
         ensures ends { IfOk result (λ o. LockBy 0 self.old turns o self.new (C.asked plan.old) (C.asked plan.new) (C.fallen plan.old) (C.fallen plan.new)) }
         ensures fits { IfOk result (λ o. IfSome o (λ a. Fits Lock a × Leaves Lock a (spot_now self.new.pass))) }
+        ensures waits { IfOk result (λ o. o ≡ None → is_idle (spot_now self.new.pass) ≡ false) }
         ensures crashed { IfErr result (λ e. e ≡ LockFault.Crashed) }
         ensures cut { OnErr result (CutIn self.old Lock self.new (C.asked plan.old) (C.asked plan.new) (C.fallen plan.old) (C.fallen plan.new)) }
         ensures few { CountsAtMost (most_steps self.old.pass.setup.layout Lock + turns) self.old self.new }

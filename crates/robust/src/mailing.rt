@@ -1,10 +1,12 @@
 //! The whole mailbox calls of a member: each locks, mends where the owner died, does its task and unlocks. Its one answer is
 //! the task's reply.
-ghost use Rattle.std.specs.Prelude.{◌≡◌, ◌≢◌, ◌⊎◌, ℕ, ◌+◌, ◌≤◌, length, Ok, IfOk, IfErr, OnOk};
+ghost use Rattle.std.specs.Prelude.{◌≡◌, ◌≢◌, ◌⊎◌, ℕ, ◌+◌, ◌≤◌, length, Ok, Err, IfOk, IfErr, OnOk};
 ghost use Rattle.redomail.specs.Mailbox.{IsAmong};
 ghost use Rattle.robust.specs.Running.{began};
 ghost use Rattle.robust.specs.Faults.{refusal_now, ready};
 ghost use Rattle.robust.specs.Headline.{shown_by};
+ghost use Rattle.robust.specs.Telling.{ToldIn};
+ghost use Rattle.robust.specs.Under.{Appends};
 ghost use Rattle.robust.specs.Working.{seat_of};
 ghost use Rattle.robust.specs.WholeSteps.{most_whole};
 ghost use Rattle.robust.specs.Whole.{WholeEnds, WholeFails, AppendFails};
@@ -20,7 +22,8 @@ use std::sync::Wait;
 
 impl Member {
     /// Stores a message with this number, from 1. It gives up once it is blocked more often than it was given turns; the
-    /// member keeps its place in the line. Where it answers Stored or Already, the message is shown.
+    /// member keeps its place in the line. Where it answers Stored or Already, the message is shown; Full, Closed and
+    /// OutOfOrder tell what held of the mailbox at one moment of the call.
     pub fn append_within<C: CrashPlan>(
         &mut self,
         seq: u64,
@@ -34,10 +37,14 @@ impl Member {
         ensures fails { IfErr result (AppendFails self.old turns seq value self.new (C.asked plan.old) (C.asked plan.new) (C.fallen plan.old) (C.fallen plan.new)) }
         ensures few { OnOk result (self.new.steps ≤ most_whole self.old.pass.setup.layout (Call.Append seq value) + turns) }
         ensures few_out { IfErr result (λ e. e ≢ LockFault.AlreadyIn → e ≢ LockFault.BadWidth → self.new.steps ≤ most_whole self.old.pass.setup.layout (Call.Append seq value) + turns) }
+        ensures kind { IfOk result (Appends seq) }
+        ensures tells { IfOk result (λ reply. ToldIn self.old seq reply self.new) }
         ensures shown { IfOk result (λ reply. (reply ≡ Reply.Stored) ⊎ (reply ≡ Reply.Already) → IsAmong self.old.pass.by seq (shown_by self.new.pass.setup self.new.pass.seen)) }
+        ensures out { result ≢ Err LockFault.AlreadyIn → result ≢ Err LockFault.BadWidth → refusal_now (ready self.new) Call.Lock ≡ None }
         ensures seat { seat_of self.new ≡ seat_of self.old }
     {
         laws::every_run_is_sound();
+        rmeworld::laws::messages_were_sent();
         if value.width() != self.runner.setup().layout.width {
             return Err(LockFault::BadWidth);
         }
@@ -57,13 +64,14 @@ impl Member {
         ensures fails { IfErr result (WholeFails self.old turns Call.Close self.new (C.asked plan.old) (C.asked plan.new) (C.fallen plan.old) (C.fallen plan.new)) }
         ensures few { OnOk result (self.new.steps ≤ most_whole self.old.pass.setup.layout Call.Close + turns) }
         ensures few_out { IfErr result (λ e. e ≢ LockFault.AlreadyIn → self.new.steps ≤ most_whole self.old.pass.setup.layout Call.Close + turns) }
+        ensures out { result ≢ Err LockFault.AlreadyIn → refusal_now (ready self.new) Call.Lock ≡ None }
         ensures seat { seat_of self.new ≡ seat_of self.old }
     {
         self.runner.mail_within(plan, &Call::Close, turns)
     }
 
     /// Stores a message with this number, from 1, and waits for as long as it has to. Where it answers Stored or Already, the
-    /// message is shown.
+    /// message is shown; Full, Closed and OutOfOrder tell what held of the mailbox at one moment of the call.
     pub fn append<R: Wait, C: CrashPlan>(
         &mut self,
         rt: &R,
@@ -76,10 +84,14 @@ impl Member {
         ensures replied { IfOk result (λ reply. (turns : ℕ) × WholeEnds (began (ready self.old) Call.Lock) turns (Call.Append seq value) (Ok reply) self.new (C.asked plan.old) (C.asked plan.new) (C.fallen plan.old) (C.fallen plan.new)) }
         ensures fails { IfErr result (λ e. (turns : ℕ) × AppendFails self.old turns seq value self.new (C.asked plan.old) (C.asked plan.new) (C.fallen plan.old) (C.fallen plan.new) e) }
         ensures patient { IfErr result (λ e. e ≢ LockFault.NotYet) }
+        ensures kind { IfOk result (Appends seq) }
+        ensures tells { IfOk result (λ reply. ToldIn self.old seq reply self.new) }
         ensures shown { IfOk result (λ reply. (reply ≡ Reply.Stored) ⊎ (reply ≡ Reply.Already) → IsAmong self.old.pass.by seq (shown_by self.new.pass.setup self.new.pass.seen)) }
+        ensures out { result ≢ Err LockFault.AlreadyIn → result ≢ Err LockFault.BadWidth → refusal_now (ready self.new) Call.Lock ≡ None }
         ensures seat { seat_of self.new ≡ seat_of self.old }
     {
         laws::every_run_is_sound();
+        rmeworld::laws::messages_were_sent();
         if value.width() != self.runner.setup().layout.width {
             return Err(LockFault::BadWidth);
         }
@@ -92,6 +104,7 @@ impl Member {
         ensures replied { IfOk result (λ reply. (turns : ℕ) × WholeEnds (began (ready self.old) Call.Lock) turns Call.Close (Ok reply) self.new (C.asked plan.old) (C.asked plan.new) (C.fallen plan.old) (C.fallen plan.new)) }
         ensures fails { IfErr result (λ e. (turns : ℕ) × WholeFails self.old turns Call.Close self.new (C.asked plan.old) (C.asked plan.new) (C.fallen plan.old) (C.fallen plan.new) e) }
         ensures patient { IfErr result (λ e. e ≢ LockFault.NotYet) }
+        ensures out { result ≢ Err LockFault.AlreadyIn → refusal_now (ready self.new) Call.Lock ≡ None }
         ensures seat { seat_of self.new ≡ seat_of self.old }
     {
         self.runner.mail(rt, plan, &Call::Close)

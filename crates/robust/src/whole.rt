@@ -49,6 +49,8 @@ impl Runner {
         requires idle { self.old.pass.start ≡ None }
         requires holder { IsHolder (spot_now self.old.pass) × ((spot_now self.old.pass).mended ≡ true) }
         requires task { IsTask self.old.pass.setup.layout task.now }
+        ensures fits { IfOk result (λ reply. Fits task.now (Mail reply)) }
+        ensures out { OnOk result (refusal_now (ready self.new) Lock ≡ None) }
         ensures done { IfOk result (λ reply. AnsweredBy 0 self.old (task.now ∷ Unlock ∷ []) (Mail reply ∷ Unlocked ∷ []) 0 self.new (C.asked plan.old) (C.asked plan.new) (C.fallen plan.old) (C.fallen plan.new)) }
         ensures crashed { IfErr result (λ e. e ≡ LockFault.Crashed) }
         ensures cut { OnErr result (CutBy self.old (λ order. IsFront order (task.now ∷ Unlock ∷ [])) self.new (C.asked plan.old) (C.asked plan.new) (C.fallen plan.old) (C.fallen plan.new)) }
@@ -73,6 +75,8 @@ impl Runner {
         requires holder { Leaves Lock (answer_of Entry.OwnerDied) (spot_now self.old.pass) }
         requires task { IsTask self.old.pass.setup.layout task.now }
         ensures done { IfOk result (λ r. (order : List CallOf) × (answers : List AnswerOf) × Inner Entry.OwnerDied task.now r order answers × AnsweredBy 0 self.old order answers 0 self.new (C.asked plan.old) (C.asked plan.new) (C.fallen plan.old) (C.fallen plan.new) × InsideCounts self.old false order answers self.new) }
+        ensures fits { IfOk result (λ r. IfOk r (λ reply. Fits task.now (Mail reply))) }
+        ensures out { OnOk result (refusal_now (ready self.new) Lock ≡ None) }
         ensures crashed { IfErr result (λ e. e ≡ LockFault.Crashed) }
         ensures cut { OnErr result (CutBy self.old (IsInner Entry.OwnerDied task.now) self.new (C.asked plan.old) (C.asked plan.new) (C.fallen plan.old) (C.fallen plan.new)) }
         ensures few { CountsAtMost (most_inside self.old.pass.setup.layout task.now) self.old self.new }
@@ -100,6 +104,8 @@ impl Runner {
         requires idle { self.old.pass.start ≡ None }
         requires leaves { IfSome answer (λ a. Fits Lock a × Leaves Lock a (spot_now self.old.pass)) }
         requires task { IsTask self.old.pass.setup.layout task.now }
+        ensures fits { IfOk result (λ r. IfOk r (λ reply. Fits task.now (Mail reply))) }
+        ensures out { (answer ≡ None → refusal_now (ready self.old) Lock ≡ None) → refusal_now (ready self.new) Lock ≡ None }
         ensures comes { IfOk result (λ r. (x : Seated) (turns asked fallen : ℕ) → LockBy 0 x turns answer self.old asked (C.asked plan.old) fallen (C.fallen plan.old) → WholeBy 0 x turns task.now r self.new asked (C.asked plan.new) fallen (C.fallen plan.new)) }
         ensures patient { IfOk result (λ r. r ≡ Err LockFault.NotYet → answer ≡ None) }
         ensures crashed { IfErr result (λ e. e ≡ LockFault.Crashed) }
@@ -133,6 +139,8 @@ impl Runner {
         requires idle { self.old.pass.start ≡ None }
         requires leaves { IfSome answer (λ a. Fits Lock a × Leaves Lock a (spot_now self.old.pass)) }
         requires task { IsTask self.old.pass.setup.layout task.now }
+        ensures fits { IfOk result (λ reply. Fits task.now (Mail reply)) }
+        ensures out { (answer ≡ None → refusal_now (ready self.old) Lock ≡ None) → refusal_now (ready self.new) Lock ≡ None }
         ensures goes { (x : Seated) (turns asked fallen : ℕ) → LockBy 0 x turns answer self.old asked (C.asked plan.old) fallen (C.fallen plan.old) → WholeGoes x turns task.now result self.new asked (C.asked plan.new) fallen (C.fallen plan.new) }
         ensures patient { result ≡ Err LockFault.NotYet → answer ≡ None }
         ensures few { CountsAtMost (most_inside self.old.pass.setup.layout task.now) self.old self.new }
@@ -155,6 +163,8 @@ impl Runner {
         requires idle { self.old.pass.start ≡ None }
         requires task { IsTask self.old.pass.setup.layout task.now }
         ensures accepted { OnOk result (refusal_now (ready self.old) Lock ≡ None) }
+        ensures fits { IfOk result (λ reply. Fits task.now (Mail reply)) }
+        ensures out { result ≢ Err LockFault.AlreadyIn → refusal_now (ready self.new) Lock ≡ None }
         ensures replied { IfOk result (λ reply. WholeEnds (began (ready self.old) Lock) turns task.now (Ok reply) self.new (C.asked plan.old) (C.asked plan.new) (C.fallen plan.old) (C.fallen plan.new)) }
         ensures fails { IfErr result (WholeFails self.old turns task.now self.new (C.asked plan.old) (C.asked plan.new) (C.fallen plan.old) (C.fallen plan.new)) }
         ensures idle { self.new.pass.start ≡ None }
@@ -178,6 +188,8 @@ impl Runner {
         requires idle { self.old.pass.start ≡ None }
         requires task { IsTask self.old.pass.setup.layout task.now }
         ensures accepted { OnOk result (refusal_now (ready self.old) Lock ≡ None) }
+        ensures fits { IfOk result (λ reply. Fits task.now (Mail reply)) }
+        ensures out { result ≢ Err LockFault.AlreadyIn → refusal_now (ready self.new) Lock ≡ None }
         ensures replied { IfOk result (λ reply. (turns : ℕ) × WholeEnds (began (ready self.old) Lock) turns task.now (Ok reply) self.new (C.asked plan.old) (C.asked plan.new) (C.fallen plan.old) (C.fallen plan.new)) }
         ensures fails { IfErr result (λ e. (turns : ℕ) × WholeFails self.old turns task.now self.new (C.asked plan.old) (C.asked plan.new) (C.fallen plan.old) (C.fallen plan.new) e) }
         ensures patient { IfErr result (λ e. e ≢ LockFault.NotYet) }

@@ -1,6 +1,6 @@
 //! The laboratory over the running lock.
 
-ghost use Rattle.std.specs.Prelude.{◌≡◌, ◌≢◌, ◌<◌, ◌≤◌, ◌↔◌, All, None, OnOk, IfOk, IfErr, IfSome, IsErrOf, map, slice_index, vec_len};
+ghost use Rattle.std.specs.Prelude.{◌≡◌, ◌⊎◌, ◌<◌, ◌≤◌, ◌↔◌, All, None, OnOk, IfOk, IfErr, IfSome, IsErrOf, map, slice_index, vec_len};
 ghost use Rattle.std.specs.Thread.{IsSend, IsSync};
 ghost use Rattle.atomic_table.specs.Seated.{TableId};
 ghost use Rattle.redomail.specs.Layout.{words_of};
@@ -8,6 +8,7 @@ ghost use Rattle.redomail.specs.Shape.{entries, IsNumbered};
 ghost use Rattle.rmeworld.specs.ImageRules.{layout_of, IsLawfulImage};
 ghost use Rattle.robust.specs.declared.lab.spec.Spec.{Spec as SpecOf};
 ghost use Rattle.robust.specs.Lab.{AreAllSent, IsBadSpec};
+ghost use Rattle.robust.specs.LabFaults.{EndsLab, IsFirstFault};
 ghost use Rattle.robust.specs.Making.{fresh_members};
 ghost use Rattle.robust.specs.Worked.{seat_done, seat_promised, sizes_of, HasWorked};
 ghost use Rattle.robust.specs.Sending.{IsNew};
@@ -41,6 +42,7 @@ pub fn run_lab<G: Gate + Send + Drop, R: Threads + Wait + Sync>(
 ) -> Result<LabResult, LabFault>
     ensures all { IfOk result (λ r. AreAllSent spec r.messages.items) }
     ensures bad_spec { IsErrOf result LabFault.BadSpec ↔ IsBadSpec spec (vec_len gates) }
+    ensures ends { IfErr result (λ fault. (fault ≡ LabFault.BadSpec) ⊎ EndsLab spec fault) }
 {
     if spec.is_bad(gates.len() as u64) {
         return Err(LabFault::BadSpec);
@@ -57,33 +59,36 @@ fn run<G: Gate + Send + Drop, R: Threads + Wait + Sync>(
 ) -> Result<LabResult, LabFault>
     requires { IsBadSpec spec (vec_len gates) → ⊥ }
     ensures all { IfOk result (λ r. AreAllSent spec r.messages.items) }
-    ensures fault { IfErr result (λ fault. fault ≢ LabFault.BadSpec) }
+    ensures ends { IfErr result (EndsLab spec) }
 {
     laws::runs_show();
+    laws::loads_tell();
+    laws::nobody_ruins();
     rmeworld::laws::messages_were_sent();
     let members = made(rt, alloc, spec)?;
     let Ok(ended) = work_all(rt, alloc, spec, members, gates) else {
         return Err(LabFault::OutOfMemory);
     };
-    if let Some(fault) = first_fault(ended.as_slice()) {
-        return Err(fault);
-    }
+    let early = first_fault(ended.as_slice());
     let Ok(members) = members_of(alloc, ended) else {
         return Err(LabFault::OutOfMemory);
     };
     match gather(alloc, members) {
-        Ok(image) => shown(alloc, spec, &image),
+        Ok(image) => match early {
+            None => shown(alloc, spec, &image),
+            Some(fault) => Err(fault),
+        },
         Err((_, GatherFault::OutOfMemory)) => Err(LabFault::OutOfMemory),
         Err((_, GatherFault::NotAll)) => unreachable!(),
     }
 }
 
 /// A new member for each worker.
-#[tactic(auto, using(crate::proofs::Worked::length_fresh, crate::proofs::Worked::fresh_new))]
+#[tactic(auto, using(crate::proofs::Worked::length_fresh))]
 fn made<R>(rt: &R, alloc: Global, spec: Spec) -> Result<Vec<Member>, LabFault>
     ensures seats { IfOk result (λ v. (t : TableId) × (seats_of v.items ≡ seats_of (fresh_members t (sizes_of spec)))) }
     ensures length { IfOk result (λ v. vec_len v ≡ spec.procs) }
-    ensures new { IfOk result (λ v. All IsNew v.items) }
+    ensures new { IfOk result (λ v. All (IsNew (sizes_of spec)) v.items) }
     ensures memory { IfErr result (λ fault. fault ≡ LabFault.OutOfMemory) }
 {
     match Arena::new(rt, alloc, spec.procs, spec.limit, spec.cap, spec.width) {
@@ -104,7 +109,7 @@ fn work_all<G: Gate + Send + Drop, R: Threads + Wait + Sync>(
     requires gates { vec_len gates ≡ vec_len members }
     requires messages { (1 ≤ spec.messages) × (spec.messages ≤ 4096) }
     requires width { (1 ≤ spec.width) × (spec.width ≤ 8) }
-    requires new { All IsNew members.items }
+    requires new { All (IsNew (sizes_of spec)) members.items }
     ensures seats { IfOk result (λ all. map seat_done all.items ≡ seats_of members.items) }
     ensures worked { IfOk result (λ all. All (HasWorked spec) all.items) }
 {
@@ -112,7 +117,7 @@ fn work_all<G: Gate + Send + Drop, R: Threads + Wait + Sync>(
         thread::scope_env(),
         rt,
         |scope| -> Result<Vec<Done>, AllocError>
-            requires { IsSend G.row × IsSync R.row × (vec_len gates ≡ vec_len members) × (1 ≤ spec.messages) × (spec.messages ≤ 4096) × (1 ≤ spec.width) × (spec.width ≤ 8) × All IsNew members.items }
+            requires { IsSend G.row × IsSync R.row × (vec_len gates ≡ vec_len members) × (1 ≤ spec.messages) × (spec.messages ≤ 4096) × (1 ≤ spec.width) × (spec.width ≤ 8) × All (IsNew (sizes_of spec)) members.items }
             ensures { IfOk result (λ all. (map seat_done all.items ≡ seats_of members.items) × All (HasWorked spec) all.items) }
         {
             let threads = start_all(scope, rt, alloc, spec, members, gates)?;
@@ -133,7 +138,7 @@ fn start_all<'s, E: 's, G: Gate + Send + Drop + 's, R: Wait + Sync>(
     requires gates { vec_len gates ≡ vec_len members }
     requires messages { (1 ≤ spec.messages) × (spec.messages ≤ 4096) }
     requires width { (1 ≤ spec.width) × (spec.width ≤ 8) }
-    requires new { All IsNew members.items }
+    requires new { All (IsNew (sizes_of spec)) members.items }
     ensures seats { IfOk result (λ threads. map (λ h. seat_promised h.promise) threads.items ≡ seats_of members.items) }
     ensures spec { IfOk result (λ threads. All (λ h. h.promise.1 ≡ spec) threads.items) }
 {
@@ -145,7 +150,7 @@ fn start_all<'s, E: 's, G: Gate + Send + Drop + 's, R: Wait + Sync>(
         };
         let promise = HandsBack(Snapshot::of(&member), spec);
         let job = move || -> Done
-            requires { IsSend G.row × IsSync R.row × (1 ≤ spec.messages) × (spec.messages ≤ 4096) × (1 ≤ spec.width) × (spec.width ≤ 8) × IsNew member }
+            requires { IsSend G.row × IsSync R.row × (1 ≤ spec.messages) × (spec.messages ≤ 4096) × (1 ≤ spec.width) × (spec.width ≤ 8) × IsNew (sizes_of spec) member }
         { work(rt, member, gate, spec) };
         let Ok(thread) = scope.spawn_with(promise, job) else {
             return Err(AllocError);
@@ -173,7 +178,7 @@ fn join_all<R: Threads>(
 
 /// What ended the least worker that has ended early.
 fn first_fault(ended: &[Done]) -> Option<LabFault>
-    ensures fault { IfSome result (λ fault. fault ≢ LabFault.BadSpec) }
+    ensures first { IfSome result (IsFirstFault ended.now) }
     ensures none { result ≡ None → All (λ done. done.ending ≡ Ending.AllSent) ended.now }
 {
     for done in ended {
@@ -204,7 +209,7 @@ fn shown(alloc: Global, spec: Spec, image: &Image) -> Result<LabResult, LabFault
     requires layout { layout_of image.now ≡ (sizes_of spec).layout }
     ensures messages { IfOk result (λ r. r.messages.items ≡ entries (sizes_of spec).layout (words_of image.now.cells) (slice_index image.now.cells 2)) }
     ensures numbered { OnOk result (IsNumbered (sizes_of spec).layout (words_of image.now.cells) (slice_index image.now.cells 2)) }
-    ensures fault { IfErr result (λ fault. fault ≢ LabFault.BadSpec) }
+    ensures fault { IfErr result (λ fault. fault ≡ LabFault.OutOfMemory) }
 {
     let layout = Layout {
         procs: spec.procs,

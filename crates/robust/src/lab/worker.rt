@@ -1,8 +1,13 @@
 //! A worker of the lab over the running lock.
 
-ghost use Rattle.std.specs.Prelude.{◌≡◌, ◌≤◌, ◌↔◌, ◌⊎◌, ℕ, IsTrue, IfOk};
-ghost use Rattle.rmeworld.specs.declared.call.Call.TheVariants.{Append};
-ghost use Rattle.robust.specs.Worked.{HasWorked};
+ghost use Rattle.std.specs.Prelude.{◌≡◌, ◌≤◌, ◌↔◌, ◌⊎◌, ℕ, None, IsTrue, IfOk, IfErr, length};
+ghost use Rattle.rmeworld.specs.declared.call.Call.TheVariants.{Lock, Append};
+ghost use Rattle.robust.specs.Faults.{refusal_now, ready};
+ghost use Rattle.robust.specs.Pass.{own_of};
+ghost use Rattle.robust.specs.Ruins.{AreInOrder, HasReadRuin};
+ghost use Rattle.robust.specs.Telling.{ToldIn};
+ghost use Rattle.robust.specs.Under.{Appends};
+ghost use Rattle.robust.specs.Worked.{HasWorked, sizes_of};
 ghost use Rattle.robust.specs.Sending.{IsNew, IsSending, SendsOnly, HasShown};
 ghost use Rattle.robust.specs.Working.{seat_of};
 
@@ -52,7 +57,7 @@ pub fn work<G: Gate + Drop, R: Wait>(rt: &R, mut member: Member, mut gate: G, sp
     requires most { spec.messages ≤ 4096 }
     requires least { 1 ≤ spec.width }
     requires wide { spec.width ≤ 8 }
-    requires new { IsNew member }
+    requires new { IsNew (sizes_of spec) member }
     ensures seat { seat_of result.member ≡ seat_of member }
     ensures worked { HasWorked spec result }
 {
@@ -83,6 +88,13 @@ fn is_sent(reply: Reply) -> bool
     matches!(reply, Reply::Stored | Reply::Already)
 }
 
+/// Has the process crashed, and calls again?
+fn is_crash(fault: LockFault) -> bool
+    ensures { IsTrue result ↔ (fault ≡ LockFault.Crashed) }
+{
+    matches!(fault, LockFault::Crashed)
+}
+
 /// Sends one message until it is answered.
 fn send<G: Gate, R: Wait>(
     rt: &R,
@@ -91,6 +103,14 @@ fn send<G: Gate, R: Wait>(
     seq: u64,
     value: Body,
 ) -> Result<Reply, LockFault>
+    requires width { length value ≡ member.old.pass.setup.layout.width }
+    requires out { refusal_now (ready member.old) Lock ≡ None }
+    ensures out { refusal_now (ready member.new) Lock ≡ None }
+    ensures kind { IfOk result (Appends seq) }
+    ensures tells { IfOk result (λ reply. ToldIn member.old seq reply member.new) }
+    ensures faults { IfErr result (λ why. (why ≡ LockFault.NumbersSpent) ⊎ (why ≡ LockFault.NotRecoverable)) }
+    ensures ordered { AreInOrder None (own_of member.old.pass) → AreInOrder None (own_of member.new.pass) }
+    ensures ruin { IfErr result (λ why. AreInOrder None (own_of member.old.pass) → why ≡ LockFault.NotRecoverable → HasReadRuin (own_of member.new.pass)) }
     ensures seat { seat_of member.new ≡ seat_of member.old }
     ensures only { (width k : ℕ) → IsSending width k member.old.pass.by (Append seq value) → SendsOnly width k member.old → SendsOnly width k member.new }
     ensures shown { IfOk result (λ reply. (reply ≡ Reply.Stored) ⊎ (reply ≡ Reply.Already) → HasShown seq member.new) }
@@ -101,8 +121,11 @@ fn send<G: Gate, R: Wait>(
                 gate.answered(seq);
                 return Ok(reply);
             }
-            Err(LockFault::Crashed) => {}
-            Err(fault) => return Err(fault),
+            Err(fault) => {
+                if !is_crash(fault) {
+                    return Err(fault);
+                }
+            }
         }
     }
     unreachable!()

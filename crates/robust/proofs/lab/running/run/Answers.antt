@@ -1,13 +1,18 @@
-use Rattle.std.proofs.Common.{◌≡◌, ◌∙◌, All, slice_index, sym, ap, subst}
+use Rattle.std.proofs.Common.{◌≡◌, ◌∙◌, List, map, All, slice_index, sym, ap, subst}
 use Rattle.std.specs.Prelude.{vec_len}
 use Rattle.redomail.specs.Layout.{words_of}
 use Rattle.redomail.specs.Shape.{entries, IsNumbered}
 use Rattle.robust.specs.declared.lab.worker.Ending.TheVariants.{AllSent}
+use Rattle.robust.specs.declared.lab.worker.Done.{Done}
+use Rattle.robust.specs.Gathering.{Gathers}
 use Rattle.robust.specs.Lab.{AreAllSent}
+use Rattle.robust.specs.LabFaults.{IsFirstFault}
+use Rattle.robust.specs.Running.{Seated}
 use Rattle.robust.specs.Worked.{sizes_of}
 use Rattle.robust.specs.Sending.{HasSent}
 use Rattle.robust.specs.Working.{seats_of}
 use Rattle.robust.proofs.AllSent.{lab_sent, gathered_layout}
+use Rattle.robust.proofs.LabEnds.{member_of, lab_ends}
 use Rattle.robust.proofs.Worked.{one_arena, none_missing, all_setups, good_sizes, good_messages, good_layout, members_seats, members_sent, if_on}
 use Rattle.robust.proofs.lab.running.run.Goals as goal
 
@@ -40,17 +45,31 @@ shown-requires-clause-layout g c =
     let seats = ap seats_of c.in-Ok-members_of.ensures ∙ members_seats c.in-Ok.ended.items ∙ c.in-Ok.ensures.seats ∙ s.1 in
     gathered_layout (sizes_of c.args.spec) xs c.in-Ok-gather.image (all_setups s.0 (sizes_of c.args.spec) xs seats) c.in-Ok-gather.ensures.gathered
 
-pub returns-in-Ok-gather-clause-all : goal.returns-in-Ok-gather-clause-all
-returns-in-Ok-gather-clause-all g c =
+pub returns-in-None-clause-all : goal.returns-in-None-clause-all
+returns-in-None-clause-all g c =
     let spec = c.args.spec in
     let z = sizes_of spec in
     let s = c.in_ok-members.ensures.seats in
     let xs = c.in-Ok-members_of.members.items in
     let image = c.in-Ok-gather.image in
     let seats = ap seats_of c.in-Ok-members_of.ensures ∙ members_seats c.in-Ok.ended.items ∙ c.in-Ok.ensures.seats ∙ s.1 in
-    let ended = subst (All (λ done. done.ending ≡ AllSent)) c.as_slice.ensures.value (c.first_fault.ensures.none c.in_default-first_fault.is) in
+    let ended = subst (All (λ done. done.ending ≡ AllSent)) c.as_slice.ensures.value (c.first_fault-early.ensures.none c.in-None.is) in
     let sent = subst (All (HasSent spec.width spec.messages)) (sym c.in-Ok-members_of.ensures) (members_sent spec c.in-Ok.ended.items c.in-Ok.ensures.worked ended) in
     let layout = good_layout spec (vec_len c.args.gates) c.requires in
     if_on (λ r. r.messages.items ≡ entries z.layout (words_of image.cells) (slice_index image.cells 2)) (λ r. AreAllSent spec r.messages.items) (IsNumbered z.layout (words_of image.cells) (slice_index image.cells 2)) c.shown.result c.shown.ensures.messages
     c.shown.ensures.numbered
     (λ r is numbered. lab_sent spec xs image r.messages.items layout (all_setups s.0 z xs seats) sent c.in-Ok-gather.ensures.gathered c.messages_were_sent.ensures.sent c.runs_show.ensures is numbered)
+
+pub returns-in-Ok-gather-clause-ends : goal.returns-in-Ok-gather-clause-ends
+returns-in-Ok-gather-clause-ends g c =
+    let spec = c.args.spec in
+    let z = sizes_of spec in
+    let s = c.in_ok-members.ensures.seats in
+    let xs = c.in-Ok-members_of.members.items in
+    let ended = c.in-Ok.ended.items in
+    let members : xs ≡ map member_of ended = c.in-Ok-members_of.ensures in
+    let seats = ap seats_of members ∙ members_seats ended ∙ c.in-Ok.ensures.seats ∙ s.1 in
+    let setups = subst (All (λ (x : Seated). x.pass.setup ≡ z)) members (all_setups s.0 z xs seats) in
+    let first = subst (λ (ds : List Done). IsFirstFault ds c.in-Some.fault) c.as_slice.ensures.value c.in-Some.ensures.first in
+    let gathered = subst (λ (ys : List Seated). Gathers ys c.in-Ok-gather.image) members c.in-Ok-gather.ensures.gathered in
+    lab_ends spec ended c.in-Ok-gather.image c.in-Some.fault (good_layout spec (vec_len c.args.gates) c.requires) setups c.in-Ok.ensures.worked first gathered c.in-Ok-gather.ensures.lawful c.messages_were_sent.ensures.sent c.messages_were_sent.ensures.closed c.runs_show.ensures c.loads_tell.ensures c.nobody_ruins.ensures

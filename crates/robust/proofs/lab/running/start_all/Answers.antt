@@ -1,13 +1,13 @@
 use Rattle.std.proofs.Common.{rules, ◌≡◌, ◌∙◌, ◌++◌, map, All, sym, ap, subst, arith}
 use Rattle.std.specs.Vec.Iter.{into_iter_items}
-use Rattle.std.proofs.lemmas.Grind.{common_steps}
 use Rattle.std.proofs.lemmas.List.Elements.{All-push, All-head, All-tail}
 use Rattle.robust.specs.declared.lab.worker.HandsBack.{HandsBack}
-use Rattle.robust.specs.Worked.{seat_promised}
+use Rattle.robust.specs.Worked.{seat_promised, sizes_of}
 use Rattle.robust.specs.Sending.{IsNew}
 use Rattle.robust.specs.Working.{seat_of}
 use Rattle.robust.proofs.Worked.{moved_on}
 use Rattle.robust.proofs.lab.running.start_all.Goals as goal
+use Rattle.std.proofs.lemmas.Grind.{common_steps}
 
 pub loop-member-preserved : goal.loop-member-preserved
 loop-member-preserved g c =
@@ -15,10 +15,10 @@ loop-member-preserved g c =
     let left = into_iter_items c.next.new.self in
     let e = c.in-Some.ensures.steps in
     let items = c.in_ok-push.ensures.items in
-    let new = subst (All IsNew) e.0 i.new in
+    let new = subst (All (IsNew (sizes_of c.args.spec))) e.0 i.new in
     record {
       seats = ap (λ l. map (λ h. seat_promised h.promise) l ++ map seat_of left) items ∙ moved_on (λ h. seat_promised h.promise) seat_of c.loop-member.threads.items c.in-Ok.thread c.in-Some.member _ left _ i.seats e.0 (ap seat_promised c.in-Ok.ensures.ok ∙ ap seat_of c.of.ensures);
       gates = (let n = c.in-Some-next.ensures in omega (arith, i.gates, e.1, n.len));
-      new = All-tail IsNew c.in-Some.member left new;
+      new = All-tail (IsNew (sizes_of c.args.spec)) c.in-Some.member left new;
       spec = subst (All (λ h. h.promise.1 ≡ c.args.spec)) (sym items) (All-push (λ h. h.promise.1 ≡ c.args.spec) c.loop-member.threads.items c.in-Ok.thread i.spec (ap (λ (p : HandsBack). p.1) c.in-Ok.ensures.ok));
     }

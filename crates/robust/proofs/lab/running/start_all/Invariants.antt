@@ -1,6 +1,6 @@
 use Rattle.std.proofs.Common.{◌≡◌, ◌++◌, map, All}
 use Rattle.std.specs.Vec.Iter.{into_iter_items, into_iter_len}
-use Rattle.robust.specs.Worked.{seat_promised}
+use Rattle.robust.specs.Worked.{seat_promised, sizes_of}
 use Rattle.robust.specs.Sending.{IsNew}
 use Rattle.robust.specs.Working.{seats_of}
 use Rattle.robust.proofs.lab.running.start_all.Given as goal
@@ -9,6 +9,6 @@ abbrev pub invariant-loop-member : goal.invariant-loop-member
 invariant-loop-member g l = record {
   seats : map (λ h. seat_promised h.promise) l.threads.items ++ seats_of (into_iter_items l.member-iterator) ≡ seats_of l.fn.members.items;
   gates : into_iter_len l.gates ≡ into_iter_len l.member-iterator;
-  new : All IsNew (into_iter_items l.member-iterator);
+  new : All (IsNew (sizes_of l.fn.spec)) (into_iter_items l.member-iterator);
   spec : All (λ h. h.promise.1 ≡ l.fn.spec) l.threads.items;
 }

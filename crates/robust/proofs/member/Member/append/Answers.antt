@@ -1,14 +1,17 @@
-use Rattle.std.proofs.Common.{◌≡◌, ℕ, length, Ok, IfOk, IfErr, ap, ◌∙◌, subst, inr, arith}
+use Rattle.std.proofs.Common.{◌≡◌, ◌⊎◌, ℕ, length, Ok, IfOk, IfErr, ap, ◌∙◌, subst, inr, arith}
 use Rattle.redomail.specs.Mailbox.{IsAmong}
+use Rattle.redomail.specs.declared.reply.Reply.TheVariants.{Stored, Already}
 use Rattle.rmeworld.specs.declared.call.Call.TheVariants.{Lock, Append}
 use Rattle.robust.specs.declared.setup.Setup.{Setup}
 use Rattle.robust.specs.Running.{Seated, began}
 use Rattle.robust.specs.Faults.{ready}
 use Rattle.robust.specs.Whole.{WholeEnds, WholeFails}
 use Rattle.robust.specs.Headline.{shown_by}
-use Rattle.robust.proofs.Appended.{append_shown}
-use Rattle.robust.proofs.Errands.{IsStored}
+use Rattle.robust.specs.Telling.{ToldIn}
+use Rattle.robust.proofs.Appended.{append_shown, append_tells}
 use Rattle.robust.proofs.WholeCalls.{err_more}
+use Rattle.robust.specs.Working.{seat_of}
+use Rattle.robust.proofs.Working.{mail_seat}
 use Rattle.robust.proofs.member.Member.append.Goals as goal
 
 pub returns-clause-replied : goal.returns-clause-replied
@@ -25,5 +28,13 @@ returns-clause-fails g c =
 
 pub returns-clause-shown : goal.returns-clause-shown
 returns-clause-shown g c =
-    subst (λ (x : Seated). IfOk c.mail.result (λ reply. IsStored reply → IsAmong x.pass.by c.args.seq (shown_by c.mail.new.self.pass.setup c.mail.new.self.pass.seen))) c.self.view_is
+    subst (λ (x : Seated). IfOk c.mail.result (λ reply. (reply ≡ Stored) ⊎ (reply ≡ Already) → IsAmong x.pass.by c.args.seq (shown_by c.mail.new.self.pass.setup c.mail.new.self.pass.seen))) c.self.view_is
     (append_shown c.self.inside.runner c.mail.new.self c.args.seq c.args.value c.mail.result _ _ _ _ c.self.invariant c.setup.ensures.pass c.every_run_is_sound.ensures c.mail.ensures.accepted c.mail.ensures.replied)
+
+pub returns-clause-tells : goal.returns-clause-tells
+returns-clause-tells g c =
+    subst (λ (x : Seated). IfOk c.mail.result (λ reply. ToldIn x c.args.seq reply c.mail.new.self)) c.self.view_is
+    (append_tells c.self.inside.runner c.mail.new.self c.args.seq c.args.value c.mail.result _ _ _ _ c.self.invariant c.setup.ensures.pass c.messages_were_sent.ensures.replies c.mail.ensures.accepted c.mail.ensures.fits c.mail.ensures.replied)
+
+pub returns-clause-seat : goal.returns-clause-seat
+returns-clause-seat g c = mail_seat c.self.inside.runner c.mail.new.self (Append c.args.seq c.args.value) _ _ _ _ c.mail.result c.mail.ensures.replied c.mail.ensures.fails ∙ ap seat_of c.self.view_is

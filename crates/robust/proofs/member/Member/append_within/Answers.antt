@@ -1,16 +1,26 @@
-use Rattle.std.proofs.Common.{◌≡◌, IfOk, subst}
+use Rattle.std.proofs.Common.{◌≡◌, ◌⊎◌, IfOk, ap, ◌∙◌, subst}
 use Rattle.redomail.specs.Mailbox.{IsAmong}
-use Rattle.rmeworld.specs.declared.call.Call.TheVariants.{Lock, Append}
-use Rattle.robust.specs.Faults.{ready}
+use Rattle.redomail.specs.declared.reply.Reply.TheVariants.{Stored, Already}
+use Rattle.rmeworld.specs.declared.call.Call.TheVariants.{Append}
 use Rattle.robust.specs.Headline.{shown_by}
-use Rattle.robust.specs.Running.{Seated, began}
-use Rattle.robust.specs.Whole.{WholeEnds}
-use Rattle.robust.proofs.Appended.{append_shown}
-use Rattle.robust.proofs.Errands.{IsStored}
+use Rattle.robust.specs.Telling.{ToldIn}
+use Rattle.robust.specs.Running.{Seated}
+use Rattle.robust.specs.Working.{seat_of}
+use Rattle.robust.proofs.Appended.{append_shown, append_tells}
 use Rattle.robust.proofs.WholeCalls.{ok_some}
+use Rattle.robust.proofs.Working.{within_seat}
 use Rattle.robust.proofs.member.Member.append_within.Goals as goal
 
 pub returns-clause-shown : goal.returns-clause-shown
 returns-clause-shown g c =
-    subst (λ (x : Seated). IfOk c.mail_within.result (λ reply. IsStored reply → IsAmong x.pass.by c.args.seq (shown_by c.mail_within.new.self.pass.setup c.mail_within.new.self.pass.seen))) c.self.view_is
+    subst (λ (x : Seated). IfOk c.mail_within.result (λ reply. (reply ≡ Stored) ⊎ (reply ≡ Already) → IsAmong x.pass.by c.args.seq (shown_by c.mail_within.new.self.pass.setup c.mail_within.new.self.pass.seen))) c.self.view_is
     (append_shown c.self.inside.runner c.mail_within.new.self c.args.seq c.args.value c.mail_within.result _ _ _ _ c.self.invariant c.setup.ensures.pass c.every_run_is_sound.ensures c.mail_within.ensures.accepted (ok_some _ c.mail_within.result c.args.turns c.mail_within.ensures.replied))
+
+pub returns-clause-tells : goal.returns-clause-tells
+returns-clause-tells g c =
+    subst (λ (x : Seated). IfOk c.mail_within.result (λ reply. ToldIn x c.args.seq reply c.mail_within.new.self)) c.self.view_is
+    (append_tells c.self.inside.runner c.mail_within.new.self c.args.seq c.args.value c.mail_within.result _ _ _ _ c.self.invariant c.setup.ensures.pass c.messages_were_sent.ensures.replies c.mail_within.ensures.accepted c.mail_within.ensures.fits (ok_some _ c.mail_within.result c.args.turns c.mail_within.ensures.replied))
+
+pub returns-clause-seat : goal.returns-clause-seat
+returns-clause-seat g c =
+    within_seat c.self.inside.runner c.mail_within.new.self c.args.turns (Append c.args.seq c.args.value) _ _ _ _ c.mail_within.result c.mail_within.ensures.replied c.mail_within.ensures.fails ∙ ap seat_of c.self.view_is

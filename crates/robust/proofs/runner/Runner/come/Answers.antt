@@ -6,6 +6,7 @@ use Rattle.rmeworld.specs.declared.answer.Answer.TheVariants.{Clean, OwnerDied, 
 use Rattle.robust.specs.declared.entry_kind.Entry.TheVariants as entry
 use Rattle.robust.specs.Whole.{IsFront, IsInner}
 use Rattle.robust.proofs.Called.{on_err}
+use Rattle.robust.proofs.Outside.{cut_out}
 use Rattle.robust.proofs.WholeCalls.{whole_of, cut_of, cut_more, lock_is}
 use Rattle.robust.specs.Pass.{spot_now}
 use Rattle.robust.specs.Under.{Fits, Leaves}
@@ -44,14 +45,17 @@ pub returns-in-None-clause-comes : goal.returns-in-None-clause-comes
 returns-in-None-clause-comes g c =
     λ x turns asked fallen h. late_whole x c.args.self.now turns asked _ fallen _ c.args.task.now (lock_is x c.args.self.now turns asked _ fallen _ c.args.answer None c.in-None.is h)
 
-pub returns-in_default : goal.returns-in_default
-returns-in_default g c =
+pub returns-in_default-clause-comes : goal.returns-in_default-clause-comes
+returns-in_default-clause-comes g c =
     let fits = fits_some c.args.answer c.in-Some.answer (λ (a : Answer). Fits Lock a × Leaves Lock a (spot_now c.args.self.now.pass)) c.in-Some.is c.requires.leaves in
     let is = ruined_is c.in-Some.answer fits.0 c.in_default.not-Clean c.in_default.not-OwnerDied c.in_default.not-NumbersSpent in
-    record {
-      comes = λ x turns asked fallen h. ruined_whole x c.args.self.now turns asked _ fallen _ c.args.task.now (lock_is x c.args.self.now turns asked _ fallen _ c.args.answer (Some NotRecoverable) (c.in-Some.is ∙ ap (λ a. Some a) is) h);
-      patient = λ e. absurd (cc);
-      crashed = tt;
-      cut = tt;
-      few = none_at_most c.args.self.now c.args.self.now _ refl;
-    }
+    λ x turns asked fallen h. ruined_whole x c.args.self.now turns asked _ fallen _ c.args.task.now (lock_is x c.args.self.now turns asked _ fallen _ c.args.answer (Some NotRecoverable) (c.in-Some.is ∙ ap (λ a. Some a) is) h)
+
+pub returns-in_default-clause-few : goal.returns-in_default-clause-few
+returns-in_default-clause-few g c = none_at_most c.args.self.now c.args.self.now _ refl
+
+pub returns-in_err-reply-in-Clean-clause-out : goal.returns-in_err-reply-in-Clean-clause-out
+returns-in_err-reply-in-Clean-clause-out g c = λ none. cut_out c.args.self.now c.work.new.self _ _ _ _ _ c.in_err-reply-in-Clean.ensures.cut
+
+pub returns-in_err-ended-in-OwnerDied-clause-out : goal.returns-in_err-ended-in-OwnerDied-clause-out
+returns-in_err-ended-in-OwnerDied-clause-out g c = λ none. cut_out c.args.self.now c.mend_and_work.new.self _ _ _ _ _ c.in_err-ended-in-OwnerDied.ensures.cut

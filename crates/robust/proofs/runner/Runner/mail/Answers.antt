@@ -3,6 +3,7 @@ use Rattle.rmeworld.specs.declared.call.Call.TheVariants.{Lock}
 use Rattle.robust.specs.Running.{began}
 use Rattle.robust.specs.Faults.{ready}
 use Rattle.robust.specs.Whole.{WholeEnds, WholeFails}
+use Rattle.robust.proofs.Outside.{cut_out}
 use Rattle.robust.proofs.WholeCalls.{whole_replied, whole_fails, cut_fails, goes_idle, ok_some, err_some}
 use Rattle.robust.proofs.runner.Runner.mail.Goals as goal
 
@@ -32,3 +33,6 @@ returns-in-Err-clause-fails g c = (
   cut_fails c.args.self.now c.set_out.new.self c.take_all.new.self 0 c.args.task.now (g.C.CrashPlan.asked c.args.plan.now) (g.C.CrashPlan.asked c.take_all.new.plan) (g.C.CrashPlan.fallen c.args.plan.now) (g.C.CrashPlan.fallen c.take_all.new.plan) c.in_ok-set_out.ensures.out.0
       c.in_ok-set_out.ensures.accepted c.in-Err.fault c.in-Err.ensures.crashed c.in-Err.ensures.cut,
 )
+
+pub returns-in-Err-clause-out : goal.returns-in-Err-clause-out
+returns-in-Err-clause-out g c = λ alive. cut_out c.set_out.new.self c.take_all.new.self _ _ _ _ _ c.in-Err.ensures.cut

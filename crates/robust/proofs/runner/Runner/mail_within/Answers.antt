@@ -2,6 +2,7 @@ use Rattle.std.proofs.Common.{◌≡◌, ◌≢◌}
 use Rattle.robust.specs.declared.lock_fault.LockFault.TheVariants.{AlreadyIn}
 use Rattle.robust.proofs.Chained.{lock_setup}
 use Rattle.robust.proofs.Counted.{err_any, ok_any}
+use Rattle.robust.proofs.Outside.{cut_out, busy_out}
 use Rattle.robust.proofs.WholeCalls.{whole_fails, cut_fails}
 use Rattle.robust.proofs.WholeSteps.{few_whole, few_lock}
 use Rattle.robust.proofs.runner.Runner.mail_within.Goals as goal
@@ -28,3 +29,8 @@ returns-in-Ok-clause-few_out g c =
 
 pub returns-in-Err-clause-few_out : goal.returns-in-Err-clause-few_out
 returns-in-Err-clause-few_out g c = λ other. few_lock c.args.self.now c.set_out.new.self c.take_turns.new.self c.take_turns.new.self c.args.task.now c.args.turns c.in_ok-set_out.ensures.out.0 c.in-Err.ensures.few
+pub returns-in-Err-clause-out : goal.returns-in-Err-clause-out
+returns-in-Err-clause-out g c = λ alive. cut_out c.set_out.new.self c.take_turns.new.self _ _ _ _ _ c.in-Err.ensures.cut
+
+pub returns-in-Ok-clause-out : goal.returns-in-Ok-clause-out
+returns-in-Ok-clause-out g c = λ alive. c.finish.ensures.out (λ none. busy_out c.take_turns.new.self (c.in-Ok.ensures.waits none))

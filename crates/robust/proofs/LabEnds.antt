@@ -1,0 +1,198 @@
+-- What ended a lab early, from the one run of its members.
+use Rattle.std.proofs.Common.{◌≡◌, ℕ, ◌+◌, ◌*◌, ◌<◌, ◌≤◌, true, List, [], ◌∷◌, ◌++◌, length, slice_index, map, None, All, refl, sym, ap, ◌∙◌, subst, inl, inr, arith, append_assoc, append-nil, length-append}
+use Rattle.std.proofs.lemmas.Bool.{cases_lt}
+use Rattle.std.proofs.lemmas.List.Elements.{All-nil, All-cons, All-head, All-tail, All-contains}
+use Rattle.redomail.specs.declared.message.Message.{Message}
+use Rattle.redomail.specs.declared.reply.Reply.{Reply}
+use Rattle.redomail.specs.Layout.{Words, IsLayout, words_of}
+use Rattle.redomail.specs.Mailbox.{IsAmong}
+use Rattle.redomail.specs.Shape.{entries, count_of, IsNumbered}
+use Rattle.redomail.proofs.Changes.{length-entries}
+use Rattle.rmeworld.specs.declared.call.Call.TheVariants.{Close}
+use Rattle.rmeworld.specs.declared.image.Image.{Image}
+use Rattle.rmeworld.specs.ImageRules.{layout_of, IsLawfulImage}
+use Rattle.rmeworld.specs.Sent.{ReplyTells, EveryMessageWasSent, EveryCloseWasAsked}
+use Rattle.rmeworld.specs.Spot.{Happening, Begins, who}
+use Rattle.rmeworld.specs.World.{Scene, at_first, onward, Story}
+use Rattle.redomail.specs.declared.layout.Layout.{Layout}
+use Rattle.robust.specs.declared.entry.Entry.{Entry}
+use Rattle.robust.specs.declared.setup.Setup.{Setup}
+use Rattle.robust.specs.declared.lab.lab_fault.LabFault.{LabFault}
+use Rattle.robust.specs.declared.lab.spec.Spec.{Spec}
+use Rattle.robust.specs.declared.lab.worker.Done.{Done}
+use Rattle.robust.specs.declared.lab.worker.Ending.{Ending}
+use Rattle.robust.specs.declared.lab.worker.Ending.TheVariants.{AllSent, Fault, Refused}
+use Rattle.robust.specs.Gathering.{Gathers, IsGlance, has_member, image_at}
+use Rattle.robust.specs.Headline.{judged_by, shown_by}
+use Rattle.robust.specs.LabFaults.{IsFaultOf, IsFirstFault, EndsSo, EndsLab}
+use Rattle.robust.specs.Reading.{cells_of, RunsShow, LoadsTell}
+use Rattle.robust.specs.Ruins.{AreInOrder, NobodyRuins}
+use Rattle.robust.specs.Rule.{Begins as Starts}
+use Rattle.robust.specs.Running.{Seated}
+use Rattle.robust.specs.Runs.{own, spelled, IsRun, end_of}
+use Rattle.robust.specs.Sending.{OfStart, IsSending, AreSending}
+use Rattle.robust.specs.Worked.{sizes_of, HasWorked}
+use Rattle.robust.proofs.AllSent.{OfBegins, begins_all, begins_it, lawful_content, content_numbered, shown_entries, gathered_layout, at_most, sending_more}
+use Rattle.robust.proofs.Appended.{all_at}
+use Rattle.robust.proofs.Gathered.{all_left}
+use Rattle.robust.proofs.LawfulEnd.{cells_counted}
+use Rattle.robust.proofs.Numbered.{senders, has_all, fewer_all}
+use Rattle.robust.proofs.Runs.{own-append, legal_front}
+use Rattle.robust.proofs.Shown.{shown_on}
+use Rattle.robust.proofs.Ordered.{order_more}
+use Rattle.robust.proofs.Unruined.{story_within, none_read}
+use Rattle.robust.proofs.Together.{Keeps, Holds, all_hold, each_holds}
+
+-- one of those that are mapped
+all_mapped : {A B : Type 0} (f : A → B) (P : B → Type 0) (xs : List A) (x : A) (ys : List A) → All P (map f (xs ++ x ∷ ys)) → P (f x)
+all_mapped f P [] x ys h = All-head P (f x) (map f ys) h
+all_mapped f P (y ∷ xs) x ys h = all_mapped f P xs x ys (All-tail P (f y) (map f (xs ++ x ∷ ys)) h)
+
+to_mapped : {A B : Type 0} (f : A → B) (P : B → Type 0) (Q : A → Type 0) (xs : List A) → ((x : A) → Q x → P (f x)) → All Q xs → All P (map f xs)
+to_mapped f P Q [] k h = All-nil _
+to_mapped f P Q (x ∷ xs) k h = All-cons P (f x) (map f xs) (k x (All-head Q x xs h)) (to_mapped f P Q xs k (All-tail Q x xs h))
+
+none_long : {A : Type 0} (xs : List A) → length xs ≡ 0 → xs ≡ []
+none_long [] h = refl
+none_long (x ∷ xs) h = absurd (cc)
+
+-- at one point of the run its mailbox refused a message
+module _ (s : Spec) (run front rest : List Entry) (is : run ≡ front ++ rest) (layout : IsLayout (sizes_of s).layout) (legal : IsRun (sizes_of s) run) (sending : (p : ℕ) → p < s.procs → AreSending s.width s.messages p (own p run)) where
+  abbrev z : Setup
+  z = sizes_of s
+
+  front_run : IsRun z front
+  front_run = legal_front z front rest (subst (IsRun z) is legal)
+
+  -- no worker closes it
+  never_closed : EveryCloseWasAsked → (judged_by z front).mail.closed ≡ true → ⊥
+  never_closed every closed =
+      let asked = every z.layout z.limit (spelled front) layout front_run closed in
+      let p = asked.0 in
+      let P = IsSending s.width s.messages p in
+      let F : Entry → Type 0 = λ e. OfStart P e.step.start in
+      let below : p < s.procs = All-contains (λ (h : Happening). who h < s.procs) (spelled front) (Begins p Close) (story_within z.layout z.limit at_first (spelled front) front_run) asked.1 in
+      let mine : All F (own p front) = all_left F (own p front) (own p rest) (subst (All F) (ap (own p) is ∙ own-append p front rest) (sending p below)) in
+      begins_it P p Close (All-contains (OfBegins P p) (spelled front) (Begins p Close) (begins_all P p front mine) asked.1)
+
+  -- where it was full, there is less room than messages
+  module _ (w : Words) (n : ℕ) (numbered : IsNumbered z.layout w n) (sent : EveryMessageWasSent) (shown : shown_by z run ≡ entries z.layout w n) (room : n ≤ s.cap) where
+    abbrev ms : List Message
+    ms = entries z.layout w n
+
+    little_room : (p seq : ℕ) → p < s.procs → 1 ≤ seq → seq ≤ s.messages → length (shown_by z front) ≡ s.cap → (IsAmong p seq (shown_by z front) → ⊥) → s.cap < s.procs * s.messages
+    little_room p seq below some few full missing =
+        let more = shown_on z front rest in
+        let all : shown_by z front ++ more.0 ≡ ms = sym more.1 ∙ ap (shown_by z) (sym is) ∙ shown in
+        let lengths = length-append (shown_by z front) more.0 in
+        let long : length (shown_by z front ++ more.0) ≡ n = ap length all ∙ length-entries z.layout w n in
+        let none : more.0 ≡ [] = none_long more.0 (omega (arith, lengths, long, full, room)) in
+        let same : shown_by z front ≡ ms = sym (append-nil (shown_by z front)) ∙ ap (λ (l : List Message). shown_by z front ++ l) (sym none) ∙ all in
+        let count : length ms ≡ s.cap = sym (ap length same) ∙ full in
+        let less : count_of p ms < s.messages =
+        elim (cases_lt (count_of p ms) s.messages) [
+          | inl h ↦ h
+          | inr many ↦ absurd (missing (subst (IsAmong p seq) (sym same) (has_all z.layout w n p seq numbered some (omega (arith, few, many)))))
+        ] in
+        let fewer = fewer_all s.procs s.messages p ms (senders z.layout w n numbered) (λ q low. at_most s run w n layout legal numbered sent shown sending q) below less in
+        omega (arith, fewer, count)
+
+abbrev pub member_of : Done → Seated
+member_of d = d.member
+
+pub lab_ends : (s : Spec) (ended : List Done) (image : Image) (cause : LabFault) → IsLayout (sizes_of s).layout → All (λ (x : Seated). x.pass.setup ≡ sizes_of s) (map member_of ended) → All (HasWorked s) ended → IsFirstFault ended cause → Gathers (map member_of ended) image
+    → IsLawfulImage image → EveryMessageWasSent → EveryCloseWasAsked → RunsShow → LoadsTell → NobodyRuins → EndsLab s cause
+lab_ends s ended image cause layout setups worked f g lawful was closes shows loads nobody = by f.done.ending has.1 f.cause_is
+  where
+    z : Setup
+    z = sizes_of s
+
+    x : Seated
+    x = f.done.member
+
+    Q : ℕ → List Entry → Type 0
+    Q = AreSending s.width s.messages
+
+    more : (p : ℕ) (es glances : List Entry) → All IsGlance glances → Q p es → Q p (es ++ glances)
+    more = sending_more s.width s.messages
+
+    has : HasWorked s f.done
+    has = all_at (HasWorked s) f.front f.done f.back (subst (All (HasWorked s)) f.are worked)
+
+    setup : x.pass.setup ≡ z
+    setup = all_mapped member_of (λ (y : Seated). y.pass.setup ≡ z) f.front f.done f.back (subst (λ (ds : List Done). All (λ (y : Seated). y.pass.setup ≡ z) (map member_of ds)) f.are setups)
+
+    below : x.pass.by < s.procs
+    below = subst (λ (u : Setup). x.pass.by < u.layout.procs) setup f.below
+
+    same : g.first.pass.setup ≡ z
+    same = All-head (λ (y : Seated). y.pass.setup ≡ z) g.first g.others (subst (All (λ (y : Seated). y.pass.setup ≡ z)) g.are setups)
+
+    legal : IsRun z g.run
+    legal = subst (λ (u : Setup). IsRun u g.run) same g.legal
+
+    keeps : All (Keeps Q more g.first g.others (length g.others) g.run g.told) (g.first ∷ g.others)
+    keeps = subst (All (Keeps Q more g.first g.others (length g.others) g.run g.told)) g.are (to_mapped member_of (Keeps Q more g.first g.others (length g.others) g.run g.told) (HasWorked s) ended (λ d h. h.0) worked)
+
+    starts : Starts x.pass.seen g.run
+    starts =
+        let H = Holds Q more g.first g.others (length g.others) g.run g.told in
+        let all : All H (map member_of ended) = subst (All H) (sym g.are) (all_hold Q more g.first g.others (length g.others) g.run g.told keeps) in
+        (all_mapped member_of H f.front f.done f.back (subst (λ (ds : List Done). All H (map member_of ds)) f.are all)).1
+
+    sending : (p : ℕ) → p < s.procs → AreSending s.width s.messages p (own p g.run)
+    sending p low =
+        let there : has_member p (g.first ∷ g.others) ≡ true = subst (λ (l : List Seated). has_member p l ≡ true) g.are (g.all p (subst (λ (u : Setup). p < u.layout.procs) (sym same) low)) in
+        each_holds Q more g.first g.others (length g.others) g.run g.told keeps p there
+
+    O : ℕ → List Entry → Type 0
+    O p es = AreInOrder None es
+
+    keep_order : All (Keeps O order_more g.first g.others (length g.others) g.run g.told) (g.first ∷ g.others)
+    keep_order =
+        subst (All (Keeps O order_more g.first g.others (length g.others) g.run g.told)) g.are (to_mapped member_of (Keeps O order_more g.first g.others (length g.others) g.run g.told) (HasWorked s) ended (λ d h. h.2) worked)
+
+    ordered : (p : ℕ) → p < s.procs → AreInOrder None (own p g.run)
+    ordered p low =
+        let there : has_member p (g.first ∷ g.others) ≡ true = subst (λ (l : List Seated). has_member p l ≡ true) g.are (g.all p (subst (λ (u : Setup). p < u.layout.procs) (sym same) low)) in
+        each_holds O order_more g.first g.others (length g.others) g.run g.told keep_order p there
+
+    w : Words
+    w = words_of image.cells
+
+    n : ℕ
+    n = slice_index image.cells 2
+
+    words : w ≡ cells_of z g.run
+    words = ap (λ (i : Image). words_of i.cells) (g.words ∙ ap (λ (u : Setup). image_at u (end_of u g.run)) same) ∙ cells_counted z g.run legal
+
+    count : n ≡ cells_of z g.run 2
+    count = ap (λ (v : Words). v 2) words
+
+    numbered : IsNumbered z.layout w n
+    numbered = subst (λ (l : Layout). IsNumbered l w n) (gathered_layout z (map member_of ended) image setups g) (content_numbered (layout_of image) image.cells (lawful_content image lawful))
+
+    shown : shown_by z g.run ≡ entries z.layout w n
+    shown = shown_entries z g.run layout legal shows ∙ (λ i. entries z.layout (sym words i) (sym count i))
+
+    room : n ≤ s.cap
+    room = let h = (shows z g.run layout legal).1 in omega (arith, h, count)
+
+    by : (e : Ending) → EndsSo s x e → IsFaultOf x.pass.by e cause → EndsLab s cause
+    by AllSent h is = absurd is
+    by (Fault why) (inl spent) is = subst (EndsLab s) (sym is) (below, spent)
+    by (Fault why) (inr ruin) is = absurd (none_read z x.pass.seen starts.0 x.pass.by layout (subst (IsRun z) starts.1 legal) (λ p low. subst (λ (es : List Entry). AreInOrder None (own p es)) starts.1 (ordered p low)) loads nobody ruin.1)
+    by (Refused reply) h is =
+        let at = h.1.3 in
+        let seq = h.1.0 in
+        let rest = at.later ++ starts.0 in
+        let split : g.run ≡ at.front ++ rest = starts.1 ∙ ap (λ (es : List Entry). es ++ starts.0) at.seen ∙ append_assoc at.front at.later starts.0 in
+        let tells : ReplyTells z.layout x.pass.by seq reply (judged_by z at.front).mail = subst (λ (u : Setup). ReplyTells u.layout x.pass.by seq reply (judged_by u at.front).mail) setup at.tells in
+        elim h.0 [
+          | inl full ↦
+              (let told = subst (λ (r : Reply). ReplyTells z.layout x.pass.by seq r (judged_by z at.front).mail) full tells in
+              subst (EndsLab s) (sym is) (below, full, little_room s g.run at.front rest split layout legal sending w n numbered was shown room x.pass.by seq below h.1.1 h.1.2 told.0 told.1))
+          | inr closed ↦
+              (let told = subst (λ (r : Reply). ReplyTells z.layout x.pass.by seq r (judged_by z at.front).mail) closed tells in
+              absurd (never_closed s g.run at.front rest split layout legal sending closes told.0))
+        ]

@@ -1,0 +1,207 @@
+-- In a run whose processes all start their calls as workers do, nobody ruins the lock.
+use Rattle.std.proofs.Common.{◌≡◌, ◌≢◌, ℕ, zero, suc, ◌+◌, ◌<◌, ◌≤◌, ◌==◌, Bool, true, false, ◌⊎◌, List, [], ◌∷◌, ◌++◌, length, Option, Some, None, IsSome, All, refl, sym, ap, ◌∙◌, subst, inl, inr, arith, append_assoc, append-nil, length-append, eq-eqb}
+use Rattle.std.proofs.lemmas.Bool.{cases_eq}
+use Rattle.std.proofs.lemmas.List.Elements.{All-nil, All-cons}
+use Rattle.rmecore.specs.declared.kind.Kind.{Kind}
+use Rattle.rmecore.specs.declared.word.Word.{Word}
+use Rattle.rmecore.specs.declared.word.Word.TheVariants.{Data as DataAt}
+use Rattle.redomail.specs.Layout.{IsLayout}
+use Rattle.redomail.specs.declared.layout.Layout.{Layout}
+use Rattle.rmeworld.specs.declared.call.Call.{Call}
+use Rattle.rmeworld.specs.declared.call.Call.TheVariants.{Unlock}
+use Rattle.rmeworld.specs.Sent.{EveryRuinWasAsked, IsLeftUnmended}
+use Rattle.rmeworld.specs.Spot.{Spot, Happening, Begins, Falls, who, at_rest, next_spot}
+use Rattle.rmeworld.specs.World.{Scene, at_first, last_scene, Story, onward, reading}
+use Rattle.robust.specs.declared.entry.Entry.{Entry}
+use Rattle.robust.specs.declared.setup.Setup.{Setup}
+use Rattle.robust.specs.Reading.{cells_of, LoadsTell}
+use Rattle.robust.specs.Ruins.{ReadsRuin, HasReadRuin, last_call, last_of, settles, MayStart, AreInOrder, NobodyRuins}
+use Rattle.robust.specs.Runs.{crash_first, before, taken, happenings, spelled, own, gone, Goes, spot_of, IsRun, end_of}
+use Rattle.robust.proofs.Appended.{Own, own_split, own_taken, all_at}
+use Rattle.robust.proofs.OneStep.{run_goes, goes_back}
+use Rattle.robust.proofs.Ruins.{StandsAt, walk, unlocks_mended}
+use Rattle.robust.proofs.Runs.{own-append, spelled-append, spot_in_run, legal_front, by_kind}
+
+-- a story is its processes' own
+pub story_within : (l : Layout) (limit : ℕ) (w : Scene) (hs : List Happening) → Story l limit w hs → All (λ (h : Happening). who h < l.procs) hs
+story_within l limit w [] story = All-nil _
+story_within l limit w (h ∷ hs) story = All-cons (λ (x : Happening). who x < l.procs) h hs story.0.0 (story_within l limit (onward l limit w h) hs story.1)
+
+-- where one list's element falls in two lists
+cut_at : {A : Type 0} (xs ys front : List A) (h : A) (back : List A) → xs ++ ys ≡ front ++ h ∷ back → ((mid : List A) × (xs ≡ front ++ h ∷ mid)) ⊎ ((mid : List A) × (front ≡ xs ++ mid) × (ys ≡ mid ++ h ∷ back))
+cut_at [] ys front h back e = inr (front, refl, e)
+cut_at (x ∷ xs) ys [] h back e = inl (xs, (let same : x ≡ h = cc in ap (λ y. y ∷ xs) same))
+cut_at (x ∷ xs) ys (f ∷ fs) h back e =
+    let same : x ≡ f = cc in
+    let rest : xs ++ ys ≡ fs ++ h ∷ back = cc in
+    elim (cut_at xs ys fs h back rest) [
+      | inl here ↦ inl (here.0, (λ i. same i ∷ here.1 i))
+      | inr later ↦ inr (later.0, (λ i. sym same i ∷ later.1 i), later.2)
+    ]
+
+-- the entry that begins this call
+pub record Beginning (p : ℕ) (call : Call) (es : List Entry) (front : List Happening) : Type 0 where
+  pub earlier : List Entry
+  pub entry : Entry
+  pub later : List Entry
+  pub is : es ≡ earlier ++ entry ∷ later
+  pub by : entry.by ≡ p
+  pub starts : entry.step.start ≡ Some call
+  pub front_is : front ≡ spelled earlier ++ crash_first entry.step.crashed entry.by
+
+in_before : (c : Bool) (o : Option Call) (q p : ℕ) (call : Call) (front mid : List Happening) → before c o q ≡ front ++ Begins p call ∷ mid → (q ≡ p) × (o ≡ Some call) × (front ≡ crash_first c q)
+in_before false None q p call [] mid e = absurd (cc)
+in_before false None q p call (f ∷ fs) mid e = absurd (let k : [] ≡ f ∷ (fs ++ Begins p call ∷ mid) = e in cc)
+in_before false (Some c) q p call [] mid e = let same : Begins q c ≡ Begins p call = cc in let a : q ≡ p = cc in let b : c ≡ call = cc in (a, ap Some b, refl)
+in_before false (Some c) q p call (f ∷ []) mid e = absurd (let k : Begins q c ∷ [] ≡ f ∷ Begins p call ∷ mid = e in cc)
+in_before false (Some c) q p call (f ∷ g ∷ fs) mid e = absurd (let k : Begins q c ∷ [] ≡ f ∷ g ∷ (fs ++ Begins p call ∷ mid) = e in cc)
+in_before true None q p call [] mid e = absurd (let k : Falls q ∷ [] ≡ Begins p call ∷ mid = e in cc)
+in_before true None q p call (f ∷ []) mid e = absurd (let k : Falls q ∷ [] ≡ f ∷ Begins p call ∷ mid = e in cc)
+in_before true None q p call (f ∷ g ∷ fs) mid e = absurd (let k : Falls q ∷ [] ≡ f ∷ g ∷ (fs ++ Begins p call ∷ mid) = e in cc)
+in_before true (Some c) q p call [] mid e = absurd (let k : Falls q ∷ Begins q c ∷ [] ≡ Begins p call ∷ mid = e in cc)
+in_before true (Some c) q p call (f ∷ []) mid e =
+    let k : Falls q ∷ Begins q c ∷ [] ≡ f ∷ Begins p call ∷ mid = e in
+    let a : q ≡ p = cc in
+    let b : c ≡ call = cc in
+    let first : f ≡ Falls q = cc in (a, ap Some b, ap (λ x. x ∷ []) first)
+in_before true (Some c) q p call (f ∷ g ∷ []) mid e = absurd (let k : Falls q ∷ Begins q c ∷ [] ≡ f ∷ g ∷ Begins p call ∷ mid = e in cc)
+in_before true (Some c) q p call (f ∷ g ∷ h ∷ fs) mid e = absurd (let k : Falls q ∷ Begins q c ∷ [] ≡ f ∷ g ∷ h ∷ (fs ++ Begins p call ∷ mid) = e in cc)
+
+not_taken : (p q : ℕ) (call : Call) (kind : Kind) (word : Word) (v : ℕ) (mid back : List Happening) → taken q kind word v ∷ [] ≡ mid ++ Begins p call ∷ back → ⊥
+not_taken p q call kind word v [] back e =
+    by_kind (λ k h. h ∷ [] ≡ Begins p call ∷ back → ⊥) q word v (λ k. absurd (cc)) (λ kd k. absurd (cc)) kind e
+not_taken p q call kind word v (m ∷ []) back e = absurd (let k : taken q kind word v ∷ [] ≡ m ∷ Begins p call ∷ back = e in cc)
+not_taken p q call kind word v (m ∷ n ∷ ms) back e = absurd (let k : taken q kind word v ∷ [] ≡ m ∷ n ∷ (ms ++ Begins p call ∷ back) = e in cc)
+
+begun_at : (p : ℕ) (call : Call) (es : List Entry) (front back : List Happening) → spelled es ≡ front ++ Begins p call ∷ back → Beginning p call es front
+begun_at p call [] [] back e = absurd (cc)
+begun_at p call [] (f ∷ fs) back e = absurd (let k : [] ≡ f ∷ (fs ++ Begins p call ∷ back) = e in cc)
+begun_at p call (x ∷ es) front back e = by (cut_at (happenings x) (spelled es) front (Begins p call) back e) (λ mid rest. begun_at p call es mid back rest)
+  where
+    hs : List Happening
+    hs = before x.step.crashed x.step.start x.by
+
+    t : Happening
+    t = taken x.by x.step.kind x.step.word x.value
+
+    here : (mid : List Happening) → happenings x ≡ front ++ Begins p call ∷ mid → Beginning p call (x ∷ es) front
+    here mid k = elim (cut_at hs (t ∷ []) front (Begins p call) mid k) [
+      | inl first ↦ (let b = in_before x.step.crashed x.step.start x.by p call front first.0 first.1 in record { earlier = []; entry = x; later = es; is = refl; by = b.0; starts = b.1; front_is = b.2 })
+      | inr last ↦ absurd (not_taken p x.by call x.step.kind x.step.word x.value last.0 mid last.2)
+    ]
+
+    by : ((mid : List Happening) × (happenings x ≡ front ++ Begins p call ∷ mid)) ⊎ ((mid : List Happening) × (front ≡ happenings x ++ mid) × (spelled es ≡ mid ++ Begins p call ∷ back)) → ((mid : List Happening) → spelled es ≡ mid ++ Begins p call ∷ back → Beginning p call es mid)
+        → Beginning p call (x ∷ es) front
+    by (inl first) on = here first.0 first.1
+    by (inr later) on =
+        let b = on later.0 later.2 in
+        record {
+          earlier = x ∷ b.earlier;
+          entry = b.entry;
+          later = b.later;
+          is = ap (λ (l : List Entry). x ∷ l) b.is;
+          by = b.by;
+          starts = b.starts;
+          front_is = later.1 ∙ ap (λ (l : List Happening). happenings x ++ l) b.front_is ∙ sym (append_assoc (happenings x) (spelled b.earlier) (crash_first b.entry.step.crashed b.entry.by));
+        }
+
+order_front : (last : Option Call) (xs ys : List Entry) → AreInOrder last (xs ++ ys) → AreInOrder last xs
+order_front last [] ys h = tt
+order_front last (x ∷ xs) ys h = (h.0, order_front (last_call last x.step.crashed x.step.start) xs ys h.1)
+
+order_at : (last : Option Call) (xs : List Entry) (e : Entry) (ys : List Entry) → AreInOrder last (xs ++ e ∷ ys) → MayStart (last_of last xs) e.step.crashed e.step.start
+order_at last [] e ys h = h.0
+order_at last (x ∷ xs) e ys h = order_at (last_call last x.step.crashed x.step.start) xs e ys h.1
+
+module _ (s : Setup) (layout : IsLayout s.layout) (asked : EveryRuinWasAsked) (loads : LoadsTell) where
+  abbrev Ordered : List Entry → Type 0
+  Ordered es = (p : ℕ) → p < s.layout.procs → AreInOrder None (own p es)
+
+  ordered_front : (xs ys : List Entry) → Ordered (xs ++ ys) → Ordered xs
+  ordered_front xs ys h p below = order_front None (own p xs) (own p ys) (subst (AreInOrder None) (own-append p xs ys) (h p below))
+
+  -- who begins to unlock there has read a ruin before, and so it stood in the word
+  left : (es : List Entry) (p : ℕ) → IsRun s es → Ordered es → IsLeftUnmended s.layout s.limit (spelled es) p → ((xs ys : List Entry) → es ≡ xs ++ ys → length xs < length es → cells_of s xs 0 ≡ 0) → ⊥
+  left es p run ordered u before_it =
+      elim (walk s None at_rest (own p b.earlier) (refl, λ e. absurd (cc)) (order_front None (own p b.earlier) (b.entry ∷ own p b.later) mine) (run_goes s b.earlier p earlier_run)) [
+        | inl ruin ↦ ruined ruin
+        | inr stands ↦ unlocks_mended s (last_of None (own p b.earlier)) (spot_of s p b.earlier) p stands may.1 begins unmended
+      ]
+    where
+      b : Beginning p Unlock es u.front
+      b = begun_at p Unlock es u.front u.back u.split
+
+      below : p < s.layout.procs
+      below = all_at (λ (h : Happening). who h < s.layout.procs) u.front (Begins p Unlock) u.back (subst (All (λ (h : Happening). who h < s.layout.procs)) u.split (story_within s.layout s.limit at_first (spelled es) run))
+
+      same : (b.entry.by == p) ≡ true
+      same = eq-eqb b.entry.by p b.by
+
+      owns : own p es ≡ own p b.earlier ++ b.entry ∷ own p b.later
+      owns = ap (own p) b.is ∙ own-append p b.earlier (b.entry ∷ b.later) ∙ ap (λ (l : List Entry). own p b.earlier ++ l) (own_taken p b.entry b.later same)
+
+      mine : AreInOrder None (own p b.earlier ++ b.entry ∷ own p b.later)
+      mine = subst (AreInOrder None) owns (ordered p below)
+
+      may : (b.entry.step.crashed ≡ false) × (settles (last_of None (own p b.earlier)) ≡ true)
+      may = subst (λ (o : Option Call). MayStart (last_of None (own p b.earlier)) b.entry.step.crashed o) b.starts (order_at None (own p b.earlier) b.entry (own p b.later) mine)
+
+      earlier_run : IsRun s b.earlier
+      earlier_run = legal_front s b.earlier (b.entry ∷ b.later) (subst (IsRun s) b.is run)
+
+      goes : Goes s (spot_of s p b.earlier) (happenings b.entry ++ spelled (own p b.later))
+      goes =
+          let all = run_goes s es p run in
+          let parts : spelled (own p es) ≡ spelled (own p b.earlier) ++ (happenings b.entry ++ spelled (own p b.later)) = ap spelled owns ∙ spelled-append (own p b.earlier) (b.entry ∷ own p b.later) in
+          goes_back s at_rest (spelled (own p b.earlier)) (happenings b.entry ++ spelled (own p b.later)) (subst (Goes s at_rest) parts all)
+
+      begins : IsSome (next_spot s.layout s.limit (spot_of s p b.earlier) (Begins p Unlock))
+      begins =
+          let x = b.entry in
+          let t = taken x.by x.step.kind x.step.word x.value in
+          let G : Bool × Option Call × ℕ → Type 0 = λ (w : Bool × Option Call × ℕ). Goes s (spot_of s p b.earlier) ((before w.0 w.1 w.2 ++ t ∷ []) ++ spelled (own p b.later)) in
+          let at : G (false, Some Unlock, p) = subst G (λ i. (may.0 i, b.starts i, b.by i)) goes in at.0
+
+      unmended : (spot_of s p b.earlier).mended ≡ false
+      unmended =
+          let front : u.front ≡ spelled b.earlier = b.front_is ∙ ap (λ (c : Bool). spelled b.earlier ++ crash_first c b.entry.by) may.0 ∙ append-nil (spelled b.earlier) in
+          sym (ap (λ (q : Spot). q.mended) (ap (λ (hs : List Happening). (last_scene s.layout s.limit at_first hs).spots p) front ∙ spot_in_run s b.earlier p)) ∙ u.unmended
+
+      ruined : HasReadRuin (own p b.earlier) → ⊥
+      ruined r =
+          let o : Own p b.earlier r.front r.entry = own_split p b.earlier r.front r.entry r.back r.is in
+          let parts : es ≡ (o.earlier ++ r.entry ∷ []) ++ (o.later ++ b.entry ∷ b.later) =
+          b.is ∙ ap (λ (l : List Entry). l ++ b.entry ∷ b.later) (o.is ∙ sym (append_assoc o.earlier (r.entry ∷ []) o.later)) ∙ append_assoc (o.earlier ++ r.entry ∷ []) o.later (b.entry ∷ b.later) in
+          let told = loads s o.earlier r.entry (legal_front s (o.earlier ++ r.entry ∷ []) (o.later ++ b.entry ∷ b.later) (subst (IsRun s) parts run)) r.reads.0 in
+          let one : cells_of s o.earlier 0 ≡ 1 = ap (reading (end_of s o.earlier)) (sym r.reads.1) ∙ told ∙ r.reads.2 in
+          let whole : es ≡ o.earlier ++ (r.entry ∷ (o.later ++ b.entry ∷ b.later)) = parts ∙ append_assoc o.earlier (r.entry ∷ []) (o.later ++ b.entry ∷ b.later) in
+          let long = ap length whole in
+          let lengths = length-append o.earlier (r.entry ∷ (o.later ++ b.entry ∷ b.later)) in
+          let zero_there = before_it o.earlier (r.entry ∷ (o.later ++ b.entry ∷ b.later)) whole (omega (arith, long, lengths)) in
+          omega (arith, one, zero_there)
+
+  unruined : (n : ℕ) (es : List Entry) → length es < n → IsRun s es → Ordered es → cells_of s es 0 ≡ 0
+  unruined zero es few run ordered = absurd (omega arith)
+  unruined (suc n) es few run ordered =
+      elim (cases_eq (cells_of s es 0) 0) [
+        | inl none ↦ none
+        | inr ruin ↦
+            (let u = asked s.layout s.limit (spelled es) layout run ruin in
+            absurd (left es u.0 run ordered u.1 (λ xs ys is fewer. unruined n xs (omega (arith, few, fewer)) (legal_front s xs ys (subst (IsRun s) is run)) (ordered_front xs ys (subst Ordered is ordered)))))
+      ]
+
+pub nobody_ruins : EveryRuinWasAsked → LoadsTell → NobodyRuins
+nobody_ruins asked loads s es layout run ordered = unruined s layout asked loads (suc (length es)) es (omega arith) run ordered
+
+-- so no process reads a ruin
+pub none_read : (s : Setup) (es rest : List Entry) (p : ℕ) → IsLayout s.layout → IsRun s (es ++ rest) → ((q : ℕ) → q < s.layout.procs → AreInOrder None (own q (es ++ rest))) → LoadsTell → NobodyRuins → HasReadRuin (own p es) → ⊥
+none_read s es rest p layout run ordered loads nobody r =
+    let o : Own p es r.front r.entry = own_split p es r.front r.entry r.back r.is in
+    let parts : es ++ rest ≡ (o.earlier ++ r.entry ∷ []) ++ (o.later ++ rest) =
+    ap (λ (l : List Entry). l ++ rest) (o.is ∙ sym (append_assoc o.earlier (r.entry ∷ []) o.later)) ∙ append_assoc (o.earlier ++ r.entry ∷ []) o.later rest in
+    let whole : es ++ rest ≡ o.earlier ++ (r.entry ∷ (o.later ++ rest)) = parts ∙ append_assoc o.earlier (r.entry ∷ []) (o.later ++ rest) in
+    let told = loads s o.earlier r.entry (legal_front s (o.earlier ++ r.entry ∷ []) (o.later ++ rest) (subst (IsRun s) parts run)) r.reads.0 in
+    let one : cells_of s o.earlier 0 ≡ 1 = ap (reading (end_of s o.earlier)) (sym r.reads.1) ∙ told ∙ r.reads.2 in
+    let before_it = λ (q : ℕ) (low : q < s.layout.procs). order_front None (own q o.earlier) (own q (r.entry ∷ (o.later ++ rest))) (subst (AreInOrder None) (ap (own q) whole ∙ own-append q o.earlier (r.entry ∷ (o.later ++ rest))) (ordered q low)) in
+    let none = nobody s o.earlier layout (legal_front s o.earlier (r.entry ∷ (o.later ++ rest)) (subst (IsRun s) whole run)) before_it in
+    omega (arith, one, none)

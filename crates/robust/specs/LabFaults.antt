@@ -1,0 +1,55 @@
+-- What may end a lab early, and of which worker the fault is told.
+use Rattle.std.specs.Prelude.{◌≡◌, ℕ, ◌+◌, ◌*◌, ◌<◌, ◌≤◌, ◌⊎◌, List, ◌∷◌, ◌++◌, All}
+use Rattle.redomail.specs.declared.reply.Reply.{Reply}
+use Rattle.redomail.specs.declared.reply.Reply.TheVariants.{Full, Closed}
+use Rattle.rmeworld.specs.Sent.{ReplyTells}
+use Rattle.robust.specs.declared.entry.Entry.{Entry}
+use Rattle.robust.specs.declared.lock_fault.LockFault.TheVariants as fault
+use Rattle.robust.specs.declared.lab.lab_fault.LabFault.{LabFault}
+use Rattle.robust.specs.declared.lab.lab_fault.LabFault.TheVariants.{BadSpec, OutOfMemory, Member, Reply as Replied}
+use Rattle.robust.specs.declared.lab.spec.Spec.{Spec}
+use Rattle.robust.specs.declared.lab.worker.Done.{Done}
+use Rattle.robust.specs.declared.lab.worker.Ending.{Ending}
+use Rattle.robust.specs.declared.lab.worker.Ending.TheVariants.{AllSent, Fault, Refused}
+use Rattle.robust.specs.Headline.{judged_by}
+use Rattle.robust.specs.Pass.{own_of}
+use Rattle.robust.specs.Ruins.{HasReadRuin}
+use Rattle.robust.specs.Running.{Seated}
+use Rattle.robust.specs.Sending.{HasShown}
+
+-- what ended the worker of process p is this fault of its lab
+abbrev pub IsFaultOf : ℕ → Ending → LabFault → Type 0
+IsFaultOf p AllSent cause = ⊥
+IsFaultOf p (Fault why) cause = cause ≡ Member p why
+IsFaultOf p (Refused reply) cause = cause ≡ Replied p reply
+
+-- the fault is that of the first of these workers that has ended early
+pub record IsFirstFault (ended : List Done) (cause : LabFault) : Type 0 where
+  pub front : List Done
+  pub done : Done
+  pub back : List Done
+  pub are : ended ≡ front ++ done ∷ back
+  pub sent : All (λ (d : Done). d.ending ≡ AllSent) front
+  pub below : done.member.pass.by < done.member.pass.setup.layout.procs
+  pub cause_is : IsFaultOf done.member.pass.by done.ending cause
+
+-- at one point of the run that the member has seen, what the reply of an append with this number tells of the mailbox held
+pub record RefusedAt (x : Seated) (seq : ℕ) (reply : Reply) : Type 0 where
+  pub front : List Entry
+  pub later : List Entry
+  pub seen : x.pass.seen ≡ front ++ later
+  pub tells : ReplyTells x.pass.setup.layout x.pass.by seq reply (judged_by x.pass.setup front).mail
+
+-- How a worker ends: its last message is shown; or it is out of numbers, or has read that the lock is ruined; or one of its messages
+-- was answered Full or Closed.
+abbrev pub EndsSo : Spec → Seated → Ending → Type 0
+EndsSo s x AllSent = HasShown s.messages x
+EndsSo s x (Fault why) = (why ≡ fault.NumbersSpent) ⊎ ((why ≡ fault.NotRecoverable) × HasReadRuin (own_of x.pass))
+EndsSo s x (Refused reply) = ((reply ≡ Full) ⊎ (reply ≡ Closed)) × ((seq : ℕ) × (1 ≤ seq) × (seq ≤ s.messages) × RefusedAt x seq reply)
+
+-- What may end a lab early: want of memory; a worker that is out of numbers; or a mailbox with less room than messages.
+abbrev pub EndsLab : Spec → LabFault → Type 0
+EndsLab s BadSpec = ⊥
+EndsLab s OutOfMemory = Unit {0}
+EndsLab s (Member p why) = (p < s.procs) × (why ≡ fault.NumbersSpent)
+EndsLab s (Replied p reply) = (p < s.procs) × (reply ≡ Full) × (s.cap < s.procs * s.messages)

@@ -207,7 +207,7 @@ brings_all entering.OwnerDied seq value =
     let P = Brings (task.Append seq value) in
     All-cons P Lock (Consistent ∷ Append seq value ∷ Unlock ∷ []) tt (All-cons P Consistent (Append seq value ∷ Unlock ∷ []) tt (All-cons P (Append seq value) (Unlock ∷ []) refl (All-cons P Unlock [] tt (All-nil P))))
 
-either_seen : (b : Bool) (x : Seated) → (if b then x else fell x).pass.seen ≡ x.pass.seen
+pub either_seen : (b : Bool) (x : Seated) → (if b then x else fell x).pass.seen ≡ x.pass.seen
 either_seen true x = refl
 either_seen false x = refl
 

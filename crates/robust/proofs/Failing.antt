@@ -24,7 +24,7 @@ use Rattle.robust.specs.Telling.{ToldIn}
 use Rattle.robust.specs.Under.{Appends}
 use Rattle.robust.specs.Whole.{WholeEnds, AppendFails, Comes}
 use Rattle.robust.specs.Working.{seat_of}
-use Rattle.robust.proofs.Appended.{among_more}
+use Rattle.robust.proofs.Appended.{among_more, either_seen}
 use Rattle.robust.proofs.Shown.{shown_on}
 
 -- a process that may lock isn't in the section
@@ -76,10 +76,6 @@ module _ (x y : Seated) (seq : ℕ) (value : List ℕ) (a b c d : ℕ) where
 -- a call adds to what its process has seen
 abbrev pub Grown : Seated → Seated → Type 0
 Grown x y = (since : List Entry) × (y.pass.seen ≡ x.pass.seen ++ since)
-
-either_seen : (b : Bool) (x : Seated) → (if b then x else fell x).pass.seen ≡ x.pass.seen
-either_seen true x = refl
-either_seen false x = refl
 
 calls_grow : (x y : Seated) (mine : List Entry) → Calls (began (ready x) Lock).pass mine y.pass → Grown x y
 calls_grow x y mine c = (c.since, c.seen ∙ ap (λ (es : List Entry). es ++ c.since) (either_seen (is_idle (spot_now x.pass)) x))

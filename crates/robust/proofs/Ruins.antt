@@ -216,7 +216,7 @@ module _ (s : Setup) where
         | inr stands ↦ inr (subst (StandsAt s.layout (last_call last e.step.crashed e.step.start)) (sym (gone-append s q hs (x ∷ []))) stands)
       ]
 
-  later_ruin : (e : Entry) (es : List Entry) → HasReadRuin es → HasReadRuin (e ∷ es)
+  pub later_ruin : (e : Entry) (es : List Entry) → HasReadRuin es → HasReadRuin (e ∷ es)
   later_ruin e es h = record { front = e ∷ h.front; entry = h.entry; back = h.back; is = ap (λ (l : List Entry). e ∷ l) h.is; reads = h.reads }
 
   -- a worker's entries, from the first on

@@ -39,7 +39,7 @@ use Rattle.robust.specs.Under.{Replies}
 use Rattle.robust.specs.Whole.{WholeEnds, WholeFails, AppendFails, Comes}
 use Rattle.robust.proofs.OneStep.{run_goes, goes_front, goes_back}
 use Rattle.robust.proofs.Ordered.{own_now, mine_order}
-use Rattle.robust.proofs.Ruins.{IsMended, check, IsRuin, Stands, StandsAt, entry_stands, before_stands, walk}
+use Rattle.robust.proofs.Ruins.{IsMended, check, IsRuin, Stands, StandsAt, entry_stands, before_stands, walk, later_ruin}
 use Rattle.robust.proofs.Running.{taken_moves}
 use Rattle.robust.proofs.Runs.{spelled-append}
 
@@ -107,9 +107,6 @@ module _ (s : Setup) where
       let some : IsSome (next_spot s.layout s.limit t (Moves e.by e.step.kind e.step.word e.value)) = subst (λ (y : Happening). IsSome (next_spot s.layout s.limit t y)) (taken_moves e.by e.step.kind e.step.word e.value move) (goes_back s q hs (x ∷ []) goes).0 in
       ruin_told s.layout (last_call last e.step.crashed e.step.start) t.lock t.mended t.barred s.limit e.by t.errand e.step.kind e.step.word e.value first some a
 
-  later_ruin : (e : Entry) (es : List Entry) → HasReadRuin es → HasReadRuin (e ∷ es)
-  later_ruin e es h = record { front = e ∷ h.front; entry = h.entry; back = h.back; is = ap (λ (l : List Entry). e ∷ l) h.is; reads = h.reads }
-
   pub told_ruin : (last : Option Call) (q : Spot) (es : List Entry) (told rest : List Answer) → StandsAt s.layout last q → AreInOrder last es → Goes s q (spelled es) → AreMoves es → answers_from s q es ≡ told ++ RuinedAnswer ∷ rest → HasReadRuin es
   told_ruin last q [] [] rest h order goes moves a = absurd (cc)
   told_ruin last q [] (t ∷ ts) rest h order goes moves a = absurd (let k : [] ≡ t ∷ (ts ++ RuinedAnswer ∷ rest) = a in cc)
@@ -129,7 +126,7 @@ module _ (s : Setup) where
       next : (StandsAt s.layout (last_call last e.step.crashed e.step.start) (gone s q (happenings e)) → HasReadRuin es) → HasReadRuin (e ∷ es)
       next later = elim (entry_stands s last q e h order.0 here_goes) [
         | inl ruin ↦ record { front = []; entry = e; back = es; is = refl; reads = ruin }
-        | inr stands ↦ later_ruin e es (later stands)
+        | inr stands ↦ later_ruin s e es (later stands)
       ]
 
       go : (o : Option Answer) → answer_at (spot_before s q e) e.step.kind e.value ≡ o → (before_it : List Answer) → answers_from s q (e ∷ es) ≡ before_it ++ RuinedAnswer ∷ rest → ((more : List Answer) → others ≡ more ++ RuinedAnswer ∷ rest → HasReadRuin (e ∷ es)) → HasReadRuin (e ∷ es)

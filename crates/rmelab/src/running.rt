@@ -1,5 +1,9 @@
 //! The command `run`.
 
+ghost use Rattle.std.specs.Prelude.{◌≡◌, None, IfOk};
+ghost use Rattle.rmelab.specs.Commands.{RunEnds};
+ghost use Rattle.rmelab.specs.Statuses.{status_ended};
+
 use crate::ending::Ending;
 use crate::fault::Fault;
 use crate::order::RunOrder;
@@ -70,7 +74,10 @@ pub fn run_order<T: Threads + Wait + Sync, W: Sink>(
     alloc: Global,
     order: &RunOrder,
     w: &mut W,
-) -> Result<Ending, Fault> {
+) -> Result<Ending, Fault>
+    ensures ends { RunEnds order.now (status_ended result) }
+    ensures unsaved { IfOk result (λ ending. ending.save ≡ None) }
+{
     let gates = gates_of(alloc, order)?;
     let result = run_lab(rt, alloc, spec_of(order), gates)?;
     let tallies = tallied(alloc, order.procs, &result.messages)?;

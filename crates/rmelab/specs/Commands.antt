@@ -1,9 +1,10 @@
 -- How a command ends: what its exit status says of what was read, and what it has written.
-use Rattle.std.specs.Prelude.{◌≡◌, ◌≢◌, ◌⊎◌, ℕ, Bool, true, false, List, [], ◌∷◌, length, codes, Option, None, is_some, Result, Ok, Err}
+use Rattle.std.specs.Prelude.{◌≡◌, ◌≢◌, ◌⊎◌, ℕ, ◌-◌, ◌*◌, ◌^◌, min, Bool, true, false, List, [], ◌∷◌, length, codes, Option, None, is_some, Result, Ok, Err}
 use Rattle.crashlab.specs.declared.variant.Variant.{Variant}
 use Rattle.crashlab.specs.declared.variant.Variant.TheVariants.{Right}
 use Rattle.crashlab.specs.Hunts.{IsFound}
 use Rattle.rmeworld.specs.declared.image.Image.{Image}
+use Rattle.robust.specs.declared.lab.spec.Spec.{Spec}
 use Rattle.schedule.specs.declared.replay_fault.ReplayFault.{ReplayFault}
 use Rattle.schedule.specs.declared.verdict.Verdict.{Verdict}
 use Rattle.schedule.specs.Plays.{Tape, Writes}
@@ -63,6 +64,18 @@ abbrev pub ReplayEnds : ReplayOrder → Bool → Reading → Reading → Tape �
 ReplayEnds order pictured old new before now status =
     (status ≡ 1 → order.variant ≢ Right) × (IsPlainReplay order pictured → TellsReplay old new before now status)
 
+-- the lab that a run is made in: room for each message, and numbers enough
+abbrev pub lab_for : RunOrder → Spec
+lab_for order =
+    record {
+      procs = order.procs;
+      messages = order.messages;
+      limit = 2 ^ 62;
+      cap = min (order.procs * order.messages) (2 ^ 64 - 1);
+      width = order.width;
+    }
+
+-- 2 tells sizes out of their ranges
 abbrev pub RunEnds : RunOrder → ℕ → Type 0
 RunEnds order status = status ≡ 2 → RunFits order → ⊥
 

@@ -1,3 +1,4 @@
+pub mod Commands
 pub mod Sizes
 pub mod Statuses
 pub mod Tallies

@@ -1,9 +1,19 @@
--- Exit statuses: 0 is fine, 1 a verdict against.
-use Rattle.std.specs.Prelude.{ℕ}
+-- Exit statuses: 0 is fine, 1 a verdict against, 2 a fault of the input, 3 one of a device, of memory or of a member.
+use Rattle.std.specs.Prelude.{ℕ, Result, Ok, Err}
+use Rattle.crashlab.specs.declared.hunt_fault.HuntFault.{HuntFault}
+use Rattle.crashlab.specs.declared.hunt_fault.HuntFault.TheVariants as of_hunt
+use Rattle.robust.specs.declared.lab.lab_fault.LabFault.{LabFault}
+use Rattle.robust.specs.declared.lab.lab_fault.LabFault.TheVariants as of_lab
+use Rattle.schedule.specs.declared.fault.TextFault.{TextFault}
+use Rattle.schedule.specs.declared.fault.TextFault.TheVariants as of_text
+use Rattle.schedule.specs.declared.replay_fault.ReplayFault.{ReplayFault}
+use Rattle.schedule.specs.declared.replay_fault.ReplayFault.TheVariants as of_replay
 use Rattle.schedule.specs.declared.verdict.Verdict.{Verdict}
 use Rattle.schedule.specs.declared.verdict.Verdict.TheVariants.{Fine, Against}
+use Rattle.schedule.specs.Numbers.{number_of as number_of_line}
+use Rattle.rmelab.specs.declared.ending.Ending.{Ending}
 use Rattle.rmelab.specs.declared.fault.Fault.{Fault}
-use Rattle.rmelab.specs.declared.fault.Fault.TheVariants.{Read, Write, OutOfMemory, Member}
+use Rattle.rmelab.specs.declared.fault.Fault.TheVariants.{Text, Refused, BadSize, Read, Write, OutOfMemory, Member}
 
 -- 3 for a fault of a device, of memory or of a member, 2 for one of the input
 abbrev pub status_of : Fault → ℕ
@@ -16,3 +26,38 @@ status_of _ = 2
 abbrev pub status_after : Verdict → ℕ
 status_after Fine = 0
 status_after (Against at fault) = 1
+
+-- the program's fault for that of a replay, or of the judging of a trace
+abbrev pub fault_of_replay : ReplayFault → Fault
+fault_of_replay (of_replay.Text line number) = Text line number
+fault_of_replay (of_replay.Refused line number) = Refused line number
+fault_of_replay of_replay.Read = Read
+fault_of_replay of_replay.Write = Write
+fault_of_replay of_replay.OutOfMemory = OutOfMemory
+
+-- for that of a text
+abbrev pub fault_of_text : TextFault → Fault
+fault_of_text (of_text.At line fault) = Text line (number_of_line fault)
+fault_of_text of_text.OutOfMemory = OutOfMemory
+
+-- for that of a hunt
+abbrev pub fault_of_hunt : HuntFault → Fault
+fault_of_hunt of_hunt.OutOfMemory = OutOfMemory
+fault_of_hunt _ = BadSize
+
+-- for that of a lab
+abbrev pub fault_of_lab : LabFault → Fault
+fault_of_lab of_lab.BadSpec = BadSize
+fault_of_lab of_lab.OutOfMemory = OutOfMemory
+fault_of_lab (of_lab.Member p fault) = Member p
+fault_of_lab (of_lab.Reply p reply) = Member p
+
+-- the status after a replay or the judging of a trace
+abbrev pub status_told : Result Verdict ReplayFault → ℕ
+status_told (Ok verdict) = status_after verdict
+status_told (Err fault) = status_of (fault_of_replay fault)
+
+-- the status of a command that has ended so
+abbrev pub status_ended : Result Ending Fault → ℕ
+status_ended (Ok ending) = ending.status
+status_ended (Err fault) = status_of fault

@@ -1,5 +1,11 @@
 //! The commands, over a reader and two writers.
 
+ghost use Rattle.std.specs.Prelude.{◌≡◌, None, IfOk, is_some, false};
+ghost use Rattle.schedule.specs.Plays.{tape};
+ghost use Rattle.schedule.specs.Wholes.{reading};
+ghost use Rattle.rmelab.specs.Commands.{asks_to_save, CommandEnds, HuntEnds, JudgeEnds};
+ghost use Rattle.rmelab.specs.Statuses.{status_ended};
+
 use crate::ending::{Ending, status_after_verdict};
 use crate::fault::Fault;
 use crate::order::{Command, HuntOrder};
@@ -13,7 +19,10 @@ use std::sync::Wait;
 use std::thread::Threads;
 
 /// The verdict line of a trace.
-fn judge_order<R: Source, W: Sink>(alloc: Global, r: &mut R, w: &mut W) -> Result<Ending, Fault> {
+fn judge_order<R: Source, W: Sink>(alloc: Global, r: &mut R, w: &mut W) -> Result<Ending, Fault>
+    ensures ends { JudgeEnds (reading (R.given r.old) (R.ended r.old) (R.failures r.old)) (reading (R.given r.new) (R.ended r.new) (R.failures r.new)) (tape (W.taken w.old) (W.failures w.old)) (tape (W.taken w.new) (W.failures w.new)) (status_ended result) }
+    ensures unsaved { IfOk result (λ ending. ending.save ≡ None) }
+{
     let verdict = judge_trace(alloc, r)?;
     let mut line = Vec::new(alloc);
     put_verdict(&mut line, verdict)?;
@@ -27,7 +36,10 @@ fn judge_order<R: Source, W: Sink>(alloc: Global, r: &mut R, w: &mut W) -> Resul
 }
 
 /// The schedule that a hunt finds, or that it finds none.
-fn hunt_order<W: Sink>(alloc: Global, order: &HuntOrder, w: &mut W) -> Result<Ending, Fault> {
+fn hunt_order<W: Sink>(alloc: Global, order: &HuntOrder, w: &mut W) -> Result<Ending, Fault>
+    ensures ends { HuntEnds order.now (tape (W.taken w.old) (W.failures w.old)) (tape (W.taken w.new) (W.failures w.new)) (status_ended result) }
+    ensures unsaved { IfOk result (λ ending. ending.save ≡ None) }
+{
     let found = hunt(alloc, order.variant, order.seed, order.rounds, order.steps)?;
     let status = if found.is_some() { 1 } else { 0 };
     let text = match &found {
@@ -59,12 +71,15 @@ pub fn command<T: Threads + Wait + Sync, R: Source, W: Sink, E: Sink>(
     r: &mut R,
     w: &mut W,
     e: &mut E,
-) -> Ending {
+) -> Ending
+    ensures ends { CommandEnds command.now (is_some image.entry) (reading (R.given r.old) (R.ended r.old) (R.failures r.old)) (reading (R.given r.new) (R.ended r.new) (R.failures r.new)) (tape (W.taken w.old) (W.failures w.old)) (tape (W.taken w.new) (W.failures w.new)) result.status }
+    ensures unsaved { asks_to_save command.now ≡ false → result.save ≡ None }
+{
     let ended = match command {
         Command::Replay(order) => replay_order(alloc, order, image, r, w),
-        Command::Run(order) => run_order(rt, alloc, order, w),
         Command::Judge(_) => judge_order(alloc, r, w),
         Command::Hunt(order) => hunt_order(alloc, order, w),
+        Command::Run(order) => run_order(rt, alloc, order, w),
     };
     match ended {
         Ok(ending) => ending,

@@ -2,6 +2,7 @@
 
 ghost use Rattle.std.specs.Prelude.{◌≡◌};
 ghost use Rattle.rmelab.specs.declared.fault.Fault.TheVariants.{OutOfMemory};
+ghost use Rattle.rmelab.specs.Statuses.{fault_of_hunt, fault_of_lab, fault_of_replay, fault_of_text};
 
 use crashlab::HuntFault;
 use robust::LabFault;
@@ -73,6 +74,8 @@ impl<T: Drop> From<AllocFailed<T>> for Fault {
 }
 
 impl From<TextFault> for Fault {
+    ghost from_gives = { λ fault e. e ≡ fault_of_text fault };
+
     fn from(fault: TextFault) -> Fault {
         match fault {
             TextFault::At { line, fault } => Fault::Text {
@@ -85,6 +88,8 @@ impl From<TextFault> for Fault {
 }
 
 impl From<ReplayFault> for Fault {
+    ghost from_gives = { λ fault e. e ≡ fault_of_replay fault };
+
     fn from(fault: ReplayFault) -> Fault {
         match fault {
             ReplayFault::Text { line, number } => Fault::Text { line, number },
@@ -97,6 +102,8 @@ impl From<ReplayFault> for Fault {
 }
 
 impl From<HuntFault> for Fault {
+    ghost from_gives = { λ fault e. e ≡ fault_of_hunt fault };
+
     fn from(fault: HuntFault) -> Fault {
         match fault {
             HuntFault::BadRounds | HuntFault::BadSteps => Fault::BadSize,
@@ -106,6 +113,8 @@ impl From<HuntFault> for Fault {
 }
 
 impl From<LabFault> for Fault {
+    ghost from_gives = { λ fault e. e ≡ fault_of_lab fault };
+
     fn from(fault: LabFault) -> Fault {
         match fault {
             LabFault::BadSpec => Fault::BadSize,
@@ -116,6 +125,8 @@ impl From<LabFault> for Fault {
 }
 
 impl From<NoMemory> for Fault {
+    ghost from_gives = { λ _ e. e ≡ OutOfMemory };
+
     fn from(_fault: NoMemory) -> Fault {
         Fault::OutOfMemory
     }

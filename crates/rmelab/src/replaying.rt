@@ -1,5 +1,17 @@
 //! The command `replay`.
 
+ghost use Rattle.std.specs.Prelude.{◌≡◌, [], IfOk, IfSome, None, is_some, true, false};
+ghost use Rattle.judge.specs.Stands.{Keeps};
+ghost use Rattle.judge.specs.Stands.{StandsAfter};
+ghost use Rattle.judge.specs.Table.{empty, State};
+ghost use Rattle.rmeworld.specs.ImageRules.{IsLawfulImage};
+ghost use Rattle.schedule.specs.Plays.{tape};
+ghost use Rattle.schedule.specs.Runs.{behaviour, deeds_of, run_on};
+ghost use Rattle.schedule.specs.Verdicts.{verdict_on};
+ghost use Rattle.schedule.specs.Wholes.{reading};
+ghost use Rattle.rmelab.specs.Commands.{IsFitting, ReplayEnds};
+ghost use Rattle.rmelab.specs.Statuses.{status_after, status_ended};
+
 use crate::ending::{Ending, status_after_verdict};
 use crate::fault::Fault;
 use crate::json::json_report;
@@ -10,6 +22,7 @@ use rmecore::Refusal;
 use rmeworld::{Image, Machine, World, read_image, start_of, widen, write_image};
 use schedule::device::write_all;
 use schedule::head::Head;
+use schedule::laws::worlds_are_never_found_out;
 use schedule::{Page, Schedule, Sink, Source, Verdict, read_schedule, replay, replay_on};
 use std::alloc::Global;
 
@@ -37,7 +50,9 @@ fn play<M: Machine, W: Sink>(
     schedule: &Schedule,
     json: bool,
     w: &mut W,
-) -> Result<Verdict, Fault> {
+) -> Result<Verdict, Fault>
+    ensures { (start : State) → Keeps judge.old start → IfOk result (λ verdict. verdict ≡ verdict_on start (deeds_of (run_on (behaviour M.start_refusal M.started M.advance_refusal M.stepped M.advanced M.crash_refusal M.crash_deed M.crashed) 2 machine.old schedule.now.lines).told)) }
+{
     if !json {
         return Ok(replay_on(alloc, machine, judge, schedule, w)?);
     }
@@ -54,7 +69,10 @@ fn play<M: Machine, W: Sink>(
 }
 
 /// The last image as text, where it is to be saved.
-fn saved<M: Machine>(alloc: Global, machine: &M, save: bool) -> Result<Option<Vec<u8>>, Fault> {
+fn saved<M: Machine>(alloc: Global, machine: &M, save: bool) -> Result<Option<Vec<u8>>, Fault>
+    ensures some { save ≡ true → IfOk result (λ text. is_some text ≡ true) }
+    ensures none { save ≡ false → IfOk result (λ text. text ≡ None) }
+{
     if !save {
         return Ok(None);
     }
@@ -75,7 +93,11 @@ fn replay_machine<M: Machine, W: Sink>(
     schedule: &Schedule,
     order: &ReplayOrder,
     w: &mut W,
-) -> Result<Ending, Fault> {
+) -> Result<Ending, Fault>
+    ensures status { (start : State) → Keeps judge.old start → IfOk result (λ ending. ending.status ≡ status_after (verdict_on start (deeds_of (run_on (behaviour M.start_refusal M.started M.advance_refusal M.stepped M.advanced M.crash_refusal M.crash_deed M.crashed) 2 machine.old schedule.now.lines).told))) }
+    ensures saved { is_some order.now.save ≡ true → IfOk result (λ ending. is_some ending.save ≡ true) }
+    ensures unsaved { is_some order.now.save ≡ false → IfOk result (λ ending. ending.save ≡ None) }
+{
     let verdict = play(alloc, machine, judge, schedule, order.json, w)?;
     let save = saved(alloc, machine, order.save.is_some())?;
     Ok(Ending {
@@ -85,7 +107,9 @@ fn replay_machine<M: Machine, W: Sink>(
 }
 
 /// A judge of a new lock with the schedule's sizes.
-fn new_judge(alloc: Global, schedule: &Schedule) -> Result<Judge, Fault> {
+fn new_judge(alloc: Global, schedule: &Schedule) -> Result<Judge, Fault>
+    ensures { IfOk result (λ judge. StandsAfter (empty schedule.now.procs schedule.now.cap) [] judge) }
+{
     let head = schedule.head();
     Judge::new(alloc, head.procs, head.cap).map_err(refused_header)
 }
@@ -96,7 +120,12 @@ fn replay_new<W: Sink>(
     schedule: &Schedule,
     order: &ReplayOrder,
     w: &mut W,
-) -> Result<Ending, Fault> {
+) -> Result<Ending, Fault>
+    ensures fine { IfOk result (λ ending. ending.status ≡ 0) }
+    ensures saved { is_some order.now.save ≡ true → IfOk result (λ ending. is_some ending.save ≡ true) }
+    ensures unsaved { is_some order.now.save ≡ false → IfOk result (λ ending. ending.save ≡ None) }
+{
+    worlds_are_never_found_out();
     let head = schedule.head();
     let mut world = match World::new(alloc, head.procs, head.limit, head.cap, head.width) {
         Ok(world) => world,
@@ -107,7 +136,11 @@ fn replay_new<W: Sink>(
 }
 
 /// The image, as wide as the schedule says. The header has to name the image's other sizes.
-fn fitting(alloc: Global, image: Image, schedule: &Schedule) -> Result<Image, Fault> {
+fn fitting(alloc: Global, image: Image, schedule: &Schedule) -> Result<Image, Fault>
+    requires lawful { IsLawfulImage image }
+    ensures lawful { IfOk result IsLawfulImage }
+    ensures fits { IfOk result (λ fitted. IsFitting fitted schedule.now) }
+{
     let head = schedule.head();
     let same = image.lock.as_slice().len() as u64 == head.procs
         && image.limit == head.limit
@@ -128,7 +161,13 @@ fn replay_image<W: Sink>(
     schedule: &Schedule,
     order: &ReplayOrder,
     w: &mut W,
-) -> Result<Ending, Fault> {
+) -> Result<Ending, Fault>
+    requires { IsLawfulImage image }
+    ensures fine { IfOk result (λ ending. ending.status ≡ 0) }
+    ensures saved { is_some order.now.save ≡ true → IfOk result (λ ending. is_some ending.save ≡ true) }
+    ensures unsaved { is_some order.now.save ≡ false → IfOk result (λ ending. ending.save ≡ None) }
+{
+    worlds_are_never_found_out();
     let image = fitting(alloc, image, schedule)?;
     let mut world = match World::from_image(alloc, &image) {
         Ok(world) => world,
@@ -148,7 +187,10 @@ fn replay_variant<W: Sink>(
     schedule: &Schedule,
     order: &ReplayOrder,
     w: &mut W,
-) -> Result<Ending, Fault> {
+) -> Result<Ending, Fault>
+    ensures saved { is_some order.now.save ≡ true → IfOk result (λ ending. is_some ending.save ≡ true) }
+    ensures unsaved { is_some order.now.save ≡ false → IfOk result (λ ending. ending.save ≡ None) }
+{
     let Head {
         procs,
         limit,
@@ -177,6 +219,20 @@ fn read_text<R: Source>(alloc: Global, r: &mut R) -> Result<Vec<u8>, Fault> {
     Err(Fault::Read)
 }
 
+/// The image that this text spells, where there is one.
+fn image_read(alloc: Global, text: Option<&[u8]>) -> Result<Option<Image>, Fault>
+    ensures lawful { IfOk result (λ image. IfSome image IsLawfulImage) }
+    ensures given { IfOk result (λ image. is_some image ≡ is_some text.entry) }
+{
+    match text {
+        Some(text) => match read_image(alloc, text) {
+            Ok(image) => Ok(Some(image)),
+            Err(refusal) => Err(refused_image(refusal)),
+        },
+        None => Ok(None),
+    }
+}
+
 /// Runs `replay`: the image is read first, then the schedule; then it is played to its verdict.
 pub fn replay_order<R: Source, W: Sink>(
     alloc: Global,
@@ -184,7 +240,11 @@ pub fn replay_order<R: Source, W: Sink>(
     image: Option<&[u8]>,
     r: &mut R,
     w: &mut W,
-) -> Result<Ending, Fault> {
+) -> Result<Ending, Fault>
+    ensures ends { ReplayEnds order.now (is_some image.entry) (reading (R.given r.old) (R.ended r.old) (R.failures r.old)) (reading (R.given r.new) (R.ended r.new) (R.failures r.new)) (tape (W.taken w.old) (W.failures w.old)) (tape (W.taken w.new) (W.failures w.new)) (status_ended result) }
+    ensures saved { is_some order.now.save ≡ true → IfOk result (λ ending. is_some ending.save ≡ true) }
+    ensures unsaved { is_some order.now.save ≡ false → IfOk result (λ ending. ending.save ≡ None) }
+{
     let plain = order.variant == Variant::Right && !order.json && order.save.is_none();
     if image.is_none() && plain {
         let verdict = replay(alloc, r, w)?;
@@ -193,10 +253,7 @@ pub fn replay_order<R: Source, W: Sink>(
             save: None,
         });
     }
-    let image = match image {
-        Some(text) => Some(read_image(alloc, text).map_err(refused_image)?),
-        None => None,
-    };
+    let image = image_read(alloc, image)?;
     let text = read_text(alloc, r)?;
     let schedule = read_schedule(alloc, &text)?;
     match (image, order.variant) {

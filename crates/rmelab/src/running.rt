@@ -1,5 +1,9 @@
 //! The command `run`.
 
+ghost use Rattle.std.specs.Prelude.{◌≡◌, ◌⊎◌, None, IfOk, vec_len};
+ghost use Rattle.rmelab.specs.Commands.{lab_for, RunEnds};
+ghost use Rattle.rmelab.specs.Statuses.{status_ended};
+
 use crate::ending::Ending;
 use crate::fault::Fault;
 use crate::order::RunOrder;
@@ -17,7 +21,9 @@ use std::thread::Threads;
 const MOST: u64 = 1 << 62;
 
 /// The sizes of the lab that a run is made in: room for each message, and numbers enough.
-fn spec_of(order: &RunOrder) -> Spec {
+fn spec_of(order: &RunOrder) -> Spec
+    ensures { result ≡ lab_for order.now }
+{
     Spec {
         procs: order.procs,
         messages: order.messages,
@@ -28,7 +34,9 @@ fn spec_of(order: &RunOrder) -> Spec {
 }
 
 /// The crashes of each sender.
-fn gates_of(alloc: Global, order: &RunOrder) -> Result<Vec<Seeded>, AllocError> {
+fn gates_of(alloc: Global, order: &RunOrder) -> Result<Vec<Seeded>, AllocError>
+    ensures { IfOk result (λ gates. vec_len gates ≡ order.now.procs) }
+{
     let mut gates = Vec::new(alloc);
     for p in 0..order.procs {
         gates.push(Seeded::new(order.seed.wrapping_add(p), order.crash))?;
@@ -55,7 +63,9 @@ pub fn lines_of(alloc: Global, tallies: &IndexMap<u64, Tally>) -> Result<String,
 }
 
 /// 0 where each message stands once and in its order, else 1.
-pub fn status_of_tallies(tallies: &IndexMap<u64, Tally>) -> u8 {
+pub fn status_of_tallies(tallies: &IndexMap<u64, Tally>) -> u8
+    ensures { (result ≡ 0) ⊎ (result ≡ 1) }
+{
     for (_, tally) in tallies {
         if !tally.is_fine() {
             return 1;
@@ -65,12 +75,16 @@ pub fn status_of_tallies(tallies: &IndexMap<u64, Tally>) -> u8 {
 }
 
 /// Runs `run`: the senders send all they have, each on a thread of its own, and what stands in the mailbox is counted.
+#[tactic(auto, using(crate::proofs::Runs::fits_lab))]
 pub fn run_order<T: Threads + Wait + Sync, W: Sink>(
     rt: &T,
     alloc: Global,
     order: &RunOrder,
     w: &mut W,
-) -> Result<Ending, Fault> {
+) -> Result<Ending, Fault>
+    ensures ends { RunEnds order.now (status_ended result) }
+    ensures unsaved { IfOk result (λ ending. ending.save ≡ None) }
+{
     let gates = gates_of(alloc, order)?;
     let result = run_lab(rt, alloc, spec_of(order), gates)?;
     let tallies = tallied(alloc, order.procs, &result.messages)?;

@@ -1,10 +1,9 @@
 -- What the variant that is the lock does is what the world does.
-use Rattle.std.proofs.Common.{◌≡◌, ◌≢◌, ℕ, zero, suc, ◌+◌, ◌<◌, ◌⊎◌, List, [], ◌∷◌, ◌++◌, map, length, replicate, slice_index_or, slice_set, Option, Some, None, IfSome, Result, Ok, Err, OnOk, refl, sym, ap, ◌∙◌, subst, inl, inr, arith}
+use Rattle.std.proofs.Common.{◌≡◌, ◌≢◌, ℕ, zero, suc, ◌+◌, ◌<◌, ◌⊎◌, List, [], ◌∷◌, ◌++◌, map, length, slice_set, Some, Result, Ok, Err, OnOk, refl, sym, ap, ◌∙◌, subst, inl, inr}
 use Rattle.std.proofs.lemmas.Bool.{cases_eq}
 use Rattle.std.proofs.lemmas.List.{get_or-set_same, get_or-set_other, map-set, length-map, length-replicate}
 use Rattle.std.proofs.Math.ListN.{get_or-map}
-use Rattle.rmecore.specs.Machine.{kind_of, word_of, carried}
-use Rattle.rmecore.specs.Simulated.{own_at, zeros, fresh}
+use Rattle.rmecore.specs.Simulated.{zeros, fresh}
 use Rattle.rmecore.specs.declared.access.Access.{Access}
 use Rattle.rmecore.specs.declared.own.Own.{Own}
 use Rattle.rmecore.specs.declared.refusal.Refusal.{Refusal}
@@ -21,10 +20,7 @@ use Rattle.rmeworld.specs.WorldState.{WorldState, scene_of, stand_at as world_st
 use Rattle.rmeworld.proofs.StoryGrows.{story_more, last_more, deeds_more}
 use Rattle.rmeworld.proofs.WorldSteps.{IsStep, step_takes, start_takes, crash_takes}
 use Rattle.rmeworld.proofs.Worlds.{new_scene, deeds_are}
-use Rattle.crashlab.specs.declared.variant.Variant.{Variant}
 use Rattle.crashlab.specs.declared.variant.Variant.TheVariants.{Right}
-use Rattle.crashlab.specs.declared.change.Change.TheVariants.{Nothing}
-use Rattle.crashlab.specs.declared.detour.Detour.TheVariants.{Straight}
 use Rattle.crashlab.specs.LockWorlds.{as_world, IsLockWorld}
 use Rattle.crashlab.specs.VariantStands.{VariantStand, IsPlain, variant_resting, variant_crashed, variant_next_access, access_beside, variant_stepped, stepped_beside, variant_outcome, outcome_beside, variant_started, change_of}
 use Rattle.crashlab.specs.VariantWorlds.{VariantState, stand_at, IsSeated, at_rest_from, new_world, found_by, started, advanced_by, crashed, crash_deed}

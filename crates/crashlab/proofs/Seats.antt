@@ -1,5 +1,5 @@
 -- A world of a variant stays seated.
-use Rattle.std.proofs.Common.{◌≡◌, ◌≢◌, ℕ, ◌<◌, ◌==◌, ◌⊎◌, Bool, true, false, if◌then◌else◌, List, [], ◌∷◌, length, slice_index_or, slice_set, Option, Some, None, IfSome, Result, Ok, Err, OnOk, OnErr, refl, sym, ap, ◌∙◌, subst, inl, inr}
+use Rattle.std.proofs.Common.{◌≡◌, ◌≢◌, ℕ, ◌<◌, ◌==◌, ◌⊎◌, List, length, slice_index_or, slice_set, Option, Some, None, IfSome, Result, Ok, Err, OnOk, OnErr, refl, sym, ap, ◌∙◌, subst, inl, inr}
 use Rattle.std.proofs.lemmas.Bool.{cases_eq, cond_both}
 use Rattle.std.proofs.lemmas.List.{get_or-set_same, get_or-set_other, get_or_default, length-set}
 use Rattle.rmecore.specs.declared.access.Access.{Access}
@@ -15,7 +15,6 @@ use Rattle.redomail.specs.declared.layout.Layout.{Layout}
 use Rattle.redomail.specs.declared.reply.Reply.{Reply}
 use Rattle.redomail.specs.Left.{Pending, left, fed}
 use Rattle.redomail.specs.Script.{Script, Get as Asks, Put as Writes, Done}
-use Rattle.rmeworld.specs.declared.answer.Answer.{Answer}
 use Rattle.rmeworld.specs.declared.call.Call.{Call}
 use Rattle.rmeworld.specs.declared.call.Call.TheVariants as call
 use Rattle.rmeworld.specs.declared.errand.Errand.{Errand as Chore}
@@ -31,7 +30,7 @@ use Rattle.crashlab.specs.declared.detour.Detour.TheVariants.{Straight, Dropping
 use Rattle.crashlab.specs.declared.variant.Variant.{Variant}
 use Rattle.crashlab.specs.declared.variant.Variant.TheVariants.{Right, NoLook, NoTies, Renumber, ExitOnCrash, CountUp, LastSkipped}
 use Rattle.crashlab.specs.VariantStands.{VariantStand, variant_stepped, stepped_beside, variant_started, is_of, reread_as, past_look, untied, scans_over, scanned_again, finds_inside, call_again, gone_out, is_put, counted_up, last_put_next, left_out}
-use Rattle.crashlab.specs.VariantWorlds.{VariantState, absent, stand_at, HasSeat, IsSeated}
+use Rattle.crashlab.specs.VariantWorlds.{VariantState, stand_at, HasSeat, IsSeated}
 
 -- the process at p, where p is one of n
 pub stand_here : (processes : List VariantStand) (p n : ℕ) (s : VariantStand) → s ≡ slice_index_or processes p s → p < n → length processes ≡ n → stand_at processes p ≡ s

@@ -1,5 +1,5 @@
 -- What a hunt finds: a schedule whose deeds, in a new world of the variant, are legal but for the last.
-use Rattle.std.specs.Prelude.{◌≡◌, ℕ, zero, suc, ◌≤◌, Bool, true, false, if◌then◌else◌, List, [], ◌∷◌, ◌++◌, Option, None, is_some, Err}
+use Rattle.std.specs.Prelude.{◌≡◌, ℕ, zero, suc, Bool, true, false, if◌then◌else◌, List, [], ◌∷◌, ◌++◌, None, is_some, Err}
 use Rattle.rmecore.specs.declared.fault.Fault.{Fault}
 use Rattle.redomail.specs.declared.deed.Deed.{Deed}
 use Rattle.redomail.specs.declared.layout.Layout.{Layout}

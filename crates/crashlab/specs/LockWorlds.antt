@@ -5,7 +5,7 @@ use Rattle.redomail.specs.declared.deed.Deed.{Deed}
 use Rattle.rmeworld.specs.Spot.{Happening}
 use Rattle.rmeworld.specs.World.{at_first, Story, last_scene, deeds}
 use Rattle.rmeworld.specs.WorldState.{WorldState, scene_of}
-use Rattle.crashlab.specs.VariantStands.{VariantStand, IsPlain}
+use Rattle.crashlab.specs.VariantStands.{IsPlain}
 use Rattle.crashlab.specs.VariantWorlds.{VariantState, stand_at, IsSeated}
 
 -- the world with the same words and processes, and this history

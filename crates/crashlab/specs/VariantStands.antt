@@ -1,8 +1,7 @@
 -- What contracts see of one process of a variant, and what its machine does next: the world's process, with what the
 -- variant changes.
-use Rattle.std.specs.Prelude.{◌≡◌, ◌≢◌, ℕ, Bool, true, false, ◌==◌, ◌&&◌, nat_eq, if◌then◌else◌, List, [], ◌∷◌, Option, Some, None, is_some, unwrap_or}
-use Rattle.rmecore.specs.Place.{Place, Door, Wait, Unmarking}
-use Rattle.rmecore.specs.Machine.{first, kind_of, word_of, carried}
+use Rattle.std.specs.Prelude.{◌≡◌, ℕ, Bool, true, false, ◌==◌, ◌&&◌, if◌then◌else◌, Option, Some, None, unwrap_or}
+use Rattle.rmecore.specs.Place.{Place, Wait}
 use Rattle.rmecore.specs.Named.{own_number, own_call}
 use Rattle.rmecore.specs.declared.access.Access.{Access}
 use Rattle.rmecore.specs.declared.access.Access.TheVariants.{Load, Store}
@@ -12,18 +11,17 @@ use Rattle.rmecore.specs.declared.kind.Kind.{Kind}
 use Rattle.rmecore.specs.declared.kind.Kind.TheVariants.{Reread as Rereads, Take as Takes, Shut as Shuts, Look as Looks, Weigh as Weighs, Drop as Drops, Get as Gets, Put as Puts}
 use Rattle.rmecore.specs.declared.outer.Outer.{Outer}
 use Rattle.rmecore.specs.declared.outer.Outer.TheVariants.{Reenter}
-use Rattle.rmecore.specs.declared.word.Word.{Word}
 use Rattle.rmecore.specs.declared.word.Word.TheVariants.{Number as NumberOf, Data as DataAt}
 use Rattle.redomail.specs.declared.layout.Layout.{Layout}
 use Rattle.redomail.specs.declared.reply.Reply.{Reply}
 use Rattle.redomail.specs.Layout.{last_at}
-use Rattle.redomail.specs.Script.{Script, Get as Asks, Put as Writes, Done}
+use Rattle.redomail.specs.Script.{Script, Put as Writes}
 use Rattle.rmeworld.specs.declared.answer.Answer.{Answer}
 use Rattle.rmeworld.specs.declared.call.Call.{Call}
 use Rattle.rmeworld.specs.declared.call.Call.TheVariants as call
 use Rattle.rmeworld.specs.declared.outcome.Outcome.{Outcome}
 use Rattle.rmeworld.specs.declared.why.Why.TheVariants.{Mending}
-use Rattle.rmeworld.specs.Spot.{Errand, Free, Doing, Moves}
+use Rattle.rmeworld.specs.Spot.{Errand, Doing}
 use Rattle.rmeworld.specs.Stand.{Stand, resting, crashed, next_access, outcome, stepped, started}
 use Rattle.rmeworld.specs.Errands.{errand_of}
 use Rattle.crashlab.specs.declared.change.Change.{Change}
@@ -33,7 +31,7 @@ use Rattle.crashlab.specs.declared.detour.Detour.TheVariants.{Straight, Dropping
 use Rattle.crashlab.specs.declared.variant.Variant.{Variant}
 use Rattle.crashlab.specs.declared.variant.Variant.TheVariants.{Right, NoLook, NoTies, Renumber, ExitOnCrash, CountUp, LastSkipped}
 use Rattle.crashlab.specs.VariantScripts.{leaving_out, raised, counting_up}
-use Rattle.crashlab.specs.VariantSpots.{VariantSpot, variant_spot}
+use Rattle.crashlab.specs.VariantSpots.{VariantSpot}
 
 pub record VariantStand : Type 0 where
   pub variant : Variant

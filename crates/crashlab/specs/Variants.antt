@@ -1,5 +1,5 @@
 -- The wrong variants of the lock: the rows of its definition that each of them changes. Right changes none.
-use Rattle.std.specs.Prelude.{ℕ, zero, suc, Bool, ◌&&◌, ◌||◌, ◌==◌, if◌then◌else◌, List, [], ◌∷◌, Option, Some, None}
+use Rattle.std.specs.Prelude.{ℕ, zero, suc, Bool, ◌&&◌, ◌||◌, ◌==◌, if◌then◌else◌, [], ◌∷◌, Option, Some, None}
 use Rattle.rmecore.specs.Place.{Place, Reread, Door, Wait, Unmarking, has, without, others, is_before, only, next}
 use Rattle.rmecore.specs.World.{step_deed}
 use Rattle.rmecore.specs.Machine.{access, answer}

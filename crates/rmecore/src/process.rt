@@ -186,16 +186,21 @@ impl LockProcess {
                 next,
                 looked,
             } => self.after_wait(number, next, looked, value),
-            Stage::Leaving => {
-                let call = CoreCall::Unlock;
-                (
-                    Stage::Unmarking { call },
-                    Progress::outer(Outer::Leave(own)),
-                )
-            }
+            Stage::Leaving => self.leave(),
             Stage::Withdrawing => self.quit(CoreDone::Withdrawn),
             Stage::Unmarking { call } => after_unmark(call),
         }
+    }
+
+    /// The section is left, but for the mark.
+    fn leave(&self) -> (Stage, Progress)
+        ensures { result ≡ (Stage.Unmarking CoreCall.Unlock, record { outer = Some (Outer.Leave self.now.index); done = None; blocked = false }) }
+    {
+        let call = CoreCall::Unlock;
+        (
+            Stage::Unmarking { call },
+            Progress::outer(Outer::Leave(self.index)),
+        )
     }
 
     /// The place in the line is given up.

@@ -1,15 +1,14 @@
 -- Where worlds begin, and that what follows from there is legal.
-use Rattle.std.proofs.Common.{◌≡◌, ℕ, ◌+◌, ◌<◌, ◌≤◌, ◌^◌, Bool, true, false, ◌&&◌, nat_lt, nat_le, if◌then◌else◌, List, [], length, Option, Some, None, refl, sym, subst, inl, inr, arith, ltb-true, leb-true}
-use Rattle.std.proofs.lemmas.Bool.{cases_Bool, and_parts}
+use Rattle.std.proofs.Common.{◌≡◌, ℕ, ◌+◌, ◌<◌, ◌≤◌, ◌^◌, Bool, true, false, ◌&&◌, nat_lt, nat_le, if◌then◌else◌, List, [], length, Option, Some, None, refl, sym, subst, inr, arith, ltb-true, leb-true}
+use Rattle.std.proofs.lemmas.Bool.{and_parts}
 use Rattle.rmecore.specs.Simulated.{own_at}
 use Rattle.rmecore.specs.declared.refusal.Refusal.{Refusal}
-use Rattle.rmecore.specs.declared.refusal.Refusal.TheVariants.{BadProcs, BadLimit, BadCap, BadWidth}
 use Rattle.redomail.specs.declared.deed.Deed.{Deed}
 use Rattle.redomail.specs.declared.layout.Layout.{Layout}
 use Rattle.redomail.specs.Layout.{words_of}
 use Rattle.judge.specs.Legal.{Leads}
 use Rattle.judge.specs.Starts.{state_of}
-use Rattle.judge.specs.Table.{State, empty}
+use Rattle.judge.specs.Table.{State}
 use Rattle.judge.specs.declared.start.Start.{Start}
 use Rattle.rmeworld.specs.declared.image.Image.{Image}
 use Rattle.rmeworld.specs.ImageRules.{layout_of, IsLawfulImage}
@@ -21,7 +20,7 @@ use Rattle.rmeworld.specs.WorldState.{WorldState, new_world, new_refusal, image_
 use Rattle.rmeworld.proofs.Following.{Follows}
 use Rattle.rmeworld.proofs.FromImages.{image_world_is, image_scene, crashed-at, started_later}
 use Rattle.rmeworld.proofs.Ordered.{IsOrdered, ordered_rest, ordered_crashed}
-use Rattle.rmeworld.proofs.Reaching.{Arrived, arrives, origin}
+use Rattle.rmeworld.proofs.Reaching.{arrives, origin}
 use Rattle.rmeworld.proofs.Worlds.{world_new, new_scene, rest-at}
 
 held_to : (b : Bool) (o : Option Refusal) (r : Refusal) → (if b then o else Some r) ≡ None → (b ≡ true) × (o ≡ None)

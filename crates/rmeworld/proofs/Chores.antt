@@ -1,12 +1,11 @@
 -- What a process's machine does is what the definition says, at whatever spot it stands.
-use Rattle.std.proofs.Common.{◌≡◌, ℕ, Bool, true, false, ◌&&◌, ◌==◌, if◌then◌else◌, List, [], ◌∷◌, Result, Ok, Err, OnErr, Option, Some, None, IsSome, IfSome, unwrap_or, refl, sym, ap, ◌∙◌, subst, inl, inr, eq-eqb}
-use Rattle.std.proofs.lemmas.Bool.{cases_Bool}
+use Rattle.std.proofs.Common.{◌≡◌, ℕ, Bool, true, false, ◌&&◌, ◌==◌, if◌then◌else◌, [], ◌∷◌, Result, Ok, Err, OnErr, Option, Some, None, IsSome, IfSome, unwrap_or, refl, sym, ap, ◌∙◌, eq-eqb}
 use Rattle.rmecore.specs.Place.{Place, Rest, Dead, Wait, Inside, next}
 use Rattle.rmecore.specs.declared.refusal.Refusal.{Refusal}
 use Rattle.rmeworld.specs.declared.call.Call.{Call}
 use Rattle.rmeworld.specs.declared.call.Call.TheVariants.{Lock, Unlock, Consistent, Recover, Append, Close, Get, Put, Withdraw}
 use Rattle.rmeworld.specs.Refused.{first_cause, start_refusal}
-use Rattle.rmecore.specs.Machine.{Standing, progress, quiet, after_access, next_access as lock_access, kind_of, word_of, carried, IsAllowed as IsLockAllowed}
+use Rattle.rmecore.specs.Machine.{Standing, progress, after_access, next_access as lock_access, kind_of, word_of, carried, IsAllowed as IsLockAllowed}
 use Rattle.rmecore.specs.declared.access.Access.{Access}
 use Rattle.redomail.specs.declared.layout.Layout.{Layout}
 use Rattle.redomail.specs.declared.reply.Reply.{Reply}
@@ -24,7 +23,7 @@ use Rattle.rmeworld.specs.declared.why.Why.TheVariants.{Checking, Mending}
 use Rattle.rmeworld.specs.Answered.{by_lock, by_script}
 use Rattle.rmeworld.specs.Entered.{is_entry}
 use Rattle.rmeworld.specs.Errands.{errand_of, HasStep, Held}
-use Rattle.rmeworld.specs.Spot.{Errand, Free, Doing, Spot, only_spot, begun_from, moved_by, mended_entered, errand_entered, at_lock, settled, end_place, end_mended, end_barred}
+use Rattle.rmeworld.specs.Spot.{Errand, Free, Doing, Spot, only_spot, begun_from, moved_by, mended_entered, errand_entered, at_lock, settled}
 use Rattle.rmeworld.specs.Stand.{Stand, outcome, IsAllowed, spot_of, standing, lock_moved, job_left, stepped_by, access_by, next_access, after_at, spot_after}
 use Rattle.rmeworld.proofs.Entries.{stays}
 

@@ -1,5 +1,5 @@
 -- What the machine that a world is does, over all its calls: it follows a story from where it began, and tells its deeds.
-use Rattle.std.proofs.Common.{◌≡◌, ℕ, ◌+◌, ◌<◌, ◌≤◌, ◌^◌, Bool, true, false, ◌&&◌, ◌==◌, nat_lt, if◌then◌else◌, List, [], ◌∷◌, ◌++◌, length, slice_set, Option, Some, None, IfSome, refl, sym, ap, ◌∙◌, subst, inl, inr, arith, append-nil, ltb-true}
+use Rattle.std.proofs.Common.{◌≡◌, ℕ, ◌+◌, ◌<◌, Bool, true, false, ◌&&◌, ◌==◌, nat_lt, if◌then◌else◌, List, [], ◌∷◌, ◌++◌, length, slice_set, Option, Some, None, IfSome, refl, sym, ap, ◌∙◌, subst, inl, inr, append-nil, ltb-true}
 use Rattle.std.proofs.lemmas.Bool.{cases_Bool, cases_eq}
 use Rattle.std.proofs.lemmas.List.{get_or-set_same, get_or-set_other}
 use Rattle.rmecore.specs.Machine.{word_of}
@@ -15,12 +15,10 @@ use Rattle.redomail.specs.declared.layout.Layout.{Layout}
 use Rattle.redomail.specs.Layout.{IsLayout, Words, words_of}
 use Rattle.redomail.specs.Deeds.{deeds_of_put}
 use Rattle.rmeworld.specs.declared.call.Call.{Call}
-use Rattle.rmeworld.specs.declared.image.Image.{Image}
-use Rattle.rmeworld.specs.ImageRules.{IsLawfulImage}
 use Rattle.rmeworld.specs.Reached.{IsWorld}
 use Rattle.rmeworld.specs.Refused.{start_refusal as spot_refusal}
-use Rattle.rmeworld.specs.Replayed.{start_refusal, started, advance_refusal, stepped, advanced, crash_refusal, crash_deed, crashed, happening, list_of, the_deed, or_else, mail_by, prospect_of, stepped_if, advanced_if, advanced_by}
-use Rattle.rmeworld.specs.Spot.{Happening, Begins, Falls, next_spot}
+use Rattle.rmeworld.specs.Replayed.{start_refusal, started, advance_refusal, stepped, advanced, crash_refusal, crash_deed, crashed, happening, list_of, the_deed, or_else, mail_by, stepped_if, advanced_if, advanced_by}
+use Rattle.rmeworld.specs.Spot.{Happening}
 use Rattle.rmeworld.specs.Stand.{Stand, spot_of, next_access, IsAllowed, StoresOwn, outcome, started as stand_started, stepped as stand_stepped, crashed as stand_crashed}
 use Rattle.rmeworld.specs.World.{Scene, Can, put_deeds, event_deeds, reading, onward}
 use Rattle.rmeworld.specs.WorldState.{WorldState, absent, stand_at, scene_of, Takes}

@@ -1,15 +1,14 @@
 -- A lawful image's words are such as outlive a crash of everything, with the judge's state that they tell of.
-use Rattle.std.proofs.Common.{◌≡◌, ◌≢◌, ℕ, zero, suc, ◌+◌, ◌<◌, ◌≤◌, Bool, true, false, ◌&&◌, ◌==◌, nat_lt, if◌then◌else◌, List, [], ◌∷◌, length, map, slice_index, slice_index_or, Option, Some, None, refl, sym, ap, ◌∙◌, subst, inl, inr, ◌⊎◌, arith, eq-eqb}
-use Rattle.std.proofs.lemmas.Bool.{cases_Bool, cases_eq, cases_lt, lt-ltb}
+use Rattle.std.proofs.Common.{◌≡◌, ℕ, zero, suc, ◌+◌, ◌<◌, ◌≤◌, true, false, ◌==◌, nat_lt, if◌then◌else◌, List, [], ◌∷◌, length, map, refl, sym, ap, ◌∙◌, subst, inl, inr, ◌⊎◌, arith, eq-eqb}
+use Rattle.std.proofs.lemmas.Bool.{cases_eq, cases_lt, lt-ltb}
 use Rattle.std.proofs.lemmas.List.{get_or_past, length-map}
 use Rattle.rmecore.specs.AbstractLock.{Abstract}
-use Rattle.rmecore.specs.Lawful.{IsLawful, dead_phase, phase_by, start_of}
+use Rattle.rmecore.specs.Lawful.{dead_phase, phase_by, start_of}
 use Rattle.rmecore.specs.Simulated.{zeros, own_at, fresh}
 use Rattle.rmecore.specs.Sole.{IsIn}
 use Rattle.rmecore.specs.declared.own.Own.{Own}
-use Rattle.redomail.specs.Layout.{Words, words_of, size, IsLayout}
-use Rattle.redomail.specs.Mailbox.{Mailbox}
-use Rattle.redomail.specs.Shape.{Shape, RecordRule, pending_in, mailbox_of}
+use Rattle.redomail.specs.Layout.{Words, words_of}
+use Rattle.redomail.specs.Shape.{Shape, RecordRule, mailbox_of}
 use Rattle.redomail.specs.declared.layout.Layout.{Layout}
 use Rattle.redomail.proofs.Passes.{shape_passes_on}
 use Rattle.redomail.proofs.Readings.{content_is_shape}

@@ -1,5 +1,5 @@
 -- What each happening leaves: its deeds are allowed, and everything that is known stands after it.
-use Rattle.std.proofs.Common.{◌≡◌, ◌≢◌, ℕ, ◌<◌, Bool, true, false, ◌&&◌, ◌||◌, ◌==◌, nat_lt, length, List, [], ◌∷◌, ◌++◌, Option, Some, None, is_none, Ok, refl, sym, ap, ◌∙◌, subst, inl, inr, ◌⊎◌, arith}
+use Rattle.std.proofs.Common.{◌≡◌, ◌≢◌, ℕ, ◌<◌, Bool, true, false, ◌&&◌, ◌==◌, nat_lt, length, List, [], ◌∷◌, ◌++◌, Option, Some, None, Ok, refl, sym, ap, ◌∙◌, subst, inl, inr, ◌⊎◌}
 use Rattle.std.proofs.lemmas.Bool.{cases_Bool, cases_eq, true≢false, ltb-true, lt-ltb}
 use Rattle.rmecore.specs.Needs.{AllHold, put}
 use Rattle.rmecore.specs.AbstractLock.{Abstract, is_inside, crashed, needs, done}

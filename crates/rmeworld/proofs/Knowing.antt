@@ -1,7 +1,7 @@
 -- What each process knows of the data words: the one that is inside with a script, what is safe of the script that is left
 -- and how it ends; the one inside and mended, that they are clean; the one at its exit, that they are clean or ruined.
-use Rattle.std.proofs.Common.{◌≡◌, ℕ, ◌<◌, Bool, true, false, ◌&&◌, ◌==◌, length, if◌then◌else◌, List, refl, sym, ap, ◌∙◌, subst, inl, inr, ◌⊎◌, arith, eqb-true}
-use Rattle.std.proofs.lemmas.Bool.{cases_Bool, cond_both, and_parts, eqb-false, true≢false}
+use Rattle.std.proofs.Common.{◌≡◌, ℕ, ◌<◌, Bool, true, false, ◌&&◌, ◌==◌, length, if◌then◌else◌, List, refl, sym, ap, ◌∙◌, subst, inl, inr, arith, eqb-true}
+use Rattle.std.proofs.lemmas.Bool.{cases_Bool, and_parts, eqb-false, true≢false}
 use Rattle.rmecore.specs.Place.{Place, Rest, Dead, Reread, Opening, Door, Shutting, Wait, Inside, Leaving, Withdrawing, Unmarking}
 use Rattle.rmecore.specs.declared.phase.Phase.{Phase}
 use Rattle.rmecore.specs.declared.phase.Phase.TheVariants.{Inside as Within}
@@ -10,7 +10,7 @@ use Rattle.redomail.specs.declared.message.Message.{Message}
 use Rattle.redomail.specs.declared.task.Task.{Task}
 use Rattle.redomail.specs.declared.task.Task.TheVariants as task
 use Rattle.redomail.specs.declared.reply.Reply.{Reply}
-use Rattle.redomail.specs.declared.reply.Reply.TheVariants.{Stored, Already, OutOfOrder, Full, Closed, ClosedNow, AlreadyClosed, Mended, Word, Done as IsDone, Ruined}
+use Rattle.redomail.specs.declared.reply.Reply.TheVariants.{Stored, Already, Mended, Ruined}
 use Rattle.redomail.specs.Layout.{Words, IsLayout}
 use Rattle.redomail.specs.Mailbox.{Mailbox, message}
 use Rattle.redomail.specs.Safe.{Safe}

@@ -1,21 +1,19 @@
 -- The image of a world that a story comes to is lawful.
-use Rattle.std.proofs.Common.{◌≡◌, ◌≢◌, ℕ, zero, suc, ◌+◌, ◌<◌, ◌≤◌, ◌^◌, Bool, true, false, length, slice_index, refl, sym, ap, ◌∙◌, subst, inl, inr, ◌⊎◌, arith}
-use Rattle.std.proofs.lemmas.Bool.{cases_Bool, cases_eq}
+use Rattle.std.proofs.Common.{◌≡◌, ℕ, zero, suc, ◌<◌, ◌≤◌, Bool, true, false, length, slice_index, refl, sym, ap, ◌∙◌, subst, inl, inr, ◌⊎◌, arith}
+use Rattle.std.proofs.lemmas.Bool.{cases_eq}
 use Rattle.rmecore.specs.Lawful.{IsLawful}
 use Rattle.rmecore.specs.Simulated.{own_at}
 use Rattle.rmecore.specs.Sole.{IsIn}
 use Rattle.rmecore.specs.declared.phase.Phase.{Phase}
 use Rattle.rmecore.specs.declared.phase.Phase.TheVariants.{Out, Door, Ready, Inside, DeadIn}
 use Rattle.redomail.specs.Content.{HeadsHold}
-use Rattle.redomail.specs.Layout.{Words, words_of, size, IsLayout}
+use Rattle.redomail.specs.Layout.{Words, words_of, size}
 use Rattle.redomail.specs.Shape.{Shape, ListRule, RecordRule, bit}
 use Rattle.redomail.specs.declared.layout.Layout.{Layout}
 use Rattle.judge.specs.Table.{State}
-use Rattle.rmeworld.specs.ImageRules.{layout_of, IsIn as IsInImage, IsListed, IsRecorded, IsLawfulImage}
-use Rattle.rmeworld.specs.Law.{Sits}
+use Rattle.rmeworld.specs.ImageRules.{layout_of, IsLawfulImage}
 use Rattle.rmeworld.specs.Reached.{IsWorld, IsLegalHistory}
 use Rattle.rmeworld.specs.Replayed.{image_of}
-use Rattle.rmeworld.specs.Stand.{IsSize}
 use Rattle.rmeworld.specs.WorldState.{WorldState, scene_of}
 use Rattle.rmeworld.proofs.Reaching.{Arrived, reached_arrives}
 use Rattle.rmeworld.proofs.Stories.{before_is}

@@ -1,7 +1,7 @@
 -- What each process of a world keeps in its private memory, so that whatever its machine does is the definition's step.
-use Rattle.std.proofs.Common.{◌≡◌, ℕ, ◌<◌, Bool, true, false, ◌&&◌, ◌==◌, nat_lt, if◌then◌else◌, List, [], ◌∷◌, length, Option, Some, None, IfSome, refl, sym, ap, ◌∙◌, subst, inl, inr, arith, eqb-true, ltb-true}
+use Rattle.std.proofs.Common.{◌≡◌, ℕ, Bool, true, false, ◌&&◌, ◌==◌, nat_lt, if◌then◌else◌, [], ◌∷◌, length, Option, Some, None, IfSome, refl, sym, subst, inl, inr, eqb-true, ltb-true}
 use Rattle.std.proofs.lemmas.Bool.{cases_Bool}
-use Rattle.rmecore.specs.Place.{Place, Rest, Dead, Reread, Wait, Inside, started as lock_started}
+use Rattle.rmecore.specs.Place.{Place, Rest, Dead, Wait, Inside}
 use Rattle.rmecore.specs.Machine.{after_access, next_access as lock_access, StoresOwn as IsLockOwn}
 use Rattle.rmecore.specs.declared.access.Access.{Access}
 use Rattle.rmecore.specs.declared.access.Access.TheVariants.{Load, Store}
@@ -12,25 +12,24 @@ use Rattle.rmecore.specs.declared.refusal.Refusal.TheVariants.{Unmended, BadInde
 use Rattle.redomail.specs.declared.layout.Layout.{Layout}
 use Rattle.redomail.specs.declared.reply.Reply.{Reply}
 use Rattle.redomail.specs.declared.reply.Reply.TheVariants.{Ruined}
-use Rattle.redomail.specs.declared.stage.Stage.{Stage}
 use Rattle.redomail.specs.declared.task.Task.{Task}
 use Rattle.redomail.specs.declared.task.Task.TheVariants as task
 use Rattle.redomail.specs.Jobs.{FitsStage}
 use Rattle.redomail.specs.Layout.{IsLayout}
-use Rattle.redomail.specs.Left.{Pending, left, begun, fed}
+use Rattle.redomail.specs.Left.{Pending, left, fed}
 use Rattle.redomail.specs.Script.{Script, Get as Asks, Put as Writes, Done, tail}
 use Rattle.redomail.specs.Stages.{stage_after}
-use Rattle.redomail.proofs.Feeding.{fits_first, fits_after, left_after, FitsTask}
+use Rattle.redomail.proofs.Feeding.{fits_first, fits_after, left_after}
 use Rattle.rmeworld.specs.declared.call.Call.{Call}
 use Rattle.rmeworld.specs.declared.call.Call.TheVariants.{Lock, Unlock, Consistent, Recover, Append, Close, Get, Put, Withdraw}
 use Rattle.rmeworld.specs.declared.errand.Errand.{Errand as Chore}
 use Rattle.rmeworld.specs.declared.errand.Errand.TheVariants.{Free as IsFree, Asking, Doing as Does}
 use Rattle.rmeworld.specs.declared.why.Why.{Why}
-use Rattle.rmeworld.specs.declared.why.Why.TheVariants.{Checking, Mending}
+use Rattle.rmeworld.specs.declared.why.Why.TheVariants.{Mending}
 use Rattle.rmeworld.specs.Entered.{is_entry}
 use Rattle.rmeworld.specs.Errands.{errand_of, HasStep, Held}
 use Rattle.rmeworld.specs.Refused.{first_cause, start_refusal}
-use Rattle.rmeworld.specs.Spot.{Spot, Free, Doing, Begins, next_spot, begun_from, only_spot}
+use Rattle.rmeworld.specs.Spot.{Spot, Doing, Begins, next_spot, begun_from, only_spot}
 use Rattle.rmeworld.specs.Stand.{Stand, spot_of, standing, resting, crashed, job_left, lock_moved, access_by, next_access, spot_after, IsAllowed, StoresOwn, started, stepped, stepped_by}
 use Rattle.rmeworld.proofs.Chores.{with, lock_goes, ask_goes, job_goes, Goes, lock_allowed, doing_allowed, script_allowed}
 

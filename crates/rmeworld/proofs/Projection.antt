@@ -22,7 +22,7 @@ use Rattle.redomail.specs.Tasks.{script, consistent}
 use Rattle.rmeworld.specs.declared.call.Call.{Call}
 use Rattle.rmeworld.specs.declared.call.Call.TheVariants.{Lock, Unlock, Consistent, Recover, Append, Close, Get, Put, Withdraw}
 use Rattle.rmeworld.specs.declared.why.Why.{Why}
-use Rattle.rmeworld.specs.declared.why.Why.TheVariants.{Checking, Ruining, Mending, Working}
+use Rattle.rmeworld.specs.declared.why.Why.TheVariants.{Checking, Ruining, Mending}
 use Rattle.rmeworld.specs.Entered.{is_entry}
 use Rattle.rmeworld.specs.Spot.{Errand, Free, Doing, Spot, dead, Happening, Begins, Falls, Moves, Glances as Looks-at, who, end_place, settled, errand_entered, mended_entered, at_lock, inside_only, begun_from, moved_by, next_spot, only_spot, outer_by, outer}
 use Rattle.rmeworld.specs.World.{Reads as Scene-Reads, reading, words_after, Scene, onward, Story, last_scene}

@@ -1,11 +1,11 @@
 -- What the lock theorem says of a world that a story comes to: its history is legal, and its words are lawful.
-use Rattle.std.proofs.Common.{◌≡◌, ℕ, zero, suc, ◌<◌, ◌≤◌, true, false, nat_lt, Bool, if◌then◌else◌, List, [], ◌∷◌, ◌++◌, Option, Some, None, refl, sym, ap, ◌∙◌, subst, inl, inr, ◌⊎◌, arith}
+use Rattle.std.proofs.Common.{◌≡◌, ℕ, zero, suc, ◌<◌, ◌≤◌, nat_lt, Bool, if◌then◌else◌, List, [], ◌∷◌, ◌++◌, Option, Some, None, refl, sym, ap, ◌∙◌, subst, inl, inr, arith}
 use Rattle.std.proofs.lemmas.Bool.{cases_Bool, lt-ltb}
-use Rattle.rmecore.specs.AbstractLock.{Abstract, Legal, nobody}
-use Rattle.rmecore.specs.Lawful.{IsRow, IsLawful, all_dead as core_dead, start_of}
-use Rattle.rmecore.specs.Place.{Dead, Rest}
+use Rattle.rmecore.specs.AbstractLock.{Abstract, Legal}
+use Rattle.rmecore.specs.Lawful.{IsRow, IsLawful, all_dead as core_dead}
+use Rattle.rmecore.specs.Place.{Dead}
 use Rattle.rmecore.specs.Sole.{IsIn, all_done}
-use Rattle.rmecore.specs.World.{World, at_rest as core_rest, and_then, final}
+use Rattle.rmecore.specs.World.{and_then, final}
 use Rattle.rmecore.specs.declared.outer.Outer.{Outer}
 use Rattle.rmecore.specs.declared.own.Own.{Own}
 use Rattle.rmecore.proofs.Bounds.{Bounded, Within, final_lawful, image_bounded, rest_bounded, rest_rows}
@@ -13,21 +13,18 @@ use Rattle.rmecore.proofs.Images.{at_image}
 use Rattle.rmecore.proofs.Invariant.{Tied, Fits, Pair, phase_at, phase_of}
 use Rattle.rmecore.proofs.Phases.{tied_after}
 use Rattle.rmecore.proofs.Runs.{at_first as core_first, legal}
-use Rattle.redomail.specs.Leads.{IsOwn, AreOwn}
+use Rattle.redomail.specs.Leads.{AreOwn}
 use Rattle.redomail.specs.Layout.{Words, IsLayout}
-use Rattle.redomail.specs.Mailbox.{nothing_shown}
 use Rattle.redomail.specs.Laws.{NewWords}
-use Rattle.redomail.specs.Deeds.{deeds_of_put}
 use Rattle.redomail.specs.declared.deed.Deed.{Deed}
 use Rattle.redomail.specs.declared.deed.Deed.TheVariants.{Outer as OuterDeed, Commit, Show, Close, Ruin}
 use Rattle.redomail.specs.declared.layout.Layout.{Layout}
 use Rattle.redomail.proofs.Owns.{puts_are_own}
 use Rattle.judge.specs.Halves.{all_after}
-use Rattle.judge.specs.Legal.{Leads, judged_all}
+use Rattle.judge.specs.Legal.{Leads}
 use Rattle.judge.specs.Table.{State, empty, after}
 use Rattle.judge.proofs.Halves.{state_led}
 use Rattle.rmecore.specs.World.{is_store}
-use Rattle.rmecore.specs.declared.kind.Kind.{Kind}
 use Rattle.rmecore.specs.declared.word.Word.{Word}
 use Rattle.rmecore.specs.declared.word.Word.TheVariants.{Choosing as ChoosingOf, Number as NumberOf, Inside as InsideOf, Data as DataAt}
 use Rattle.rmeworld.specs.Law.{Sits, IsLater, Sound}
@@ -37,7 +34,7 @@ use Rattle.rmeworld.specs.World.{Scene, at_first, Story, onward, last_scene, out
 use Rattle.rmeworld.proofs.Projection.{Held, core_of, outers, projected}
 use Rattle.rmeworld.proofs.Happenings.{done_by, judge_of, Kept}
 use Rattle.rmeworld.proofs.Knowing.{PostAt}
-use Rattle.rmeworld.proofs.Stories.{goes_on, sound, first, state_is, later}
+use Rattle.rmeworld.proofs.Stories.{goes_on, sound, first, later}
 
 -- the judge's lock after a story's deeds
 

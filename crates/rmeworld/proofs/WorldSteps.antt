@@ -1,11 +1,11 @@
 -- A step in memory is a happening of the definition.
-use Rattle.std.proofs.Common.{◌≡◌, ◌≢◌, ℕ, ◌+◌, ◌<◌, ◌≤◌, Bool, true, false, ◌==◌, nat_lt, if◌then◌else◌, List, [], ◌∷◌, ◌++◌, length, take, slice_index, slice_index_or, slice_set, Option, Some, None, IsSome, unwrap_or, refl, sym, ap, ◌∙◌, subst, inl, inr, arith, eq-eqb, ne_eqb, append-nil}
+use Rattle.std.proofs.Common.{◌≡◌, ◌≢◌, ℕ, ◌+◌, ◌<◌, ◌≤◌, Bool, true, false, ◌==◌, nat_lt, if◌then◌else◌, List, ◌++◌, length, slice_index_or, slice_set, Some, IsSome, unwrap_or, refl, sym, ap, ◌∙◌, subst, inl, inr, arith, eq-eqb, ne_eqb, append-nil}
 use Rattle.std.proofs.lemmas.Bool.{cases_Bool, cases_eq, cases_lt, lt-ltb, ltb-true}
-use Rattle.std.proofs.lemmas.List.{get_or-set_same, get_or-set_other, get_or_default, get_or_past, length-set, set_past}
+use Rattle.std.proofs.lemmas.List.{get_or-set_same, get_or-set_other, length-set, set_past}
 use Rattle.rmecore.specs.Needs.{put}
-use Rattle.rmecore.specs.World.{is_store, write}
+use Rattle.rmecore.specs.World.{write}
 use Rattle.rmecore.specs.Machine.{kind_of, word_of, carried}
-use Rattle.rmecore.specs.Simulated.{zeros, own_at, tally_at, counted, fresh}
+use Rattle.rmecore.specs.Simulated.{zeros, own_at}
 use Rattle.rmecore.specs.declared.access.Access.{Access}
 use Rattle.rmecore.specs.declared.access.Access.TheVariants.{Load, Store}
 use Rattle.rmecore.specs.declared.own.Own.{Own}
@@ -23,10 +23,10 @@ use Rattle.rmeworld.specs.declared.errand.Errand.TheVariants.{Free as IsFree, As
 use Rattle.rmeworld.specs.declared.why.Why.TheVariants.{Mending}
 use Rattle.redomail.specs.declared.layout.Layout.{Layout}
 use Rattle.redomail.specs.Layout.{words_of, size}
-use Rattle.rmeworld.specs.Replayed.{value_of, words_set, cells_set, words_by, cells_by, advanced_by, crashed}
+use Rattle.rmeworld.specs.Replayed.{value_of, words_set, words_by, cells_by, advanced_by, crashed}
 use Rattle.rmeworld.specs.Spot.{Happening, Begins, Falls, Moves, who, next_spot}
 use Rattle.rmeworld.specs.Stand.{Stand, stepped_by, job_left, started as stand_started, crashed as stand_crashed, spot_of, next_access, spot_after, stepped as stand_stepped, IsAllowed, InWords, IsOwnWord, StoresOwn}
-use Rattle.rmeworld.specs.World.{reading, Reads, event_deeds, words_after, put_cell, cells_after}
+use Rattle.rmeworld.specs.World.{reading, Reads, event_deeds, words_after, cells_after}
 use Rattle.rmeworld.specs.WorldState.{WorldState, absent, stand_at, spot_at, scene_of, HasSeat, IsSeated, Takes}
 
 pub put_same : {A : Type 0} (f : ℕ → A) (p : ℕ) (x : A) → put f p x p ≡ x

@@ -1,10 +1,10 @@
 -- Every happening of a world keeps what its tallies say.
-use Rattle.std.proofs.Common.{◌≡◌, ◌≢◌, ℕ, zero, suc, ◌+◌, ◌<◌, Bool, true, false, ◌&&◌, ◌==◌, if◌then◌else◌, List, [], ◌∷◌, length, map, slice_set, Option, Some, None, IsSome, IfSome, unwrap_or, refl, sym, ap, ◌∙◌, subst, inl, inr, arith}
+use Rattle.std.proofs.Common.{◌≡◌, ◌≢◌, ℕ, zero, suc, ◌+◌, ◌<◌, Bool, true, false, ◌&&◌, ◌==◌, if◌then◌else◌, List, [], ◌∷◌, length, map, Option, Some, None, IsSome, IfSome, unwrap_or, refl, sym, ap, ◌∙◌, subst, inl, inr, arith}
 use Rattle.std.proofs.lemmas.Bool.{cases_eq}
-use Rattle.std.proofs.lemmas.List.{get_or-set_same, get_or-set_other, get_or-replicate}
+use Rattle.std.proofs.lemmas.List.{get_or-set_same, get_or-set_other}
 use Rattle.rmecore.specs.Place.{Place, Steps, next}
-use Rattle.rmecore.specs.World.{Reads as CoreReads, is_store, read, write}
-use Rattle.rmecore.specs.Machine.{access, kind_of, word_of, carried}
+use Rattle.rmecore.specs.World.{Reads as CoreReads, is_store, write}
+use Rattle.rmecore.specs.Machine.{kind_of, word_of}
 use Rattle.rmecore.specs.Paid.{ReadsBegun, is_glance}
 use Rattle.rmecore.specs.Simulated.{own_at, tally_at, counted, fresh}
 use Rattle.rmecore.specs.Tallied.{IsExact, IsRereading}
@@ -27,11 +27,11 @@ use Rattle.redomail.specs.declared.reply.Reply.TheVariants.{Ruined}
 use Rattle.rmeworld.specs.Answered.{answer_at, blocked_by}
 use Rattle.rmeworld.specs.OwnSteps.{most_steps}
 use Rattle.rmeworld.specs.Paid.{PaysAt}
-use Rattle.rmeworld.specs.Replayed.{value_of, happening, advanced_by, started, crashed}
-use Rattle.rmeworld.specs.Spot.{Errand, Free, Doing, Spot, Happening, Begins, Falls, Moves, dead, next_spot, settled, end_place, at_lock, moved_by}
+use Rattle.rmeworld.specs.Replayed.{value_of, advanced_by, started, crashed}
+use Rattle.rmeworld.specs.Spot.{Errand, Free, Doing, Spot, Begins, Falls, Moves, dead, next_spot, settled, end_place, at_lock, moved_by}
 use Rattle.rmeworld.specs.Errands.{errand_of}
 use Rattle.rmeworld.specs.Stand.{Stand, access_by, outcome, StoresOwn}
-use Rattle.rmeworld.specs.Tallied.{HasTaken, IsTaking, IsTallied, AllTallied}
+use Rattle.rmeworld.specs.Tallied.{HasTaken, IsTallied, AllTallied}
 use Rattle.rmeworld.specs.UnderWay.{call_at}
 use Rattle.rmeworld.specs.World.{Scene, Can, onward, reading, reading_of, words_after}
 use Rattle.rmeworld.specs.WorldState.{WorldState, stand_at, spot_at, scene_of, IsSeated, Takes}

@@ -1,5 +1,5 @@
 -- What a world in memory keeps, at every call.
-use Rattle.std.proofs.Common.{◌≡◌, ℕ, zero, suc, ◌+◌, ◌*◌, ◌<◌, ◌≤◌, ◌^◌, min, ◌++◌, [], ◌∷◌, List, take, Option, Some, None, IfSome, nat_lt, length, replicate, slice_index_or, slice_set, refl, sym, ap, ◌∙◌, subst, inl, inr, arith}
+use Rattle.std.proofs.Common.{◌≡◌, ℕ, zero, suc, ◌+◌, ◌<◌, ◌≤◌, ◌^◌, ◌++◌, [], ◌∷◌, List, take, Option, Some, None, IfSome, nat_lt, length, replicate, slice_index_or, slice_set, refl, sym, ap, ◌∙◌, subst, inl, inr, arith}
 use Rattle.std.proofs.lemmas.Bool.{cases_lt, cases_Bool}
 use Rattle.std.proofs.lemmas.List.{get_or-replicate, get_or_past, get_or_default, length-replicate, length-set}
 use Rattle.std.proofs.Math.Seq.{take-append_seam}
@@ -18,7 +18,7 @@ use Rattle.redomail.specs.Layout.{Words, words_of, place_at, held, size, IsLayou
 use Rattle.redomail.specs.declared.deed.Deed.{Deed}
 use Rattle.judge.specs.Table.{empty}
 use Rattle.rmeworld.specs.declared.call.Call.{Call}
-use Rattle.rmeworld.specs.Replayed.{value_of, happening, mail_by, or_else, list_of, the_deed, prospect_of, words_by, cells_by, advanced_by, started, crashed}
+use Rattle.rmeworld.specs.Replayed.{happening, mail_by, or_else, list_of, the_deed, prospect_of, words_by, cells_by, advanced_by, started, crashed}
 use Rattle.rmeworld.specs.Reached.{IsReached, IsWorld}
 use Rattle.rmeworld.specs.Spot.{Errand, Free, Doing, Happening, Begins, Falls, Moves, next_spot, outer_by, at_rest}
 use Rattle.rmeworld.specs.Errands.{errand_of}

@@ -1,5 +1,5 @@
 -- Worlds that some story comes to.
-use Rattle.std.specs.Prelude.{◌≡◌, ℕ, ◌<◌, ◌≤◌, ◌^◌, ◌⊎◌, nat_lt, if◌then◌else◌, List, length}
+use Rattle.std.specs.Prelude.{◌≡◌, ℕ, ◌≤◌, ◌^◌, ◌⊎◌, nat_lt, if◌then◌else◌, List, length}
 use Rattle.rmecore.specs.declared.own.Own.{Own}
 use Rattle.redomail.specs.declared.deed.Deed.{Deed}
 use Rattle.redomail.specs.declared.layout.Layout.{Layout}

@@ -1,5 +1,5 @@
 -- Which start is refused, and why: of the causes of its call, the first that holds.
-use Rattle.std.specs.Prelude.{ℕ, Bool, true, false, not, ◌==◌, nat_lt, length, if◌then◌else◌, List, [], ◌∷◌, Option, Some, None}
+use Rattle.std.specs.Prelude.{Bool, true, false, not, ◌==◌, nat_lt, length, if◌then◌else◌, List, [], ◌∷◌, Option, Some, None}
 use Rattle.rmecore.specs.Place.{Place, Wait, Inside}
 use Rattle.rmecore.specs.Refused.{is_idle as is_idle_place}
 use Rattle.rmecore.specs.declared.refusal.Refusal.{Refusal}

@@ -1,5 +1,5 @@
 -- A world as a machine: why its calls are refused, what they answer, and what they leave.
-use Rattle.std.specs.Prelude.{ℕ, nat_lt, true, false, if◌then◌else◌, List, [], ◌∷◌, ◌++◌, slice_set, Option, Some, None}
+use Rattle.std.specs.Prelude.{ℕ, nat_lt, if◌then◌else◌, List, [], ◌∷◌, ◌++◌, slice_set, Option, Some, None}
 use Rattle.rmecore.specs.Machine.{kind_of, word_of, carried}
 use Rattle.rmecore.specs.Simulated.{own_at, tally_at, counted, fresh}
 use Rattle.rmecore.specs.declared.access.Access.{Access}

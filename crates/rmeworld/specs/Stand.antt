@@ -1,6 +1,6 @@
 -- What contracts see of one process of a world, and what its machine does next.
-use Rattle.std.specs.Prelude.{◌≡◌, ℕ, ◌<◌, ◌≤◌, Bool, true, false, ◌==◌, if◌then◌else◌, List, [], Option, Some, None, IsSome, unwrap_or}
-use Rattle.rmecore.specs.Place.{Place, Rest, Dead, Reread, Wait, Inside, Leaving, Withdrawing}
+use Rattle.std.specs.Prelude.{◌≡◌, ℕ, ◌<◌, ◌≤◌, Bool, true, false, ◌==◌, if◌then◌else◌, [], Option, Some, None, IsSome, unwrap_or}
+use Rattle.rmecore.specs.Place.{Place, Rest, Dead, Reread, Leaving, Withdrawing}
 use Rattle.rmecore.specs.World.{is_store}
 use Rattle.rmecore.specs.Machine.{Standing, next_access as lock_access, after_access, access, kind_of, word_of, carried, owner, InLock}
 use Rattle.rmecore.specs.declared.access.Access.{Access}
@@ -9,7 +9,7 @@ use Rattle.rmecore.specs.declared.core_call.CoreCall.TheVariants as core
 use Rattle.rmecore.specs.declared.kind.Kind.TheVariants.{Get as Gets, Put as Puts}
 use Rattle.rmecore.specs.declared.progress.Progress.{Progress}
 use Rattle.rmecore.specs.declared.word.Word.{Word}
-use Rattle.rmecore.specs.declared.word.Word.TheVariants.{Choosing as ChoosingOf, Number as NumberOf, Inside as InsideOf, Data as DataAt}
+use Rattle.rmecore.specs.declared.word.Word.TheVariants.{Data as DataAt}
 use Rattle.redomail.specs.declared.layout.Layout.{Layout}
 use Rattle.redomail.specs.declared.reply.Reply.{Reply}
 use Rattle.redomail.specs.Layout.{IsLayout}

@@ -1,5 +1,5 @@
 -- All processes with their lock words, and the data words; which happenings may come, what they leave, and their deeds.
-use Rattle.std.specs.Prelude.{◌≡◌, ℕ, ◌<◌, true, false, ◌==◌, nat_lt, if◌then◌else◌, List, [], ◌∷◌, ◌++◌, Option, Some, None, IsSome, unwrap_or}
+use Rattle.std.specs.Prelude.{◌≡◌, ℕ, ◌<◌, false, ◌==◌, nat_lt, if◌then◌else◌, List, [], ◌∷◌, ◌++◌, Option, Some, None, IsSome, unwrap_or}
 use Rattle.rmecore.specs.Needs.{put}
 use Rattle.rmecore.specs.World.{is_store, read, write}
 use Rattle.rmecore.specs.declared.outer.Outer.{Outer}

@@ -1,7 +1,7 @@
 -- What contracts see of a world, and which scene it is.
-use Rattle.std.specs.Prelude.{◌≡◌, ℕ, ◌<◌, ◌≤◌, ◌^◌, ◌&&◌, nat_lt, nat_le, List, [], ◌∷◌, ◌++◌, length, map, replicate, slice_index_or, slice_set, zero, suc, ◌+◌, if◌then◌else◌, Option, Some, None, IsSome}
+use Rattle.std.specs.Prelude.{◌≡◌, ℕ, ◌<◌, ◌≤◌, ◌^◌, ◌&&◌, nat_lt, nat_le, List, [], ◌∷◌, ◌++◌, length, map, replicate, slice_index_or, zero, suc, ◌+◌, if◌then◌else◌, Option, Some, None, IsSome}
 use Rattle.rmecore.specs.Machine.{owner}
-use Rattle.rmecore.specs.Simulated.{zeros as zero_words, own_at, tally_at, fresh}
+use Rattle.rmecore.specs.Simulated.{zeros as zero_words, own_at, fresh}
 use Rattle.rmecore.specs.declared.happened.Happened.{Happened}
 use Rattle.rmecore.specs.declared.own.Own.{Own}
 use Rattle.rmecore.specs.declared.refusal.Refusal.{Refusal}

@@ -1,4 +1,4 @@
-use Rattle.std.proofs.Common.{◌≡◌, ◌++◌, ◌∷◌, [], List, None, Some, OnOk, IfOk, ap, subst}
+use Rattle.std.proofs.Common.{◌≡◌, ◌++◌, ◌∷◌, [], List, None, Some, OnOk, IfOk, subst}
 use Rattle.redomail.specs.declared.deed.Deed.{Deed}
 use Rattle.crashlab.specs.Found.{Told}
 use Rattle.crashlab.specs.LockWorlds.{IsLockWorld}

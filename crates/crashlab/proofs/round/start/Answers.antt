@@ -1,4 +1,4 @@
-use Rattle.std.proofs.Common.{◌≡◌, List, None, OnOk, IfOk, ap, subst}
+use Rattle.std.proofs.Common.{◌≡◌, List, None, OnOk, subst}
 use Rattle.redomail.specs.declared.deed.Deed.{Deed}
 use Rattle.crashlab.specs.Found.{with_line}
 use Rattle.crashlab.specs.LockWorlds.{IsLockWorld}

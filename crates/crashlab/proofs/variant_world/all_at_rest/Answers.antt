@@ -1,4 +1,4 @@
-use Rattle.std.proofs.Common.{◌≡◌, ap, ◌∙◌, sym, rules}
+use Rattle.std.proofs.Common.{rules}
 use Rattle.crashlab.proofs.Rests.{rest_more}
 use Rattle.crashlab.proofs.variant_world.all_at_rest.Goals as goal
 

@@ -1,4 +1,4 @@
-use Rattle.std.proofs.Common.{◌≡◌, ℕ}
+use Rattle.std.proofs.Common.{◌≡◌}
 use Rattle.crashlab.specs.VariantWorlds.{at_rest_from}
 use Rattle.crashlab.proofs.variant_world.all_at_rest.Given as goal
 

@@ -2,12 +2,10 @@ use Rattle.std.proofs.Common.{sym, subst}
 use Rattle.rmecore.specs.AbstractLock.{nobody, Legal}
 use Rattle.rmecore.specs.Lawful.{start_of, IsLawful}
 use Rattle.redomail.specs.Mailbox.{nothing_shown}
-use Rattle.judge.specs.Legal.{Leads}
 use Rattle.judge.specs.Table.{empty}
 use Rattle.rmeworld.specs.Law.{Sound, EveryStoryIsSound}
-use Rattle.rmeworld.specs.World.{at_first, all_dead, deeds}
+use Rattle.rmeworld.specs.World.{at_first, all_dead}
 use Rattle.rmeworld.proofs.Projection.{projected}
-use Rattle.rmeworld.proofs.Happenings.{judge_of}
 use Rattle.rmeworld.proofs.Stories.{sound, legal_by, first, first_posts, state_is, later, later_posts}
 use Rattle.rmeworld.proofs.laws.every_story_is_sound.Goals as goal
 

@@ -1,4 +1,4 @@
-use Rattle.std.proofs.Common.{◌≡◌, sym, ap, ◌∙◌, subst, IfSome}
+use Rattle.std.proofs.Common.{◌≡◌, sym, ap, ◌∙◌, subst}
 use Rattle.redomail.specs.Left.{left}
 use Rattle.rmeworld.specs.declared.errand.Errand.TheVariants.{Doing}
 use Rattle.rmeworld.specs.Errands.{Held}

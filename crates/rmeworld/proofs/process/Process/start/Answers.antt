@@ -1,4 +1,3 @@
-use Rattle.std.proofs.Common.{◌≡◌, sym, ap, ◌∙◌, subst, IfSome}
 use Rattle.rmeworld.specs.Errands.{errand_of}
 use Rattle.rmeworld.proofs.Chores.{refuses, always_err}
 use Rattle.rmeworld.proofs.process.Process.start.Goals as goal

@@ -4,8 +4,8 @@ use Rattle.rmecore.specs.Simulated.{fresh}
 use Rattle.redomail.specs.declared.layout.Layout.{Layout}
 use Rattle.rmeworld.specs.ImageRules.{layout_of}
 use Rattle.rmeworld.specs.Reached.{IsWorld}
-use Rattle.rmeworld.specs.Stand.{Stand, resting, crashed}
-use Rattle.rmeworld.specs.WorldState.{WorldState, stand_at, crashed_from, image_world}
+use Rattle.rmeworld.specs.Stand.{resting, crashed}
+use Rattle.rmeworld.specs.WorldState.{WorldState, stand_at, image_world}
 use Rattle.rmeworld.proofs.FromImages.{crashed_is, image_world_is}
 use Rattle.rmeworld.proofs.world.World.of_lawful.Goals as goal
 

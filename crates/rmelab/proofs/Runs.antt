@@ -1,5 +1,5 @@
 -- The sizes of a run that fits are those of a lab.
-use Rattle.std.proofs.Common.{◌≡◌, ◌⊎◌, ℕ, ◌-◌, ◌*◌, ◌^◌, ◌<◌, ◌≤◌, min, refl, sym, ap, ◌∙◌, inl, inr, arith}
+use Rattle.std.proofs.Common.{◌≡◌, ℕ, ◌-◌, ◌*◌, ◌^◌, ◌≤◌, min, refl, inl, inr, arith}
 use Rattle.std.proofs.Math.Nat.{min-eq_left, one-le-mul}
 use Rattle.std.proofs.lemmas.Nat.{mul-le}
 use Rattle.robust.specs.Lab.{IsBadSpec}

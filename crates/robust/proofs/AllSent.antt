@@ -1,13 +1,13 @@
 -- What the mailbox list shows at the end of a lab: just what its workers sent.
-use Rattle.std.proofs.Common.{◌≡◌, ◌≢◌, ℕ, zero, suc, ◌+◌, ◌*◌, ◌<◌, ◌≤◌, ◌==◌, ◌⊎◌, Bool, true, false, List, [], ◌∷◌, ◌++◌, length, slice_index, map, Option, Some, None, All, refl, sym, ap, ◌∙◌, subst, inl, inr, arith, eq-eqb}
+use Rattle.std.proofs.Common.{◌≡◌, ℕ, ◌+◌, ◌<◌, ◌≤◌, ◌==◌, Bool, true, false, List, [], ◌∷◌, ◌++◌, length, slice_index, Option, Some, None, All, refl, sym, ap, ◌∙◌, subst, inl, inr, arith, eq-eqb}
 use Rattle.std.proofs.lemmas.Bool.{cases_eq}
 use Rattle.std.proofs.lemmas.List.Elements.{All-nil, All-cons, All-head, All-tail, All-append, All-weaker, All-contains}
 use Rattle.redomail.specs.declared.layout.Layout.{Layout}
 use Rattle.redomail.specs.declared.message.Message.{Message}
-use Rattle.redomail.specs.Content.{IsContent, EntriesHold}
-use Rattle.redomail.specs.Layout.{Words, IsLayout, words_of, size}
+use Rattle.redomail.specs.Content.{IsContent}
+use Rattle.redomail.specs.Layout.{Words, IsLayout, words_of}
 use Rattle.redomail.specs.Mailbox.{IsAmong}
-use Rattle.redomail.specs.Shape.{entries, count_of, IsNumbered, RecordRule, Unshown, Shown}
+use Rattle.redomail.specs.Shape.{entries, count_of, IsNumbered, RecordRule}
 use Rattle.judge.specs.Table.{State, empty}
 use Rattle.judge.proofs.Halves.{state_led}
 use Rattle.rmeworld.specs.declared.call.Call.{Call}
@@ -23,7 +23,7 @@ use Rattle.robust.specs.Gathering.{Gathers, IsGlance, IsTold, has_member, image_
 use Rattle.robust.specs.Headline.{deeds_of, shown_by}
 use Rattle.robust.specs.Lab.{AreAllSent, words_sent, messages_sent, messages_by}
 use Rattle.robust.specs.Reading.{cells_of, RunsShow}
-use Rattle.robust.specs.Rule.{Begins as Starts, count_from}
+use Rattle.robust.specs.Rule.{Begins as Starts}
 use Rattle.robust.specs.Running.{Seated}
 use Rattle.robust.specs.Runs.{before, taken, happenings, spelled, own, IsRun, end_of}
 use Rattle.robust.specs.Worked.{sizes_of}
@@ -34,7 +34,6 @@ use Rattle.robust.proofs.Numbered.{many, few, sent_by, senders, counted_all}
 use Rattle.robust.proofs.Runs.{by_kind}
 use Rattle.robust.proofs.Shown.{shown_on}
 use Rattle.robust.proofs.Together.{all_both, member_at, Keeps, Holds, all_hold}
-use Rattle.rmecore.specs.declared.kind.Kind.{Kind}
 
 -- what holds of each call that a process starts
 pub OfBegins : (Call → Type 0) → ℕ → Happening → Type 0

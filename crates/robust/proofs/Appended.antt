@@ -1,6 +1,6 @@
 -- At which point of a whole mailbox call its append was answered, and what that tells: where the answer was Stored or Already
 -- the message is shown; what another reply says of the mailbox held there.
-use Rattle.std.proofs.Common.{◌≡◌, ℕ, ◌+◌, ◌==◌, Bool, true, false, if◌then◌else◌, List, [], ◌∷◌, ◌++◌, length, Option, Some, None, Result, Ok, Err, IfOk, OnOk, All, refl, sym, ap, ◌∙◌, subst, inl, inr, append_assoc, eqb-true, ◌⊎◌}
+use Rattle.std.proofs.Common.{◌≡◌, ℕ, ◌+◌, ◌==◌, Bool, true, false, if◌then◌else◌, List, [], ◌∷◌, ◌++◌, Option, Some, None, Result, Ok, Err, IfOk, OnOk, All, refl, sym, ap, ◌∙◌, subst, inl, inr, append_assoc, eqb-true, ◌⊎◌}
 use Rattle.std.proofs.lemmas.List.Elements.{All-nil, All-cons, All-head, All-tail}
 use Rattle.rmecore.specs.Paid.{is_glance}
 use Rattle.rmecore.specs.Place.{Place}
@@ -26,10 +26,10 @@ use Rattle.robust.specs.declared.entry_kind.Entry.TheVariants as entering
 use Rattle.robust.specs.declared.entry.Entry.{Entry}
 use Rattle.robust.specs.declared.lock_fault.LockFault.{LockFault}
 use Rattle.robust.specs.declared.setup.Setup.{Setup}
-use Rattle.robust.specs.Calls.{spot_before, starts, answers_of, FirstCrash, FirstStarts, AreMoves, ServedAll}
+use Rattle.robust.specs.Calls.{spot_before, AreMoves, ServedAll}
 use Rattle.robust.specs.Faults.{refusal_now, ready, answer_of}
 use Rattle.robust.specs.Headline.{judged_by, shown_by, spot_at, EndsAppend, EveryRunIsSound}
-use Rattle.robust.specs.Pass.{Pass, IsPass, spot_now, Calls}
+use Rattle.robust.specs.Pass.{IsPass, spot_now}
 use Rattle.robust.specs.Running.{Seated, fell, began}
 use Rattle.robust.specs.Runs.{before, own, spelled, gone, spot_of, IsRun}
 use Rattle.robust.specs.Whole.{WholeEnds, calls_inside, answers_inside}

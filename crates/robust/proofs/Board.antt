@@ -10,7 +10,7 @@ use Rattle.rmecore.proofs.Invariant.{put_same, put_other}
 use Rattle.redomail.specs.Layout.{Words, IsLayout, board_at, size, place_at}
 use Rattle.redomail.specs.declared.layout.Layout.{Layout}
 use Rattle.rmeworld.specs.Holders.{puts_data, AllPutBy}
-use Rattle.rmeworld.specs.Spot.{Happening, who}
+use Rattle.rmeworld.specs.Spot.{Happening}
 use Rattle.rmeworld.specs.World.{Scene, at_first, Story, last_scene, put_cell}
 use Rattle.rmeworld.proofs.Holders.{holders_put}
 use Rattle.robust.specs.declared.setup.Setup.{Setup}

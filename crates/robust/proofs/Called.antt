@@ -1,5 +1,5 @@
 -- Steps make a call.
-use Rattle.std.proofs.Common.{◌≡◌, ◌≢◌, ℕ, suc, ◌+◌, ◌<◌, ◌⊎◌, Bool, true, false, List, [], ◌∷◌, ◌++◌, length, Option, Some, None, Result, Ok, Err, OnErr, All, refl, sym, ap, ◌∙◌, subst, inl, inr, arith, append-nil, append_assoc}
+use Rattle.std.proofs.Common.{◌≡◌, ℕ, suc, ◌+◌, ◌⊎◌, true, false, List, [], ◌∷◌, ◌++◌, length, Option, Some, None, Result, Ok, Err, OnErr, All, refl, sym, ap, ◌∙◌, subst, inl, inr, arith, append-nil, append_assoc}
 use Rattle.std.proofs.lemmas.List.Elements.{All-nil, All-cons}
 use Rattle.rmeworld.specs.declared.call.Call.{Call}
 use Rattle.rmeworld.specs.declared.answer.Answer.{Answer}
@@ -7,7 +7,7 @@ use Rattle.rmecore.specs.Paid.{is_glance}
 use Rattle.rmecore.specs.Simulated.{one_more}
 use Rattle.robust.specs.declared.entry.Entry.{Entry}
 use Rattle.robust.specs.Runs.{own, IsRun}
-use Rattle.robust.specs.Pass.{Pass, next_entry, IsPass, EndsWith, Adds, Calls}
+use Rattle.robust.specs.Pass.{Pass, IsPass, EndsWith, Adds, Calls}
 use Rattle.robust.specs.Running.{Seated, many_more, fell}
 use Rattle.robust.specs.Calls.{and_call, starts, FirstStart, AreMoves, FirstCrash, answers_of, blocked_of, Takes, blocks, Ran, CutOff, Served, Crashes}
 use Rattle.robust.proofs.Runs.{own-append, own_mine}

@@ -1,7 +1,7 @@
 -- At which spots of a whole mailbox call a reply can come: but for a mending's only its task's.
-use Rattle.std.proofs.Common.{◌≡◌, ℕ, ◌+◌, ◌==◌, ◌&&◌, nat_lt, Bool, true, false, if◌then◌else◌, List, [], ◌∷◌, ◌++◌, length, Option, Some, None, All, unwrap_or, refl, sym, ap, ◌∙◌, subst}
+use Rattle.std.proofs.Common.{◌≡◌, ℕ, ◌+◌, ◌==◌, ◌&&◌, Bool, true, false, if◌then◌else◌, List, [], ◌∷◌, ◌++◌, length, Option, Some, None, All, unwrap_or, refl, sym, ap, ◌∙◌, subst}
 use Rattle.std.proofs.lemmas.List.Elements.{All-nil, All-cons, All-head, All-tail}
-use Rattle.rmecore.specs.Place.{Place, Rest, Dead, Reread, Opening, Door, Shutting, Wait, Inside, Leaving, Withdrawing, Unmarking, next, started}
+use Rattle.rmecore.specs.Place.{Place, Dead, Inside, next, started}
 use Rattle.rmecore.specs.Machine.{answer}
 use Rattle.rmecore.specs.declared.core_call.CoreCall.TheVariants as core
 use Rattle.rmecore.specs.declared.core_done.CoreDone.{CoreDone}
@@ -23,9 +23,9 @@ use Rattle.rmeworld.specs.declared.call.Call.{Call}
 use Rattle.rmeworld.specs.declared.call.Call.TheVariants.{Lock, Unlock, Consistent, Recover, Append, Close, Get, Put, Withdraw}
 use Rattle.rmeworld.specs.declared.why.Why.{Why}
 use Rattle.rmeworld.specs.declared.why.Why.TheVariants.{Checking, Ruining, Mending, Working}
-use Rattle.rmeworld.specs.Answered.{by_core, by_lock, by_reply, by_script, answer_by, answer_at}
+use Rattle.rmeworld.specs.Answered.{by_lock, by_reply, by_script, answer_by, answer_at}
 use Rattle.rmeworld.specs.Entered.{is_entry}
-use Rattle.rmeworld.specs.Spot.{Errand, Free, Doing, Spot, Begins, Falls, next_spot, at_lock, settled, only_spot, moved_by, inside_only, begun_from}
+use Rattle.rmeworld.specs.Spot.{Errand, Free, Doing, Spot, at_lock, settled, only_spot, moved_by, inside_only, begun_from}
 use Rattle.robust.specs.declared.setup.Setup.{Setup}
 use Rattle.robust.specs.declared.entry.Entry.{Entry}
 use Rattle.robust.specs.Runs.{before, taken, happenings, spelled, gone}

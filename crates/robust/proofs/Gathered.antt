@@ -1,21 +1,20 @@
 -- What the seat knows into which the other members' seats are joined, and what its glances tell once it answers for all.
-use Rattle.std.proofs.Common.{◌≡◌, ◌≢◌, ◌⊎◌, ℕ, zero, suc, ◌+◌, ◌<◌, ◌==◌, ◌||◌, Bool, true, false, true≢false, List, [], ◌∷◌, ◌++◌, length, map, get_or, All, refl, sym, ap, ◌∙◌, subst, inl, inr, ⊎_elim, arith, append-nil, append_assoc, length-append, eq-eqb, eqb-true, remove}
-use Rattle.std.specs.Prelude.{slice_index, None}
+use Rattle.std.proofs.Common.{◌≡◌, ◌≢◌, ◌⊎◌, ℕ, suc, ◌+◌, ◌<◌, ◌==◌, ◌||◌, Bool, true, false, true≢false, List, [], ◌∷◌, ◌++◌, length, map, get_or, All, refl, sym, ap, ◌∙◌, subst, inl, inr, ⊎_elim, arith, append-nil, append_assoc, length-append, eq-eqb, eqb-true, remove}
+use Rattle.std.specs.Prelude.{slice_index}
 use Rattle.std.proofs.lemmas.List.Elements.{All-nil, All-cons, All-head, All-tail, All-append}
-use Rattle.rmecore.specs.declared.kind.Kind.{Kind}
 use Rattle.rmecore.specs.declared.own.Own.{Own}
 use Rattle.rmecore.specs.declared.word.Word.{Word}
 use Rattle.redomail.specs.Layout.{size}
-use Rattle.rmeworld.specs.World.{Scene, reading}
+use Rattle.rmeworld.specs.World.{reading}
 use Rattle.robust.specs.declared.setup.Setup.{Setup}
 use Rattle.robust.specs.declared.entry.Entry.{Entry}
 use Rattle.robust.specs.declared.entry.View.{View}
 use Rattle.robust.specs.declared.entry.Known.{Known}
 use Rattle.robust.specs.Runs.{own, has, IsRun, end_of, index, InTable}
 use Rattle.robust.specs.Rule.{count_from, joined, Begins, IsIn, Did, MayLoad, stepper, entry_of}
-use Rattle.robust.specs.Pass.{Pass, alone, view_of, glanced}
+use Rattle.robust.specs.Pass.{alone, view_of, glanced}
 use Rattle.robust.specs.Running.{Seated}
-use Rattle.robust.specs.Gathering.{OneArena, has_member, procs_of, IsMissing, image_at, IsGlance, IsWhole, IsTold, Gathers, answers_of, Knows, Absorbs, AnswersAll, Looked, Stays}
+use Rattle.robust.specs.Gathering.{OneArena, has_member, image_at, IsGlance, IsWhole, IsTold, Gathers, answers_of, Knows, Absorbs, AnswersAll, Looked, Stays}
 use Rattle.rmeworld.specs.declared.image.Image.{Image}
 use Rattle.robust.proofs.Leads.{has_one}
 use Rattle.robust.proofs.Keeps.{has-append_left, has-append_right}

@@ -1,13 +1,12 @@
 -- Glances one after another: what they add to a pass, and what they read.
-use Rattle.std.proofs.Common.{◌≡◌, ℕ, zero, suc, ◌+◌, ◌*◌, ◌-◌, ◌<◌, ◌≤◌, ◌^◌, min, List, [], ◌∷◌, ◌++◌, length, refl, sym, ap, ◌∙◌, subst, arith, append_assoc, length-append, inl, inr, get_or-set_same, get_or-set_other, drop, Result, Ok, Err, IfOk, OnOk, OnErr}
+use Rattle.std.proofs.Common.{◌≡◌, ℕ, zero, suc, ◌+◌, ◌*◌, ◌-◌, ◌<◌, ◌≤◌, List, [], ◌∷◌, ◌++◌, length, refl, sym, ap, ◌∙◌, subst, arith, length-append, inl, inr, get_or-set_same, get_or-set_other, drop, Result, Ok, Err, IfOk, OnOk, OnErr}
 use Rattle.std.specs.Prelude.{slice_index, slice_set}
 use Rattle.std.proofs.lemmas.Bool.{cases_eq}
 use Rattle.std.proofs.lemmas.List.{drop-append-le, drop_all, length-drop}
-use Rattle.std.proofs.lemmas.Nat.{mul-le}
 use Rattle.rmecore.specs.declared.word.Word.{Word}
 use Rattle.rmecore.specs.declared.word.Word.TheVariants.{Data as DataAt}
 use Rattle.redomail.specs.declared.layout.Layout.{Layout}
-use Rattle.redomail.specs.Layout.{Words, words_of, row, place_at, IsLayout, held, size}
+use Rattle.redomail.specs.Layout.{Words, words_of, row, place_at, held, size}
 use Rattle.redomail.specs.Mailbox.{message}
 use Rattle.redomail.specs.Shape.{entry, entries}
 use Rattle.redomail.specs.declared.message.Message.{Message}
@@ -16,9 +15,9 @@ use Rattle.redomail.proofs.Words.{row-from_entry, place_low, place_up, place_sma
 use Rattle.robust.specs.declared.setup.Setup.{Setup}
 use Rattle.robust.specs.declared.entry.Entry.{Entry}
 use Rattle.robust.specs.Runs.{IsRun}
-use Rattle.robust.specs.Pass.{Pass, glance_entry, glanced, IsPass, Adds, Looks, Calls}
+use Rattle.robust.specs.Pass.{Pass, glance_entry, glanced, IsPass, Looks, Calls}
 use Rattle.robust.specs.Running.{Seated}
-use Rattle.robust.specs.Reading.{cells_of, AreShown, row_words, entry_words, Glances, AreGlances, up_to_count, ReadsFrom}
+use Rattle.robust.specs.Reading.{cells_of, row_words, entry_words, Glances, AreGlances, up_to_count, ReadsFrom}
 use Rattle.robust.proofs.Called.{Grows, calls_grown}
 use Rattle.robust.proofs.Runs.{last_reads, cells_snoc}
 use Rattle.robust.proofs.Shown.{runs_show, entries_stand_in_runs}

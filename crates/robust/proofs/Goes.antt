@@ -1,5 +1,5 @@
 -- What a step leads to, from a spot of a call.
-use Rattle.std.proofs.Common.{◌≡◌, ℕ, zero, suc, ◌+◌, ◌<◌, ◌≤◌, Bool, true, false, ◌&&◌, ◌==◌, if◌then◌else◌, ◌⊎◌, List, [], ◌∷◌, Option, Some, None, IsSome, unwrap_or, refl, sym, ap, ◌∙◌, subst, inl, inr, arith}
+use Rattle.std.proofs.Common.{◌≡◌, ℕ, zero, suc, ◌+◌, ◌<◌, ◌≤◌, Bool, true, false, ◌==◌, if◌then◌else◌, [], ◌∷◌, Option, Some, None, IsSome, unwrap_or, refl, sym, ap, ◌∙◌, subst, inl, inr, arith}
 use Rattle.rmecore.specs.Place.{Place, Rest, Dead, Reread, Opening, Door, Shutting, Wait, Inside, Leaving, Withdrawing, Unmarking, next}
 use Rattle.rmecore.specs.Machine.{answer, is_blocked}
 use Rattle.rmecore.specs.Paid.{is_glance}
@@ -26,7 +26,6 @@ use Rattle.rmeworld.specs.declared.answer.Answer.TheVariants.{Mail}
 use Rattle.robust.specs.Under.{under_place, Replies, Mends, IsWord, UnderScript, IsUnder, Fits, Leaves}
 use Rattle.robust.proofs.Lasting.{Burns, burns}
 use Rattle.robust.proofs.Under.{LockTo, lock_to}
-use Rattle.rmecore.specs.Refused.{is_idle as is_idle_place}
 
 -- a step with this answer, blocked or not: the call is at its end, or goes on, with a step fewer unless it was blocked
 abbrev pub SpotTo : Call → ℕ → ℕ → Option Answer → Bool → Spot → Type 0

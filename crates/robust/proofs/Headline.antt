@@ -1,8 +1,5 @@
 -- The lock theorem over a run: where an append is answered it is shown.
 use Rattle.std.proofs.Common.{◌≡◌, ℕ, Bool, true, false, ◌⊎◌, List, [], ◌∷◌, ◌++◌, Option, Some, None, refl, sym, ap, ◌∙◌, subst, inl, inr, append_assoc, append-nil, eq-eqb}
-use Rattle.rmecore.specs.Paid.{is_glance}
-use Rattle.rmecore.specs.declared.kind.Kind.{Kind}
-use Rattle.redomail.specs.Layout.{IsLayout}
 use Rattle.redomail.specs.Mailbox.{IsAmong}
 use Rattle.redomail.specs.Script.{Script, Done, tail}
 use Rattle.redomail.specs.declared.layout.Layout.{Layout}
@@ -14,10 +11,8 @@ use Rattle.redomail.specs.declared.task.Task.TheVariants as task
 use Rattle.judge.specs.Halves.{all_after}
 use Rattle.judge.specs.Table.{State, empty}
 use Rattle.judge.proofs.Halves.{state_led}
-use Rattle.rmeworld.specs.declared.answer.Answer.{Answer}
 use Rattle.rmeworld.specs.declared.answer.Answer.TheVariants.{Mail}
 use Rattle.rmeworld.specs.declared.call.Call.{Call}
-use Rattle.rmeworld.specs.declared.why.Why.{Why}
 use Rattle.rmeworld.specs.declared.why.Why.TheVariants.{Working}
 use Rattle.rmeworld.specs.Answered.{by_script, answer_by}
 use Rattle.rmeworld.specs.Law.{AppendTells, ErrandTells, Tells, Sound, Sits}
@@ -26,8 +21,8 @@ use Rattle.rmeworld.specs.World.{Scene, at_first, onward, last_scene, event_deed
 use Rattle.rmeworld.proofs.Reaching.{all_after-append, sound_ends}
 use Rattle.robust.specs.declared.setup.Setup.{Setup}
 use Rattle.robust.specs.declared.entry.Entry.{Entry}
-use Rattle.robust.specs.Runs.{before, taken, happenings, spelled, end_of, spot_of, gone}
-use Rattle.robust.specs.Headline.{deeds_of, judged_by, shown_by, spot_at, EndsAppend, AnsweredIsShown}
+use Rattle.robust.specs.Runs.{before, taken, spelled, end_of, gone}
+use Rattle.robust.specs.Headline.{deeds_of, judged_by, shown_by, spot_at, AnsweredIsShown}
 use Rattle.robust.proofs.Runs.{spelled-append, spelled_snoc, spot_own, spot_in_run, scene-append}
 use Rattle.robust.proofs.Running.{taken_moves}
 

@@ -13,7 +13,7 @@ use Rattle.rmeworld.specs.declared.image.Image.{Image}
 use Rattle.rmeworld.specs.ImageRules.{layout_of, IsLawfulImage}
 use Rattle.rmeworld.specs.Sent.{ReplyTells, EveryMessageWasSent, EveryCloseWasAsked}
 use Rattle.rmeworld.specs.Spot.{Happening, Begins, who}
-use Rattle.rmeworld.specs.World.{Scene, at_first, onward, Story}
+use Rattle.rmeworld.specs.World.{at_first}
 use Rattle.redomail.specs.declared.layout.Layout.{Layout}
 use Rattle.robust.specs.declared.entry.Entry.{Entry}
 use Rattle.robust.specs.declared.setup.Setup.{Setup}

@@ -1,6 +1,6 @@
 -- The words at the end of a run are a lawful image: a crash of everybody leads to a world that has them.
-use Rattle.std.proofs.Common.{◌≡◌, ◌≢◌, ◌⊎◌, ℕ, zero, suc, ◌+◌, ◌<◌, ◌≤◌, ◌^◌, List, [], ◌∷◌, ◌++◌, length, map, refl, sym, ap, ◌∙◌, subst, inl, inr, arith}
-use Rattle.std.specs.Prelude.{slice_index_or, unwrap_or}
+use Rattle.std.proofs.Common.{◌≡◌, ℕ, zero, suc, ◌+◌, ◌<◌, ◌≤◌, ◌^◌, List, [], ◌∷◌, ◌++◌, length, map, refl, sym, ap, ◌∙◌, subst, inl, inr, arith}
+use Rattle.std.specs.Prelude.{slice_index_or}
 use Rattle.std.proofs.lemmas.Bool.{cases_eq, cases_lt}
 use Rattle.std.proofs.lemmas.List.{get_or_past, length-map}
 use Rattle.rmecore.specs.AbstractLock.{Abstract, nobody}
@@ -16,7 +16,7 @@ use Rattle.redomail.specs.declared.deed.Deed.{Deed}
 use Rattle.redomail.specs.declared.layout.Layout.{Layout}
 use Rattle.rmeworld.specs.ImageRules.{IsLawfulImage}
 use Rattle.rmeworld.specs.Reached.{IsReached, IsWorld}
-use Rattle.rmeworld.specs.Spot.{Spot, Happening, Falls, who, at_rest, dead, next_spot}
+use Rattle.rmeworld.specs.Spot.{Happening, Falls, who, at_rest, dead}
 use Rattle.rmeworld.specs.Stand.{Stand, IsSize, spot_of, resting, crashed}
 use Rattle.rmeworld.specs.World.{Scene, at_first, Story, onward, last_scene, event_deeds}
 use Rattle.rmeworld.specs.WorldState.{WorldState, absent, stand_at, spot_at, scene_of, HasSeat}

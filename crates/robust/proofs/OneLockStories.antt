@@ -1,8 +1,7 @@
 -- What is known of the world under the lock stays known at each happening.
-use Rattle.std.proofs.Common.{◌≡◌, ℕ, suc, ◌+◌, List, [], ◌∷◌, ◌++◌, refl, sym, ap, ◌∙◌, subst, arith}
-use Rattle.redomail.specs.declared.layout.Layout.{Layout}
+use Rattle.std.proofs.Common.{◌≡◌, ℕ, ◌+◌, List, [], ◌∷◌, ◌++◌, refl, sym, ap, ◌∙◌, subst, arith}
 use Rattle.rmeworld.specs.Spot.{Happening, Begins, Falls, Moves, Glances}
-use Rattle.rmeworld.specs.World.{Scene, at_first, Can, onward, Story, last_scene, event_deeds, deeds}
+use Rattle.rmeworld.specs.World.{at_first, Can, onward, Story, last_scene, event_deeds, deeds}
 use Rattle.rmeworld.specs.WorldState.{WorldState, scene_of, Takes, new_world}
 use Rattle.rmeworld.proofs.StoryGrows.{story_more, last_more, deeds_more}
 use Rattle.rmeworld.proofs.Worlds.{new_scene}

@@ -1,5 +1,5 @@
 -- A call of one step, as a get or a put of the board is: the run ends with that step.
-use Rattle.std.proofs.Common.{◌≡◌, ◌≢◌, ℕ, ◌+◌, ◌<◌, ◌==◌, ◌&&◌, nat_lt, ltb-true, Bool, true, false, if◌then◌else◌, List, [], ◌∷◌, ◌++◌, Option, Some, None, IsSome, All, unwrap_or, refl, sym, ap, ◌∙◌, subst, inl, inr, append_assoc, append-nil, eqb-true, eq-eqb}
+use Rattle.std.proofs.Common.{◌≡◌, ℕ, ◌+◌, ◌<◌, ◌==◌, ◌&&◌, nat_lt, ltb-true, Bool, true, false, if◌then◌else◌, List, [], ◌∷◌, ◌++◌, Option, Some, None, IsSome, All, unwrap_or, refl, sym, ap, ◌∙◌, subst, eqb-true, eq-eqb}
 use Rattle.std.proofs.lemmas.Bool.{and_parts, eqb-false}
 use Rattle.std.proofs.lemmas.List.Elements.{All-head, All-tail}
 use Rattle.rmecore.specs.Paid.{is_glance}
@@ -7,12 +7,11 @@ use Rattle.rmecore.specs.Place.{Place, Rest, Dead, Reread, Opening, Door, Shutti
 use Rattle.rmecore.specs.World.{is_store}
 use Rattle.rmecore.specs.declared.kind.Kind.{Kind}
 use Rattle.rmecore.specs.declared.kind.Kind.TheVariants.{Get as Gets, Put as Puts, Glance as Glances}
-use Rattle.rmecore.specs.declared.refusal.Refusal.{Refusal}
 use Rattle.rmecore.specs.declared.refusal.Refusal.TheVariants.{BadIndex}
 use Rattle.rmecore.specs.declared.word.Word.{Word}
 use Rattle.rmecore.specs.declared.word.Word.TheVariants.{Data as DataAt}
 use Rattle.rmecore.proofs.Invariant.{put_same, put_other}
-use Rattle.redomail.specs.Layout.{Words, board_at}
+use Rattle.redomail.specs.Layout.{board_at}
 use Rattle.redomail.specs.Script.{Script, Get as Asks, Put as Writes, Done}
 use Rattle.redomail.specs.Tasks.{script}
 use Rattle.redomail.specs.declared.layout.Layout.{Layout}
@@ -34,13 +33,13 @@ use Rattle.robust.specs.declared.entry.Entry.{Entry}
 use Rattle.robust.specs.Runs.{before, taken, happenings, spelled, own, IsRun, end_of, gone, spot_of, Goes, stores}
 use Rattle.robust.specs.Pass.{Pass, spot_now, Calls}
 use Rattle.robust.specs.Running.{Seated, began}
-use Rattle.robust.specs.Calls.{spot_before, and_answer, answers_from, answers_of, FirstStart, FirstCrash, AreMoves, Served}
+use Rattle.robust.specs.Calls.{spot_before, and_answer, answers_of, FirstStart, FirstCrash, AreMoves, Served}
 use Rattle.robust.specs.Faults.{refusal_now}
 use Rattle.robust.specs.Board.{is_data, puts, or_earlier, last_put, value_or}
 use Rattle.robust.proofs.Runs.{own-append, own_spelled, spelled-append, last_reads}
 use Rattle.robust.proofs.Leads.{gone-append}
 use Rattle.robust.proofs.Running.{taken_moves, spot_begun}
-use Rattle.robust.proofs.Board.{none_earlier, last-append, board_holds}
+use Rattle.robust.proofs.Board.{last-append, board_holds}
 
 -- a run is allowed to each of its processes, by its own entries
 module _ (s : Setup) where

@@ -1,14 +1,13 @@
 -- The members of a new table, and how many words it has.
-use Rattle.std.proofs.Common.{◌≡◌, ℕ, zero, suc, ◌+◌, ◌*◌, ◌-◌, ◌<◌, ◌≤◌, List, [], ◌∷◌, ◌++◌, map, refl, sym, ap, ◌∙◌, subst, arith}
+use Rattle.std.proofs.Common.{◌≡◌, ℕ, zero, suc, ◌+◌, ◌-◌, ◌<◌, List, [], ◌∷◌, ◌++◌, map, refl, sym, ap, ◌∙◌, subst, arith}
 use Rattle.std.proofs.lemmas.Nat.{mul-le}
 use Rattle.atomic_table.specs.Table.{Splits}
-use Rattle.atomic_table.specs.Seated.{TableId}
 use Rattle.redomail.specs.declared.layout.Layout.{Layout}
 use Rattle.redomail.specs.Layout.{IsLayout, size, place_at}
 use Rattle.robust.specs.declared.setup.Setup.{Setup}
 use Rattle.robust.specs.declared.entry.Known.{Known}
 use Rattle.robust.specs.Rule.{count_from, Kept, without_first, first_alone}
-use Rattle.robust.specs.Pass.{rest_known, fresh}
+use Rattle.robust.specs.Pass.{rest_known}
 use Rattle.robust.proofs.Runs.{count_step, above_absent}
 use Rattle.robust.proofs.Keeps.{cuts}
 

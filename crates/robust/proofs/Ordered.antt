@@ -1,5 +1,5 @@
 -- A worker's appends start their calls in order, and one that is told of a ruin has read it.
-use Rattle.std.proofs.Common.{◌≡◌, ◌⊎◌, ℕ, ◌+◌, ◌==◌, Bool, true, false, if◌then◌else◌, List, [], ◌∷◌, ◌++◌, length, Option, Some, None, Result, Ok, Err, IfOk, IfErr, All, IsSome, unwrap_or, refl, sym, ap, ◌∙◌, subst, inl, inr}
+use Rattle.std.proofs.Common.{◌≡◌, ◌⊎◌, ℕ, ◌+◌, Bool, true, false, if◌then◌else◌, List, [], ◌∷◌, ◌++◌, Option, Some, None, Result, Ok, Err, IfOk, IfErr, All, refl, sym, ap, ◌∙◌, subst, inl, inr}
 use Rattle.std.proofs.lemmas.List.Elements.{All-head, All-tail}
 use Rattle.redomail.specs.declared.reply.Reply.{Reply}
 use Rattle.rmeworld.specs.declared.answer.Answer.{Answer}
@@ -10,14 +10,14 @@ use Rattle.robust.specs.declared.entry_kind.Entry.{Entry as Entering}
 use Rattle.robust.specs.declared.entry_kind.Entry.TheVariants as entering
 use Rattle.robust.specs.declared.entry.Entry.{Entry}
 use Rattle.robust.specs.declared.lock_fault.LockFault.{LockFault}
-use Rattle.robust.specs.Calls.{starts, and_call, FirstCrash, FirstStarts}
-use Rattle.robust.specs.Faults.{ready, CutBy}
+use Rattle.robust.specs.Calls.{starts, and_call, FirstCrash}
+use Rattle.robust.specs.Faults.{ready}
 use Rattle.robust.specs.Gathering.{IsGlance}
 use Rattle.robust.specs.Pass.{spot_now, own_of, Calls}
-use Rattle.robust.specs.Ruins.{last_call, last_of, settles, MayStart, AreInOrder}
+use Rattle.robust.specs.Ruins.{last_call, last_of, MayStart, AreInOrder}
 use Rattle.robust.specs.Running.{Seated, began, fell}
 use Rattle.robust.specs.Runs.{own}
-use Rattle.robust.specs.Whole.{WholeEnds, WholeFails, AppendFails, Comes, IsFront, IsWithin, calls_inside}
+use Rattle.robust.specs.Whole.{WholeEnds, AppendFails, Comes, IsFront, IsWithin, calls_inside}
 use Rattle.robust.proofs.Runs.{own-append}
 
 -- calls in order, one after the other, without a crash between

@@ -1,10 +1,9 @@
 -- The machine and the pass stay together.
-use Rattle.std.proofs.Common.{◌≡◌, ℕ, ◌+◌, ◌*◌, Bool, true, false, ◌==◌, nat_lt, List, [], ◌∷◌, Option, Some, None, IsSome, unwrap_or, if◌then◌else◌, refl, sym, ap, ◌∙◌, subst}
+use Rattle.std.proofs.Common.{◌≡◌, ℕ, ◌+◌, ◌*◌, Bool, true, false, ◌==◌, nat_lt, [], ◌∷◌, Option, Some, None, IsSome, unwrap_or, if◌then◌else◌, refl, sym, ap, ◌∙◌, subst}
 use Rattle.rmecore.specs.Place.{Place, Rest, Dead, Reread, Opening, Door, Shutting, Wait, Inside, Leaving, Withdrawing, Unmarking}
 use Rattle.rmecore.specs.Machine.{access, kind_of, word_of, carried}
 use Rattle.rmecore.specs.Paid.{is_glance}
 use Rattle.rmecore.specs.declared.access.Access.{Access}
-use Rattle.rmecore.specs.declared.access.Access.TheVariants.{Load, Store}
 use Rattle.rmecore.specs.declared.kind.Kind.{Kind}
 use Rattle.rmecore.specs.declared.kind.Kind.TheVariants as kind
 use Rattle.rmecore.specs.declared.word.Word.{Word}
@@ -12,9 +11,8 @@ use Rattle.redomail.specs.declared.layout.Layout.{Layout}
 use Rattle.redomail.specs.Layout.{size, place_at}
 use Rattle.redomail.specs.Script.{Script, Get, Put, Done}
 use Rattle.rmeworld.specs.declared.call.Call.{Call}
-use Rattle.rmeworld.specs.declared.outcome.Outcome.{Outcome}
-use Rattle.rmeworld.specs.Spot.{Errand, Free, Doing, Spot, Happening, Moves, Begins, dead, next_spot}
-use Rattle.rmeworld.specs.Stand.{Stand, spot_of as standing_at, access_by, next_access, outcome, spot_after, after_at, IsAllowed, crashed, progress_by, stepped, stepped_by, job_left, started, placed, works, calm}
+use Rattle.rmeworld.specs.Spot.{Errand, Free, Doing, Spot, Moves, Begins, next_spot}
+use Rattle.rmeworld.specs.Stand.{Stand, spot_of as standing_at, access_by, next_access, outcome, spot_after, IsAllowed, crashed, progress_by, stepped, stepped_by, job_left, started, placed, works, calm}
 use Rattle.rmeworld.specs.declared.errand.Errand.{Errand as Chore}
 use Rattle.rmeworld.specs.declared.errand.Errand.TheVariants.{Free as IsFree, Asking, Doing as Does}
 use Rattle.rmeworld.specs.declared.why.Why.{Why}
@@ -26,7 +24,7 @@ use Rattle.rmeworld.specs.Answered.{answer_at}
 use Rattle.robust.specs.declared.setup.Setup.{Setup}
 use Rattle.robust.specs.Runs.{taken, gone, before, spot_of}
 use Rattle.robust.specs.Pass.{Pass, spot_now, moved_spot, Advances, Looks}
-use Rattle.robust.specs.Running.{Seated, IsRunBy, next_of, outcome_of, TakesStep}
+use Rattle.robust.specs.Running.{IsRunBy, next_of, outcome_of}
 use Rattle.robust.proofs.Leads.{spot_moves, spot_stays}
 
 pub size_is : (l : Layout) → 10 + l.width + l.procs + (2 + l.width) * l.cap ≡ size l

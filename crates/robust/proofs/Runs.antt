@@ -1,13 +1,12 @@
 -- Two laws of runs of entries: the spot of a process follows from its own entries, and an allowed entry prolongs a run.
-use Rattle.std.proofs.Common.{◌≡◌, ◌≢◌, ℕ, zero, suc, ◌+◌, ◌*◌, ◌-◌, ◌<◌, ◌==◌, ◌≤◌, nat_lt, lt-ltb, le-ltb, ltb-true, Bool, true, false, if◌then◌else◌, List, [], ◌∷◌, ◌++◌, length, set, get_or, replicate, filter, Option, Some, None, IsSome, unwrap_or, refl, sym, ap, ◌∙◌, subst, inl, inr, arith, append_assoc, append-nil, eqb-true, eq-eqb, ne_eqb, length-set, get_or-set_same, get_or-set_other}
-use Rattle.std.specs.Prelude.{slice_index}
+use Rattle.std.proofs.Common.{◌≡◌, ◌≢◌, ℕ, zero, suc, ◌+◌, ◌-◌, ◌<◌, ◌==◌, ◌≤◌, nat_lt, lt-ltb, le-ltb, ltb-true, Bool, true, false, if◌then◌else◌, List, [], ◌∷◌, ◌++◌, length, set, get_or, replicate, Option, Some, None, IsSome, unwrap_or, refl, sym, ap, ◌∙◌, subst, inl, inr, arith, append_assoc, append-nil, eqb-true, eq-eqb, ne_eqb, length-set, get_or-set_same, get_or-set_other}
 use Rattle.std.proofs.lemmas.List.{length-replicate, get_or-replicate}
 use Rattle.std.proofs.lemmas.List.Elements.{filter-append}
 use Rattle.std.proofs.lemmas.Bool.{cases_eq, eqb-false}
 use mathlib.Core.Logic.{dite}
 use native.Mathlib.Decide.{ℕ_discrete}
 use Rattle.rmecore.specs.Needs.{put}
-use Rattle.rmecore.specs.World.{read, write, is_store}
+use Rattle.rmecore.specs.World.{write, is_store}
 use Rattle.rmecore.specs.declared.own.Own.{Own}
 use Rattle.rmecore.specs.declared.kind.Kind.{Kind}
 use Rattle.rmecore.specs.declared.kind.Kind.TheVariants.{Open, Peek, Take, Shut, Look, Weigh, Mark, Drop, Reread, Get, Put, Glance}
@@ -17,9 +16,9 @@ use Rattle.rmecore.proofs.Invariant.{put_same, put_other}
 use Rattle.redomail.specs.declared.layout.Layout.{Layout}
 use Rattle.redomail.specs.Layout.{Words, size}
 use Rattle.rmeworld.specs.declared.call.Call.{Call}
-use Rattle.rmeworld.specs.Spot.{Spot, at_rest, dead, Happening, Begins, Falls, Moves, Glances, who, next_spot, begun_from}
+use Rattle.rmeworld.specs.Spot.{Spot, at_rest, dead, Happening, Begins, Falls, Moves, Glances, who, next_spot}
 use Rattle.rmeworld.proofs.Holders.{story_front, story_back}
-use Rattle.rmeworld.specs.World.{Scene, at_first, Story, last_scene, onward, Reads, reading, words_after, cells_after, put_cell, own_happenings, spot_after}
+use Rattle.rmeworld.specs.World.{Scene, at_first, Story, last_scene, onward, Reads, reading, words_after, cells_after, put_cell, own_happenings}
 use Rattle.robust.specs.declared.setup.Setup.{Setup}
 use Rattle.robust.specs.declared.entry.Entry.{Entry}
 use Rattle.robust.specs.Rule.{count_from}

@@ -1,5 +1,5 @@
 -- A worker's appends start nothing but what it sends.
-use Rattle.std.proofs.Common.{◌≡◌, ◌≢◌, ◌⊎◌, ℕ, ◌+◌, ◌≤◌, Bool, true, false, if◌then◌else◌, List, [], ◌∷◌, ◌++◌, Option, Some, None, Result, Ok, Err, IfOk, IfErr, All, refl, sym, ap, ◌∙◌, subst, inl, inr}
+use Rattle.std.proofs.Common.{◌≡◌, ◌⊎◌, ℕ, ◌+◌, Bool, true, false, if◌then◌else◌, List, [], ◌∷◌, ◌++◌, Result, Ok, Err, IfOk, IfErr, All, refl, sym, ap, ◌∙◌, subst, inl, inr}
 use Rattle.std.proofs.lemmas.List.Elements.{All-nil, All-cons, All-append}
 use Rattle.redomail.specs.declared.reply.Reply.{Reply}
 use Rattle.rmeworld.specs.declared.answer.Answer.{Answer}
@@ -15,7 +15,7 @@ use Rattle.robust.specs.Faults.{ready, CutBy}
 use Rattle.robust.specs.Pass.{spot_now, own_of, Calls}
 use Rattle.robust.specs.Running.{Seated, began, fell}
 use Rattle.robust.specs.Runs.{own}
-use Rattle.robust.specs.Whole.{WholeEnds, WholeFails, AppendFails, Comes, IsFront, IsWithin, calls_inside}
+use Rattle.robust.specs.Whole.{WholeEnds, AppendFails, Comes, IsFront, IsWithin, calls_inside}
 use Rattle.robust.specs.Sending.{OfStart, IsSending, AreSending, SendsOnly}
 use Rattle.robust.proofs.Errands.{each_start}
 use Rattle.robust.proofs.Gathered.{all_left}

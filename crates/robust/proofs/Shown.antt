@@ -1,12 +1,12 @@
 -- After each run the data words stand for a mailbox list, and what it shows stays, whoever steps later.
-use Rattle.std.proofs.Common.{◌≡◌, ◌≢◌, ℕ, zero, suc, ◌+◌, ◌<◌, ◌≤◌, List, [], ◌∷◌, ◌++◌, length, Ok, Result, refl, sym, ap, ◌∙◌, subst, inl, inr, ◌⊎◌, arith, append-nil, append_assoc}
+use Rattle.std.proofs.Common.{◌≡◌, ℕ, ◌+◌, ◌<◌, ◌≤◌, List, [], ◌∷◌, ◌++◌, refl, sym, ap, ◌∙◌, inl, inr, ◌⊎◌, arith, append-nil, append_assoc}
 use Rattle.std.proofs.lemmas.Bool.{cases_eq}
 use Rattle.rmecore.specs.Sole.{IsIn}
 use Rattle.redomail.specs.declared.deed.Deed.{Deed}
 use Rattle.redomail.specs.declared.deed.Deed.TheVariants.{Outer, Commit, Show, Close, Ruin}
 use Rattle.redomail.specs.declared.layout.Layout.{Layout}
 use Rattle.redomail.specs.declared.message.Message.{Message}
-use Rattle.redomail.specs.Layout.{Words, IsLayout}
+use Rattle.redomail.specs.Layout.{IsLayout}
 use Rattle.redomail.specs.Mailbox.{message}
 use Rattle.redomail.specs.Shape.{Shape, entry, entries}
 use Rattle.redomail.proofs.Stands.{stand_by}

@@ -1,5 +1,5 @@
 -- Steps one after another, and what they tell.
-use Rattle.std.proofs.Common.{◌≡◌, ℕ, zero, suc, ◌+◌, ◌<◌, ◌≤◌, Bool, true, false, if◌then◌else◌, List, [], ◌∷◌, ◌++◌, length, Option, Some, None, IsSome, unwrap_or, refl, sym, ap, ◌∙◌, subst, arith, length-append}
+use Rattle.std.proofs.Common.{◌≡◌, ℕ, suc, ◌+◌, ◌≤◌, Bool, true, false, if◌then◌else◌, List, [], ◌∷◌, ◌++◌, length, Option, Some, None, IsSome, unwrap_or, refl, sym, ap, ◌∙◌, subst, arith, length-append}
 use Rattle.rmecore.specs.Machine.{kind_of, word_of, carried}
 use Rattle.rmecore.specs.Simulated.{one_more}
 use Rattle.rmecore.specs.declared.kind.Kind.{Kind}
@@ -8,13 +8,13 @@ use Rattle.rmeworld.specs.declared.call.Call.{Call}
 use Rattle.rmeworld.specs.declared.answer.Answer.{Answer}
 use Rattle.rmeworld.specs.declared.outcome.Outcome.{Outcome}
 use Rattle.rmeworld.specs.Answered.{answer_at, blocked_by}
-use Rattle.rmeworld.specs.Spot.{Spot, Happening, Moves, next_spot}
+use Rattle.rmeworld.specs.Spot.{Spot, Moves, next_spot}
 use Rattle.robust.specs.declared.setup.Setup.{Setup}
 use Rattle.robust.specs.declared.entry.Entry.{Entry}
-use Rattle.robust.specs.Runs.{before, taken, happenings, spelled, gone, spot_of}
+use Rattle.robust.specs.Runs.{before, happenings, spelled, gone, spot_of}
 use Rattle.robust.specs.Pass.{Pass, spot_now, moved_spot, next_entry, Advances}
-use Rattle.robust.specs.Running.{Seated, many_more, TakesStep, outcome_of, fell}
-use Rattle.robust.specs.Calls.{spot_before, and_answer, answers_from, is_blocked_at, blocked_from, answers_of, blocked_of, Takes, blocks, Ran, Going, CutOff}
+use Rattle.robust.specs.Running.{Seated, many_more, TakesStep}
+use Rattle.robust.specs.Calls.{spot_before, and_answer, answers_from, is_blocked_at, blocked_from, answers_of, blocked_of, Takes, Ran, Going}
 use Rattle.rmecore.specs.Place.{Place, Wait}
 use Rattle.rmecore.specs.Machine.{answer, is_blocked}
 use Rattle.rmecore.specs.Paid.{is_glance}

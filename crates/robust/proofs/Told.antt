@@ -1,5 +1,5 @@
 -- A worker that is told of a ruined lock has read that it is.
-use Rattle.std.proofs.Common.{◌≡◌, ◌⊎◌, ℕ, ◌+◌, ◌==◌, Bool, true, false, if◌then◌else◌, List, [], ◌∷◌, ◌++◌, length, Option, Some, None, Result, Ok, Err, IfOk, IfErr, All, IsSome, unwrap_or, refl, sym, ap, ◌∙◌, subst, inl, inr, append_assoc, eqb-true}
+use Rattle.std.proofs.Common.{◌≡◌, ◌⊎◌, ℕ, ◌+◌, ◌==◌, Bool, true, false, if◌then◌else◌, List, [], ◌∷◌, ◌++◌, Option, Some, None, Result, Ok, Err, IfErr, IsSome, refl, sym, ap, ◌∙◌, subst, inl, inr, append_assoc, eqb-true}
 use Rattle.std.proofs.lemmas.List.Elements.{All-head, All-tail}
 use Rattle.rmecore.specs.Machine.{answer}
 use Rattle.rmecore.specs.Paid.{is_glance}
@@ -20,26 +20,25 @@ use Rattle.rmeworld.specs.declared.answer.Answer.{Answer}
 use Rattle.rmeworld.specs.declared.answer.Answer.TheVariants.{OwnerDied, NotRecoverable as RuinedAnswer, Unlocked}
 use Rattle.rmeworld.specs.declared.call.Call.{Call}
 use Rattle.rmeworld.specs.declared.call.Call.TheVariants.{Lock, Append}
-use Rattle.rmeworld.specs.declared.why.Why.{Why}
 use Rattle.rmeworld.specs.declared.why.Why.TheVariants.{Checking, Ruining, Mending, Working}
 use Rattle.rmeworld.specs.Answered.{by_lock, by_reply, by_script, answer_by, answer_at}
 use Rattle.rmeworld.specs.Refused.{is_idle}
 use Rattle.rmeworld.specs.Spot.{Errand, Free, Doing, Spot, Happening, Moves, at_rest, next_spot, moved_by, only_spot, settled}
 use Rattle.robust.specs.declared.entry.Entry.{Entry}
 use Rattle.robust.specs.declared.lock_fault.LockFault.{LockFault}
-use Rattle.robust.specs.declared.lock_fault.LockFault.TheVariants.{Crashed, NotYet, NumbersSpent, NotRecoverable}
+use Rattle.robust.specs.declared.lock_fault.LockFault.TheVariants.{NotYet, NumbersSpent, NotRecoverable}
 use Rattle.robust.specs.declared.setup.Setup.{Setup}
 use Rattle.robust.specs.Calls.{spot_before, and_answer, answers_from, AreMoves, ServedAll}
 use Rattle.robust.specs.Faults.{ready}
 use Rattle.robust.specs.Pass.{spot_now, own_of}
 use Rattle.robust.specs.Ruins.{ReadsRuin, HasReadRuin, last_call, last_of, AreInOrder}
 use Rattle.robust.specs.Running.{Seated, began, fell}
-use Rattle.robust.specs.Runs.{before, taken, happenings, spelled, own, gone, Goes, spot_of, IsRun}
+use Rattle.robust.specs.Runs.{before, taken, happenings, spelled, own, gone, Goes, IsRun}
 use Rattle.robust.specs.Under.{Replies}
-use Rattle.robust.specs.Whole.{WholeEnds, WholeFails, AppendFails, Comes}
+use Rattle.robust.specs.Whole.{WholeEnds, AppendFails, Comes}
 use Rattle.robust.proofs.OneStep.{run_goes, goes_front, goes_back}
 use Rattle.robust.proofs.Ordered.{own_now, mine_order}
-use Rattle.robust.proofs.Ruins.{IsMended, check, IsRuin, Stands, StandsAt, entry_stands, before_stands, walk, later_ruin}
+use Rattle.robust.proofs.Ruins.{IsMended, IsRuin, Stands, StandsAt, entry_stands, before_stands, walk, later_ruin}
 use Rattle.robust.proofs.Running.{taken_moves}
 use Rattle.robust.proofs.Runs.{spelled-append}
 

@@ -1,5 +1,5 @@
 -- Some steps and then some more.
-use Rattle.std.proofs.Common.{◌≡◌, ℕ, zero, suc, ◌+◌, Bool, true, false, if◌then◌else◌, List, [], ◌∷◌, ◌++◌, length, Option, Some, None, refl, sym, ap, ◌∙◌, subst, arith, length-append, append-nil}
+use Rattle.std.proofs.Common.{◌≡◌, ℕ, zero, suc, ◌+◌, if◌then◌else◌, List, [], ◌∷◌, ◌++◌, length, Option, Some, None, refl, sym, ap, ◌∙◌, subst, arith, length-append}
 use Rattle.rmecore.specs.Simulated.{one_more}
 use Rattle.rmeworld.specs.declared.call.Call.{Call}
 use Rattle.rmeworld.specs.declared.answer.Answer.{Answer}
@@ -10,10 +10,10 @@ use Rattle.robust.specs.declared.entry.Entry.{Entry}
 use Rattle.robust.specs.Runs.{happenings, spelled, gone, spot_of}
 use Rattle.robust.specs.Pass.{Pass, IsPass}
 use Rattle.robust.specs.Running.{Seated, many_more, fell}
-use Rattle.robust.specs.Calls.{spot_before, and_answer, answers_from, is_blocked_at, blocked_from, answers_of, blocked_of, Takes, blocks, Ran, CutOff, Turning, Served, Crashes}
+use Rattle.robust.specs.Calls.{spot_before, and_answer, answers_from, is_blocked_at, blocked_from, answers_of, blocked_of, Takes, blocks, Ran, CutOff, Turning, Served}
 use Rattle.robust.proofs.Leads.{gone-append}
 use Rattle.robust.proofs.Taken.{takes_sizes, takes_spot}
-use Rattle.robust.proofs.Called.{served_of, crashes_of}
+use Rattle.robust.proofs.Called.{served_of}
 
 takes-append : (x y z : Pass) (a b : List Entry) → Takes x a y → Takes y b z → Takes x (a ++ b) z
 takes-append x y z [] b h k = subst (λ (p : Pass). Takes p b z) h k

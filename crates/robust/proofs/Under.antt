@@ -1,7 +1,7 @@
 -- What a step of a call leads to: the call goes on, or has an answer that fits it.
-use Rattle.std.proofs.Common.{◌≡◌, ◌≢◌, ℕ, zero, suc, ◌+◌, ◌*◌, ◌<◌, ◌≤◌, max, Bool, true, false, ◌||◌, ◌==◌, if◌then◌else◌, ◌⊎◌, List, [], ◌∷◌, length, Option, Some, None, IsSome, unwrap_or, refl, sym, ap, ◌∙◌, subst, inl, inr, arith}
+use Rattle.std.proofs.Common.{◌≡◌, ℕ, zero, suc, max, Bool, true, false, ◌||◌, ◌==◌, if◌then◌else◌, ◌⊎◌, [], ◌∷◌, Option, Some, None, IsSome, unwrap_or, refl, inl, inr}
 use Rattle.std.proofs.lemmas.Bool.{cases_Bool}
-use Rattle.rmecore.specs.Place.{Place, Rest, Dead, Reread, Opening, Door, Shutting, Wait, Inside, Leaving, Withdrawing, Unmarking, has, without, others, is_before, only, relocked, recovered, next}
+use Rattle.rmecore.specs.Place.{Place, Rest, Reread, Opening, Door, Shutting, Wait, Inside, Leaving, Withdrawing, Unmarking, has, without, others, is_before, relocked, recovered, next}
 use Rattle.rmecore.specs.Machine.{answer, again, found, is_blocked}
 use Rattle.rmecore.specs.Refused.{is_idle as is_idle_place}
 use Rattle.rmecore.specs.Paid.{is_glance}
@@ -12,7 +12,7 @@ use Rattle.rmecore.specs.declared.word.Word.{Word}
 use Rattle.rmecore.specs.declared.word.Word.TheVariants.{Choosing as ChoosingOf, Number as NumberOf, Inside as InsideOf}
 use Rattle.rmecore.proofs.Runs.{guard}
 use Rattle.rmeworld.specs.declared.call.Call.{Call}
-use Rattle.rmeworld.specs.declared.call.Call.TheVariants.{Lock, Unlock, Consistent, Recover, Append, Close, Get, Put, Withdraw}
+use Rattle.rmeworld.specs.declared.call.Call.TheVariants.{Lock, Unlock, Recover, Withdraw}
 use Rattle.rmeworld.specs.declared.answer.Answer.{Answer}
 use Rattle.rmeworld.specs.declared.answer.Answer.TheVariants.{NumbersSpent, NotRecoverable, Unlocked}
 use Rattle.rmeworld.specs.Entered.{is_entry}

@@ -1,10 +1,9 @@
 -- In a run whose processes all start their calls as workers do, nobody ruins the lock.
-use Rattle.std.proofs.Common.{◌≡◌, ◌≢◌, ℕ, zero, suc, ◌+◌, ◌<◌, ◌≤◌, ◌==◌, Bool, true, false, ◌⊎◌, List, [], ◌∷◌, ◌++◌, length, Option, Some, None, IsSome, All, refl, sym, ap, ◌∙◌, subst, inl, inr, arith, append_assoc, append-nil, length-append, eq-eqb}
+use Rattle.std.proofs.Common.{◌≡◌, ℕ, zero, suc, ◌+◌, ◌<◌, ◌==◌, Bool, true, false, ◌⊎◌, List, [], ◌∷◌, ◌++◌, length, Option, Some, None, IsSome, All, refl, sym, ap, ◌∙◌, subst, inl, inr, arith, append_assoc, append-nil, length-append, eq-eqb}
 use Rattle.std.proofs.lemmas.Bool.{cases_eq}
 use Rattle.std.proofs.lemmas.List.Elements.{All-nil, All-cons}
 use Rattle.rmecore.specs.declared.kind.Kind.{Kind}
 use Rattle.rmecore.specs.declared.word.Word.{Word}
-use Rattle.rmecore.specs.declared.word.Word.TheVariants.{Data as DataAt}
 use Rattle.redomail.specs.Layout.{IsLayout}
 use Rattle.redomail.specs.declared.layout.Layout.{Layout}
 use Rattle.rmeworld.specs.declared.call.Call.{Call}
@@ -15,11 +14,11 @@ use Rattle.rmeworld.specs.World.{Scene, at_first, last_scene, Story, onward, rea
 use Rattle.robust.specs.declared.entry.Entry.{Entry}
 use Rattle.robust.specs.declared.setup.Setup.{Setup}
 use Rattle.robust.specs.Reading.{cells_of, LoadsTell}
-use Rattle.robust.specs.Ruins.{ReadsRuin, HasReadRuin, last_call, last_of, settles, MayStart, AreInOrder, NobodyRuins}
-use Rattle.robust.specs.Runs.{crash_first, before, taken, happenings, spelled, own, gone, Goes, spot_of, IsRun, end_of}
+use Rattle.robust.specs.Ruins.{HasReadRuin, last_call, last_of, settles, MayStart, AreInOrder, NobodyRuins}
+use Rattle.robust.specs.Runs.{crash_first, before, taken, happenings, spelled, own, Goes, spot_of, IsRun, end_of}
 use Rattle.robust.proofs.Appended.{Own, own_split, own_taken, all_at}
 use Rattle.robust.proofs.OneStep.{run_goes, goes_back}
-use Rattle.robust.proofs.Ruins.{StandsAt, walk, unlocks_mended}
+use Rattle.robust.proofs.Ruins.{walk, unlocks_mended}
 use Rattle.robust.proofs.Runs.{own-append, spelled-append, spot_in_run, legal_front, by_kind}
 
 -- a story is its processes' own

@@ -1,5 +1,5 @@
 -- A whole mailbox call from its parts.
-use Rattle.std.proofs.Common.{◌≡◌, ◌≢◌, ℕ, ◌+◌, ◌≤◌, ◌==◌, nat_lt, ◌⊎◌, Bool, true, false, not, if◌then◌else◌, List, [], ◌∷◌, ◌++◌, length, Result, Ok, Err, Option, Some, None, IfOk, IfErr, refl, sym, ap, ◌∙◌, subst, inl, inr, arith, eq-eqb, append-nil}
+use Rattle.std.proofs.Common.{◌≡◌, ℕ, ◌+◌, ◌≤◌, ◌⊎◌, Bool, true, false, if◌then◌else◌, List, [], ◌∷◌, Result, Ok, Err, Option, Some, None, IfOk, IfErr, refl, sym, ap, ◌∙◌, subst, inl, inr, arith, append-nil}
 use Rattle.rmecore.specs.Simulated.{one_more}
 use Rattle.redomail.specs.declared.reply.Reply.{Reply}
 use Rattle.redomail.specs.declared.reply.Reply.TheVariants as reply
@@ -20,7 +20,7 @@ use Rattle.robust.specs.Calls.{starts, Ran, CutOff, ServedAll, Crashes}
 use Rattle.robust.specs.Under.{Fits}
 use Rattle.robust.specs.Faults.{refusal_now, ready, CutBy, CutIn, AnsweredBy, LockBy, answer_of}
 use Rattle.robust.specs.WholeSteps.{mended_by, SumCounts, InsideCounts}
-use Rattle.robust.specs.Whole.{IsTask, IsFront, IsInner, IsWithin, Inner, Comes, WholeBy, WholeEnds, WholeGoes, WholeFails, calls_inside, answers_inside}
+use Rattle.robust.specs.Whole.{IsTask, IsFront, IsInner, IsWithin, Inner, Comes, WholeBy, WholeEnds, WholeGoes, WholeFails, calls_inside}
 use Rattle.robust.proofs.WholeSteps.{whole_counts}
 use Rattle.robust.proofs.Chained.{asked_behind, cut_asked, answered-append, cut_after, ran_behind, cut_behind, lock_setup}
 

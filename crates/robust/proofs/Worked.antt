@@ -1,5 +1,5 @@
 -- What a lab has of its arena when its workers have handed their members back.
-use Rattle.std.proofs.Common.{◌≡◌, ◌≢◌, ◌⊎◌, ℕ, zero, suc, ◌+◌, ◌<◌, ◌≤◌, ◌==◌, ◌||◌, Bool, true, false, List, [], ◌∷◌, ◌++◌, map, length, Result, Ok, Err, IfOk, OnOk, All, refl, sym, ap, ◌∙◌, subst, inl, inr, arith, append-nil, append_assoc}
+use Rattle.std.proofs.Common.{◌≡◌, ◌≢◌, ℕ, zero, suc, ◌+◌, ◌<◌, ◌≤◌, ◌==◌, ◌||◌, Bool, true, false, List, [], ◌∷◌, ◌++◌, map, length, Result, Ok, Err, IfOk, OnOk, All, refl, sym, ap, ◌∙◌, subst, inl, inr, arith, append_assoc}
 use Rattle.std.proofs.lemmas.List.{map-append}
 use Rattle.std.proofs.lemmas.Bool.{true≢false, cases_eq, cases_lt}
 use Rattle.std.proofs.lemmas.List.Elements.{All-nil, All-cons, All-head, All-tail}
@@ -20,7 +20,6 @@ use Rattle.robust.specs.LabFaults.{EndsSo}
 use Rattle.robust.specs.Sending.{IsNew, HasSent}
 use Rattle.robust.specs.Working.{seat_of, seats_of}
 use Rattle.robust.proofs.Keeps.{count_has}
-use Rattle.std.specs.List.{list_any}
 
 abbrev Seat : Type 0
 Seat = TableId × Setup × ℕ

@@ -1,5 +1,5 @@
 -- A worker's calls leave its seat what it is.
-use Rattle.std.proofs.Common.{◌≡◌, ◌⊎◌, ℕ, ◌+◌, ◌<◌, Bool, true, false, if◌then◌else◌, List, Result, Ok, Err, IfOk, IfErr, refl, sym, ap, ◌∙◌, subst, inl, inr, arith}
+use Rattle.std.proofs.Common.{◌≡◌, ℕ, ◌+◌, ◌<◌, Bool, true, false, if◌then◌else◌, List, Result, Ok, Err, IfOk, IfErr, refl, sym, ap, ◌∙◌, subst, inl, inr, arith}
 use Rattle.atomic_table.specs.Seated.{TableId}
 use Rattle.rmeworld.specs.declared.call.Call.{Call}
 use Rattle.rmeworld.specs.declared.call.Call.TheVariants.{Lock, Append}
@@ -10,12 +10,11 @@ use Rattle.robust.specs.declared.setup.Setup.{Setup}
 use Rattle.robust.specs.declared.lock_fault.LockFault.{LockFault}
 use Rattle.robust.specs.Pass.{spot_now, Calls}
 use Rattle.robust.specs.Running.{Seated, began, fell}
-use Rattle.robust.specs.Faults.{ready, CutBy, AnsweredBy}
-use Rattle.robust.specs.Whole.{WholeEnds, WholeFails, AppendFails, IsWithin}
+use Rattle.robust.specs.Faults.{ready}
+use Rattle.robust.specs.Whole.{WholeEnds, WholeFails, AppendFails}
 use Rattle.robust.specs.Lab.{words_sent}
 use Rattle.robust.specs.Sending.{IsSending}
 use Rattle.robust.specs.Working.{seat_of}
-use Rattle.rmeworld.specs.declared.answer.Answer.{Answer}
 
 either_seat : (b : Bool) (x : Seated) → seat_of (if b then x else fell x) ≡ seat_of x
 either_seat true x = refl

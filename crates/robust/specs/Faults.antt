@@ -12,7 +12,7 @@ use Rattle.robust.specs.declared.lock_fault.LockFault.{LockFault}
 use Rattle.robust.specs.declared.lock_fault.LockFault.TheVariants.{Crashed, NotYet, NumbersSpent, NotRecoverable, AlreadyIn, NotOwner, NotInconsistent, BadIndex}
 use Rattle.robust.specs.declared.entry_kind.Entry.{Entry as Entering}
 use Rattle.robust.specs.declared.entry_kind.Entry.TheVariants as entering
-use Rattle.robust.specs.Pass.{Pass, spot_now}
+use Rattle.robust.specs.Pass.{spot_now}
 use Rattle.robust.specs.Running.{Seated, began, fell}
 use Rattle.robust.specs.Calls.{ServedAll, Served, CrashesIn, Crashes, Fell, Calm}
 

@@ -1,6 +1,6 @@
 -- What the lock theorem says of a run: its deeds are legal and have the plain properties, the words at its end are lawful,
 -- and an append that was answered Stored or Already is shown.
-use Rattle.std.specs.Prelude.{◌≡◌, ℕ, false, ◌⊎◌, List, [], ◌∷◌, ◌++◌, Option, Some}
+use Rattle.std.specs.Prelude.{◌≡◌, ℕ, false, ◌⊎◌, List, [], ◌∷◌, ◌++◌, Some}
 use Rattle.rmecore.specs.Lawful.{IsLawful}
 use Rattle.rmecore.specs.Paid.{is_glance}
 use Rattle.redomail.specs.Layout.{IsLayout}

@@ -1,5 +1,5 @@
 -- How long a call can go on: the most steps that are left of it beside the blocked ones, at each spot.
-use Rattle.std.specs.Prelude.{ℕ, zero, suc, ◌+◌, ◌*◌, ◌≡◌, ◌≤◌, true, List, [], ◌∷◌, length, Option, Some, None}
+use Rattle.std.specs.Prelude.{ℕ, zero, suc, ◌+◌, ◌*◌, ◌≡◌, ◌≤◌, true, [], ◌∷◌, length, Some, None}
 use Rattle.rmecore.specs.Place.{Place, Rest, Dead, Reread, Opening, Door, Shutting, Wait, Inside, Leaving, Withdrawing, Unmarking, has}
 use Rattle.rmecore.specs.declared.core_call.CoreCall.TheVariants.{Lock}
 use Rattle.redomail.specs.Script.{Script, Get, Put, Done}

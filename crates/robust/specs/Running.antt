@@ -1,11 +1,10 @@
 -- A member at work: its pass, the steps of its call, and what one step of its machine is.
-use Rattle.std.specs.Prelude.{◌≡◌, ℕ, zero, suc, Bool, true, false, Option, Some, None, IsSome}
+use Rattle.std.specs.Prelude.{◌≡◌, ℕ, zero, suc, true, Option, Some, None, IsSome}
 use Rattle.rmecore.specs.Simulated.{one_more}
 use Rattle.rmecore.specs.Machine.{kind_of, word_of, carried}
 use Rattle.rmecore.specs.declared.access.Access.{Access}
 use Rattle.rmeworld.specs.declared.call.Call.{Call}
 use Rattle.rmeworld.specs.declared.outcome.Outcome.{Outcome}
-use Rattle.rmeworld.specs.Spot.{Spot}
 use Rattle.rmeworld.specs.Answered.{answer_at}
 use Rattle.rmeworld.specs.Stand.{Stand, spot_of as standing_at, access_by, progress_by}
 use Rattle.robust.specs.Pass.{Pass, spot_now, moved_spot, Advances}

@@ -1,5 +1,5 @@
 -- Which call a process is about, from its spot alone, and which answers the call can have.
-use Rattle.std.specs.Prelude.{◌≡◌, ℕ, Bool, true, false, List, Option, Some, None, ◌≢◌}
+use Rattle.std.specs.Prelude.{◌≡◌, ℕ, Bool, true, false, ◌≢◌}
 use Rattle.rmecore.specs.Place.{Place, Rest, Reread, Opening, Door, Shutting, Wait, Inside, Leaving, Withdrawing, Unmarking}
 use Rattle.rmecore.specs.declared.core_call.CoreCall.TheVariants as core
 use Rattle.redomail.specs.declared.reply.Reply.{Reply}

@@ -1,4 +1,4 @@
-use Rattle.std.proofs.Common.{◌≡◌, ◌*◌, [], map}
+use Rattle.std.proofs.Common.{◌≡◌, [], map}
 use Rattle.std.specs.Arc.{arc_value}
 use Rattle.robust.specs.Rule.{count_from}
 use Rattle.robust.specs.Runs.{word_count}

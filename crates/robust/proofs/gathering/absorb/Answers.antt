@@ -1,7 +1,7 @@
-use Rattle.std.proofs.Common.{◌≡◌, ◌<◌, ◌+◌, ℕ, true, List, sym, ap, ◌∙◌, subst, arith}
+use Rattle.std.proofs.Common.{◌≡◌, ◌<◌, ℕ, true, List, sym, ap, ◌∙◌, subst, arith}
 use Rattle.atomic_table.specs.Seated.{TableId}
 use Rattle.robust.specs.declared.entry.Known.{Known}
-use Rattle.robust.specs.Runs.{has, word_count}
+use Rattle.robust.specs.Runs.{has}
 use Rattle.robust.specs.Rule.{stepper}
 use Rattle.robust.proofs.Keeps.{glues}
 use Rattle.robust.proofs.Leads.{has_one}

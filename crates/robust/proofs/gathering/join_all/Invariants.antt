@@ -1,4 +1,4 @@
-use Rattle.std.proofs.Common.{◌≡◌, List, [], ◌++◌, length, vec_len}
+use Rattle.std.proofs.Common.{◌≡◌, List, ◌++◌, length, vec_len}
 use Rattle.std.specs.Arc.{arc_value}
 use Rattle.robust.specs.Runs.{word_count}
 use Rattle.robust.specs.Running.{Seated}

@@ -1,4 +1,4 @@
-use Rattle.std.proofs.Common.{ap, subst, arith}
+use Rattle.std.proofs.Common.{subst, arith}
 use Rattle.robust.specs.Runs.{InTable}
 use Rattle.robust.proofs.Opens.{size_small}
 use Rattle.robust.proofs.walker.index.Goals as goal

@@ -1,4 +1,4 @@
-use Rattle.std.proofs.Common.{◌≡◌, ◌∙◌, ℕ, List, Err, slice_index, sym, ap, subst}
+use Rattle.std.proofs.Common.{◌∙◌, ℕ, List, Err, slice_index, sym, ap, subst}
 use Rattle.redomail.specs.declared.layout.Layout.{Layout}
 use Rattle.redomail.specs.Content.{IsContent}
 use Rattle.redomail.specs.Layout.{words_of}

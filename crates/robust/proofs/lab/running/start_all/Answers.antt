@@ -1,13 +1,12 @@
-use Rattle.std.proofs.Common.{rules, ◌≡◌, ◌∙◌, ◌++◌, map, All, sym, ap, subst, arith}
+use Rattle.std.proofs.Common.{◌≡◌, ◌∙◌, ◌++◌, map, All, sym, ap, subst, arith}
 use Rattle.std.specs.Vec.Iter.{into_iter_items}
-use Rattle.std.proofs.lemmas.List.Elements.{All-push, All-head, All-tail}
+use Rattle.std.proofs.lemmas.List.Elements.{All-push, All-tail}
 use Rattle.robust.specs.declared.lab.worker.HandsBack.{HandsBack}
 use Rattle.robust.specs.Worked.{seat_promised, sizes_of}
 use Rattle.robust.specs.Sending.{IsNew}
 use Rattle.robust.specs.Working.{seat_of}
 use Rattle.robust.proofs.Worked.{moved_on}
 use Rattle.robust.proofs.lab.running.start_all.Goals as goal
-use Rattle.std.proofs.lemmas.Grind.{common_steps}
 
 pub loop-member-preserved : goal.loop-member-preserved
 loop-member-preserved g c =

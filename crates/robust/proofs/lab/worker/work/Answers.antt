@@ -1,12 +1,11 @@
-use Rattle.std.proofs.Common.{◌≡◌, ◌∙◌, ◌+◌, ◌<◌, ◌≤◌, ℕ, refl, subst, arith, true, false, sym, ap}
+use Rattle.std.proofs.Common.{◌≡◌, ◌∙◌, ◌≤◌, ℕ, refl, subst, arith, true, false, sym, ap}
 use Rattle.atomic_table.specs.Seated.{TableId}
 use Rattle.robust.specs.declared.setup.Setup.{Setup}
-use Rattle.robust.specs.Sending.{IsSending, SendsOnly, HasShown}
+use Rattle.robust.specs.Sending.{HasShown}
 use Rattle.robust.proofs.Failing.{refused}
 use Rattle.robust.proofs.Told.{faulted}
 use Rattle.robust.proofs.Working.{sends_value}
 use Rattle.robust.proofs.lab.worker.work.Goals as goal
-use Rattle.rmeworld.specs.declared.call.Call.TheVariants.{Append}
 
 pub returns-then-not-is_sent : goal.returns-then-not-is_sent
 returns-then-not-is_sent g c =

@@ -1,4 +1,4 @@
-use Rattle.std.proofs.Common.{◌≡◌, ◌≢◌, ◌+◌, ◌≤◌, subst}
+use Rattle.std.proofs.Common.{◌≢◌, ◌+◌, ◌≤◌, subst}
 use Rattle.redomail.specs.declared.layout.Layout.{Layout}
 use Rattle.rmeworld.specs.OwnSteps.{most_steps}
 use Rattle.rmeworld.specs.declared.call.Call.TheVariants.{Lock}

@@ -1,4 +1,4 @@
-use Rattle.std.proofs.Common.{◌≡◌, true, Some, None, Ok, List, [], ◌∷◌, refl, ap, ◌∙◌, inl}
+use Rattle.std.proofs.Common.{true, Some, None, Ok, List, [], ◌∷◌, refl, ap, ◌∙◌, inl}
 use Rattle.rmeworld.specs.declared.call.Call.{Call as CallOf}
 use Rattle.rmeworld.specs.declared.call.Call.TheVariants.{Lock, Unlock}
 use Rattle.rmeworld.specs.declared.answer.Answer.{Answer}

@@ -1,4 +1,4 @@
-use Rattle.std.proofs.Common.{◌≡◌, ℕ, ◌+◌, ◌-◌, ◌≤◌, length, drop}
+use Rattle.std.proofs.Common.{◌≡◌, ◌-◌, ◌≤◌, drop}
 use Rattle.std.specs.Prelude.{vec_capacity, vec_len}
 use Rattle.redomail.specs.Shape.{entries}
 use Rattle.robust.specs.Reading.{cells_of, entry_words, Glances}

@@ -1,4 +1,4 @@
-use Rattle.std.proofs.Common.{◌≡◌, ap, inl, inr, Err}
+use Rattle.std.proofs.Common.{ap, inl, inr, Err}
 use Rattle.robust.proofs.WholeCalls.{whole_asked, whole_cut}
 use Rattle.robust.proofs.runner.Runner.finish.Goals as goal
 

@@ -1,4 +1,4 @@
-use Rattle.std.proofs.Common.{◌≡◌, refl, ◌∙◌}
+use Rattle.std.proofs.Common.{refl, ◌∙◌}
 use Rattle.robust.proofs.Called.{on_err}
 use Rattle.robust.proofs.Chained.{none_more}
 use Rattle.robust.proofs.Counted.{few_cut, few_ran}

@@ -1,4 +1,4 @@
-use Rattle.std.proofs.Common.{◌≡◌, Some, Ok}
+use Rattle.std.proofs.Common.{Ok}
 use Rattle.rmeworld.specs.declared.call.Call.TheVariants.{Lock}
 use Rattle.robust.specs.Running.{began}
 use Rattle.robust.specs.Faults.{ready}

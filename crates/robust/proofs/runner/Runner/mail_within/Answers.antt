@@ -1,4 +1,4 @@
-use Rattle.std.proofs.Common.{◌≡◌, ◌≢◌}
+use Rattle.std.proofs.Common.{◌≢◌}
 use Rattle.robust.specs.declared.lock_fault.LockFault.TheVariants.{AlreadyIn}
 use Rattle.robust.proofs.Chained.{lock_setup}
 use Rattle.robust.proofs.Counted.{err_any, ok_any}
@@ -29,6 +29,7 @@ returns-in-Ok-clause-few_out g c =
 
 pub returns-in-Err-clause-few_out : goal.returns-in-Err-clause-few_out
 returns-in-Err-clause-few_out g c = λ other. few_lock c.args.self.now c.set_out.new.self c.take_turns.new.self c.take_turns.new.self c.args.task.now c.args.turns c.in_ok-set_out.ensures.out.0 c.in-Err.ensures.few
+
 pub returns-in-Err-clause-out : goal.returns-in-Err-clause-out
 returns-in-Err-clause-out g c = λ alive. cut_out c.set_out.new.self c.take_turns.new.self _ _ _ _ _ c.in-Err.ensures.cut
 

@@ -1,4 +1,4 @@
-use Rattle.std.proofs.Common.{◌≡◌, ℕ, suc, ◌+◌, ◌-◌, ◌≤◌, false, None, refl, sym, ap, ◌∙◌, subst, arith}
+use Rattle.std.proofs.Common.{◌≡◌, ℕ, suc, ◌+◌, ◌-◌, ◌≤◌, false, None, ◌∙◌, subst, arith}
 use Rattle.robust.specs.Running.{Seated, TakesStep}
 use Rattle.robust.specs.Pass.{spot_now}
 use Rattle.robust.specs.Lasting.{Lasts}

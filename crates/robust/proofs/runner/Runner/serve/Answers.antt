@@ -1,7 +1,7 @@
-use Rattle.std.proofs.Common.{◌≡◌, ℕ, ◌+◌, sym, ap, ◌∙◌, subst}
+use Rattle.std.proofs.Common.{ap, ◌∙◌}
 use Rattle.rmecore.specs.Simulated.{one_more}
-use Rattle.robust.specs.Running.{Seated, many_more}
-use Rattle.robust.proofs.Called.{on_err, fell_more, served_ran, served_as, crashes_of, cut_ran}
+use Rattle.robust.specs.Running.{Seated}
+use Rattle.robust.proofs.Called.{on_err, fell_more, served_as, crashes_of, cut_ran}
 use Rattle.robust.proofs.Counted.{few_cut, few_ran}
 use Rattle.robust.proofs.runner.Runner.serve.Goals as goal
 

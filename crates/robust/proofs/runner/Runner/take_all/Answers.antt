@@ -1,4 +1,4 @@
-use Rattle.std.proofs.Common.{◌≡◌, ℕ, ◌+◌, ◌≤◌, List, [], ◌++◌, length, refl, ap, ◌∙◌, subst, arith}
+use Rattle.std.proofs.Common.{◌+◌, ◌≤◌, [], ◌++◌, length, refl, ap, ◌∙◌, subst, arith}
 use Rattle.rmecore.specs.Simulated.{one_more}
 use Rattle.rmeworld.specs.declared.call.Call.TheVariants.{Lock}
 use Rattle.robust.specs.Running.{many_more}

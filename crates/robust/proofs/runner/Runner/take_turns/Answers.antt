@@ -1,8 +1,7 @@
-use Rattle.std.proofs.Common.{◌≡◌, ℕ, zero, suc, ◌+◌, ◌-◌, ◌≤◌, List, [], ◌∷◌, ◌++◌, length, None, refl, sym, ap, ◌∙◌, subst, arith}
+use Rattle.std.proofs.Common.{◌≡◌, ℕ, ◌+◌, ◌-◌, ◌≤◌, [], ◌++◌, length, refl, ap, ◌∙◌, subst, arith}
 use Rattle.rmecore.specs.Simulated.{one_more}
 use Rattle.rmeworld.specs.declared.call.Call.TheVariants.{Lock}
-use Rattle.robust.specs.declared.entry.Entry.{Entry}
-use Rattle.robust.specs.Running.{Seated, many_more}
+use Rattle.robust.specs.Running.{many_more}
 use Rattle.robust.specs.Calls.{Served, Still}
 use Rattle.robust.proofs.Taken.{none_of}
 use Rattle.robust.proofs.Called.{on_err, crashes_of}

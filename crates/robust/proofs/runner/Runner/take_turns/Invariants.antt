@@ -1,6 +1,5 @@
-use Rattle.std.proofs.Common.{◌≡◌, ℕ, ◌+◌, List, length, false}
+use Rattle.std.proofs.Common.{◌≡◌, ℕ, ◌+◌, List, length}
 use Rattle.rmeworld.specs.declared.call.Call.TheVariants.{Lock}
-use Rattle.rmeworld.specs.Refused.{is_idle}
 use Rattle.robust.specs.declared.entry.Entry.{Entry}
 use Rattle.robust.specs.Pass.{spot_now}
 use Rattle.robust.specs.Running.{many_more}

@@ -1,4 +1,4 @@
-use Rattle.std.proofs.Common.{◌≡◌, sym, ap, ◌∙◌}
+use Rattle.std.proofs.Common.{ap, ◌∙◌}
 use Rattle.robust.specs.Running.{Seated}
 use Rattle.robust.proofs.Called.{on_err}
 use Rattle.robust.proofs.Chained.{lock_asked, lock_cut, lock_idle}

@@ -1,4 +1,4 @@
-use Rattle.std.proofs.Common.{◌≡◌, refl, ap, ◌∙◌}
+use Rattle.std.proofs.Common.{◌≡◌, ap, ◌∙◌}
 use Rattle.robust.specs.declared.entry.Known.{Known}
 use Rattle.robust.specs.Pass.{Pass, glanced}
 use Rattle.robust.proofs.Leads.{looks_of, stays_pass, alone_after}

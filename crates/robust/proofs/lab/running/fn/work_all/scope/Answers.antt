@@ -1,4 +1,4 @@
-use Rattle.std.proofs.Common.{◌≡◌, ◌∙◌, map, All, IfOk}
+use Rattle.std.proofs.Common.{◌≡◌, ◌∙◌, map, All}
 use Rattle.robust.specs.Worked.{seat_done, seat_promised, HasWorked}
 use Rattle.robust.specs.Working.{seats_of}
 use Rattle.robust.proofs.Worked.{if_both}

@@ -1,5 +1,5 @@
 -- What ended a lab early, from the one run of its members.
-use Rattle.std.proofs.Common.{◌≡◌, ℕ, ◌+◌, ◌*◌, ◌<◌, ◌≤◌, true, List, [], ◌∷◌, ◌++◌, length, slice_index, map, None, All, refl, sym, ap, ◌∙◌, subst, inl, inr, arith, append_assoc, append-nil, length-append}
+use Rattle.std.proofs.Common.{◌≡◌, ℕ, ◌+◌, ◌*◌, ◌<◌, ◌≤◌, true, List, [], ◌∷◌, ◌++◌, length, slice_index, map, Some, None, All, refl, sym, ap, ◌∙◌, subst, inl, inr, arith, append_assoc, append-nil, length-append}
 use Rattle.std.proofs.lemmas.Bool.{cases_lt}
 use Rattle.std.proofs.lemmas.List.Elements.{All-nil, All-cons, All-head, All-tail, All-contains}
 use Rattle.redomail.specs.declared.message.Message.{Message}
@@ -18,13 +18,15 @@ use Rattle.redomail.specs.declared.layout.Layout.{Layout}
 use Rattle.robust.specs.declared.entry.Entry.{Entry}
 use Rattle.robust.specs.declared.setup.Setup.{Setup}
 use Rattle.robust.specs.declared.lab.lab_fault.LabFault.{LabFault}
+use Rattle.robust.specs.declared.lab.lab_fault.LabFault.TheVariants.{Member, Reply as Replied}
 use Rattle.robust.specs.declared.lab.spec.Spec.{Spec}
 use Rattle.robust.specs.declared.lab.worker.Done.{Done}
 use Rattle.robust.specs.declared.lab.worker.Ending.{Ending}
 use Rattle.robust.specs.declared.lab.worker.Ending.TheVariants.{AllSent, Fault, Refused}
 use Rattle.robust.specs.Gathering.{Gathers, IsGlance, has_member, image_at}
 use Rattle.robust.specs.Headline.{judged_by, shown_by}
-use Rattle.robust.specs.LabFaults.{IsFaultOf, IsFirstFault, EndsSo, EndsLab}
+use Rattle.robust.specs.Endings.{fault_by}
+use Rattle.robust.specs.LabFaults.{IsFirstFault, EndsSo, EndsLab}
 use Rattle.robust.specs.Reading.{cells_of, RunsShow, LoadsTell}
 use Rattle.robust.specs.Ruins.{AreInOrder, NobodyRuins}
 use Rattle.robust.specs.Rule.{Begins as Starts}
@@ -178,9 +180,12 @@ lab_ends s ended image cause layout setups worked f g lawful was closes shows lo
     room : n ≤ s.cap
     room = let h = (shows z g.run layout legal).1 in omega (arith, h, count)
 
-    by : (e : Ending) → EndsSo s x e → IsFaultOf x.pass.by e cause → EndsLab s cause
-    by AllSent h is = absurd is
-    by (Fault why) (inl spent) is = subst (EndsLab s) (sym is) (below, spent)
+    same_fault : (one other : LabFault) → Some one ≡ Some other → one ≡ other
+    same_fault one other is = cc
+
+    by : (e : Ending) → EndsSo s x e → fault_by x.pass.by e ≡ Some cause → EndsLab s cause
+    by AllSent h is = absurd (cc)
+    by (Fault why) (inl spent) is = subst (EndsLab s) (same_fault (Member x.pass.by why) cause is) (below, spent)
     by (Fault why) (inr ruin) is = absurd (none_read z x.pass.seen starts.0 x.pass.by layout (subst (IsRun z) starts.1 legal) (λ p low. subst (λ (es : List Entry). AreInOrder None (own p es)) starts.1 (ordered p low)) loads nobody ruin.1)
     by (Refused reply) h is =
         let at = h.1.3 in
@@ -191,7 +196,7 @@ lab_ends s ended image cause layout setups worked f g lawful was closes shows lo
         elim h.0 [
           | inl full ↦
               (let told = subst (λ (r : Reply). ReplyTells z.layout x.pass.by seq r (judged_by z at.front).mail) full tells in
-              subst (EndsLab s) (sym is) (below, full, little_room s g.run at.front rest split layout legal sending w n numbered was shown room x.pass.by seq below h.1.1 h.1.2 told.0 told.1))
+              subst (EndsLab s) (same_fault (Replied x.pass.by reply) cause is) (below, full, little_room s g.run at.front rest split layout legal sending w n numbered was shown room x.pass.by seq below h.1.1 h.1.2 told.0 told.1))
           | inr closed ↦
               (let told = subst (λ (r : Reply). ReplyTells z.layout x.pass.by seq r (judged_by z at.front).mail) closed tells in
               absurd (never_closed s g.run at.front rest split layout legal sending closes told.0))

@@ -1,5 +1,5 @@
 -- What may end a lab early, and of which worker the fault is told.
-use Rattle.std.specs.Prelude.{◌≡◌, ℕ, ◌+◌, ◌*◌, ◌<◌, ◌≤◌, ◌⊎◌, List, ◌∷◌, ◌++◌, All}
+use Rattle.std.specs.Prelude.{◌≡◌, ℕ, ◌+◌, ◌*◌, ◌<◌, ◌≤◌, ◌⊎◌, List, ◌∷◌, ◌++◌, Some, All}
 use Rattle.redomail.specs.declared.reply.Reply.{Reply}
 use Rattle.redomail.specs.declared.reply.Reply.TheVariants.{Full, Closed}
 use Rattle.rmeworld.specs.Sent.{ReplyTells}
@@ -11,17 +11,12 @@ use Rattle.robust.specs.declared.lab.spec.Spec.{Spec}
 use Rattle.robust.specs.declared.lab.worker.Done.{Done}
 use Rattle.robust.specs.declared.lab.worker.Ending.{Ending}
 use Rattle.robust.specs.declared.lab.worker.Ending.TheVariants.{AllSent, Fault, Refused}
+use Rattle.robust.specs.Endings.{fault_by}
 use Rattle.robust.specs.Headline.{judged_by}
 use Rattle.robust.specs.Pass.{own_of}
 use Rattle.robust.specs.Ruins.{HasReadRuin}
 use Rattle.robust.specs.Running.{Seated}
 use Rattle.robust.specs.Sending.{HasShown}
-
--- what ended the worker of process p is this fault of its lab
-abbrev pub IsFaultOf : ℕ → Ending → LabFault → Type 0
-IsFaultOf p AllSent cause = ⊥
-IsFaultOf p (Fault why) cause = cause ≡ Member p why
-IsFaultOf p (Refused reply) cause = cause ≡ Replied p reply
 
 -- the fault is that of the first of these workers that has ended early
 pub record IsFirstFault (ended : List Done) (cause : LabFault) : Type 0 where
@@ -31,7 +26,7 @@ pub record IsFirstFault (ended : List Done) (cause : LabFault) : Type 0 where
   pub are : ended ≡ front ++ done ∷ back
   pub sent : All (λ (d : Done). d.ending ≡ AllSent) front
   pub below : done.member.pass.by < done.member.pass.setup.layout.procs
-  pub cause_is : IsFaultOf done.member.pass.by done.ending cause
+  pub cause_is : fault_by done.member.pass.by done.ending ≡ Some cause
 
 -- at one point of the run that the member has seen, what the reply of an append with this number tells of the mailbox held
 pub record RefusedAt (x : Seated) (seq : ℕ) (reply : Reply) : Type 0 where

@@ -1,12 +1,11 @@
-use Rattle.std.proofs.Common.{◌≡◌, ◌∙◌, ℕ, suc, ◌+◌, [], ◌∷◌, ◌++◌, take, drop, All, sym, ap, subst, arith}
+use Rattle.std.proofs.Common.{◌≡◌, ◌∙◌, ℕ, suc, ◌+◌, [], ◌∷◌, ◌++◌, take, drop, Some, All, sym, ap, subst, arith}
 use Rattle.std.proofs.Math.Seq.{split_at, take-suc}
 use Rattle.std.proofs.lemmas.List.{take_all}
 use Rattle.std.proofs.lemmas.List.Elements.{All-push}
 use Rattle.robust.specs.declared.lab.lab_fault.LabFault.TheVariants.{Member, Reply}
 use Rattle.robust.specs.declared.lab.worker.Done.{Done}
-use Rattle.robust.specs.declared.lab.worker.Ending.{Ending}
 use Rattle.robust.specs.declared.lab.worker.Ending.TheVariants.{AllSent}
-use Rattle.robust.specs.LabFaults.{IsFaultOf}
+use Rattle.robust.specs.Endings.{fault_by}
 use Rattle.robust.proofs.lab.running.first_fault.Goals as goal
 
 pub returns-in-Fault-clause-first : goal.returns-in-Fault-clause-first
@@ -21,7 +20,7 @@ returns-in-Fault-clause-first c =
       are = split_at ended i d c.loop-done-test.true ∙ ap (λ (x : Done). take i ended ++ x ∷ drop (suc i) ended) (sym c.done-item.is);
       sent = c.loop-done.invariant;
       below = c.number-p.ensures.pass.below;
-      cause_is = subst (λ (e : Ending). IsFaultOf d.member.pass.by e (Member c.number-p.result c.in-Fault.fault)) (sym c.in-Fault.is) (ap (λ (p : ℕ). Member p c.in-Fault.fault) c.number-p.ensures.is);
+      cause_is = ap (fault_by d.member.pass.by) c.in-Fault.is ∙ ap (λ (p : ℕ). Some (Member p c.in-Fault.fault)) (sym c.number-p.ensures.is);
     }
 
 pub returns-in-Refused-clause-first : goal.returns-in-Refused-clause-first
@@ -36,7 +35,7 @@ returns-in-Refused-clause-first c =
       are = split_at ended i d c.loop-done-test.true ∙ ap (λ (x : Done). take i ended ++ x ∷ drop (suc i) ended) (sym c.done-item.is);
       sent = c.loop-done.invariant;
       below = c.number-p.ensures.pass.below;
-      cause_is = subst (λ (e : Ending). IsFaultOf d.member.pass.by e (Reply c.number-p.result c.in-Refused.reply)) (sym c.in-Refused.is) (ap (λ (p : ℕ). Reply p c.in-Refused.reply) c.number-p.ensures.is);
+      cause_is = ap (fault_by d.member.pass.by) c.in-Refused.is ∙ ap (λ (p : ℕ). Some (Reply p c.in-Refused.reply)) (sym c.number-p.ensures.is);
     }
 
 pub loop-done-preserved : goal.loop-done-preserved

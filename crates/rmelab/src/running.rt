@@ -34,7 +34,7 @@ fn spec_of(order: &RunOrder) -> Spec
 }
 
 /// The crashes of each sender.
-fn gates_of(alloc: Global, order: &RunOrder) -> Result<Vec<Seeded>, AllocError>
+pub fn gates_of(alloc: Global, order: &RunOrder) -> Result<Vec<Seeded>, AllocError>
     ensures { IfOk result (λ gates. vec_len gates ≡ order.now.procs) }
 {
     let mut gates = Vec::new(alloc);

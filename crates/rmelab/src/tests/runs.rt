@@ -1,8 +1,10 @@
 //! Senders on threads.
 
 use super::prints;
-use crate::running::{lines_of, status_of_tallies};
+use crate::order::RunOrder;
+use crate::running::{gates_of, lines_of, status_of_tallies};
 use crate::tally::tallied;
+use crashlab::{CrashPlan, Seeded};
 use redomail::Message;
 use rmecore::Body;
 use std::test::Fail;
@@ -25,6 +27,29 @@ fn four_senders(rt: HostRuntime) -> Result<(), Fail> {
 fn four_senders_of_wide_messages(rt: HostRuntime) -> Result<(), Fail> {
     let line = "rmelab run --procs 4 --messages 50 --crash 20 --seed 7 --width 8";
     prints(&rt, rt.alloc(), line, "", FOUR, "", 0)?;
+    Ok(())
+}
+
+/// The crashes of sender p are drawn from the seed and p.
+#[test]
+fn each_sender_has_the_next_seed(rt: HostRuntime) -> Result<(), Fail> {
+    let order = RunOrder {
+        procs: 3,
+        messages: 1,
+        crash: 500,
+        seed: 7,
+        width: 1,
+    };
+    let mut gates = gates_of(rt.alloc(), &order)?;
+    assert_eq!(rt; gates.len(), 3);
+    let mut seed = 7u64;
+    for gate in gates.iter_mut() {
+        let mut own = Seeded::new(seed, 500);
+        for _ in 0..64 {
+            assert_eq!(rt; gate.falls(), own.falls());
+        }
+        seed = seed.wrapping_add(1);
+    }
     Ok(())
 }
 

@@ -16,24 +16,24 @@ use Rattle.rmeworld.specs.declared.image.Image.{Image}
 use Rattle.rmeworld.specs.ImageRules.{layout_of, IsLawfulImage}
 use Rattle.rmeworld.specs.Sent.{EveryMessageWasSent, IsSent}
 use Rattle.rmeworld.specs.Spot.{Happening, Begins, Falls}
-use Rattle.robust.specs.declared.entry.Entry.{Entry}
+use Rattle.runs.specs.declared.entry.Entry.{Entry}
 use Rattle.robust.specs.declared.lab.spec.Spec.{Spec}
-use Rattle.robust.specs.declared.setup.Setup.{Setup}
-use Rattle.robust.specs.Gathering.{Gathers, IsGlance, IsTold, has_member, image_at}
-use Rattle.robust.specs.Headline.{deeds_of, shown_by}
+use Rattle.runs.specs.declared.setup.Setup.{Setup}
+use Rattle.runs.specs.Gathering.{Gathers, IsGlance, IsTold, has_member, image_at}
+use Rattle.runs.specs.Headline.{deeds_of, shown_by}
 use Rattle.robust.specs.Lab.{AreAllSent, words_sent, messages_sent, messages_by}
-use Rattle.robust.specs.Reading.{cells_of, RunsShow}
-use Rattle.robust.specs.Rule.{Begins as Starts}
-use Rattle.robust.specs.Running.{Seated}
-use Rattle.robust.specs.Runs.{before, taken, happenings, spelled, own, IsRun, end_of}
+use Rattle.runs.specs.Reading.{cells_of, RunsShow}
+use Rattle.runs.specs.Rule.{Begins as Starts}
+use Rattle.runs.specs.Running.{Seated}
+use Rattle.runs.specs.Runs.{before, taken, happenings, spelled, own, IsRun, end_of}
 use Rattle.robust.specs.Worked.{sizes_of}
 use Rattle.robust.specs.Sending.{OfStart, IsSending, AreSending, HasSent}
 use Rattle.robust.proofs.Appended.{own_taken, own_passed, among_more}
-use Rattle.robust.proofs.LawfulEnd.{length-counted, cells_counted}
+use Rattle.runs.proofs.LawfulEnd.{length-counted, cells_counted}
 use Rattle.robust.proofs.Numbered.{many, few, sent_by, senders, counted_all}
-use Rattle.robust.proofs.Runs.{by_kind}
-use Rattle.robust.proofs.Shown.{shown_on}
-use Rattle.robust.proofs.Together.{all_both, member_at, Keeps, Holds, all_hold}
+use Rattle.runs.proofs.Runs.{by_kind}
+use Rattle.runs.proofs.Shown.{shown_on}
+use Rattle.runs.proofs.Together.{all_both, member_at, Keeps, Holds, all_hold}
 
 -- what holds of each call that a process starts
 pub OfBegins : (Call → Type 0) → ℕ → Happening → Type 0

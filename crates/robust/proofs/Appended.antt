@@ -21,27 +21,27 @@ use Rattle.rmeworld.specs.Refused.{is_idle, is_idle_by}
 use Rattle.rmeworld.specs.Sent.{mail_after, ReplyTells, RepliesTell}
 use Rattle.rmeworld.specs.Spot.{Errand, Free, Doing, Spot, Happening, Moves, at_rest}
 use Rattle.rmeworld.specs.World.{Scene, at_first, last_scene, Story}
-use Rattle.robust.specs.declared.entry_kind.Entry.{Entry as Entering}
-use Rattle.robust.specs.declared.entry_kind.Entry.TheVariants as entering
-use Rattle.robust.specs.declared.entry.Entry.{Entry}
-use Rattle.robust.specs.declared.lock_fault.LockFault.{LockFault}
-use Rattle.robust.specs.declared.setup.Setup.{Setup}
-use Rattle.robust.specs.Calls.{spot_before, AreMoves, ServedAll}
-use Rattle.robust.specs.Faults.{refusal_now, ready, answer_of}
-use Rattle.robust.specs.Headline.{judged_by, shown_by, spot_at, EndsAppend, EveryRunIsSound}
-use Rattle.robust.specs.Pass.{IsPass, spot_now}
-use Rattle.robust.specs.Running.{Seated, fell, began}
-use Rattle.robust.specs.Runs.{before, own, spelled, gone, spot_of, IsRun}
-use Rattle.robust.specs.Whole.{WholeEnds, calls_inside, answers_inside}
+use Rattle.runs.specs.declared.entry_kind.Entry.{Entry as Entering}
+use Rattle.runs.specs.declared.entry_kind.Entry.TheVariants as entering
+use Rattle.runs.specs.declared.entry.Entry.{Entry}
+use Rattle.runs.specs.declared.lock_fault.LockFault.{LockFault}
+use Rattle.runs.specs.declared.setup.Setup.{Setup}
+use Rattle.runs.specs.Calls.{spot_before, AreMoves, ServedAll}
+use Rattle.runs.specs.Faults.{refusal_now, ready, answer_of}
+use Rattle.runs.specs.Headline.{judged_by, shown_by, spot_at, EndsAppend, EveryRunIsSound}
+use Rattle.runs.specs.Pass.{IsPass, spot_now}
+use Rattle.runs.specs.Running.{Seated, fell, began}
+use Rattle.runs.specs.Runs.{before, own, spelled, gone, spot_of, IsRun}
+use Rattle.runs.specs.Whole.{WholeEnds, calls_inside, answers_inside}
 use Rattle.robust.specs.Sending.{OfStart}
-use Rattle.robust.specs.Telling.{ToldIn}
-use Rattle.robust.specs.Under.{Appends}
+use Rattle.runs.specs.Telling.{ToldIn}
+use Rattle.runs.specs.Under.{Appends}
 use Rattle.robust.proofs.Errands.{Only, Brings, each_start, only_begun, Answering, find, IsTasks, task_mails}
-use Rattle.robust.proofs.Leads.{gone-append}
-use Rattle.robust.proofs.Headline.{scene_at, spot_is, spelled_to}
-use Rattle.robust.proofs.Running.{spot_begun, taken_moves}
-use Rattle.robust.proofs.Runs.{own-append, spelled-append, scene-append}
-use Rattle.robust.proofs.Shown.{shown_on}
+use Rattle.runs.proofs.Leads.{gone-append}
+use Rattle.runs.proofs.Headline.{scene_at, spot_is, spelled_to}
+use Rattle.runs.proofs.Running.{spot_begun, taken_moves}
+use Rattle.runs.proofs.Runs.{own-append, spelled-append, scene-append}
+use Rattle.runs.proofs.Shown.{shown_on}
 
 -- an entry of a process, and those before it and behind it
 pub record Own (p : ℕ) (es front : List Entry) (e : Entry) : Type 0 where

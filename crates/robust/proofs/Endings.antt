@@ -6,7 +6,7 @@ use Rattle.std.proofs.lemmas.Option.{slice_get-get_or}
 use Rattle.robust.specs.declared.lab.lab_fault.LabFault.{LabFault}
 use Rattle.robust.specs.declared.lab.worker.Ending.{Ending}
 use Rattle.robust.specs.declared.lab.worker.Ending.TheVariants.{Fault}
-use Rattle.robust.specs.declared.lock_fault.LockFault.TheVariants.{OutOfMemory}
+use Rattle.runs.specs.declared.lock_fault.LockFault.TheVariants.{OutOfMemory}
 use Rattle.robust.specs.Endings.{HaveAllSent, WantedMemory, fault_by, IsOfLeast}
 
 -- the ending of the worker at a place

@@ -10,22 +10,22 @@ use Rattle.rmeworld.specs.declared.call.Call.{Call}
 use Rattle.rmeworld.specs.declared.call.Call.TheVariants.{Lock, Append}
 use Rattle.rmeworld.specs.Refused.{is_idle}
 use Rattle.rmeworld.specs.Sent.{ReplyTells}
-use Rattle.robust.specs.declared.entry.Entry.{Entry}
-use Rattle.robust.specs.declared.lock_fault.LockFault.{LockFault}
-use Rattle.robust.specs.declared.lock_fault.LockFault.TheVariants.{Crashed, NotYet, NumbersSpent, NotRecoverable, AlreadyIn, BadWidth}
-use Rattle.robust.specs.declared.setup.Setup.{Setup}
-use Rattle.robust.specs.Faults.{refusal_now, ready}
-use Rattle.robust.specs.Headline.{judged_by, shown_by}
+use Rattle.runs.specs.declared.entry.Entry.{Entry}
+use Rattle.runs.specs.declared.lock_fault.LockFault.{LockFault}
+use Rattle.runs.specs.declared.lock_fault.LockFault.TheVariants.{Crashed, NotYet, NumbersSpent, NotRecoverable, AlreadyIn, BadWidth}
+use Rattle.runs.specs.declared.setup.Setup.{Setup}
+use Rattle.runs.specs.Faults.{refusal_now, ready}
+use Rattle.runs.specs.Headline.{judged_by, shown_by}
 use Rattle.robust.specs.LabFaults.{RefusedAt}
-use Rattle.robust.specs.Pass.{spot_now, Calls}
-use Rattle.robust.specs.Running.{Seated, began, fell}
+use Rattle.runs.specs.Pass.{spot_now, Calls}
+use Rattle.runs.specs.Running.{Seated, began, fell}
 use Rattle.robust.specs.Sending.{HasShown}
-use Rattle.robust.specs.Telling.{ToldIn}
-use Rattle.robust.specs.Under.{Appends}
-use Rattle.robust.specs.Whole.{WholeEnds, AppendFails, Comes}
+use Rattle.runs.specs.Telling.{ToldIn}
+use Rattle.runs.specs.Under.{Appends}
+use Rattle.runs.specs.Whole.{WholeEnds, AppendFails, Comes}
 use Rattle.robust.specs.Working.{seat_of}
 use Rattle.robust.proofs.Appended.{among_more, either_seen}
-use Rattle.robust.proofs.Shown.{shown_on}
+use Rattle.runs.proofs.Shown.{shown_on}
 
 -- a process that may lock isn't in the section
 idle_in : (b : Bool) (x : Seated) → is_idle (spot_now x.pass) ≡ b → refusal_now x Lock ≡ Some IsIn → refusal_now (if b then x else fell x) Lock ≡ None → ⊥

@@ -15,35 +15,35 @@ use Rattle.rmeworld.specs.Sent.{ReplyTells, EveryMessageWasSent, EveryCloseWasAs
 use Rattle.rmeworld.specs.Spot.{Happening, Begins, who}
 use Rattle.rmeworld.specs.World.{at_first}
 use Rattle.redomail.specs.declared.layout.Layout.{Layout}
-use Rattle.robust.specs.declared.entry.Entry.{Entry}
-use Rattle.robust.specs.declared.setup.Setup.{Setup}
+use Rattle.runs.specs.declared.entry.Entry.{Entry}
+use Rattle.runs.specs.declared.setup.Setup.{Setup}
 use Rattle.robust.specs.declared.lab.lab_fault.LabFault.{LabFault}
 use Rattle.robust.specs.declared.lab.lab_fault.LabFault.TheVariants.{Member, Reply as Replied}
 use Rattle.robust.specs.declared.lab.spec.Spec.{Spec}
 use Rattle.robust.specs.declared.lab.worker.Done.{Done}
 use Rattle.robust.specs.declared.lab.worker.Ending.{Ending}
 use Rattle.robust.specs.declared.lab.worker.Ending.TheVariants.{AllSent, Fault, Refused}
-use Rattle.robust.specs.Gathering.{Gathers, IsGlance, has_member, image_at}
-use Rattle.robust.specs.Headline.{judged_by, shown_by}
+use Rattle.runs.specs.Gathering.{Gathers, IsGlance, has_member, image_at}
+use Rattle.runs.specs.Headline.{judged_by, shown_by}
 use Rattle.robust.specs.Endings.{fault_by}
 use Rattle.robust.specs.LabFaults.{IsFirstFault, EndsSo, EndsLab}
-use Rattle.robust.specs.Reading.{cells_of, RunsShow, LoadsTell}
-use Rattle.robust.specs.Ruins.{AreInOrder, NobodyRuins}
-use Rattle.robust.specs.Rule.{Begins as Starts}
-use Rattle.robust.specs.Running.{Seated}
-use Rattle.robust.specs.Runs.{own, spelled, IsRun, end_of}
+use Rattle.runs.specs.Reading.{cells_of, RunsShow, LoadsTell}
+use Rattle.runs.specs.Ruins.{AreInOrder, NobodyRuins}
+use Rattle.runs.specs.Rule.{Begins as Starts}
+use Rattle.runs.specs.Running.{Seated}
+use Rattle.runs.specs.Runs.{own, spelled, IsRun, end_of}
 use Rattle.robust.specs.Sending.{OfStart, IsSending, AreSending}
 use Rattle.robust.specs.Worked.{sizes_of, HasWorked}
 use Rattle.robust.proofs.AllSent.{OfBegins, begins_all, begins_it, lawful_content, content_numbered, shown_entries, gathered_layout, at_most, sending_more}
 use Rattle.robust.proofs.Appended.{all_at}
-use Rattle.robust.proofs.Gathered.{all_left}
-use Rattle.robust.proofs.LawfulEnd.{cells_counted}
+use Rattle.runs.proofs.Gathered.{all_left}
+use Rattle.runs.proofs.LawfulEnd.{cells_counted}
 use Rattle.robust.proofs.Numbered.{senders, has_all, fewer_all}
-use Rattle.robust.proofs.Runs.{own-append, legal_front}
-use Rattle.robust.proofs.Shown.{shown_on}
-use Rattle.robust.proofs.Ordered.{order_more}
+use Rattle.runs.proofs.Runs.{own-append, legal_front}
+use Rattle.runs.proofs.Shown.{shown_on}
+use Rattle.runs.proofs.Ordered.{order_more}
 use Rattle.robust.proofs.Unruined.{story_within, none_read}
-use Rattle.robust.proofs.Together.{Keeps, Holds, all_hold, each_holds}
+use Rattle.runs.proofs.Together.{Keeps, Holds, all_hold, each_holds}
 
 -- one of those that are mapped
 all_mapped : {A B : Type 0} (f : A → B) (P : B → Type 0) (xs : List A) (x : A) (ys : List A) → All P (map f (xs ++ x ∷ ys)) → P (f x)

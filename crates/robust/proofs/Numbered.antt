@@ -11,7 +11,7 @@ use Rattle.redomail.proofs.Changes.{count_of-push}
 use Rattle.judge.proofs.Counts.{one_if, count_cons}
 use Rattle.robust.specs.Lab.{words_sent, message_sent, messages_sent, messages_by}
 use Rattle.robust.proofs.Appended.{all_at, among_more}
-use Rattle.robust.proofs.Gathered.{all_left, all_right}
+use Rattle.runs.proofs.Gathered.{all_left, all_right}
 
 -- the last of one more
 all_last : {A : Type 0} (P : A → Type 0) (xs : List A) (x : A) → All P (xs ++ x ∷ []) → P x

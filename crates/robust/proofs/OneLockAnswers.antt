@@ -4,8 +4,8 @@ use Rattle.rmeworld.specs.declared.call.Call.{Call}
 use Rattle.rmeworld.specs.declared.answer.Answer.{Answer}
 use Rattle.rmeworld.specs.Replayed.{stepped}
 use Rattle.rmeworld.specs.WorldState.{WorldState}
-use Rattle.robust.specs.declared.lock_fault.LockFault.{LockFault}
-use Rattle.robust.specs.declared.lock_fault.LockFault.TheVariants.{Crashed, OutOfMemory}
+use Rattle.runs.specs.declared.lock_fault.LockFault.{LockFault}
+use Rattle.runs.specs.declared.lock_fault.LockFault.TheVariants.{Crashed, OutOfMemory}
 use Rattle.robust.specs.declared.one_lock.opening.Opening.{Opening}
 use Rattle.robust.specs.declared.one_lock.standing.Standing.{Standing}
 use Rattle.robust.specs.OneLockMember.{Seat}

@@ -6,20 +6,20 @@ use Rattle.rmeworld.specs.declared.answer.Answer.{Answer}
 use Rattle.rmeworld.specs.declared.call.Call.{Call}
 use Rattle.rmeworld.specs.declared.call.Call.TheVariants.{Lock, Unlock, Consistent, Append}
 use Rattle.rmeworld.specs.Refused.{is_idle}
-use Rattle.robust.specs.declared.entry_kind.Entry.{Entry as Entering}
-use Rattle.robust.specs.declared.entry_kind.Entry.TheVariants as entering
-use Rattle.robust.specs.declared.entry.Entry.{Entry}
-use Rattle.robust.specs.declared.lock_fault.LockFault.{LockFault}
-use Rattle.robust.specs.Calls.{starts}
-use Rattle.robust.specs.Faults.{ready, CutBy}
-use Rattle.robust.specs.Pass.{spot_now, own_of, Calls}
-use Rattle.robust.specs.Running.{Seated, began, fell}
-use Rattle.robust.specs.Runs.{own}
-use Rattle.robust.specs.Whole.{WholeEnds, AppendFails, Comes, IsFront, IsWithin, calls_inside}
+use Rattle.runs.specs.declared.entry_kind.Entry.{Entry as Entering}
+use Rattle.runs.specs.declared.entry_kind.Entry.TheVariants as entering
+use Rattle.runs.specs.declared.entry.Entry.{Entry}
+use Rattle.runs.specs.declared.lock_fault.LockFault.{LockFault}
+use Rattle.runs.specs.Calls.{starts}
+use Rattle.runs.specs.Faults.{ready, CutBy}
+use Rattle.runs.specs.Pass.{spot_now, own_of, Calls}
+use Rattle.runs.specs.Running.{Seated, began, fell}
+use Rattle.runs.specs.Runs.{own}
+use Rattle.runs.specs.Whole.{WholeEnds, AppendFails, Comes, IsFront, IsWithin, calls_inside}
 use Rattle.robust.specs.Sending.{OfStart, IsSending, AreSending, SendsOnly}
 use Rattle.robust.proofs.Errands.{each_start}
-use Rattle.robust.proofs.Gathered.{all_left}
-use Rattle.robust.proofs.Runs.{own-append}
+use Rattle.runs.proofs.Gathered.{all_left}
+use Rattle.runs.proofs.Runs.{own-append}
 
 -- the calls of a whole mailbox call
 module _ (P : Call → Type 0) (task : Call) (lock : P Lock) (unlock : P Unlock) (mends : P Consistent) (does : P task) where

@@ -11,15 +11,15 @@ use Rattle.rmeworld.specs.declared.call.Call.TheVariants.{Unlock}
 use Rattle.rmeworld.specs.Sent.{EveryRuinWasAsked, IsLeftUnmended}
 use Rattle.rmeworld.specs.Spot.{Spot, Happening, Begins, Falls, who, at_rest, next_spot}
 use Rattle.rmeworld.specs.World.{Scene, at_first, last_scene, Story, onward, reading}
-use Rattle.robust.specs.declared.entry.Entry.{Entry}
-use Rattle.robust.specs.declared.setup.Setup.{Setup}
-use Rattle.robust.specs.Reading.{cells_of, LoadsTell}
-use Rattle.robust.specs.Ruins.{HasReadRuin, last_call, last_of, settles, MayStart, AreInOrder, NobodyRuins}
-use Rattle.robust.specs.Runs.{crash_first, before, taken, happenings, spelled, own, Goes, spot_of, IsRun, end_of}
+use Rattle.runs.specs.declared.entry.Entry.{Entry}
+use Rattle.runs.specs.declared.setup.Setup.{Setup}
+use Rattle.runs.specs.Reading.{cells_of, LoadsTell}
+use Rattle.runs.specs.Ruins.{HasReadRuin, last_call, last_of, settles, MayStart, AreInOrder, NobodyRuins}
+use Rattle.runs.specs.Runs.{crash_first, before, taken, happenings, spelled, own, Goes, spot_of, IsRun, end_of}
 use Rattle.robust.proofs.Appended.{Own, own_split, own_taken, all_at}
-use Rattle.robust.proofs.OneStep.{run_goes, goes_back}
-use Rattle.robust.proofs.Ruins.{walk, unlocks_mended}
-use Rattle.robust.proofs.Runs.{own-append, spelled-append, spot_in_run, legal_front, by_kind}
+use Rattle.runs.proofs.OneStep.{run_goes, goes_back}
+use Rattle.runs.proofs.Ruins.{walk, unlocks_mended}
+use Rattle.runs.proofs.Runs.{own-append, spelled-append, spot_in_run, legal_front, by_kind}
 
 -- a story is its processes' own
 pub story_within : (l : Layout) (limit : ℕ) (w : Scene) (hs : List Happening) → Story l limit w hs → All (λ (h : Happening). who h < l.procs) hs

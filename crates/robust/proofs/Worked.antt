@@ -5,21 +5,21 @@ use Rattle.std.proofs.lemmas.Bool.{true≢false, cases_eq, cases_lt}
 use Rattle.std.proofs.lemmas.List.Elements.{All-nil, All-cons, All-head, All-tail}
 use Rattle.atomic_table.specs.Seated.{TableId}
 use Rattle.redomail.specs.Layout.{IsLayout}
-use Rattle.robust.specs.declared.setup.Setup.{Setup}
+use Rattle.runs.specs.declared.setup.Setup.{Setup}
 use Rattle.robust.specs.declared.lab.spec.Spec.{Spec}
 use Rattle.robust.specs.declared.lab.worker.Done.{Done}
 use Rattle.robust.specs.declared.lab.worker.Ending.TheVariants.{AllSent}
 use Rattle.robust.specs.Lab.{IsBadSpec}
 use Rattle.robust.specs.Worked.{seat_done, sizes_of, HasWorked}
-use Rattle.robust.specs.Runs.{has}
-use Rattle.robust.specs.Rule.{count_from}
-use Rattle.robust.specs.Running.{Seated}
+use Rattle.runs.specs.Runs.{has}
+use Rattle.runs.specs.Rule.{count_from}
+use Rattle.runs.specs.Running.{Seated}
 use Rattle.robust.specs.Making.{fresh_member, fresh_members}
-use Rattle.robust.specs.Gathering.{OneArena, has_member, procs_of, IsMissing}
+use Rattle.runs.specs.Gathering.{OneArena, has_member, procs_of, IsMissing}
 use Rattle.robust.specs.LabFaults.{EndsSo}
 use Rattle.robust.specs.Sending.{IsNew, HasSent}
 use Rattle.robust.specs.Working.{seat_of, seats_of}
-use Rattle.robust.proofs.Keeps.{count_has}
+use Rattle.runs.proofs.Keeps.{count_has}
 
 abbrev Seat : Type 0
 Seat = TableId × Setup × ℕ

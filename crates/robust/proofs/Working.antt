@@ -5,13 +5,13 @@ use Rattle.rmeworld.specs.declared.call.Call.{Call}
 use Rattle.rmeworld.specs.declared.call.Call.TheVariants.{Lock, Append}
 use Rattle.rmeworld.specs.Refused.{is_idle}
 use Rattle.redomail.specs.declared.reply.Reply.{Reply}
-use Rattle.robust.specs.declared.entry.Entry.{Entry}
-use Rattle.robust.specs.declared.setup.Setup.{Setup}
-use Rattle.robust.specs.declared.lock_fault.LockFault.{LockFault}
-use Rattle.robust.specs.Pass.{spot_now, Calls}
-use Rattle.robust.specs.Running.{Seated, began, fell}
-use Rattle.robust.specs.Faults.{ready}
-use Rattle.robust.specs.Whole.{WholeEnds, WholeFails, AppendFails}
+use Rattle.runs.specs.declared.entry.Entry.{Entry}
+use Rattle.runs.specs.declared.setup.Setup.{Setup}
+use Rattle.runs.specs.declared.lock_fault.LockFault.{LockFault}
+use Rattle.runs.specs.Pass.{spot_now, Calls}
+use Rattle.runs.specs.Running.{Seated, began, fell}
+use Rattle.runs.specs.Faults.{ready}
+use Rattle.runs.specs.Whole.{WholeEnds, WholeFails, AppendFails}
 use Rattle.robust.specs.Lab.{words_sent}
 use Rattle.robust.specs.Sending.{IsSending}
 use Rattle.robust.specs.Working.{seat_of}

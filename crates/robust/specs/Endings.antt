@@ -4,7 +4,7 @@ use Rattle.robust.specs.declared.lab.lab_fault.LabFault.{LabFault}
 use Rattle.robust.specs.declared.lab.lab_fault.LabFault.TheVariants.{Member, Reply}
 use Rattle.robust.specs.declared.lab.worker.Ending.{Ending}
 use Rattle.robust.specs.declared.lab.worker.Ending.TheVariants.{AllSent, Fault, Refused}
-use Rattle.robust.specs.declared.lock_fault.LockFault.TheVariants.{OutOfMemory}
+use Rattle.runs.specs.declared.lock_fault.LockFault.TheVariants.{OutOfMemory}
 
 -- each worker has sent all its messages
 abbrev pub HaveAllSent : List Ending → Type 0

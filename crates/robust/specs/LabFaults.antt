@@ -3,8 +3,8 @@ use Rattle.std.specs.Prelude.{◌≡◌, ℕ, ◌+◌, ◌*◌, ◌<◌, ◌≤�
 use Rattle.redomail.specs.declared.reply.Reply.{Reply}
 use Rattle.redomail.specs.declared.reply.Reply.TheVariants.{Full, Closed}
 use Rattle.rmeworld.specs.Sent.{ReplyTells}
-use Rattle.robust.specs.declared.entry.Entry.{Entry}
-use Rattle.robust.specs.declared.lock_fault.LockFault.TheVariants as fault
+use Rattle.runs.specs.declared.entry.Entry.{Entry}
+use Rattle.runs.specs.declared.lock_fault.LockFault.TheVariants as fault
 use Rattle.robust.specs.declared.lab.lab_fault.LabFault.{LabFault}
 use Rattle.robust.specs.declared.lab.lab_fault.LabFault.TheVariants.{BadSpec, OutOfMemory, Member, Reply as Replied}
 use Rattle.robust.specs.declared.lab.spec.Spec.{Spec}
@@ -12,10 +12,10 @@ use Rattle.robust.specs.declared.lab.worker.Done.{Done}
 use Rattle.robust.specs.declared.lab.worker.Ending.{Ending}
 use Rattle.robust.specs.declared.lab.worker.Ending.TheVariants.{AllSent, Fault, Refused}
 use Rattle.robust.specs.Endings.{fault_by}
-use Rattle.robust.specs.Headline.{judged_by}
-use Rattle.robust.specs.Pass.{own_of}
-use Rattle.robust.specs.Ruins.{HasReadRuin}
-use Rattle.robust.specs.Running.{Seated}
+use Rattle.runs.specs.Headline.{judged_by}
+use Rattle.runs.specs.Pass.{own_of}
+use Rattle.runs.specs.Ruins.{HasReadRuin}
+use Rattle.runs.specs.Running.{Seated}
 use Rattle.robust.specs.Sending.{HasShown}
 
 -- the fault is that of the first of these workers that has ended early

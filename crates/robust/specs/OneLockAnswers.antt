@@ -9,10 +9,10 @@ use Rattle.rmeworld.specs.declared.answer.Answer.{Answer}
 use Rattle.rmeworld.specs.declared.answer.Answer.TheVariants.{Clean, OwnerDied, NumbersSpent, Found as FoundOut, Mail}
 use Rattle.rmeworld.specs.Replayed.{stepped, started, crashed}
 use Rattle.rmeworld.specs.WorldState.{WorldState}
-use Rattle.robust.specs.declared.entry_kind.Entry.{Entry}
-use Rattle.robust.specs.declared.entry_kind.Entry.TheVariants.{Clean as CleanEntry, OwnerDied as OwnerDiedEntry}
-use Rattle.robust.specs.declared.lock_fault.LockFault.{LockFault}
-use Rattle.robust.specs.declared.lock_fault.LockFault.TheVariants.{Crashed, NotYet, NumbersSpent as SpentFault, NotRecoverable as RuinFault, OutOfMemory}
+use Rattle.runs.specs.declared.entry_kind.Entry.{Entry}
+use Rattle.runs.specs.declared.entry_kind.Entry.TheVariants.{Clean as CleanEntry, OwnerDied as OwnerDiedEntry}
+use Rattle.runs.specs.declared.lock_fault.LockFault.{LockFault}
+use Rattle.runs.specs.declared.lock_fault.LockFault.TheVariants.{Crashed, NotYet, NumbersSpent as SpentFault, NotRecoverable as RuinFault, OutOfMemory}
 use Rattle.robust.specs.declared.one_lock.opening.Opening.{Opening}
 use Rattle.robust.specs.declared.one_lock.standing.Standing.{Standing}
 use Rattle.robust.specs.declared.one_lock.standing.Standing.TheVariants.{Mended}

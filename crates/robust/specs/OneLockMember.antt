@@ -6,10 +6,10 @@ use Rattle.rmecore.specs.declared.found.Found.TheVariants.{Inside as FoundInside
 use Rattle.redomail.specs.declared.layout.Layout.{Layout}
 use Rattle.rmeworld.specs.declared.call.Call.{Call}
 use Rattle.rmeworld.specs.declared.call.Call.TheVariants.{Lock, Recover, Consistent, Append, Close, Withdraw}
-use Rattle.robust.specs.declared.lock_fault.LockFault.{LockFault}
-use Rattle.robust.specs.declared.lock_fault.LockFault.TheVariants.{Crashed, NotYet, NumbersSpent, NotRecoverable, OutOfMemory}
-use Rattle.robust.specs.declared.entry_kind.Entry.{Entry}
-use Rattle.robust.specs.declared.entry_kind.Entry.TheVariants.{Clean, OwnerDied}
+use Rattle.runs.specs.declared.lock_fault.LockFault.{LockFault}
+use Rattle.runs.specs.declared.lock_fault.LockFault.TheVariants.{Crashed, NotYet, NumbersSpent, NotRecoverable, OutOfMemory}
+use Rattle.runs.specs.declared.entry_kind.Entry.{Entry}
+use Rattle.runs.specs.declared.entry_kind.Entry.TheVariants.{Clean, OwnerDied}
 use Rattle.robust.specs.declared.one_lock.standing.Standing.{Standing}
 use Rattle.robust.specs.declared.one_lock.standing.Standing.TheVariants.{Out, Lost, Mended, Unmended}
 

@@ -3,13 +3,13 @@ use Rattle.std.specs.Prelude.{◌≡◌, ℕ, ◌≤◌, List, [], Option, Some,
 use Rattle.redomail.specs.Mailbox.{IsAmong}
 use Rattle.rmeworld.specs.declared.call.Call.{Call}
 use Rattle.rmeworld.specs.declared.call.Call.TheVariants.{Lock, Unlock, Consistent, Append}
-use Rattle.robust.specs.declared.entry.Entry.{Entry}
-use Rattle.robust.specs.declared.setup.Setup.{Setup}
-use Rattle.robust.specs.Faults.{refusal_now, ready}
-use Rattle.robust.specs.Headline.{shown_by}
+use Rattle.runs.specs.declared.entry.Entry.{Entry}
+use Rattle.runs.specs.declared.setup.Setup.{Setup}
+use Rattle.runs.specs.Faults.{refusal_now, ready}
+use Rattle.runs.specs.Headline.{shown_by}
 use Rattle.robust.specs.Lab.{words_sent}
-use Rattle.robust.specs.Pass.{own_of}
-use Rattle.robust.specs.Running.{Seated}
+use Rattle.runs.specs.Pass.{own_of}
+use Rattle.runs.specs.Running.{Seated}
 
 -- what holds of the call that a step starts, if it does
 abbrev pub OfStart : (Call → Type 0) → Option Call → Type 0

@@ -1,13 +1,13 @@
 -- What workers that have ended hand back.
 use Rattle.std.specs.Prelude.{ℕ, None}
 use Rattle.atomic_table.specs.Seated.{TableId}
-use Rattle.robust.specs.declared.setup.Setup.{Setup}
+use Rattle.runs.specs.declared.setup.Setup.{Setup}
 use Rattle.robust.specs.declared.lab.spec.Spec.{Spec}
 use Rattle.robust.specs.declared.lab.worker.Done.{Done}
 use Rattle.robust.specs.declared.lab.worker.HandsBack.{HandsBack}
 use Rattle.robust.specs.LabFaults.{EndsSo}
-use Rattle.robust.specs.Pass.{own_of}
-use Rattle.robust.specs.Ruins.{AreInOrder}
+use Rattle.runs.specs.Pass.{own_of}
+use Rattle.runs.specs.Ruins.{AreInOrder}
 use Rattle.robust.specs.Sending.{SendsOnly}
 use Rattle.robust.specs.Working.{seat_of}
 

@@ -1,8 +1,8 @@
 -- What a member keeps, whatever it does.
 use Rattle.std.specs.Prelude.{ℕ, List, map}
 use Rattle.atomic_table.specs.Seated.{TableId}
-use Rattle.robust.specs.declared.setup.Setup.{Setup}
-use Rattle.robust.specs.Running.{Seated}
+use Rattle.runs.specs.declared.setup.Setup.{Setup}
+use Rattle.runs.specs.Running.{Seated}
 
 -- which seat it is: at which table, with its sizes, and of which process
 abbrev pub seat_of : Seated → TableId × Setup × ℕ

@@ -3,15 +3,15 @@ ghost use Rattle.std.specs.Prelude.{◌≡◌, ℕ, ◌<◌, ◌≤◌, ◌^◌,
 ghost use Rattle.redomail.specs.Layout.{size};
 ghost use Rattle.rmeworld.specs.Stand.{IsSize};
 ghost use Rattle.atomic_table.specs.Seated.{TableId};
-ghost use Rattle.robust.specs.Runs.{word_count};
+ghost use Rattle.runs.specs.Runs.{word_count};
 ghost use Rattle.robust.specs.Making.{making_refusal, fresh_members};
 
 use crate::member::Member;
 use crate::runner::data_words;
-use crate::setup::Setup;
 use crate::walker::{Board, Walker};
 use redomail::Layout;
 use rmecore::Refusal;
+use runs::Setup;
 use std::alloc::{AllocError, Global};
 use std::sync::Arc;
 

@@ -3,21 +3,21 @@ ghost use Rattle.std.specs.Prelude.{◌≡◌, ◌≢◌, ℕ, ◌+◌, ◌≤�
 ghost use Rattle.rmeworld.specs.declared.call.Call.TheVariants.{Lock};
 ghost use Rattle.rmeworld.specs.OwnSteps.{most_steps};
 ghost use Rattle.rmeworld.specs.Refused.{is_idle};
-ghost use Rattle.robust.specs.declared.entry.Entry.{Entry};
-ghost use Rattle.robust.specs.Pass.{IsPass, spot_now};
-ghost use Rattle.robust.specs.Calls.{blocked_of, Ran, CutOff, Still, Served, Crashes, Calm, Fell};
-ghost use Rattle.robust.specs.Lasting.{Lasts};
-ghost use Rattle.robust.specs.Running.{began};
-ghost use Rattle.robust.specs.Tabled.{table_steps, CountsAtMost};
+ghost use Rattle.runs.specs.declared.entry.Entry.{Entry};
+ghost use Rattle.runs.specs.Pass.{IsPass, spot_now};
+ghost use Rattle.runs.specs.Calls.{blocked_of, Ran, CutOff, Still, Served, Crashes, Calm, Fell};
+ghost use Rattle.runs.specs.Lasting.{Lasts};
+ghost use Rattle.runs.specs.Running.{began};
+ghost use Rattle.runs.specs.Tabled.{table_steps, CountsAtMost};
 ghost use Rattle.robust.specs.Working.{seat_of};
-ghost use Rattle.robust.specs.Faults.{fault_for as fault_of, refusal_now, Fails};
-ghost use Rattle.robust.specs.Under.{IsUnder, Begun, Fits};
+ghost use Rattle.runs.specs.Faults.{fault_for as fault_of, refusal_now, Fails};
+ghost use Rattle.runs.specs.Under.{IsUnder, Begun, Fits};
 
-use crate::lock_fault::LockFault;
 use crate::runner::Runner;
 use crashlab::CrashPlan;
 use rmecore::Refusal;
 use rmeworld::{Answer, Call};
+use runs::LockFault;
 
 /// More steps than any call takes beside blocked ones.
 const MOST_STEPS: u64 = 256;

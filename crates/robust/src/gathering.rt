@@ -5,22 +5,22 @@ ghost use Rattle.redomail.specs.Layout.{size};
 ghost use Rattle.rmeworld.specs.ImageRules.{IsLawfulImage};
 ghost use Rattle.rmeworld.specs.Stand.{IsSize};
 ghost use Rattle.robust.specs.declared.gather_fault.GatherFault.TheVariants.{NotAll, OutOfMemory};
-ghost use Rattle.robust.specs.Runs.{InTable, IsRun, end_of, has as answers_for, word_count};
-ghost use Rattle.robust.specs.Rule.{count_from, Did, IsIn, stepper};
-ghost use Rattle.robust.specs.Pass.{alone, glanced};
-ghost use Rattle.robust.specs.Gathering.{OneArena, has_member, IsMissing, Gathers, Knows, Absorbs, AnswersAll, Looked, Stays};
+ghost use Rattle.runs.specs.Runs.{InTable, IsRun, end_of, has as answers_for, word_count};
+ghost use Rattle.runs.specs.Rule.{count_from, Did, IsIn, stepper};
+ghost use Rattle.runs.specs.Pass.{alone, glanced};
+ghost use Rattle.runs.specs.Gathering.{OneArena, has_member, IsMissing, Gathers, Knows, Absorbs, AnswersAll, Looked, Stays};
 
-use crate::entry::{Known, Step};
 use crate::gather_fault::GatherFault;
 use crate::member::Member;
 use crate::rule::{Glue, Words};
 use crate::runner::data_words;
-use crate::setup::Setup;
 use crate::steps;
 use crate::walker::{Board, Walker, index};
 use atomic_table::Seat;
 use rmecore::{Kind, Own, Word};
 use rmeworld::{Cells, Image, Owns};
+use runs::Setup;
+use runs::entry::{Known, Step};
 use std::alloc::Global;
 use std::sync::Arc;
 

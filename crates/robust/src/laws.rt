@@ -1,10 +1,10 @@
 //! Laws over every run of the table, whoever takes its steps. Each is the contract of a function that does nothing.
 
-ghost use Rattle.robust.specs.Headline.{EveryRunIsSound};
-ghost use Rattle.robust.specs.Reading.{LoadsTell, RunsShow, EntriesStandInRuns};
-ghost use Rattle.robust.specs.Ruins.{NobodyRuins};
-ghost use Rattle.robust.specs.Tabled.{CallsKeepTheTable};
-ghost use Rattle.robust.specs.WholeSteps.{StoredAppendSteps};
+ghost use Rattle.runs.specs.Headline.{EveryRunIsSound};
+ghost use Rattle.runs.specs.Reading.{LoadsTell, RunsShow, EntriesStandInRuns};
+ghost use Rattle.runs.specs.Ruins.{NobodyRuins};
+ghost use Rattle.runs.specs.Tabled.{CallsKeepTheTable};
+ghost use Rattle.runs.specs.WholeSteps.{StoredAppendSteps};
 
 /// The headline, for any number of processes, limit and room, and any list of entries that is a run, crashes and all: its
 /// deeds are legal by the judge's whole table; so no two are inside, one that crashed inside is the next to enter, whose

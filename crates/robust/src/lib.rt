@@ -3,13 +3,10 @@
 
 pub mod arena;
 mod drive;
-pub mod entry;
-pub mod entry_kind;
 pub mod gather_fault;
 pub mod gathering;
 pub mod lab;
 pub mod laws;
-pub mod lock_fault;
 mod locking;
 pub mod mailing;
 pub mod member;
@@ -17,19 +14,16 @@ pub mod one_lock;
 mod reading;
 pub mod rule;
 pub mod runner;
-pub mod setup;
 pub mod steps;
 pub mod walker;
 mod whole;
 
 pub use arena::Arena;
-pub use entry_kind::Entry;
 pub use gather_fault::GatherFault;
 pub use gathering::gather;
 pub use lab::{Gate, LabFault, LabResult, Spec, run_lab};
-pub use lock_fault::LockFault;
 pub use member::Member;
-pub use setup::Setup;
+pub use runs::{Entry, LockFault, Setup};
 
 #[cfg(test)]
 mod tests;

@@ -4,18 +4,18 @@ ghost use Rattle.rmecore.specs.declared.refusal.Refusal.{Refusal as RefusalOf};
 ghost use Rattle.rmeworld.specs.declared.call.Call.TheVariants.{Lock, Recover};
 ghost use Rattle.rmeworld.specs.OwnSteps.{most_steps};
 ghost use Rattle.rmeworld.specs.Refused.{is_idle};
-ghost use Rattle.robust.specs.Pass.{IsPass, spot_now};
-ghost use Rattle.robust.specs.Running.{began};
-ghost use Rattle.robust.specs.Tabled.{LockCounts, CountsAtMost};
-ghost use Rattle.robust.specs.Under.{Begun, Fits, Leaves};
-ghost use Rattle.robust.specs.Faults.{refusal_now, ready, CutIn, LockBy, LockEnds};
+ghost use Rattle.runs.specs.Pass.{IsPass, spot_now};
+ghost use Rattle.runs.specs.Running.{began};
+ghost use Rattle.runs.specs.Tabled.{LockCounts, CountsAtMost};
+ghost use Rattle.runs.specs.Under.{Begun, Fits, Leaves};
+ghost use Rattle.runs.specs.Faults.{refusal_now, ready, CutIn, LockBy, LockEnds};
 
-use crate::lock_fault::LockFault;
 use crate::runner::Runner;
 use crashlab::CrashPlan;
 use crossbeam_utils::Backoff;
 use rmecore::Refusal;
 use rmeworld::{Answer, Call};
+use runs::LockFault;
 use std::sync::Wait;
 
 impl Runner {

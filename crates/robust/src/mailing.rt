@@ -2,22 +2,22 @@
 //! the task's reply.
 ghost use Rattle.std.specs.Prelude.{◌≡◌, ◌≢◌, ◌⊎◌, ℕ, ◌+◌, ◌≤◌, length, Ok, Err, IfOk, IfErr, OnOk};
 ghost use Rattle.redomail.specs.Mailbox.{IsAmong};
-ghost use Rattle.robust.specs.Running.{began};
-ghost use Rattle.robust.specs.Faults.{refusal_now, ready};
-ghost use Rattle.robust.specs.Headline.{shown_by};
-ghost use Rattle.robust.specs.Telling.{ToldIn};
-ghost use Rattle.robust.specs.Under.{Appends};
+ghost use Rattle.runs.specs.Running.{began};
+ghost use Rattle.runs.specs.Faults.{refusal_now, ready};
+ghost use Rattle.runs.specs.Headline.{shown_by};
+ghost use Rattle.runs.specs.Telling.{ToldIn};
+ghost use Rattle.runs.specs.Under.{Appends};
 ghost use Rattle.robust.specs.Working.{seat_of};
-ghost use Rattle.robust.specs.WholeSteps.{most_whole};
-ghost use Rattle.robust.specs.Whole.{WholeEnds, WholeFails, AppendFails};
+ghost use Rattle.runs.specs.WholeSteps.{most_whole};
+ghost use Rattle.runs.specs.Whole.{WholeEnds, WholeFails, AppendFails};
 
 use crate::laws;
-use crate::lock_fault::LockFault;
 use crate::member::Member;
 use crashlab::CrashPlan;
 use redomail::Reply;
 use rmecore::Body;
 use rmeworld::Call;
+use runs::LockFault;
 use std::sync::Wait;
 
 impl Member {

@@ -1,29 +1,27 @@
 //! A process of the running lock.
 ghost use Rattle.std.specs.Prelude.{◌≡◌, ◌≢◌, ℕ, ◌+◌, ◌*◌, ◌≤◌, ◌⊎◌, List, [], ◌∷◌, length, Some, None, IfOk, IfErr, OnOk, OnErr};
 ghost use Rattle.redomail.specs.declared.reply.Reply.{Reply as ReplyOf};
-ghost use Rattle.robust.specs.declared.entry.Entry.{Entry as EntryOf};
+ghost use Rattle.runs.specs.declared.entry.Entry.{Entry as EntryOf};
 ghost use Rattle.rmeworld.specs.OwnSteps.{most_steps};
-ghost use Rattle.robust.specs.Pass.{fresh, spot_now, IsPass};
-ghost use Rattle.robust.specs.Running.{Seated, began};
-ghost use Rattle.robust.specs.Calls.{Served, Calm};
-ghost use Rattle.robust.specs.Under.{Fits};
-ghost use Rattle.robust.specs.Reading.{ReadsFrom, ReadsCount};
-ghost use Rattle.robust.specs.Headline.{IsSoundRun};
-ghost use Rattle.robust.specs.Tabled.{table_steps, LockCounts, LockCountsOut};
+ghost use Rattle.runs.specs.Pass.{fresh, spot_now, IsPass};
+ghost use Rattle.runs.specs.Running.{Seated, began};
+ghost use Rattle.runs.specs.Calls.{Served, Calm};
+ghost use Rattle.runs.specs.Under.{Fits};
+ghost use Rattle.runs.specs.Reading.{ReadsFrom, ReadsCount};
+ghost use Rattle.runs.specs.Headline.{IsSoundRun};
+ghost use Rattle.runs.specs.Tabled.{table_steps, LockCounts, LockCountsOut};
 ghost use Rattle.robust.specs.Working.{seat_of};
-ghost use Rattle.robust.specs.Board.{last_put, value_or, LastIsOwn};
-ghost use Rattle.robust.specs.Faults.{refusal_now, ready, Fails, FailsOut, AnsweredIn, LockEnds, LockFails, answer_of};
+ghost use Rattle.runs.specs.Board.{last_put, value_or, LastIsOwn};
+ghost use Rattle.runs.specs.Faults.{refusal_now, ready, Fails, FailsOut, AnsweredIn, LockEnds, LockFails, answer_of};
 
-use crate::entry_kind::Entry;
 use crate::laws;
-use crate::lock_fault::LockFault;
 use crate::runner::Runner;
-use crate::setup::Setup;
 use crate::walker::Walker;
 use crashlab::CrashPlan;
 use redomail::{Message, Reply};
 use rmecore::Found;
 use rmeworld::{Answer, Call};
+use runs::{Entry, LockFault, Setup};
 use std::alloc::{AllocError, Global};
 use std::marker::Model;
 use std::sync::Wait;
@@ -37,7 +35,7 @@ pub struct Member {
 
 impl Model for Member {
     ghost use Rattle.std.specs.Prelude.{◌≡◌, None};
-    ghost use Rattle.robust.specs.Running.{Seated};
+    ghost use Rattle.runs.specs.Running.{Seated};
 
     ghost Value = { Seated };
 

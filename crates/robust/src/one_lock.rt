@@ -12,12 +12,12 @@ mod opening;
 mod shared;
 pub mod standing;
 
-pub use crate::entry_kind::Entry;
 pub use crate::gather_fault::GatherFault;
 pub use arena::Arena;
 pub use gathering::gather;
 pub use lab::run_lab;
 pub use member::Member;
+pub use runs::Entry;
 pub use standing::Standing;
 
 #[cfg(test)]

@@ -2,7 +2,7 @@
 ghost use Rattle.std.specs.Prelude.{◌≡◌, ℕ, ◌+◌, ◌*◌, ◌-◌, ◌<◌, length, drop, IfOk, OnOk, OnErr};
 ghost use Rattle.redomail.specs.Layout.{place_at};
 ghost use Rattle.redomail.specs.Shape.{entry as entry_of, entries as entries_of};
-ghost use Rattle.robust.specs.Reading.{cells_of, row_words, entry_words, Glances, ReadsFrom, ReadsCount};
+ghost use Rattle.runs.specs.Reading.{cells_of, row_words, entry_words, Glances, ReadsFrom, ReadsCount};
 
 use crate::runner::Runner;
 use redomail::Message;

@@ -1,15 +1,15 @@
 //! The rule of the table, and what a step tells.
 
-use crate::entry::Known;
-use crate::setup::Setup;
 use atomic_table::{Join, Play, Shared, Split, TableRule};
+use runs::Setup;
+use runs::entry::Known;
 use std::marker::{Brand, PhantomData};
 
 /// There is one run, whose words are the table's, and each seat's pass is a beginning of it. The key is the sizes.
 pub struct OneRun;
 
 impl TableRule<(), Known, Setup> for OneRun {
-    ghost use Rattle.robust.specs.Rule.{Kept, opening_known};
+    ghost use Rattle.runs.specs.Rule.{Kept, opening_known};
 
     ghost holds = { Kept };
 
@@ -19,7 +19,7 @@ impl TableRule<(), Known, Setup> for OneRun {
 /// Names the step that a load or a store is.
 pub trait Deed {
     ghost use Rattle.std.specs.Prelude.{ℕ};
-    ghost use Rattle.robust.specs.declared.entry.Step.{Step};
+    ghost use Rattle.runs.specs.declared.entry.Step.{Step};
 
     ghost step: { Step };
 
@@ -28,7 +28,7 @@ pub trait Deed {
 }
 
 impl Deed for Brand {
-    ghost use Rattle.robust.specs.Rule.{no_step};
+    ghost use Rattle.runs.specs.Rule.{no_step};
 
     ghost step = { no_step };
 
@@ -42,7 +42,7 @@ pub struct Does<D> {
 
 impl<D: Deed> Play<(), Known> for Does<D> {
     ghost use Rattle.std.specs.Prelude.{◌≡◌};
-    ghost use Rattle.robust.specs.Rule.{Did};
+    ghost use Rattle.runs.specs.Rule.{Did};
 
     ghost then = { λ step before found after. Did D.step before.0 found after.0 × (after.1 ≡ before.1) };
 }
@@ -54,7 +54,7 @@ pub struct Passes<D> {
 
 impl<D: Deed> Play<(), Known> for Passes<D> {
     ghost use Rattle.std.specs.Prelude.{◌≡◌};
-    ghost use Rattle.robust.specs.Rule.{Did};
+    ghost use Rattle.runs.specs.Rule.{Did};
 
     ghost then = { λ step before found after. Did D.step before.0 D.value after.0 × (after.1 ≡ before.1) };
 }
@@ -63,7 +63,7 @@ impl<D: Deed> Play<(), Known> for Passes<D> {
 pub struct Cut;
 
 impl Split<Known> for Cut {
-    ghost use Rattle.robust.specs.Rule.{without_first, first_alone};
+    ghost use Rattle.runs.specs.Rule.{without_first, first_alone};
 
     ghost left = { without_first };
 
@@ -74,7 +74,7 @@ impl Split<Known> for Cut {
 pub struct Glue;
 
 impl Join<Known> for Glue {
-    ghost use Rattle.robust.specs.Rule.{joined, spent_known};
+    ghost use Rattle.runs.specs.Rule.{joined, spent_known};
 
     ghost both = { joined };
 

@@ -6,17 +6,16 @@ ghost use Rattle.rmecore.specs.World.{is_store};
 ghost use Rattle.redomail.specs.Layout.{size};
 ghost use Rattle.rmeworld.specs.Refused.{start_refusal, is_idle};
 ghost use Rattle.rmeworld.specs.Stand.{IsSize, InWords, StoresOwn};
-ghost use Rattle.robust.specs.Runs.{InTable, IsBeyond};
-ghost use Rattle.robust.specs.Under.{Begun};
-ghost use Rattle.robust.specs.Pass.{Advances, Looks, IsPass, fresh, spot_now, moved_spot};
+ghost use Rattle.runs.specs.Runs.{InTable, IsBeyond};
+ghost use Rattle.runs.specs.Under.{Begun};
+ghost use Rattle.runs.specs.Pass.{Advances, Looks, IsPass, fresh, spot_now, moved_spot};
 
-use crate::lock_fault::LockFault;
-use crate::setup::Setup;
 use crate::walker::Walker;
 use crashlab::CrashPlan;
 use redomail::Layout;
 use rmecore::{Access, Kind, Refusal, Word};
 use rmeworld::{Call, Outcome, Process};
+use runs::{LockFault, Setup};
 use std::marker::Model;
 
 /// A process with its seat, its machine, and how many own steps its last call has taken, held at the greatest u64.
@@ -28,7 +27,7 @@ pub struct Runner {
 }
 
 impl Model for Runner {
-    ghost use Rattle.robust.specs.Running.{Seated, IsRunBy};
+    ghost use Rattle.runs.specs.Running.{Seated, IsRunBy};
 
     ghost Value = { Seated };
 
@@ -95,7 +94,7 @@ fn perform(walker: &mut Walker, access: Access) -> u64
 }
 
 impl Runner {
-    ghost use Rattle.robust.specs.Running.{Seated, TakesStep, fell, began, behind};
+    ghost use Rattle.runs.specs.Running.{Seated, TakesStep, fell, began, behind};
 
     /// A process at rest, with this seat.
     pub fn new(walker: Walker) -> Runner

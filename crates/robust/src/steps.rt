@@ -1,10 +1,10 @@
 //! One load and one store, whatever the step is for.
 ghost use Rattle.std.specs.Prelude.{◌≡◌, ℕ, ◌<◌};
-ghost use Rattle.robust.specs.Rule.{Did, MayLoad, MayStore, MayPass};
+ghost use Rattle.runs.specs.Rule.{Did, MayLoad, MayStore, MayPass};
 
-use crate::entry::{Known, Step};
 use crate::rule::{Deed, Does, Passes, Words};
 use atomic_table::Seat;
+use runs::entry::{Known, Step};
 use std::marker::Brand;
 
 fn load_named<D: Deed>(table: &Words, seat: &mut Seat<(), Known>, step: Step, word: usize) -> u64

@@ -4,16 +4,16 @@ ghost use Rattle.std.specs.Arc.{arc_value};
 ghost use Rattle.rmecore.specs.World.{is_store};
 ghost use Rattle.rmeworld.specs.Spot.{next_spot, Begins};
 ghost use Rattle.rmeworld.specs.Stand.{IsSize};
-ghost use Rattle.robust.specs.Runs.{InTable, IsBeyond, index as index_of, word_count, IsRun};
-ghost use Rattle.robust.specs.Pass.{Pass, Advances, Looks, IsPass, alone, rest_known, fresh, spot_now, moved_spot};
+ghost use Rattle.runs.specs.Runs.{InTable, IsBeyond, index as index_of, word_count, IsRun};
+ghost use Rattle.runs.specs.Pass.{Pass, Advances, Looks, IsPass, alone, rest_known, fresh, spot_now, moved_spot};
 
-use crate::entry::{Known, Step};
 use crate::rule::{Cut, OneRun};
-use crate::setup::Setup;
 use crate::steps;
 use atomic_table::{Seat, Table};
 use rmecore::{Kind, Word};
 use rmeworld::Call;
+use runs::Setup;
+use runs::entry::{Known, Step};
 use std::alloc::{AllocError, Global};
 use std::marker::Model;
 use std::sync::Arc;
@@ -35,7 +35,7 @@ pub struct Walker {
 impl Model for Walker {
     ghost use Rattle.std.specs.Prelude.{◌≡◌, []};
     ghost use Rattle.std.specs.Arc.{arc_value};
-    ghost use Rattle.robust.specs.Pass.{Pass, IsPass, alone};
+    ghost use Rattle.runs.specs.Pass.{Pass, IsPass, alone};
 
     ghost Value = { Pass };
 

@@ -6,20 +6,19 @@ ghost use Rattle.rmeworld.specs.declared.call.Call.TheVariants.{Lock, Unlock};
 ghost use Rattle.rmeworld.specs.declared.answer.Answer.{Answer as AnswerOf};
 ghost use Rattle.rmeworld.specs.declared.answer.Answer.TheVariants.{Mail, Unlocked};
 ghost use Rattle.rmeworld.specs.OwnSteps.{most_steps};
-ghost use Rattle.robust.specs.Pass.{spot_now};
-ghost use Rattle.robust.specs.Running.{Seated, began};
-ghost use Rattle.robust.specs.Tabled.{CountsAtMost};
-ghost use Rattle.robust.specs.Under.{Fits, Leaves, IsHolder};
-ghost use Rattle.robust.specs.Faults.{refusal_now, ready, CutIn, CutBy, AnsweredBy, LockBy, answer_of};
-ghost use Rattle.robust.specs.WholeSteps.{InsideCounts, most_inside, most_whole};
-ghost use Rattle.robust.specs.Whole.{IsTask, IsFront, IsInner, IsWithin, Inner, WholeBy, WholeGoes, WholeEnds, WholeFails};
+ghost use Rattle.runs.specs.Pass.{spot_now};
+ghost use Rattle.runs.specs.Running.{Seated, began};
+ghost use Rattle.runs.specs.Tabled.{CountsAtMost};
+ghost use Rattle.runs.specs.Under.{Fits, Leaves, IsHolder};
+ghost use Rattle.runs.specs.Faults.{refusal_now, ready, CutIn, CutBy, AnsweredBy, LockBy, answer_of};
+ghost use Rattle.runs.specs.WholeSteps.{InsideCounts, most_inside, most_whole};
+ghost use Rattle.runs.specs.Whole.{IsTask, IsFront, IsInner, IsWithin, Inner, WholeBy, WholeGoes, WholeEnds, WholeFails};
 
-use crate::entry_kind::Entry;
-use crate::lock_fault::LockFault;
 use crate::runner::Runner;
 use crashlab::CrashPlan;
 use redomail::Reply;
 use rmeworld::{Answer, Call};
+use runs::{Entry, LockFault};
 use std::sync::Wait;
 
 impl Runner {

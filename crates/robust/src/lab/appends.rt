@@ -2,10 +2,10 @@
 
 ghost use Rattle.std.specs.Prelude.{◌≡◌, ◌<◌};
 
-use crate::lock_fault::LockFault;
 use crashlab::CrashPlan;
 use redomail::Reply;
 use rmecore::Body;
+use runs::LockFault;
 use std::sync::Wait;
 
 /// A member that a worker of a lab sends by, over whatever lock.

@@ -2,21 +2,21 @@
 
 ghost use Rattle.std.specs.Prelude.{◌≡◌, ◌≤◌, ◌↔◌, ◌⊎◌, ℕ, None, IsTrue, IfOk, IfErr, length};
 ghost use Rattle.rmeworld.specs.declared.call.Call.TheVariants.{Lock, Append};
-ghost use Rattle.robust.specs.Faults.{refusal_now, ready};
-ghost use Rattle.robust.specs.Pass.{own_of};
-ghost use Rattle.robust.specs.Ruins.{AreInOrder, HasReadRuin};
-ghost use Rattle.robust.specs.Telling.{ToldIn};
-ghost use Rattle.robust.specs.Under.{Appends};
+ghost use Rattle.runs.specs.Faults.{refusal_now, ready};
+ghost use Rattle.runs.specs.Pass.{own_of};
+ghost use Rattle.runs.specs.Ruins.{AreInOrder, HasReadRuin};
+ghost use Rattle.runs.specs.Telling.{ToldIn};
+ghost use Rattle.runs.specs.Under.{Appends};
 ghost use Rattle.robust.specs.Worked.{HasWorked, sizes_of};
 ghost use Rattle.robust.specs.Sending.{IsNew, IsSending, SendsOnly, HasShown};
 ghost use Rattle.robust.specs.Working.{seat_of};
 
 use crate::lab::sending::value_sent;
 use crate::lab::{Gate, Spec};
-use crate::lock_fault::LockFault;
 use crate::member::Member;
 use redomail::Reply;
 use rmecore::Body;
+use runs::LockFault;
 use std::snapshot::Snapshot;
 use std::sync::Wait;
 use std::thread::Promise;

@@ -7,14 +7,13 @@ ghost use Rattle.std.specs.Prelude.{◌≡◌, ◌≢◌, ◌<◌, ◌≤◌, �
 ghost use Rattle.robust.specs.OneLockAnswers.{Answered, IsReply, entry_by, found_by, mended_by, word_by, reply_by};
 ghost use Rattle.robust.specs.OneLockMember.{Goes, AskedEach, AskedOnceMore, Counts, CountsOn, is_in, may_start, of_lock, of_wait, of_steps, of_consistent, falls_by, stands_entered, stands_out, stands_found, stands_mended, stands_still};
 
-use crate::entry_kind::Entry;
-use crate::lock_fault::LockFault;
 use crate::one_lock::member::Member;
 use crate::one_lock::standing::Standing;
 use crashlab::CrashPlan;
 use redomail::Reply;
 use rmecore::{Body, Found};
 use rmeworld::{Answer, Call};
+use runs::{Entry, LockFault};
 use std::sync::Wait;
 use std::sync::ledger::Ledger;
 

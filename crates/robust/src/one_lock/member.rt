@@ -5,7 +5,6 @@ ghost use Rattle.rmecore.specs.Simulated.{one_more};
 ghost use Rattle.robust.specs.OneLockMember.{Goes, AskedEach, AskedOnceMore, Counts, CountsOn, falls_by, may_start};
 ghost use Rattle.robust.specs.OneLockAnswers.{Gives, IsAnswered};
 
-use crate::lock_fault::LockFault;
 use crate::one_lock::opening::Opening;
 use crate::one_lock::shared::{Shared, Turn};
 use crate::one_lock::standing::Standing;
@@ -13,6 +12,7 @@ use crashlab::CrashPlan;
 use crossbeam_utils::Backoff;
 use redomail::Layout;
 use rmeworld::{Answer, Call};
+use runs::LockFault;
 use std::marker::Model;
 use std::sync::ledger::{Ledger, Share};
 use std::sync::{Arc, Mutex, Wait};

@@ -3,8 +3,8 @@
 ghost use Rattle.std.specs.Prelude.{◌≡◌, map, IfOk};
 ghost use Rattle.std.specs.Thread.{IsSync};
 ghost use Rattle.atomic_table.specs.Seated.{TableId};
-ghost use Rattle.robust.specs.declared.setup.Setup.{Setup};
-ghost use Rattle.robust.specs.Gathering.{OneArena};
+ghost use Rattle.runs.specs.declared.setup.Setup.{Setup};
+ghost use Rattle.runs.specs.Gathering.{OneArena};
 ghost use Rattle.robust.specs.Making.{fresh_members};
 ghost use Rattle.robust.specs.Working.{seat_of, seats_of};
 

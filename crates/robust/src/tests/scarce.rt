@@ -1,7 +1,7 @@
 //! Each request for memory refused in turn: all memory is taken, but for a reserve that is given back piece by piece, until
 //! a call meets no refusal.
 
-ghost use Rattle.robust.specs.Gathering.{OneArena};
+ghost use Rattle.runs.specs.Gathering.{OneArena};
 
 use super::counted::never;
 use super::kit::{are, body, two, words};

@@ -1,12 +1,12 @@
 use Rattle.std.proofs.Common.{◌≡◌, ℕ, ◌+◌, ◌*◌, List, [], ◌∷◌, ◌++◌, map, replicate, sym, ap, ◌∙◌, arith}
 use Rattle.atomic_table.specs.Seated.{TableId}
-use Rattle.robust.specs.Rule.{count_from}
-use Rattle.robust.specs.Runs.{word_count}
-use Rattle.robust.specs.Pass.{Pass}
-use Rattle.robust.specs.Running.{Seated}
+use Rattle.runs.specs.Rule.{count_from}
+use Rattle.runs.specs.Runs.{word_count}
+use Rattle.runs.specs.Pass.{Pass}
+use Rattle.runs.specs.Running.{Seated}
 use Rattle.robust.specs.Making.{fresh_member}
-use Rattle.robust.proofs.Keeps.{opens}
-use Rattle.robust.proofs.Opens.{size_small, mapped_more}
+use Rattle.runs.proofs.Keeps.{opens}
+use Rattle.runs.proofs.Opens.{size_small, mapped_more}
 use Rattle.robust.proofs.arena.made.Goals as goal
 
 pub overflow_add-count : goal.overflow_add-count

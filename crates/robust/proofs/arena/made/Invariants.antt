@@ -1,8 +1,8 @@
 use Rattle.std.proofs.Common.{◌≡◌, [], map}
 use Rattle.std.specs.Arc.{arc_value}
-use Rattle.robust.specs.Rule.{count_from}
-use Rattle.robust.specs.Runs.{word_count}
-use Rattle.robust.specs.Pass.{rest_known}
+use Rattle.runs.specs.Rule.{count_from}
+use Rattle.runs.specs.Runs.{word_count}
+use Rattle.runs.specs.Pass.{rest_known}
 use Rattle.robust.specs.Making.{fresh_member}
 use Rattle.robust.proofs.arena.made.Given as goal
 

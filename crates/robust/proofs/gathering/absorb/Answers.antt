@@ -1,10 +1,10 @@
 use Rattle.std.proofs.Common.{◌≡◌, ◌<◌, ℕ, true, List, sym, ap, ◌∙◌, subst, arith}
 use Rattle.atomic_table.specs.Seated.{TableId}
-use Rattle.robust.specs.declared.entry.Known.{Known}
-use Rattle.robust.specs.Runs.{has}
-use Rattle.robust.specs.Rule.{stepper}
-use Rattle.robust.proofs.Keeps.{glues}
-use Rattle.robust.proofs.Leads.{has_one}
+use Rattle.runs.specs.declared.entry.Known.{Known}
+use Rattle.runs.specs.Runs.{has}
+use Rattle.runs.specs.Rule.{stepper}
+use Rattle.runs.proofs.Keeps.{glues}
+use Rattle.runs.proofs.Leads.{has_one}
 use Rattle.robust.proofs.gathering.absorb.Goals as goal
 
 pub join_seat-requires : goal.join_seat-requires

@@ -1,4 +1,4 @@
-use Rattle.robust.proofs.Gathered.{may_glance}
+use Rattle.runs.proofs.Gathered.{may_glance}
 use Rattle.robust.proofs.gathering.look.Goals as goal
 
 pub load-requires-clause-may : goal.load-requires-clause-may

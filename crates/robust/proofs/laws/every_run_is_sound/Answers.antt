@@ -1,6 +1,6 @@
-use Rattle.robust.specs.Runs.{spelled}
-use Rattle.robust.specs.Headline.{deeds_of}
-use Rattle.robust.proofs.Headline.{answered, words_sit}
+use Rattle.runs.specs.Runs.{spelled}
+use Rattle.runs.specs.Headline.{deeds_of}
+use Rattle.runs.proofs.Headline.{answered, words_sit}
 use Rattle.robust.proofs.laws.every_run_is_sound.Goals as goal
 
 pub returns : goal.returns

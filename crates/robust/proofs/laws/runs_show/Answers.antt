@@ -1,4 +1,4 @@
-use Rattle.robust.proofs.Shown.{runs_show}
+use Rattle.runs.proofs.Shown.{runs_show}
 use Rattle.robust.proofs.laws.runs_show.Goals as goal
 
 pub returns : goal.returns

@@ -1,4 +1,4 @@
-use Rattle.robust.proofs.Keeps.{loads}
+use Rattle.runs.proofs.Keeps.{loads}
 use Rattle.robust.proofs.steps.load_named.Goals as goal
 
 pub load-requires : goal.load-requires

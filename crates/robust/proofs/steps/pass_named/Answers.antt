@@ -1,4 +1,4 @@
-use Rattle.robust.proofs.Keeps.{passes}
+use Rattle.runs.proofs.Keeps.{passes}
 use Rattle.robust.proofs.steps.pass_named.Goals as goal
 
 pub load-requires : goal.load-requires

@@ -1,4 +1,4 @@
-use Rattle.robust.proofs.Keeps.{stores_kept}
+use Rattle.runs.proofs.Keeps.{stores_kept}
 use Rattle.robust.proofs.steps.store_named.Goals as goal
 
 pub store-requires : goal.store-requires

@@ -1,6 +1,6 @@
 use Rattle.std.proofs.Common.{subst, arith}
-use Rattle.robust.specs.Runs.{InTable}
-use Rattle.robust.proofs.Opens.{size_small}
+use Rattle.runs.specs.Runs.{InTable}
+use Rattle.runs.proofs.Opens.{size_small}
 use Rattle.robust.proofs.walker.index.Goals as goal
 
 pub overflow_add-result-in-Data : goal.overflow_add-result-in-Data

@@ -1,6 +1,6 @@
 use Rattle.std.proofs.Common.{rules, ◌≢◌, true≢false, sym, subst}
 use Rattle.robust.specs.declared.lab.worker.Ending.TheVariants.{Fault}
-use Rattle.robust.specs.declared.lock_fault.LockFault.TheVariants.{OutOfMemory}
+use Rattle.runs.specs.declared.lock_fault.LockFault.TheVariants.{OutOfMemory}
 use Rattle.robust.proofs.Endings.{all_more, all_of, none_wanted}
 use Rattle.robust.proofs.lab.crew.want_memory.Goals as goal
 

@@ -1,6 +1,6 @@
 use Rattle.std.proofs.Common.{◌≢◌, map, take, All}
 use Rattle.robust.specs.declared.lab.worker.Ending.TheVariants.{Fault}
-use Rattle.robust.specs.declared.lock_fault.LockFault.TheVariants.{OutOfMemory}
+use Rattle.runs.specs.declared.lock_fault.LockFault.TheVariants.{OutOfMemory}
 use Rattle.robust.proofs.lab.crew.want_memory.Given as goal
 
 abbrev pub invariant-loop-done : goal.invariant-loop-done

@@ -4,10 +4,10 @@ use Rattle.redomail.specs.Layout.{words_of}
 use Rattle.redomail.specs.Shape.{entries, IsNumbered}
 use Rattle.robust.specs.declared.lab.worker.Ending.TheVariants.{AllSent}
 use Rattle.robust.specs.declared.lab.worker.Done.{Done}
-use Rattle.robust.specs.Gathering.{Gathers}
+use Rattle.runs.specs.Gathering.{Gathers}
 use Rattle.robust.specs.Lab.{AreAllSent}
 use Rattle.robust.specs.LabFaults.{IsFirstFault}
-use Rattle.robust.specs.Running.{Seated}
+use Rattle.runs.specs.Running.{Seated}
 use Rattle.robust.specs.Worked.{sizes_of}
 use Rattle.robust.specs.Sending.{HasSent}
 use Rattle.robust.specs.Working.{seats_of}

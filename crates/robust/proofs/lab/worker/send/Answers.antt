@@ -2,12 +2,12 @@ use Rattle.std.proofs.Common.{◌≡◌, ℕ, true, false, ◌∙◌, sym, ap, s
 use Rattle.atomic_table.specs.Seated.{TableId}
 use Rattle.redomail.specs.Mailbox.{IsAmong}
 use Rattle.rmeworld.specs.declared.call.Call.TheVariants.{Append}
-use Rattle.robust.specs.declared.setup.Setup.{Setup}
-use Rattle.robust.specs.Headline.{shown_by}
+use Rattle.runs.specs.declared.setup.Setup.{Setup}
+use Rattle.runs.specs.Headline.{shown_by}
 use Rattle.robust.proofs.Failing.{append_left, append_faults, append_grows, grown_on, told_from}
-use Rattle.robust.proofs.Ordered.{orders_append}
+use Rattle.runs.proofs.Ordered.{orders_append}
 use Rattle.robust.proofs.Sending.{sends_append}
-use Rattle.robust.proofs.Told.{append_told}
+use Rattle.runs.proofs.Told.{append_told}
 use Rattle.robust.proofs.Working.{sent_seat, fits_seat}
 use Rattle.robust.proofs.lab.worker.send.Goals as goal
 

@@ -1,8 +1,8 @@
 use Rattle.std.proofs.Common.{◌≡◌, ℕ, None}
 use Rattle.rmeworld.specs.declared.call.Call.TheVariants.{Lock, Append}
-use Rattle.robust.specs.Faults.{refusal_now, ready}
-use Rattle.robust.specs.Pass.{own_of}
-use Rattle.robust.specs.Ruins.{AreInOrder}
+use Rattle.runs.specs.Faults.{refusal_now, ready}
+use Rattle.runs.specs.Pass.{own_of}
+use Rattle.runs.specs.Ruins.{AreInOrder}
 use Rattle.robust.specs.Sending.{IsSending, SendsOnly}
 use Rattle.robust.specs.Working.{seat_of}
 use Rattle.robust.proofs.Failing.{Grown}

@@ -1,9 +1,9 @@
 use Rattle.std.proofs.Common.{◌≡◌, ◌∙◌, ◌≤◌, ℕ, refl, subst, arith, true, false, sym, ap}
 use Rattle.atomic_table.specs.Seated.{TableId}
-use Rattle.robust.specs.declared.setup.Setup.{Setup}
+use Rattle.runs.specs.declared.setup.Setup.{Setup}
 use Rattle.robust.specs.Sending.{HasShown}
 use Rattle.robust.proofs.Failing.{refused}
-use Rattle.robust.proofs.Told.{faulted}
+use Rattle.runs.proofs.Told.{faulted}
 use Rattle.robust.proofs.Working.{sends_value}
 use Rattle.robust.proofs.lab.worker.work.Goals as goal
 

@@ -2,14 +2,14 @@ use Rattle.std.proofs.Common.{◌≡◌, ◌⊎◌, ℕ, length, Ok, IfOk, IfErr
 use Rattle.redomail.specs.Mailbox.{IsAmong}
 use Rattle.redomail.specs.declared.reply.Reply.TheVariants.{Stored, Already}
 use Rattle.rmeworld.specs.declared.call.Call.TheVariants.{Lock, Append}
-use Rattle.robust.specs.declared.setup.Setup.{Setup}
-use Rattle.robust.specs.Running.{Seated, began}
-use Rattle.robust.specs.Faults.{ready}
-use Rattle.robust.specs.Whole.{WholeEnds, WholeFails}
-use Rattle.robust.specs.Headline.{shown_by}
-use Rattle.robust.specs.Telling.{ToldIn}
+use Rattle.runs.specs.declared.setup.Setup.{Setup}
+use Rattle.runs.specs.Running.{Seated, began}
+use Rattle.runs.specs.Faults.{ready}
+use Rattle.runs.specs.Whole.{WholeEnds, WholeFails}
+use Rattle.runs.specs.Headline.{shown_by}
+use Rattle.runs.specs.Telling.{ToldIn}
 use Rattle.robust.proofs.Appended.{append_shown, append_tells}
-use Rattle.robust.proofs.WholeCalls.{err_more}
+use Rattle.runs.proofs.WholeCalls.{err_more}
 use Rattle.robust.specs.Working.{seat_of}
 use Rattle.robust.proofs.Working.{mail_seat}
 use Rattle.robust.proofs.member.Member.append.Goals as goal

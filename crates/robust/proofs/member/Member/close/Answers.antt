@@ -1,8 +1,8 @@
 use Rattle.std.proofs.Common.{ℕ, Ok, IfOk, subst}
 use Rattle.rmeworld.specs.declared.call.Call.TheVariants.{Lock, Close}
-use Rattle.robust.specs.Running.{Seated, began}
-use Rattle.robust.specs.Faults.{ready}
-use Rattle.robust.specs.Whole.{WholeEnds}
+use Rattle.runs.specs.Running.{Seated, began}
+use Rattle.runs.specs.Faults.{ready}
+use Rattle.runs.specs.Whole.{WholeEnds}
 use Rattle.robust.proofs.member.Member.close.Goals as goal
 
 pub returns-clause-replied : goal.returns-clause-replied

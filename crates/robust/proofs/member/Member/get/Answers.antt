@@ -3,11 +3,11 @@ use Rattle.rmeworld.specs.declared.answer.Answer.{Answer}
 use Rattle.rmeworld.specs.declared.answer.Answer.TheVariants.{Mail}
 use Rattle.redomail.specs.declared.reply.Reply.TheVariants.{Word}
 use Rattle.rmeworld.specs.declared.call.Call.TheVariants.{Get}
-use Rattle.robust.specs.Board.{last_put, value_or, LastIsOwn}
-use Rattle.robust.specs.Running.{Seated, began}
-use Rattle.robust.specs.Calls.{Served}
-use Rattle.robust.proofs.Board.{last_is_own_after}
-use Rattle.robust.proofs.OneStep.{got}
+use Rattle.runs.specs.Board.{last_put, value_or, LastIsOwn}
+use Rattle.runs.specs.Running.{Seated, began}
+use Rattle.runs.specs.Calls.{Served}
+use Rattle.runs.proofs.Board.{last_is_own_after}
+use Rattle.runs.proofs.OneStep.{got}
 use Rattle.robust.proofs.member.Member.get.Goals as goal
 
 pub returns-clause-last : goal.returns-clause-last

@@ -2,11 +2,11 @@ use Rattle.std.proofs.Common.{rules, ◌≡◌, [], ◌∷◌, Some, subst}
 use Rattle.rmeworld.specs.declared.answer.Answer.{Answer}
 use Rattle.rmeworld.specs.declared.answer.Answer.TheVariants.{Mail}
 use Rattle.rmeworld.specs.declared.call.Call.TheVariants.{Put}
-use Rattle.robust.specs.declared.entry.Entry.{Entry}
-use Rattle.robust.specs.Board.{last_put}
-use Rattle.robust.specs.Running.{Seated, began}
-use Rattle.robust.specs.Calls.{Served}
-use Rattle.robust.proofs.OneStep.{has_put}
+use Rattle.runs.specs.declared.entry.Entry.{Entry}
+use Rattle.runs.specs.Board.{last_put}
+use Rattle.runs.specs.Running.{Seated, began}
+use Rattle.runs.specs.Calls.{Served}
+use Rattle.runs.proofs.OneStep.{has_put}
 use Rattle.robust.proofs.member.Member.put.Goals as goal
 
 pub returns-clause-last : goal.returns-clause-last

@@ -2,14 +2,14 @@ use Rattle.std.proofs.Common.{rules, ◌≡◌, ◌≢◌, ◌≤◌, [], ◌∷
 use Rattle.rmeworld.specs.declared.answer.Answer.{Answer}
 use Rattle.rmeworld.specs.declared.answer.Answer.TheVariants.{Found}
 use Rattle.rmeworld.specs.declared.call.Call.TheVariants.{Recover}
-use Rattle.robust.specs.Running.{Seated}
-use Rattle.robust.specs.Calls.{Served}
-use Rattle.robust.specs.Faults.{ready}
-use Rattle.robust.specs.Tabled.{table_steps}
+use Rattle.runs.specs.Running.{Seated}
+use Rattle.runs.specs.Calls.{Served}
+use Rattle.runs.specs.Faults.{ready}
+use Rattle.runs.specs.Tabled.{table_steps}
 use Rattle.redomail.specs.declared.layout.Layout.{Layout}
 use Rattle.rmeworld.specs.OwnSteps.{most_steps}
-use Rattle.robust.specs.declared.lock_fault.LockFault.TheVariants.{AlreadyIn}
-use Rattle.robust.proofs.Counted.{called_counts, few_out, err_any}
+use Rattle.runs.specs.declared.lock_fault.LockFault.TheVariants.{AlreadyIn}
+use Rattle.runs.proofs.Counted.{called_counts, few_out, err_any}
 use Rattle.robust.proofs.member.Member.recover.Goals as goal
 
 pub returns-clause-table : goal.returns-clause-table

@@ -3,9 +3,9 @@ use Rattle.std.specs.Prelude.{vec_len}
 use Rattle.redomail.specs.declared.message.Message.{Message}
 use Rattle.redomail.specs.Layout.{place_at}
 use Rattle.redomail.specs.Shape.{entries}
-use Rattle.robust.specs.declared.setup.Setup.{Setup}
-use Rattle.robust.specs.Reading.{cells_of, row_words, entry_words, Glances}
-use Rattle.robust.proofs.Glanced.{later_stands, setup_same, glances-append, drop_more, drop_none, words_more}
+use Rattle.runs.specs.declared.setup.Setup.{Setup}
+use Rattle.runs.specs.Reading.{cells_of, row_words, entry_words, Glances}
+use Rattle.runs.proofs.Glanced.{later_stands, setup_same, glances-append, drop_more, drop_none, words_more}
 use Rattle.robust.proofs.runner.Runner.entries.Goals as goal
 
 pub loop-a-init : goal.loop-a-init

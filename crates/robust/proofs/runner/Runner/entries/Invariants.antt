@@ -1,7 +1,7 @@
 use Rattle.std.proofs.Common.{◌≡◌, ◌-◌, ◌≤◌, drop}
 use Rattle.std.specs.Prelude.{vec_capacity, vec_len}
 use Rattle.redomail.specs.Shape.{entries}
-use Rattle.robust.specs.Reading.{cells_of, entry_words, Glances}
+use Rattle.runs.specs.Reading.{cells_of, entry_words, Glances}
 use Rattle.robust.proofs.runner.Runner.entries.Given as goal
 
 abbrev pub invariant-loop-a : goal.invariant-loop-a

@@ -1,10 +1,10 @@
 use Rattle.std.proofs.Common.{◌≡◌, Option, None, IsSome, refl, sym, ◌∙◌, subst}
 use Rattle.rmeworld.specs.Spot.{Spot}
-use Rattle.robust.specs.Under.{Begun}
-use Rattle.robust.proofs.Begun.{begun_now}
-use Rattle.robust.specs.Pass.{Pass, spot_now}
-use Rattle.robust.specs.Running.{Seated, IsRunBy}
-use Rattle.robust.proofs.Running.{run_by_start, start_same, keeps_start}
+use Rattle.runs.specs.Under.{Begun}
+use Rattle.runs.proofs.Begun.{begun_now}
+use Rattle.runs.specs.Pass.{Pass, spot_now}
+use Rattle.runs.specs.Running.{Seated, IsRunBy}
+use Rattle.runs.proofs.Running.{run_by_start, start_same, keeps_start}
 use Rattle.robust.proofs.runner.Runner.go_on.Goals as goal
 
 pub invariant_of-self-2 : goal.invariant_of-self-2

@@ -1,10 +1,10 @@
 use Rattle.std.proofs.Common.{Ok}
 use Rattle.rmeworld.specs.declared.call.Call.TheVariants.{Lock}
-use Rattle.robust.specs.Running.{began}
-use Rattle.robust.specs.Faults.{ready}
-use Rattle.robust.specs.Whole.{WholeEnds, WholeFails}
-use Rattle.robust.proofs.Outside.{cut_out}
-use Rattle.robust.proofs.WholeCalls.{whole_replied, whole_fails, cut_fails, goes_idle, ok_some, err_some}
+use Rattle.runs.specs.Running.{began}
+use Rattle.runs.specs.Faults.{ready}
+use Rattle.runs.specs.Whole.{WholeEnds, WholeFails}
+use Rattle.runs.proofs.Outside.{cut_out}
+use Rattle.runs.proofs.WholeCalls.{whole_replied, whole_fails, cut_fails, goes_idle, ok_some, err_some}
 use Rattle.robust.proofs.runner.Runner.mail.Goals as goal
 
 pub returns-in-Ok-clause-replied : goal.returns-in-Ok-clause-replied

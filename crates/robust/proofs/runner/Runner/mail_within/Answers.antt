@@ -1,10 +1,10 @@
 use Rattle.std.proofs.Common.{◌≢◌}
-use Rattle.robust.specs.declared.lock_fault.LockFault.TheVariants.{AlreadyIn}
-use Rattle.robust.proofs.Chained.{lock_setup}
-use Rattle.robust.proofs.Counted.{err_any, ok_any}
-use Rattle.robust.proofs.Outside.{cut_out, busy_out}
-use Rattle.robust.proofs.WholeCalls.{whole_fails, cut_fails}
-use Rattle.robust.proofs.WholeSteps.{few_whole, few_lock}
+use Rattle.runs.specs.declared.lock_fault.LockFault.TheVariants.{AlreadyIn}
+use Rattle.runs.proofs.Chained.{lock_setup}
+use Rattle.runs.proofs.Counted.{err_any, ok_any}
+use Rattle.runs.proofs.Outside.{cut_out, busy_out}
+use Rattle.runs.proofs.WholeCalls.{whole_fails, cut_fails}
+use Rattle.runs.proofs.WholeSteps.{few_whole, few_lock}
 use Rattle.robust.proofs.runner.Runner.mail_within.Goals as goal
 
 pub returns-in-Err-clause-fails : goal.returns-in-Err-clause-fails

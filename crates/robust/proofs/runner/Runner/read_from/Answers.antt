@@ -1,9 +1,9 @@
 use Rattle.std.proofs.Common.{◌≡◌, ℕ, ◌-◌, refl, sym, ◌∙◌, subst, arith}
 use Rattle.rmecore.specs.declared.word.Word.TheVariants.{Data as DataAt}
 use Rattle.redomail.specs.Shape.{entries}
-use Rattle.robust.specs.Pass.{Looks}
-use Rattle.robust.specs.Reading.{cells_of, entry_words, Glances}
-use Rattle.robust.proofs.Glanced.{told, count_within, drop_none, reads_all, both_ok}
+use Rattle.runs.specs.Pass.{Looks}
+use Rattle.runs.specs.Reading.{cells_of, entry_words, Glances}
+use Rattle.runs.proofs.Glanced.{told, count_within, drop_none, reads_all, both_ok}
 use Rattle.robust.proofs.runner.Runner.read_from.Goals as goal
 
 pub glance-count-requires : goal.glance-count-requires

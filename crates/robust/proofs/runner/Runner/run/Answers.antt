@@ -1,8 +1,8 @@
 use Rattle.std.proofs.Common.{◌≡◌, ℕ, suc, ◌+◌, ◌-◌, ◌≤◌, false, None, ◌∙◌, subst, arith}
-use Rattle.robust.specs.Running.{Seated, TakesStep}
-use Rattle.robust.specs.Pass.{spot_now}
-use Rattle.robust.specs.Lasting.{Lasts}
-use Rattle.robust.proofs.Taken.{more, ran_answered, ran_blocked, goes_on, asked_more, fits_answer, goes_with, still_blocked, none_of}
+use Rattle.runs.specs.Running.{Seated, TakesStep}
+use Rattle.runs.specs.Pass.{spot_now}
+use Rattle.runs.specs.Lasting.{Lasts}
+use Rattle.runs.proofs.Taken.{more, ran_answered, ran_blocked, goes_on, asked_more, fits_answer, goes_with, still_blocked, none_of}
 use Rattle.robust.proofs.runner.Runner.run.Goals as goal
 
 left_is : (turn : ℕ) → turn + 1 ≤ 256 → 256 - turn ≡ suc (256 - (turn + 1))

@@ -1,11 +1,11 @@
 use Rattle.std.proofs.Common.{◌≡◌, ◌-◌, List, length, false}
 use Rattle.rmeworld.specs.Refused.{is_idle}
-use Rattle.robust.specs.declared.entry.Entry.{Entry}
-use Rattle.robust.specs.Pass.{spot_now}
-use Rattle.robust.specs.Running.{many_more}
-use Rattle.robust.specs.Calls.{Going}
-use Rattle.robust.specs.Lasting.{Lasts}
-use Rattle.robust.specs.Under.{IsUnder}
+use Rattle.runs.specs.declared.entry.Entry.{Entry}
+use Rattle.runs.specs.Pass.{spot_now}
+use Rattle.runs.specs.Running.{many_more}
+use Rattle.runs.specs.Calls.{Going}
+use Rattle.runs.specs.Lasting.{Lasts}
+use Rattle.runs.specs.Under.{IsUnder}
 use Rattle.robust.proofs.runner.Runner.run.Given as goal
 
 abbrev pub invariant-loop-turn : goal.invariant-loop-turn

@@ -1,8 +1,8 @@
 use Rattle.std.proofs.Common.{ap, ◌∙◌}
 use Rattle.rmecore.specs.Simulated.{one_more}
-use Rattle.robust.specs.Running.{Seated}
-use Rattle.robust.proofs.Called.{on_err, fell_more, served_as, crashes_of, cut_ran}
-use Rattle.robust.proofs.Counted.{few_cut, few_ran}
+use Rattle.runs.specs.Running.{Seated}
+use Rattle.runs.proofs.Called.{on_err, fell_more, served_as, crashes_of, cut_ran}
+use Rattle.runs.proofs.Counted.{few_cut, few_ran}
 use Rattle.robust.proofs.runner.Runner.serve.Goals as goal
 
 pub returns-in_err-answer-clause-cut : goal.returns-in_err-answer-clause-cut

@@ -1,10 +1,10 @@
 use Rattle.std.proofs.Common.{◌≡◌, ℕ, List, length}
 use Rattle.rmeworld.specs.declared.call.Call.TheVariants.{Lock}
-use Rattle.robust.specs.declared.entry.Entry.{Entry}
-use Rattle.robust.specs.Pass.{spot_now}
-use Rattle.robust.specs.Running.{many_more}
-use Rattle.robust.specs.Calls.{Turning}
-use Rattle.robust.specs.Under.{Begun}
+use Rattle.runs.specs.declared.entry.Entry.{Entry}
+use Rattle.runs.specs.Pass.{spot_now}
+use Rattle.runs.specs.Running.{many_more}
+use Rattle.runs.specs.Calls.{Turning}
+use Rattle.runs.specs.Under.{Begun}
 use Rattle.robust.proofs.runner.Runner.take_all.Given as goal
 
 abbrev pub invariant-loop : goal.invariant-loop

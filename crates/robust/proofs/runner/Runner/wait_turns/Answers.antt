@@ -1,8 +1,8 @@
 use Rattle.std.proofs.Common.{ap, ◌∙◌}
-use Rattle.robust.specs.Running.{Seated}
-use Rattle.robust.proofs.Called.{on_err}
-use Rattle.robust.proofs.Chained.{lock_asked, lock_cut, lock_idle}
-use Rattle.robust.proofs.Counted.{lock_counts}
+use Rattle.runs.specs.Running.{Seated}
+use Rattle.runs.proofs.Called.{on_err}
+use Rattle.runs.proofs.Chained.{lock_asked, lock_cut, lock_idle}
+use Rattle.runs.proofs.Counted.{lock_counts}
 use Rattle.robust.proofs.runner.Runner.wait_turns.Goals as goal
 
 pub returns-in_err-ask-clause-cut : goal.returns-in_err-ask-clause-cut

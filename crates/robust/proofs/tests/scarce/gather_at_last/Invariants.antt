@@ -1,4 +1,4 @@
-use Rattle.robust.specs.Gathering.{OneArena}
+use Rattle.runs.specs.Gathering.{OneArena}
 use Rattle.robust.proofs.tests.scarce.gather_at_last.Given as goal
 
 abbrev pub invariant-loop : goal.invariant-loop

@@ -1,6 +1,6 @@
 use Rattle.std.proofs.Common.{◌≡◌, sym, ap, ◌∙◌, arith}
 use Rattle.atomic_table.specs.Seated.{TableId}
-use Rattle.robust.proofs.Opens.{cut_rest, rest_step}
+use Rattle.runs.proofs.Opens.{cut_rest, rest_step}
 use Rattle.robust.proofs.walker.Walker.first.Goals as goal
 
 pub split_seat-own-requires : goal.split_seat-own-requires

@@ -1,7 +1,7 @@
 use Rattle.std.proofs.Common.{◌≡◌, ap, ◌∙◌}
-use Rattle.robust.specs.declared.entry.Known.{Known}
-use Rattle.robust.specs.Pass.{Pass, glanced}
-use Rattle.robust.proofs.Leads.{looks_of, stays_pass, alone_after}
+use Rattle.runs.specs.declared.entry.Known.{Known}
+use Rattle.runs.specs.Pass.{Pass, glanced}
+use Rattle.runs.proofs.Leads.{looks_of, stays_pass, alone_after}
 use Rattle.robust.proofs.walker.Walker.glance.Goals as goal
 
 pub invariant_of-self : goal.invariant_of-self

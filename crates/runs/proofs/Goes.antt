@@ -1,0 +1,225 @@
+-- What a step leads to, from a spot of a call.
+use Rattle.std.proofs.Common.{◌≡◌, ℕ, zero, suc, ◌+◌, ◌<◌, ◌≤◌, Bool, true, false, ◌==◌, if◌then◌else◌, [], ◌∷◌, Option, Some, None, IsSome, unwrap_or, refl, sym, ap, ◌∙◌, subst, inl, inr, arith}
+use Rattle.rmecore.specs.Place.{Place, Rest, Dead, Reread, Opening, Door, Shutting, Wait, Inside, Leaving, Withdrawing, Unmarking, next}
+use Rattle.rmecore.specs.Machine.{answer, is_blocked}
+use Rattle.rmecore.specs.Paid.{is_glance}
+use Rattle.rmecore.specs.declared.core_call.CoreCall.TheVariants as core
+use Rattle.rmecore.specs.declared.kind.Kind.{Kind}
+use Rattle.rmecore.specs.declared.kind.Kind.TheVariants.{Get as Gets, Put as Puts}
+use Rattle.rmecore.specs.declared.word.Word.{Word}
+use Rattle.rmecore.specs.declared.word.Word.TheVariants.{Data as DataAt}
+use Rattle.redomail.specs.declared.layout.Layout.{Layout}
+use Rattle.redomail.specs.declared.reply.Reply.{Reply}
+use Rattle.redomail.specs.declared.reply.Reply.TheVariants as reply
+use Rattle.redomail.specs.Script.{Script, Get as Asks, Put as Writes, Done}
+use Rattle.rmeworld.specs.declared.call.Call.{Call}
+use Rattle.rmeworld.specs.declared.call.Call.TheVariants.{Lock, Unlock, Consistent, Recover, Append, Close, Get, Put, Withdraw}
+use Rattle.rmeworld.specs.declared.answer.Answer.{Answer}
+use Rattle.rmeworld.specs.declared.why.Why.{Why}
+use Rattle.rmeworld.specs.declared.why.Why.TheVariants.{Checking, Ruining, Mending, Working}
+use Rattle.rmeworld.specs.Entered.{is_entry}
+use Rattle.rmeworld.specs.Answered.{by_lock, by_reply, by_script, answer_at, blocked_by}
+use Rattle.rmeworld.specs.Refused.{is_idle}
+use Rattle.rmeworld.specs.Spot.{Errand, Free, Doing, Spot, Moves, next_spot, at_lock, only_spot, settled, mended_entered}
+use Rattle.runs.specs.Lasting.{Within, lock_left, IsFair, exit_of, Lasts}
+use Rattle.rmeworld.specs.declared.answer.Answer.TheVariants.{Mail}
+use Rattle.runs.specs.Under.{under_place, Replies, Mends, IsWord, UnderScript, IsUnder, Fits, Leaves}
+use Rattle.runs.proofs.Lasting.{Burns, burns}
+use Rattle.runs.proofs.Under.{LockTo, lock_to}
+
+-- a step with this answer, blocked or not: the call is at its end, or goes on, with a step fewer unless it was blocked
+abbrev pub SpotTo : Call → ℕ → ℕ → Option Answer → Bool → Spot → Type 0
+SpotTo call n k (Some a) blocked t = Fits call a × Leaves call a t
+SpotTo call n k None blocked t = (is_idle t ≡ false) × IsUnder call t × Lasts n (if blocked then suc k else k) t
+
+not_itself : (s : Place) → is_entry s s ≡ false
+not_itself Rest = refl
+not_itself Dead = refl
+not_itself (Reread call seen) = refl
+not_itself Opening = refl
+not_itself (Door unread m) = refl
+not_itself (Shutting call k) = refl
+not_itself (Wait k unpassed looked) = refl
+not_itself Inside = refl
+not_itself Leaving = refl
+not_itself Withdrawing = refl
+not_itself (Unmarking call) = refl
+
+entry_inside : (s t : Place) → is_entry s t ≡ true → t ≡ Inside
+entry_inside s Inside e = refl
+entry_inside s Rest e = absurd (cc)
+entry_inside s Dead e = absurd (cc)
+entry_inside s (Reread call seen) e = absurd (cc)
+entry_inside s Opening e = absurd (cc)
+entry_inside s (Door unread m) e = absurd (cc)
+entry_inside s (Shutting call k) e = absurd (cc)
+entry_inside s (Wait k unpassed looked) e = absurd (cc)
+entry_inside s Leaving e = absurd (cc)
+entry_inside s Withdrawing e = absurd (cc)
+entry_inside s (Unmarking call) e = absurd (cc)
+
+module _ (l : Layout) (p k : ℕ) where
+  abbrev lock_spot : Place → Bool → Bool → Place → Errand → Spot
+  lock_spot s b c t errand = record { lock = t; mended = mended_entered b s t; barred = c; errand = errand }
+
+  -- the lock's part
+  to_place : (call : Call) (s : Place) (b c : Bool) (a : Option Answer) (blocked : Bool) (t : Place) (f : Errand) → LockTo call c s a t → Burns l.procs blocked s t → IsFair s → lock_left l.procs s ≤ suc k
+      → SpotTo call l.procs k a blocked (lock_spot s b c t (if is_entry s t then Doing Checking (Asks 0 (λ x. Done (reply.Ruined (x == 1)))) else Free))
+  to_place call s b c (Some a) blocked t f to burnt fair few = (to.0, to.1 (lock_spot s b c t (if is_entry s t then Doing Checking (Asks 0 (λ x. Done (reply.Ruined (x == 1)))) else Free)) refl)
+  to_place call s b c None true t f (inl h) burnt fair few = absurd (let bad : is_entry s s ≡ true = ap (is_entry s) (sym burnt) ∙ h.0 in let no = not_itself s in cc)
+  to_place call s b c None false t f (inl h) burnt fair few =
+      let less : lock_left l.procs Inside < lock_left l.procs s = subst (λ (u : Place). lock_left l.procs u < lock_left l.procs s) (entry_inside s t h.0) burnt.1 in
+      rw h.0 (refl, subst (λ (d : Call). UnderScript d c Checking (Asks 0 (λ x. Done (reply.Ruined (x == 1))))) (sym h.1) tt, (1, (λ x. tt), omega arith, tt))
+  to_place call s b c None true t f (inr h) burnt fair few =
+      let here : IsFair t × (lock_left l.procs t ≤ suc k) = subst (λ (u : Place). IsFair u × (lock_left l.procs u ≤ suc k)) (sym burnt) (fair, few) in
+      rw h.0 (h.1, h.2, here)
+  to_place call s b c None false t f (inr h) burnt fair few = rw h.0 (h.1, h.2, (burnt.0, (let less = burnt.1 in omega arith)))
+
+  lock_step : (call : Call) (s : Place) (b c : Bool) (a : Option Answer) (blocked : Bool) (o : Option Place) → IsSome (at_lock l p s b c o) → LockTo call c s a (unwrap_or o s) → Burns l.procs blocked s (unwrap_or o s) → IsFair s → lock_left l.procs s ≤ suc k
+      → SpotTo call l.procs k a blocked (unwrap_or (at_lock l p s b c o) (record { lock = s; mended = b; barred = c; errand = Free }))
+  lock_step call s b c a blocked None some to burnt fair few = absurd (cc)
+  lock_step call s b c a blocked (Some t) some to burnt fair few = to_place call s b c a blocked t Free to burnt fair few
+
+  -- the end of a script
+  check_ends : (b c : Bool) (r : Reply) (m : ℕ) → m + 2 ≤ k → SpotTo Lock l.procs k (by_reply Checking b r) false (settled b c Checking (Done r))
+  check_ends true c reply.Stored m few = (tt, ((refl, refl), refl))
+  check_ends false c reply.Stored m few = (tt, ((refl, refl), refl))
+  check_ends true c reply.Already m few = (tt, ((refl, refl), refl))
+  check_ends false c reply.Already m few = (tt, ((refl, refl), refl))
+  check_ends true c reply.OutOfOrder m few = (tt, ((refl, refl), refl))
+  check_ends false c reply.OutOfOrder m few = (tt, ((refl, refl), refl))
+  check_ends true c reply.Full m few = (tt, ((refl, refl), refl))
+  check_ends false c reply.Full m few = (tt, ((refl, refl), refl))
+  check_ends true c reply.Closed m few = (tt, ((refl, refl), refl))
+  check_ends false c reply.Closed m few = (tt, ((refl, refl), refl))
+  check_ends true c reply.ClosedNow m few = (tt, ((refl, refl), refl))
+  check_ends false c reply.ClosedNow m few = (tt, ((refl, refl), refl))
+  check_ends true c reply.AlreadyClosed m few = (tt, ((refl, refl), refl))
+  check_ends false c reply.AlreadyClosed m few = (tt, ((refl, refl), refl))
+  check_ends true c (reply.Mended x) m few = (tt, ((refl, refl), refl))
+  check_ends false c (reply.Mended x) m few = (tt, ((refl, refl), refl))
+  check_ends true c (reply.Word x) m few = (tt, ((refl, refl), refl))
+  check_ends false c (reply.Word x) m few = (tt, ((refl, refl), refl))
+  check_ends true c reply.Done m few = (tt, ((refl, refl), refl))
+  check_ends false c reply.Done m few = (tt, ((refl, refl), refl))
+  check_ends true c (reply.Ruined true) m few = (refl, refl, (tt, omega arith))
+  check_ends true c (reply.Ruined false) m few = (tt, ((refl, refl), refl))
+  check_ends false c (reply.Ruined true) m few = (refl, refl, (tt, omega arith))
+  check_ends false c (reply.Ruined false) m few = (tt, ((refl, refl), refl))
+
+  mend_ends : (b c : Bool) (r : Reply) → Replies Mends (Done r) → SpotTo Consistent l.procs k (by_reply Mending b r) false (settled b c Mending (Done r))
+  mend_ends b c (reply.Mended x) h = (tt, ((refl, refl), refl))
+  mend_ends b c (reply.Ruined x) h = (tt, (refl, refl))
+  mend_ends b c reply.Stored h = absurd h
+  mend_ends b c reply.Already h = absurd h
+  mend_ends b c reply.OutOfOrder h = absurd h
+  mend_ends b c reply.Full h = absurd h
+  mend_ends b c reply.Closed h = absurd h
+  mend_ends b c reply.ClosedNow h = absurd h
+  mend_ends b c reply.AlreadyClosed h = absurd h
+  mend_ends b c (reply.Word x) h = absurd h
+  mend_ends b c reply.Done h = absurd h
+
+  word_ends : (i : ℕ) (r : Reply) → Replies IsWord (Done r) → Fits (Get i) (Mail r)
+  word_ends i (reply.Word x) h = tt
+  word_ends i reply.Stored h = absurd h
+  word_ends i reply.Already h = absurd h
+  word_ends i reply.OutOfOrder h = absurd h
+  word_ends i reply.Full h = absurd h
+  word_ends i reply.Closed h = absurd h
+  word_ends i reply.ClosedNow h = absurd h
+  word_ends i reply.AlreadyClosed h = absurd h
+  word_ends i (reply.Mended x) h = absurd h
+  word_ends i reply.Done h = absurd h
+  word_ends i (reply.Ruined x) h = absurd h
+
+  -- what is left of a script after a step
+  goes : (call : Call) (b c : Bool) (why : Why) (left : Script Reply) (m : ℕ) → UnderScript call c why left → Within m left → m + exit_of why ≤ k → SpotTo call l.procs k (by_script why b left) false (settled b c why left)
+  goes call b c why (Asks i rest) m u w few = (refl, u, (m, w, few, tt))
+  goes call b c why (Writes i v rest) m u w few = (refl, u, (m, w, few, tt))
+  goes Lock b c Checking (Done r) m u w few = check_ends b c r m few
+  goes Unlock b c Ruining (Done r) m u w few = (refl, subst (λ (d : Bool). under_place Unlock d Leaving ≡ true) (sym u) refl, (tt, omega arith))
+  goes Consistent b c Mending (Done r) m u w few = mend_ends b c r u
+  goes (Append seq value) b c (Working task) (Done r) m u w few = (u, (refl, refl))
+  goes Close b c (Working task) (Done r) m u w few = (tt, (refl, refl))
+  goes (Get i) b c (Working task) (Done r) m u w few = (word_ends i r u, tt)
+  goes (Put i v) b c (Working task) (Done r) m u w few = (tt, tt)
+  goes _ b c _ (Done r) m u w few = absurd u
+
+  under_next : (call : Call) (c : Bool) (why : Why) (i x : ℕ) (rest : ℕ → Script Reply) → UnderScript call c why (Asks i rest) → UnderScript call c why (rest x)
+  under_next Lock c Checking i x rest u = tt
+  under_next Unlock c Ruining i x rest u = u
+  under_next Consistent c Mending i x rest u = u x
+  under_next (Append seq value) c (Working task) i x rest u = u x
+  under_next Close c (Working task) i x rest u = tt
+  under_next (Get j) c (Working task) i x rest u = u x
+  under_next (Put j v) c (Working task) i x rest u = tt
+  under_next _ c _ i x rest u = absurd u
+
+  under_put : (call : Call) (c : Bool) (why : Why) (i v : ℕ) (rest : Script Reply) → UnderScript call c why (Writes i v rest) → UnderScript call c why rest
+  under_put Lock c Checking i v rest u = tt
+  under_put Unlock c Ruining i v rest u = u
+  under_put Consistent c Mending i v rest u = u
+  under_put (Append seq value) c (Working task) i v rest u = u
+  under_put Close c (Working task) i v rest u = tt
+  under_put (Get j) c (Working task) i v rest u = u
+  under_put (Put j x) c (Working task) i v rest u = tt
+  under_put _ c _ i v rest u = absurd u
+
+  only_is : (b : Bool) (x y : Spot) → IsSome (only_spot b x) → unwrap_or (only_spot b x) y ≡ x
+  only_is true x y some = refl
+  only_is false x y some = absurd (cc)
+
+  script_step : (call : Call) (s : Place) (b c : Bool) (limit : ℕ) (why : Why) (left : Script Reply) (kind : Kind) (word : Word) (v : ℕ) → IsSome (next_spot l limit (record { lock = s; mended = b; barred = c; errand = Doing why left }) (Moves p kind word v))
+      → UnderScript call c why left → (m : ℕ) → Within m left → m + exit_of why ≤ suc k
+      → SpotTo call l.procs k (answer_at (record { lock = s; mended = b; barred = c; errand = Doing why left }) kind v) false (unwrap_or (next_spot l limit (record { lock = s; mended = b; barred = c; errand = Doing why left }) (Moves p kind word v)) (record { lock = s; mended = b; barred = c; errand = Doing why left }))
+  script_step call s b c limit why (Asks j rest) Gets (DataAt i) v some u (suc m) w few =
+      subst (SpotTo call l.procs k (by_script why b (rest v)) false) (sym (only_is _ (settled b c why (rest v)) _ some)) (goes call b c why (rest v) m (under_next call c why j v rest u) (w v) (omega arith))
+  script_step call s b c limit why (Writes j x rest) Puts (DataAt i) v some u (suc m) w few =
+      subst (SpotTo call l.procs k (by_script why b rest) false) (sym (only_is _ (settled b c why rest) _ some)) (goes call b c why rest m (under_put call c why j x rest u) w (omega arith))
+  script_step call s b c limit why (Asks j rest) kind word v some u zero w few = absurd w
+  script_step call s b c limit why (Writes j x rest) kind word v some u zero w few = absurd w
+  script_step call s b c limit why left kind word v some u m w few = absurd (cc)
+
+  pub spot_step : (call : Call) (limit : ℕ) (s : Place) (b c : Bool) (e : Errand) (kind : Kind) (word : Word) (v : ℕ) → IsSome (next_spot l limit (record { lock = s; mended = b; barred = c; errand = e }) (Moves p kind word v)) → is_glance kind ≡ false
+      → IsUnder call (record { lock = s; mended = b; barred = c; errand = e }) → Lasts l.procs (suc k) (record { lock = s; mended = b; barred = c; errand = e })
+      → SpotTo call l.procs k (answer_at (record { lock = s; mended = b; barred = c; errand = e }) kind v) (blocked_by p s e kind v) (unwrap_or (next_spot l limit (record { lock = s; mended = b; barred = c; errand = e }) (Moves p kind word v)) (record { lock = s; mended = b; barred = c; errand = e }))
+  spot_step call limit s b c Free kind word v some moves u lasts =
+      let place : IsSome (next l.procs limit p s kind word v) = some_place (next l.procs limit p s kind word v) some in
+      lock_step call s b c (by_lock c (answer s kind v)) (is_blocked p s kind v) (next l.procs limit p s kind word v) some (lock_to l.procs limit p call c s kind word v u place moves) (burns l.procs p limit s kind word v place moves lasts.0) lasts.0 lasts.1
+    where
+      some_place : (o : Option Place) → IsSome (at_lock l p s b c o) → IsSome o
+      some_place None h = absurd (cc)
+      some_place (Some t) h = refl
+  spot_step call limit s b c (Doing why left) kind word v some moves u lasts = script_step call s b c limit why left kind word v some u lasts.0 lasts.1 lasts.2
+
+-- a call that is under way has a step left
+pub none_left : (n : ℕ) (s : Place) (b c : Bool) (e : Errand) → is_idle (record { lock = s; mended = b; barred = c; errand = e }) ≡ false → Lasts n 0 (record { lock = s; mended = b; barred = c; errand = e }) → ⊥
+none_left n Rest b c Free idle h = absurd (cc)
+none_left n Dead b c Free idle h = absurd (cc)
+none_left n Inside b c Free idle h = absurd (cc)
+none_left n (Reread call []) b c Free idle h = let few = h.1 in omega arith
+none_left n (Reread call (x ∷ [])) b c Free idle h = let few = h.1 in omega arith
+none_left n (Reread call (x ∷ y ∷ more)) b c Free idle h = let few = h.1 in omega arith
+none_left n Opening b c Free idle h = let few = h.1 in omega arith
+none_left n (Door unread m) b c Free idle h = let few = h.1 in omega arith
+none_left n (Shutting call k) b c Free idle h = let few = h.1 in omega arith
+none_left n (Wait k unpassed None) b c Free idle h = let few = h.1 in omega arith
+none_left n (Wait k unpassed (Some j)) b c Free idle h = let few = h.1 in omega arith
+none_left n Leaving b c Free idle h = let few = h.1 in omega arith
+none_left n Withdrawing b c Free idle h = let few = h.1 in omega arith
+none_left n (Unmarking core.Lock) b c Free idle h = let few = h.1 in omega arith
+none_left n (Unmarking core.Recover) b c Free idle h = let few = h.1 in omega arith
+none_left n (Unmarking core.Unlock) b c Free idle h = let few = h.1 in omega arith
+none_left n (Unmarking core.Withdraw) b c Free idle h = let few = h.1 in omega arith
+none_left n s b c (Doing why (Done r)) idle h = h.3
+none_left n s b c (Doing why (Asks i rest)) idle h = none_asked h.0 h.1 h.2
+  where
+    none_asked : (m : ℕ) → Within m (Asks i rest) → m + exit_of why ≤ 0 → ⊥
+    none_asked zero w few = w
+    none_asked (suc m) w few = omega arith
+none_left n s b c (Doing why (Writes i v rest)) idle h = none_written h.0 h.1 h.2
+  where
+    none_written : (m : ℕ) → Within m (Writes i v rest) → m + exit_of why ≤ 0 → ⊥
+    none_written zero w few = w
+    none_written (suc m) w few = omega arith

@@ -1,0 +1,155 @@
+-- The own steps of a member's call are those of the table.
+use Rattle.std.proofs.Common.{◌≡◌, ℕ, suc, ◌+◌, ◌==◌, Bool, true, false, if◌then◌else◌, List, [], ◌∷◌, ◌++◌, length, Option, Some, None, All, refl, sym, ap, ◌∙◌, subst, append_assoc, eqb-true}
+use Rattle.std.proofs.lemmas.List.Elements.{All-nil, All-cons, All-head, All-tail}
+use Rattle.rmecore.specs.Paid.{is_glance}
+use Rattle.rmeworld.specs.Answered.{answer_at, blocked_by}
+use Rattle.rmeworld.specs.CallWalk.{next_or_same, blocked_in, and_answer as and_answer_in, answers_in, last_spot, Tells}
+use Rattle.rmeworld.specs.Spot.{Spot, Happening, Begins, Moves}
+use Rattle.rmeworld.specs.World.{Scene, Story, own_happenings}
+use Rattle.rmeworld.specs.declared.answer.Answer.{Answer}
+use Rattle.rmeworld.specs.declared.call.Call.{Call}
+use Rattle.rmeworld.proofs.CallWalks.{calls_take_their_steps}
+use Rattle.runs.specs.declared.setup.Setup.{Setup}
+use Rattle.runs.specs.declared.entry.Entry.{Entry}
+use Rattle.runs.specs.Runs.{before, crash_first, taken, happenings, spelled, own, IsRun, end_of, gone, spot_of}
+use Rattle.runs.specs.Pass.{Pass, Calls}
+use Rattle.runs.specs.Calls.{spot_before, and_answer, answers_from, blocked_from, answers_of, blocked_of, FirstStart, FirstCrash, AreMoves}
+use Rattle.runs.specs.Tabled.{words_begun, spot_begun, KeepsTable, CallsKeepTheTable}
+use Rattle.runs.proofs.Runs.{own_spelled, spot_in_run, legal_back}
+use Rattle.runs.proofs.Leads.{gone-append}
+use Rattle.runs.proofs.Running.{taken_moves}
+use Rattle.runs.proofs.Walked.{OwnMoves, StartsAt, starts_calm, starts_fallen}
+
+-- entries of p as its steps
+abbrev pub steps_of : ℕ → List Entry → List Happening
+steps_of p [] = []
+steps_of p (e ∷ es) = Moves p e.step.kind e.step.word e.value ∷ steps_of p es
+
+-- a step of p, no glance, that carries nothing
+abbrev pub IsPlain : ℕ → Entry → Type 0
+IsPlain p e = (e.by ≡ p) × (e.step.crashed ≡ false) × (e.step.start ≡ None) × (is_glance e.step.kind ≡ false)
+
+abbrev pub ArePlain : ℕ → List Entry → Type 0
+ArePlain p [] = Unit {0}
+ArePlain p (e ∷ es) = IsPlain p e × ArePlain p es
+
+pub plain_all : (p : ℕ) (es : List Entry) → All (λ (e : Entry). e.by ≡ p) es → All (λ (e : Entry). e.step.crashed ≡ false) es → All (λ (e : Entry). e.step.start ≡ None) es → AreMoves es → ArePlain p es
+plain_all p [] by crashed start moves = tt
+plain_all p (e ∷ es) by crashed start moves = (
+  (All-head (λ (e : Entry). e.by ≡ p) e es by, All-head (λ (e : Entry). e.step.crashed ≡ false) e es crashed, All-head (λ (e : Entry). e.step.start ≡ None) e es start, All-head (λ (e : Entry). is_glance e.step.kind ≡ false) e es moves),
+  plain_all p es (All-tail (λ (e : Entry). e.by ≡ p) e es by) (All-tail (λ (e : Entry). e.step.crashed ≡ false) e es crashed) (All-tail (λ (e : Entry). e.step.start ≡ None) e es start) (All-tail (λ (e : Entry). is_glance e.step.kind ≡ false) e es moves),
+)
+
+pub own_moves : (p : ℕ) (es : List Entry) → ArePlain p es → OwnMoves p (steps_of p es)
+own_moves p [] plain = tt
+own_moves p (e ∷ es) plain = ((refl, plain.0.3), own_moves p es plain.1)
+
+steps_length : (p : ℕ) (es : List Entry) → length (steps_of p es) ≡ length es
+steps_length p [] = refl
+steps_length p (e ∷ es) = ap suc (steps_length p es)
+
+-- the own entries are of the process
+pub own_are : (p : ℕ) (es : List Entry) → All (λ (e : Entry). e.by ≡ p) (own p es)
+own_are p [] = All-nil _
+own_are p (e ∷ es) = go (own_are p es) (e.by == p) refl
+  where
+    go : All (λ (e : Entry). e.by ≡ p) (own p es) → (b : Bool) → (e.by == p) ≡ b → All (λ (e : Entry). e.by ≡ p) (own p (e ∷ es))
+    go later true is = rw is (All-cons (λ (e : Entry). e.by ≡ p) e (own p es) (eqb-true e.by p is) later)
+    go later false is = rw is later
+
+pub taken_own : (p : ℕ) (e : Entry) → e.by ≡ p → is_glance e.step.kind ≡ false → taken e.by e.step.kind e.step.word e.value ≡ Moves p e.step.kind e.step.word e.value
+taken_own p e by moves = taken_moves e.by e.step.kind e.step.word e.value moves ∙ ap (λ (q : ℕ). Moves q e.step.kind e.step.word e.value) by
+
+pub spelled_plain : (p : ℕ) (es : List Entry) → ArePlain p es → spelled es ≡ steps_of p es
+spelled_plain p [] plain = refl
+spelled_plain p (e ∷ es) plain =
+    let here = taken_own p e plain.0.0 plain.0.3 in
+    let later = spelled_plain p es plain.1 in
+    λ i. (before (plain.0.1 i) (plain.0.2 i) (plain.0.0 i) ++ here i ∷ []) ++ later i
+
+and_same : (o : Option Answer) (answers : List Answer) → and_answer o answers ≡ and_answer_in o answers
+and_same None answers = refl
+and_same (Some a) answers = refl
+
+module _ (s : Setup) (p : ℕ) where
+  abbrev from : Spot → Entry → Spot
+  from t e = next_or_same s.layout s.limit t (Moves p e.step.kind e.step.word e.value)
+
+  step_leads : (q : Spot) (e : Entry) → e.by ≡ p → is_glance e.step.kind ≡ false → gone s q (happenings e) ≡ from (spot_before s q e) e
+  step_leads q e by moves =
+      gone-append s q (before e.step.crashed e.step.start e.by) (taken e.by e.step.kind e.step.word e.value ∷ [])
+      ∙ ap (λ (h : Happening). next_or_same s.layout s.limit (spot_before s q e) h) (taken_own p e by moves)
+
+  nothing_before : (q : Spot) (e : Entry) → IsPlain p e → spot_before s q e ≡ q
+  nothing_before q e plain = λ i. gone s q (before (plain.1 i) (plain.2 i) e.by)
+
+  pub answers_first : (q : Spot) (e : Entry) (es : List Entry) → e.by ≡ p → is_glance e.step.kind ≡ false → ((t : Spot) → answers_from s t es ≡ answers_in s.layout s.limit t (steps_of p es))
+      → answers_from s q (e ∷ es) ≡ answers_in s.layout s.limit (spot_before s q e) (steps_of p (e ∷ es))
+  answers_first q e es by moves later =
+      and_same (answer_at (spot_before s q e) e.step.kind e.value) (answers_from s (gone s q (happenings e)) es)
+      ∙ ap (and_answer_in (answer_at (spot_before s q e) e.step.kind e.value)) (ap (λ (t : Spot). answers_from s t es) (step_leads q e by moves) ∙ later (from (spot_before s q e) e))
+
+  pub answers_plain : (es : List Entry) → ArePlain p es → (q : Spot) → answers_from s q es ≡ answers_in s.layout s.limit q (steps_of p es)
+  answers_plain [] plain q = refl
+  answers_plain (e ∷ es) plain q =
+      answers_first q e es plain.0.0 plain.0.3 (answers_plain es plain.1) ∙ ap (λ (t : Spot). answers_in s.layout s.limit t (steps_of p (e ∷ es))) (nothing_before q e plain.0)
+
+  blocked_first : (q : Spot) (e : Entry) (es : List Entry) → e.by ≡ p → is_glance e.step.kind ≡ false → ((t : Spot) → blocked_from s t es ≡ blocked_in s.layout s.limit t (steps_of p es))
+      → blocked_from s q (e ∷ es) ≡ blocked_in s.layout s.limit (spot_before s q e) (steps_of p (e ∷ es))
+  blocked_first q e es by moves later =
+      let t = spot_before s q e in
+      ap (λ (r : ℕ). (if blocked_by r t.lock t.errand e.step.kind e.value then 1 else 0) + blocked_from s (gone s q (happenings e)) es) by
+      ∙ ap (λ (n : ℕ). (if blocked_by p t.lock t.errand e.step.kind e.value then 1 else 0) + n) (ap (λ (u : Spot). blocked_from s u es) (step_leads q e by moves) ∙ later (from t e))
+
+  blocked_plain : (es : List Entry) → ArePlain p es → (q : Spot) → blocked_from s q es ≡ blocked_in s.layout s.limit q (steps_of p es)
+  blocked_plain [] plain q = refl
+  blocked_plain (e ∷ es) plain q =
+      blocked_first q e es plain.0.0 plain.0.3 (blocked_plain es plain.1) ∙ ap (λ (t : Spot). blocked_in s.layout s.limit t (steps_of p (e ∷ es))) (nothing_before q e plain.0)
+
+  -- a start, with the crash that was owed
+  pub start_leads : (q : Spot) (c : Bool) (call : Call) → gone s q (before c (Some call) p) ≡ next_or_same s.layout s.limit (gone s q (crash_first c p)) (Begins p call)
+  start_leads q true call = refl
+  start_leads q false call = refl
+
+  starts : (hs : List Happening) (w : Scene) (c : Bool) (call : Call) (ms : List Happening) → Story s.layout s.limit w hs → own_happenings p hs ≡ before c (Some call) p ++ ms → OwnMoves p ms
+      → StartsAt s.layout s.limit p (w.words p) (gone s (w.spots p) (crash_first c p)) call ms
+  starts hs w true call ms story is moves = starts_fallen s.layout s.limit p hs w call ms story is moves
+  starts hs w false call ms story is moves = starts_calm s.layout s.limit p hs w call ms story is moves
+
+keeps : (x : Pass) (call : Call) (answers : List Answer) (t : Spot) (blocked steps : ℕ) → Tells x.setup.layout (words_begun x) (spot_begun x).mended call answers t steps blocked → KeepsTable x call answers blocked steps
+keeps x call [] t blocked steps h = (h.1.0, h.1.2, h.1.3)
+keeps x call (a ∷ []) t blocked steps h = h.1
+keeps x call (a ∷ b ∷ more) t blocked steps h = h
+
+-- steps of a call, from what is known of them
+pub keeps_the_table : (x y : Pass) (call : Call) (answers : List Answer) (blocked : ℕ) (mine : List Entry) → Calls x mine y → FirstCrash x.fallen mine → FirstStart call mine → AreMoves mine → answers_of x mine ≡ answers → blocked_of x mine ≡ blocked → KeepsTable x call answers blocked (length mine)
+keeps_the_table x y call answers blocked [] calls crash started moved answered blocks = absurd started
+keeps_the_table x y call answers blocked (e ∷ es) calls crash started moved answered blocks =
+    let s : Setup = x.setup in
+    let p : ℕ = x.by in
+    let q : Spot = spot_of s p x.seen in
+    let by = subst (All (λ (e : Entry). e.by ≡ p)) calls.mine_are (own_are p calls.since) in
+    let mine : e.by ≡ p = All-head (λ (e : Entry). e.by ≡ p) e es by in
+    let move : is_glance e.step.kind ≡ false = All-head (λ (e : Entry). is_glance e.step.kind ≡ false) e es moved in
+    let plain : ArePlain p es = plain_all p es (All-tail (λ (e : Entry). e.by ≡ p) e es by) crash.1 started.1 (All-tail (λ (e : Entry). is_glance e.step.kind ≡ false) e es moved) in
+    let ms : List Happening = steps_of p (e ∷ es) in
+    let run : IsRun s (x.seen ++ calls.since) = subst (λ (t : Setup × List Entry). IsRun t.0 t.1) (λ i. (calls.setup i, calls.seen i)) calls.run in
+    let first = taken_own p e mine move in
+    let later = spelled_plain p es plain in
+    let are : spelled (e ∷ es) ≡ (before x.fallen (Some call) p ++ Moves p e.step.kind e.step.word e.value ∷ []) ++ steps_of p es = λ i. (before (crash.0 i) (started.0 i) (mine i) ++ first i ∷ []) ++ later i in
+    let own_is : own_happenings p (spelled calls.since) ≡ before x.fallen (Some call) p ++ ms = own_spelled p calls.since ∙ ap spelled calls.mine_are ∙ are ∙ append_assoc (before x.fallen (Some call) p) (Moves p e.step.kind e.step.word e.value ∷ []) (steps_of p es) in
+    let moves : OwnMoves p ms = ((refl, move), own_moves p es plain) in
+    let begun = starts s p (spelled calls.since) (end_of s x.seen) x.fallen call ms (legal_back s x.seen calls.since run) own_is moves in
+    let told = subst (λ (t : Spot). StartsAt s.layout s.limit p (words_begun x) (gone s t (crash_first x.fallen p)) call ms) (spot_in_run s x.seen p) begun in
+    let start : Spot = next_or_same s.layout s.limit (spot_begun x) (Begins p call) in
+    let there : spot_before s q e ≡ start = (λ i. gone s q (before (crash.0 i) (started.0 i) (mine i))) ∙ start_leads s p q x.fallen call in
+    let answers_are : answers_in s.layout s.limit start ms ≡ answers =
+    sym (answers_first s p q e es mine move (answers_plain s p es plain) ∙ ap (λ (t : Spot). answers_in s.layout s.limit t ms) there) ∙ answered in
+    let blocked_are : blocked_in s.layout s.limit start ms ≡ blocked =
+    sym (blocked_first s p q e es mine move (blocked_plain s p es plain) ∙ ap (λ (t : Spot). blocked_in s.layout s.limit t ms) there) ∙ blocks in
+    keeps x call answers (last_spot s.layout s.limit start ms) blocked (length (e ∷ es))
+    (subst (λ (t : List Answer × ℕ × ℕ). Tells s.layout (words_begun x) (spot_begun x).mended call t.0 (last_spot s.layout s.limit start ms) t.1 t.2) (λ i. (answers_are i, steps_length p (e ∷ es) i, blocked_are i))
+    (calls_take_their_steps s.layout s.limit p (words_begun x) (spot_begun x) call ms told.0 told.1 told.2))
+
+pub calls_keep_the_table : CallsKeepTheTable
+calls_keep_the_table x call answers blocked y mine r = keeps_the_table x.pass y.pass call answers blocked mine r.calls r.crash r.first r.moves r.answered r.blocks

@@ -1,0 +1,204 @@
+-- Steps one after another, and what they tell.
+use Rattle.std.proofs.Common.{◌≡◌, ℕ, suc, ◌+◌, ◌≤◌, Bool, true, false, if◌then◌else◌, List, [], ◌∷◌, ◌++◌, length, Option, Some, None, IsSome, unwrap_or, refl, sym, ap, ◌∙◌, subst, arith, length-append}
+use Rattle.rmecore.specs.Machine.{kind_of, word_of, carried}
+use Rattle.rmecore.specs.Simulated.{one_more}
+use Rattle.rmecore.specs.declared.kind.Kind.{Kind}
+use Rattle.rmecore.specs.declared.word.Word.{Word}
+use Rattle.rmeworld.specs.declared.call.Call.{Call}
+use Rattle.rmeworld.specs.declared.answer.Answer.{Answer}
+use Rattle.rmeworld.specs.declared.outcome.Outcome.{Outcome}
+use Rattle.rmeworld.specs.Answered.{answer_at, blocked_by}
+use Rattle.rmeworld.specs.Spot.{Spot, Moves, next_spot}
+use Rattle.runs.specs.declared.setup.Setup.{Setup}
+use Rattle.runs.specs.declared.entry.Entry.{Entry}
+use Rattle.runs.specs.Runs.{before, happenings, spelled, gone, spot_of}
+use Rattle.runs.specs.Pass.{Pass, spot_now, moved_spot, next_entry, Advances}
+use Rattle.runs.specs.Running.{Seated, many_more, TakesStep}
+use Rattle.runs.specs.Calls.{spot_before, and_answer, answers_from, is_blocked_at, blocked_from, answers_of, blocked_of, Takes, Ran, Going}
+use Rattle.rmecore.specs.Place.{Place, Wait}
+use Rattle.rmecore.specs.Machine.{answer, is_blocked}
+use Rattle.rmecore.specs.Paid.{is_glance}
+use Rattle.rmecore.specs.declared.kind.Kind.TheVariants.{Look, Weigh}
+use Rattle.rmeworld.specs.declared.call.Call.TheVariants.{Lock}
+use Rattle.rmeworld.specs.Spot.{Errand, Free, Doing}
+use Rattle.rmeworld.specs.Answered.{by_lock}
+use Rattle.rmeworld.specs.Refused.{is_idle}
+use Rattle.runs.specs.Lasting.{Lasts, LastsBy}
+use Rattle.runs.specs.Under.{UnderBy, IsUnder, Fits, Leaves}
+use Rattle.runs.specs.Calls.{Still}
+use Rattle.runs.proofs.Under.{blocked_lock}
+use Rattle.runs.proofs.Leads.{gone-append, spot_after, spot_moves}
+use Rattle.runs.proofs.Running.{taken_moves, next_moves}
+use Rattle.runs.proofs.Goes.{SpotTo, spot_step}
+
+pub takes_sizes : (x y : Pass) (mine : List Entry) → Takes x mine y → (y.setup ≡ x.setup) × (y.by ≡ x.by)
+takes_sizes x y [] h = (ap (λ (p : Pass). p.setup) h, ap (λ (p : Pass). p.by) h)
+takes_sizes x y (e ∷ es) h = let later = takes_sizes h.0 y es h.3 in let a = h.2.adds in (later.0 ∙ a.setup, later.1 ∙ a.by)
+
+pub takes_spot : (x y : Pass) (mine : List Entry) → Takes x mine y → spot_of y.setup y.by y.seen ≡ gone x.setup (spot_of x.setup x.by x.seen) (spelled mine)
+takes_spot x y [] h = ap (λ (p : Pass). spot_of p.setup p.by p.seen) h
+takes_spot x y (e ∷ es) h =
+    let z = h.0 in
+    let here : spot_of z.setup z.by z.seen ≡ gone x.setup (spot_of x.setup x.by x.seen) (happenings e) = spot_after x z (next_entry x e.step.kind e.step.word e.value) refl h.2.adds ∙ ap (λ (f : Entry). gone x.setup (spot_of x.setup x.by x.seen) (happenings f)) (sym h.1) in
+    takes_spot z y es h.3 ∙ ap (λ (t : Setup × Spot). gone t.0 t.1 (spelled es)) (λ i. (h.2.adds.setup i, here i)) ∙ sym (gone-append x.setup (spot_of x.setup x.by x.seen) (happenings e) (spelled es))
+
+pub takes_snoc : (x y z : Pass) (mine : List Entry) (kind : Kind) (word : Word) (v : ℕ) → Takes x mine y → Advances y kind word v z → is_glance kind ≡ false → Takes x (mine ++ next_entry y kind word v ∷ []) z
+takes_snoc x y z [] kind word v h a move = subst (λ (p : Pass). Takes p (next_entry y kind word v ∷ []) z) h (z, refl, a, refl, move)
+takes_snoc x y z (e ∷ es) kind word v h a move = (h.0, h.1, h.2, takes_snoc h.0 y z es kind word v h.3 a move, h.4)
+
+and_append : (o : Option Answer) (xs ys : List Answer) → and_answer o (xs ++ ys) ≡ and_answer o xs ++ ys
+and_append None xs ys = refl
+and_append (Some a) xs ys = refl
+
+answers_snoc : (s : Setup) (q : Spot) (es : List Entry) (e : Entry) → answers_from s q (es ++ e ∷ []) ≡ answers_from s q es ++ and_answer (answer_at (spot_before s (gone s q (spelled es)) e) e.step.kind e.value) []
+answers_snoc s q [] e = refl
+answers_snoc s q (x ∷ xs) e =
+    ap (and_answer (answer_at (spot_before s q x) x.step.kind x.value)) (answers_snoc s (gone s q (happenings x)) xs e ∙ ap (λ (r : Spot). answers_from s (gone s q (happenings x)) xs ++ and_answer (answer_at (spot_before s r e) e.step.kind e.value) []) (sym (gone-append s q (happenings x) (spelled xs))))
+    ∙ and_append (answer_at (spot_before s q x) x.step.kind x.value) (answers_from s (gone s q (happenings x)) xs) (and_answer (answer_at (spot_before s (gone s q (spelled (x ∷ xs))) e) e.step.kind e.value) [])
+
+blocked_snoc : (s : Setup) (q : Spot) (es : List Entry) (e : Entry) → blocked_from s q (es ++ e ∷ []) ≡ blocked_from s q es + (if is_blocked_at (spot_before s (gone s q (spelled es)) e) e then 1 else 0)
+blocked_snoc s q [] e = omega arith
+blocked_snoc s q (x ∷ xs) e =
+    let later = blocked_snoc s (gone s q (happenings x)) xs e ∙ ap (λ (r : Spot). blocked_from s (gone s q (happenings x)) xs + (if is_blocked_at (spot_before s r e) e then 1 else 0)) (sym (gone-append s q (happenings x) (spelled xs))) in
+    let first = if is_blocked_at (spot_before s q x) x then 1 else 0 in
+    ap (λ (m : ℕ). first + m) later ∙ assoc first (blocked_from s (gone s q (happenings x)) xs) (if is_blocked_at (spot_before s (gone s q (spelled (x ∷ xs))) e) e then 1 else 0)
+  where
+    assoc : (a b c : ℕ) → a + (b + c) ≡ (a + b) + c
+    assoc a b c = omega arith
+
+-- the spot at the next step of a pass
+at_now : (x y : Pass) (mine : List Entry) (kind : Kind) (word : Word) (v : ℕ) → Takes x mine y → spot_before x.setup (gone x.setup (spot_of x.setup x.by x.seen) (spelled mine)) (next_entry y kind word v) ≡ spot_now y
+at_now x y mine kind word v h = ap (λ (t : Setup × Spot). gone t.0 t.1 (before y.fallen y.start y.by)) (λ i. (sym (takes_sizes x y mine h).0 i, sym (takes_spot x y mine h) i))
+
+none_before : (m : ℕ) → 0 + m ≡ m
+none_before m = omega arith
+
+-- one step more
+module _ (x y z : Seated) (mine : List Entry) (o : Outcome) (g : Going x mine y) (s : TakesStep y o z) where
+  abbrev pub last : Entry
+  last = next_entry y.pass (kind_of s.access) (word_of s.access) (carried s.access s.value)
+
+  pub steps_more : z.steps ≡ many_more (length (mine ++ last ∷ [])) x.steps
+  steps_more =
+      let l : length (mine ++ last ∷ []) ≡ length mine + 1 = length-append mine (last ∷ []) in
+      let k : suc (length mine) ≡ length (mine ++ last ∷ []) = omega arith in
+      s.steps ∙ ap one_more g.steps ∙ ap (λ (k : ℕ). many_more k x.steps) k
+
+  pub takes_more : Takes x.pass (mine ++ last ∷ []) z.pass
+  takes_more = takes_snoc x.pass y.pass z.pass mine (kind_of s.access) (word_of s.access) (carried s.access s.value) g.takes s.advances (next_moves y.pass s.access s.next)
+
+  pub answers_more : answers_of x.pass (mine ++ last ∷ []) ≡ and_answer o.answer []
+  answers_more =
+      answers_snoc x.pass.setup (spot_of x.pass.setup x.pass.by x.pass.seen) mine last ∙ ap (λ (l : List Answer). l ++ and_answer (answer_at (spot_before x.pass.setup (gone x.pass.setup (spot_of x.pass.setup x.pass.by x.pass.seen) (spelled mine)) last) (kind_of s.access) (carried s.access s.value)) []) g.answers
+      ∙ ap (λ (q : Spot). and_answer (answer_at q (kind_of s.access) (carried s.access s.value)) []) (at_now x.pass y.pass mine (kind_of s.access) (word_of s.access) (carried s.access s.value) g.takes) ∙ ap (λ (u : Outcome). and_answer u.answer []) (sym s.told)
+
+  pub blocked_more : blocked_of x.pass (mine ++ last ∷ []) ≡ (if o.progress.blocked then 1 else 0)
+  blocked_more =
+      blocked_snoc x.pass.setup (spot_of x.pass.setup x.pass.by x.pass.seen) mine last ∙ ap (λ (m : ℕ). m + (if is_blocked_at (spot_before x.pass.setup (gone x.pass.setup (spot_of x.pass.setup x.pass.by x.pass.seen) (spelled mine)) last) last then 1 else 0)) g.blocked
+      ∙ none_before (if is_blocked_at (spot_before x.pass.setup (gone x.pass.setup (spot_of x.pass.setup x.pass.by x.pass.seen) (spelled mine)) last) last then 1 else 0)
+      ∙ ap (λ (q : Spot). if is_blocked_at q last then 1 else 0) (at_now x.pass y.pass mine (kind_of s.access) (word_of s.access) (carried s.access s.value) g.takes) ∙ ap (λ (u : Outcome). if u.progress.blocked then 1 else 0) (sym s.told)
+
+-- where a step of a call leads to
+pub step_to : (call : Call) (y z : Seated) (o : Outcome) (k : ℕ) → TakesStep y o z → IsUnder call (spot_now y.pass) → Lasts y.pass.setup.layout.procs (suc k) (spot_now y.pass) → SpotTo call y.pass.setup.layout.procs k o.answer o.progress.blocked (spot_now z.pass)
+step_to call y z o k s u lasts =
+    let q = spot_now y.pass in
+    let l = y.pass.setup.layout in
+    let kind = kind_of s.access in
+    let word = word_of s.access in
+    let v = carried s.access s.value in
+    let moves = next_moves y.pass s.access s.next in
+    let is : moved_spot y.pass kind word v ≡ next_spot l y.pass.setup.limit q (Moves y.pass.by kind word v) = ap (next_spot l y.pass.setup.limit q) (taken_moves y.pass.by kind word v moves) in
+    let some : IsSome (next_spot l y.pass.setup.limit q (Moves y.pass.by kind word v)) = subst (λ (t : Option Spot). IsSome t) is s.may in
+    let there = spot_step l y.pass.by k call y.pass.setup.limit q.lock q.mended q.barred q.errand kind word v some moves u lasts in
+    let now : spot_now z.pass ≡ unwrap_or (next_spot l y.pass.setup.limit q (Moves y.pass.by kind word v)) q = spot_moves y.pass z.pass kind word v s.advances ∙ ap (λ (t : Option Spot). unwrap_or t q) is in
+    subst (λ (t : Outcome × Spot). SpotTo call l.procs k t.0.answer t.0.progress.blocked t.1) (λ i. (sym s.told i, sym now i)) there
+
+lasts_more : (n k m : ℕ) (s : Place) (e : Errand) → k ≤ m → LastsBy n k s e → LastsBy n m s e
+lasts_more n k m s Free h l = (l.0, (let few = l.1 in omega arith))
+lasts_more n k m s (Doing why left) h l = (l.0, l.1, (let few = l.2 in omega arith), l.3)
+
+-- a blocked reading answers nothing, and is a lock's
+lock_silent : (p : ℕ) (s : Place) (kind : Kind) (v : ℕ) → is_blocked p s kind v ≡ true → answer s kind v ≡ None
+lock_silent p (Wait k unpassed None) Look v h = refl
+lock_silent p (Wait k unpassed (Some j)) Weigh v h = refl
+lock_silent p _ _ v h = absurd (cc)
+
+blocked_silent : (p : ℕ) (s : Place) (b c : Bool) (e : Errand) (kind : Kind) (v : ℕ) → blocked_by p s e kind v ≡ true → answer_at (record { lock = s; mended = b; barred = c; errand = e }) kind v ≡ None
+blocked_silent p s b c Free kind v h = ap (by_lock c) (lock_silent p s kind v h)
+blocked_silent p s b c (Doing why left) kind v h = absurd (cc)
+
+blocked_is_lock : (n limit p : ℕ) (call : Call) (s : Place) (c : Bool) (e : Errand) (kind : Kind) (v : ℕ) → UnderBy call s c e → blocked_by p s e kind v ≡ true → call ≡ Lock
+blocked_is_lock n limit p call s c Free kind v u h = blocked_lock n limit p call c s kind v u h
+blocked_is_lock n limit p call s c (Doing why left) kind v u h = absurd (cc)
+
+pub length_snoc : (mine : List Entry) (e : Entry) → length (mine ++ e ∷ []) ≡ suc (length mine)
+length_snoc mine e = let l = length-append mine (e ∷ []) in omega arith
+
+not_both : (b : Bool) (o : Option Answer) (a : Answer) → (b ≡ true → o ≡ None) → o ≡ Some a → b ≡ false
+not_both true o a h e = absurd (let k = sym (h refl) ∙ e in cc)
+not_both false o a h e = refl
+
+module _ (x y z : Seated) (mine : List Entry) (o : Outcome) (g : Going x mine y) (s : TakesStep y o z) where
+  silent : o.progress.blocked ≡ true → o.answer ≡ None
+  silent h =
+      let q = spot_now y.pass in
+      let b : blocked_by y.pass.by q.lock q.errand (kind_of s.access) (carried s.access s.value) ≡ true = ap (λ (u : Outcome). u.progress.blocked) (sym s.told) ∙ h in
+      ap (λ (u : Outcome). u.answer) s.told ∙ blocked_silent y.pass.by q.lock q.mended q.barred q.errand (kind_of s.access) (carried s.access s.value) b
+
+  abbrev pub more : List Entry
+  more = mine ++ last x y z mine o g s ∷ []
+
+  pub ran_answered : (a : Answer) → o.answer ≡ Some a → Ran x (Some a) z more
+  ran_answered a e =
+      let free : o.progress.blocked ≡ false = not_both o.progress.blocked o.answer a silent e in
+      record {
+        takes = takes_more x y z mine o g s;
+        answers = answers_more x y z mine o g s ∙ ap (λ (u : Option Answer). and_answer u []) e;
+        blocked = blocked_more x y z mine o g s ∙ ap (λ (b : Bool). if b then 1 else 0) free;
+        steps = steps_more x y z mine o g s;
+      }
+
+  pub ran_blocked : o.progress.blocked ≡ true → Ran x None z more
+  ran_blocked h = record {
+    takes = takes_more x y z mine o g s;
+    answers = answers_more x y z mine o g s ∙ ap (λ (u : Option Answer). and_answer u []) (silent h);
+    blocked = blocked_more x y z mine o g s ∙ ap (λ (b : Bool). if b then 1 else 0) h;
+    steps = steps_more x y z mine o g s;
+  }
+
+  pub goes_on : o.answer ≡ None → o.progress.blocked ≡ false → Going x more z
+  goes_on e h = record {
+    takes = takes_more x y z mine o g s;
+    answers = answers_more x y z mine o g s ∙ ap (λ (u : Option Answer). and_answer u []) e;
+    blocked = blocked_more x y z mine o g s ∙ ap (λ (b : Bool). if b then 1 else 0) h;
+    steps = steps_more x y z mine o g s;
+  }
+
+  pub asked_more : (asked before now : ℕ) → now ≡ one_more before → before ≡ many_more (length mine) asked → now ≡ many_more (length more) asked
+  asked_more asked before now e f = e ∙ ap one_more f ∙ ap (λ (k : ℕ). many_more k asked) (sym (length_snoc mine (last x y z mine o g s)))
+
+-- what follows such a step
+pub fits_answer : (call : Call) (y z : Seated) (o : Outcome) (k : ℕ) (a : Answer) → TakesStep y o z → IsUnder call (spot_now y.pass) → Lasts y.pass.setup.layout.procs (suc k) (spot_now y.pass) → o.answer ≡ Some a → Fits call a × Leaves call a (spot_now z.pass)
+fits_answer call y z o k a s u lasts e = subst (λ (t : Option Answer). SpotTo call y.pass.setup.layout.procs k t o.progress.blocked (spot_now z.pass)) e (step_to call y z o k s u lasts)
+
+same_procs : (y z : Seated) (o : Outcome) → TakesStep y o z → y.pass.setup.layout.procs ≡ z.pass.setup.layout.procs
+same_procs y z o s = ap (λ (t : Setup). t.layout.procs) (sym s.advances.adds.setup)
+
+pub goes_with : (call : Call) (y z : Seated) (o : Outcome) (k : ℕ) (b : Bool) → TakesStep y o z → IsUnder call (spot_now y.pass) → Lasts y.pass.setup.layout.procs (suc k) (spot_now y.pass) → o.answer ≡ None → o.progress.blocked ≡ b
+    → IsUnder call (spot_now z.pass) × (is_idle (spot_now z.pass) ≡ false) × Lasts z.pass.setup.layout.procs (if b then suc k else k) (spot_now z.pass)
+goes_with call y z o k b s u lasts e h =
+    let n = y.pass.setup.layout.procs in
+    let t : SpotTo call n k None b (spot_now z.pass) = subst (λ (t : Option Answer × Bool). SpotTo call n k t.0 t.1 (spot_now z.pass)) (λ i. (e i, h i)) (step_to call y z o k s u lasts) in
+    (t.1, t.0, subst (λ (m : ℕ). Lasts m (if b then suc k else k) (spot_now z.pass)) (same_procs y z o s) t.2)
+
+pub still_blocked : (call : Call) (y z : Seated) (o : Outcome) (k : ℕ) → suc k ≤ 256 → TakesStep y o z → IsUnder call (spot_now y.pass) → Lasts y.pass.setup.layout.procs (suc k) (spot_now y.pass) → o.answer ≡ None → o.progress.blocked ≡ true → Still call z None
+still_blocked call y z o k few s u lasts e h =
+    let q = spot_now y.pass in
+    let r = spot_now z.pass in
+    let t = goes_with call y z o k true s u lasts e h in
+    let b : blocked_by y.pass.by q.lock q.errand (kind_of s.access) (carried s.access s.value) ≡ true = ap (λ (u : Outcome). u.progress.blocked) (sym s.told) ∙ h in
+    (blocked_is_lock 0 0 y.pass.by call q.lock q.barred q.errand (kind_of s.access) (carried s.access s.value) u b, t.0, t.1, lasts_more z.pass.setup.layout.procs (suc k) 256 r.lock r.errand few t.2)
+
+pub none_of : {A : Type 0} (o : Option A) → ((a : A) → o ≡ Some a → ⊥) → o ≡ None
+none_of None h = refl
+none_of (Some a) h = absurd (h a refl)

@@ -1,0 +1,197 @@
+-- A worker that is told of a ruined lock has read that it is.
+use Rattle.std.proofs.Common.{◌≡◌, ◌⊎◌, ℕ, ◌+◌, ◌==◌, Bool, true, false, if◌then◌else◌, List, [], ◌∷◌, ◌++◌, Option, Some, None, Result, Ok, Err, IfErr, IsSome, refl, sym, ap, ◌∙◌, subst, inl, inr, append_assoc, eqb-true}
+use Rattle.std.proofs.lemmas.List.Elements.{All-head, All-tail}
+use Rattle.rmecore.specs.Machine.{answer}
+use Rattle.rmecore.specs.Paid.{is_glance}
+use Rattle.rmecore.specs.Place.{Place}
+use Rattle.rmecore.specs.declared.core_done.CoreDone.{CoreDone}
+use Rattle.rmecore.specs.declared.core_done.CoreDone.TheVariants as ends
+use Rattle.rmecore.specs.declared.kind.Kind.{Kind}
+use Rattle.rmecore.specs.declared.kind.Kind.TheVariants.{Get as Gets}
+use Rattle.rmecore.specs.declared.word.Word.{Word}
+use Rattle.rmecore.specs.declared.word.Word.TheVariants.{Data as DataAt}
+use Rattle.redomail.specs.declared.layout.Layout.{Layout}
+use Rattle.redomail.specs.declared.reply.Reply.{Reply}
+use Rattle.redomail.specs.declared.reply.Reply.TheVariants as reply
+use Rattle.redomail.specs.declared.task.Task.{Task}
+use Rattle.redomail.specs.Script.{Script, Get as Asks, Put as Writes, Done, tail}
+use Rattle.redomail.specs.Tasks.{consistent, repair}
+use Rattle.rmeworld.specs.declared.answer.Answer.{Answer}
+use Rattle.rmeworld.specs.declared.answer.Answer.TheVariants.{OwnerDied, NotRecoverable as RuinedAnswer, Unlocked}
+use Rattle.rmeworld.specs.declared.call.Call.{Call}
+use Rattle.rmeworld.specs.declared.call.Call.TheVariants.{Lock, Append}
+use Rattle.rmeworld.specs.declared.why.Why.TheVariants.{Checking, Ruining, Mending, Working}
+use Rattle.rmeworld.specs.Answered.{by_lock, by_reply, by_script, answer_by, answer_at}
+use Rattle.rmeworld.specs.Refused.{is_idle}
+use Rattle.rmeworld.specs.Spot.{Errand, Free, Doing, Spot, Happening, Moves, at_rest, next_spot, moved_by, only_spot, settled}
+use Rattle.runs.specs.declared.entry.Entry.{Entry}
+use Rattle.runs.specs.declared.lock_fault.LockFault.{LockFault}
+use Rattle.runs.specs.declared.lock_fault.LockFault.TheVariants.{NotYet, NumbersSpent, NotRecoverable}
+use Rattle.runs.specs.declared.setup.Setup.{Setup}
+use Rattle.runs.specs.Calls.{spot_before, and_answer, answers_from, AreMoves, ServedAll}
+use Rattle.runs.specs.Faults.{ready}
+use Rattle.runs.specs.Pass.{spot_now, own_of}
+use Rattle.runs.specs.Ruins.{ReadsRuin, HasReadRuin, last_call, last_of, AreInOrder}
+use Rattle.runs.specs.Running.{Seated, began, fell}
+use Rattle.runs.specs.Runs.{before, taken, happenings, spelled, own, gone, Goes, IsRun}
+use Rattle.runs.specs.Under.{Replies}
+use Rattle.runs.specs.Whole.{WholeEnds, AppendFails, Comes}
+use Rattle.runs.proofs.OneStep.{run_goes, goes_front, goes_back}
+use Rattle.runs.proofs.Ordered.{own_now, mine_order}
+use Rattle.runs.proofs.Ruins.{IsMended, IsRuin, Stands, StandsAt, entry_stands, before_stands, walk, later_ruin}
+use Rattle.runs.proofs.Running.{taken_moves}
+use Rattle.runs.proofs.Runs.{spelled-append}
+
+lock_calm : (o : Option CoreDone) → by_lock false o ≡ Some RuinedAnswer → ⊥
+lock_calm None e = absurd (cc)
+lock_calm (Some ends.In) e = absurd (cc)
+lock_calm (Some ends.InAgain) e = absurd (cc)
+lock_calm (Some ends.Spent) e = absurd (cc)
+lock_calm (Some ends.Out) e = absurd (cc)
+lock_calm (Some (ends.Found found)) e = absurd (cc)
+lock_calm (Some ends.Withdrawn) e = absurd (cc)
+
+check_calm : (b ruined : Bool) → by_reply Checking b (reply.Ruined ruined) ≡ Some RuinedAnswer → ⊥
+check_calm b true e = absurd (cc)
+check_calm true false e = absurd (cc)
+check_calm false false e = absurd (cc)
+
+mended_calm : (left : Script Reply) (b : Bool) → Replies IsMended left → by_script Mending b left ≡ Some RuinedAnswer → ⊥
+mended_calm (Done (reply.Mended x)) b h e = absurd (cc)
+mended_calm (Asks i rest) b h e = absurd (cc)
+mended_calm (Writes i x rest) b h e = absurd (cc)
+mended_calm (Done _) b h e = absurd h
+
+work_calm : (t : Task) (left : Script Reply) (b : Bool) → by_script (Working t) b left ≡ Some RuinedAnswer → ⊥
+work_calm t (Done r) b e = absurd (cc)
+work_calm t (Asks i rest) b e = absurd (cc)
+work_calm t (Writes i x rest) b e = absurd (cc)
+
+mended_tail : (left : Script Reply) (v : ℕ) → Replies IsMended left → Replies IsMended (tail left v)
+mended_tail (Done r) v h = h
+mended_tail (Asks i rest) v h = h v
+mended_tail (Writes i x rest) v h = h
+
+module _ (l : Layout) (last : Option Call) (s : Place) (b c : Bool) (limit p : ℕ) where
+  -- the reading that a mending begins with
+  first_ruin : (q : ℕ) (kind : Kind) (word : Word) (v : ℕ) → IsSome (moved_by l limit p s b c (Doing Mending (consistent l q)) kind word v) → by_script Mending b (tail (consistent l q) v) ≡ Some RuinedAnswer → IsRuin kind word v
+  first_ruin q Gets (DataAt i) v some e = go (i == 0) (v == 1) refl refl some e
+    where
+      rest : Bool → Script Reply
+      rest y = if y then Done (reply.Ruined true) else repair l q
+
+      go : (x y : Bool) → (i == 0) ≡ x → (v == 1) ≡ y → IsSome (only_spot x (settled b c Mending (rest y))) → by_script Mending b (rest y) ≡ Some RuinedAnswer → IsRuin Gets (DataAt i) v
+      go true true is ruined k a = (refl, ap DataAt (eqb-true i 0 is), eqb-true v 1 ruined)
+      go true false is other k a = absurd (cc)
+      go false y is other k a = absurd (cc)
+  first_ruin q _ _ v some e = absurd (cc)
+
+  ruin_told : (e : Errand) (kind : Kind) (word : Word) (v : ℕ) → Stands l last s b c e → IsSome (moved_by l limit p s b c e kind word v) → answer_by s b c e kind v ≡ Some RuinedAnswer → IsRuin kind word v
+  ruin_told Free kind word v h some a = absurd (lock_calm (answer s kind v) (subst (λ (x : Bool). by_lock x (answer s kind v) ≡ Some RuinedAnswer) h.0 a))
+  ruin_told (Doing Checking left) kind word v h some a = absurd (check_calm b (v == 1) (subst (λ (r : Script Reply). by_script Checking b (tail r v) ≡ Some RuinedAnswer) h.1 a))
+  ruin_told (Doing Ruining left) kind word v h some a = absurd h
+  ruin_told (Doing Mending left) kind word v (calm, inl (q, is)) some a =
+      first_ruin q kind word v (subst (λ (r : Script Reply). IsSome (moved_by l limit p s b c (Doing Mending r) kind word v)) is some) (subst (λ (r : Script Reply). by_script Mending b (tail r v) ≡ Some RuinedAnswer) is a)
+  ruin_told (Doing Mending left) kind word v (calm, inr h) some a = absurd (mended_calm (tail left v) b (mended_tail left v h) a)
+  ruin_told (Doing (Working t) left) kind word v h some a = absurd (work_calm t (tail left v) b a)
+
+module _ (s : Setup) where
+  -- an entry that answers so
+  entry_told : (last : Option Call) (q : Spot) (e : Entry) → StandsAt s.layout last q → AreInOrder last (e ∷ []) → Goes s q (happenings e) → is_glance e.step.kind ≡ false → answer_at (spot_before s q e) e.step.kind e.value ≡ Some RuinedAnswer → ReadsRuin e
+  entry_told last q e h order goes move a =
+      let hs = before e.step.crashed e.step.start e.by in
+      let x = taken e.by e.step.kind e.step.word e.value in
+      let t = gone s q hs in
+      let first = before_stands s last e.step.crashed e.step.start e.by q h order.0 (goes_front s q hs (x ∷ []) goes) in
+      let some : IsSome (next_spot s.layout s.limit t (Moves e.by e.step.kind e.step.word e.value)) = subst (λ (y : Happening). IsSome (next_spot s.layout s.limit t y)) (taken_moves e.by e.step.kind e.step.word e.value move) (goes_back s q hs (x ∷ []) goes).0 in
+      ruin_told s.layout (last_call last e.step.crashed e.step.start) t.lock t.mended t.barred s.limit e.by t.errand e.step.kind e.step.word e.value first some a
+
+  pub told_ruin : (last : Option Call) (q : Spot) (es : List Entry) (told rest : List Answer) → StandsAt s.layout last q → AreInOrder last es → Goes s q (spelled es) → AreMoves es → answers_from s q es ≡ told ++ RuinedAnswer ∷ rest → HasReadRuin es
+  told_ruin last q [] [] rest h order goes moves a = absurd (cc)
+  told_ruin last q [] (t ∷ ts) rest h order goes moves a = absurd (let k : [] ≡ t ∷ (ts ++ RuinedAnswer ∷ rest) = a in cc)
+  told_ruin last q (e ∷ es) told rest h order goes moves a = go (answer_at (spot_before s q e) e.step.kind e.value) refl told a (λ more k.
+      next (λ stands.
+      told_ruin (last_call last e.step.crashed e.step.start) (gone s q (happenings e)) es more rest stands order.1 (goes_back s q (happenings e) (spelled es) goes) (All-tail (λ (f : Entry). is_glance f.step.kind ≡ false) e es moves) k))
+    where
+      M : Entry → Type 0
+      M f = is_glance f.step.kind ≡ false
+
+      here_goes : Goes s q (happenings e)
+      here_goes = goes_front s q (happenings e) (spelled es) goes
+
+      others : List Answer
+      others = answers_from s (gone s q (happenings e)) es
+
+      next : (StandsAt s.layout (last_call last e.step.crashed e.step.start) (gone s q (happenings e)) → HasReadRuin es) → HasReadRuin (e ∷ es)
+      next later = elim (entry_stands s last q e h order.0 here_goes) [
+        | inl ruin ↦ record { front = []; entry = e; back = es; is = refl; reads = ruin }
+        | inr stands ↦ later_ruin s e es (later stands)
+      ]
+
+      go : (o : Option Answer) → answer_at (spot_before s q e) e.step.kind e.value ≡ o → (before_it : List Answer) → answers_from s q (e ∷ es) ≡ before_it ++ RuinedAnswer ∷ rest → ((more : List Answer) → others ≡ more ++ RuinedAnswer ∷ rest → HasReadRuin (e ∷ es)) → HasReadRuin (e ∷ es)
+      go None none before_it k later = later before_it (subst (λ (o : Option Answer). and_answer o others ≡ before_it ++ RuinedAnswer ∷ rest) none k)
+      go (Some d) some [] k later =
+          let whole : d ∷ others ≡ RuinedAnswer ∷ rest = subst (λ (o : Option Answer). and_answer o others ≡ RuinedAnswer ∷ rest) some k in
+          let same : d ≡ RuinedAnswer = cc in
+          record { front = []; entry = e; back = es; is = refl; reads = entry_told last q e h (order.0, tt) here_goes (All-head M e es moves) (some ∙ ap Some same) }
+      go (Some d) some (f ∷ fs) k later =
+          let whole : d ∷ others ≡ f ∷ (fs ++ RuinedAnswer ∷ rest) = subst (λ (o : Option Answer). and_answer o others ≡ f ∷ (fs ++ RuinedAnswer ∷ rest)) some k in
+          later fs (let same : others ≡ fs ++ RuinedAnswer ∷ rest = cc in same)
+
+  left_ruin : (xs ys : List Entry) → HasReadRuin xs → HasReadRuin (xs ++ ys)
+  left_ruin xs ys h = record { front = h.front; entry = h.entry; back = h.back ++ ys; is = ap (λ (l : List Entry). l ++ ys) h.is ∙ append_assoc h.front (h.entry ∷ h.back) ys; reads = h.reads }
+
+  right_ruin : (xs ys : List Entry) → HasReadRuin ys → HasReadRuin (xs ++ ys)
+  right_ruin xs ys h = record { front = xs ++ h.front; entry = h.entry; back = h.back; is = ap (λ (l : List Entry). xs ++ l) h.is ∙ sym (append_assoc xs h.front (h.entry ∷ h.back)); reads = h.reads }
+
+either_sizes : (b : Bool) (x : Seated) → ((if b then x else fell x).pass.setup ≡ x.pass.setup) × ((if b then x else fell x).pass.by ≡ x.pass.by) × ((if b then x else fell x).pass.seen ≡ x.pass.seen)
+either_sizes true x = (refl, refl, refl)
+either_sizes false x = (refl, refl, refl)
+
+-- calls of which one answers so
+served_told : (x y : Seated) (order : List Call) (answers told rest : List Answer) (blocked : ℕ) (mine : List Entry) → ServedAll (began (ready x) Lock) order answers blocked y mine → AreInOrder None (own_of x.pass) → AreInOrder None (own_of x.pass ++ mine) → answers ≡ told ++ RuinedAnswer ∷ rest
+    → HasReadRuin (own_of y.pass)
+served_told x y order answers told rest blocked mine served old all is =
+    let z = began (ready x) Lock in
+    let s = z.pass.setup in
+    let own_y = own_now x y mine served.calls in
+    let own_z = ap (λ (u : ℕ × List Entry). own u.0 u.1) (λ i. (sizes.1 i, sizes.2 i)) in
+    let run : IsRun s y.pass.seen = subst (λ (u : Setup). IsRun u y.pass.seen) served.calls.setup served.calls.run in
+    let goes : Goes s at_rest (spelled (own_of x.pass) ++ spelled mine) = subst (Goes s at_rest) (ap spelled own_y ∙ spelled-append (own_of x.pass) mine) (run_goes s y.pass.seen y.pass.by run) in
+    subst HasReadRuin (sym own_y) (elim (walk s None at_rest (own_of x.pass) (refl, λ e. absurd (cc)) old (goes_front s at_rest (spelled (own_of x.pass)) (spelled mine) goes)) [
+      | inl ruin ↦ left_ruin s (own_of x.pass) mine ruin
+      | inr stands ↦
+          right_ruin s (own_of x.pass) mine
+          (told_ruin s (last_of None (own_of x.pass)) (gone s at_rest (spelled (own_of x.pass))) mine told rest stands (mine_order None (own_of x.pass) mine all) (goes_back s at_rest (spelled (own_of x.pass)) (spelled mine) goes) served.moves
+          (subst (λ (es : List Entry). answers_from s (gone s at_rest (spelled es)) mine ≡ told ++ RuinedAnswer ∷ rest) own_z (served.answered ∙ is)))
+    ])
+  where
+    sizes : ((began (ready x) Lock).pass.setup ≡ x.pass.setup) × ((began (ready x) Lock).pass.by ≡ x.pass.by) × ((began (ready x) Lock).pass.seen ≡ x.pass.seen)
+    sizes = either_sizes (is_idle (spot_now x.pass)) x
+
+module _ (x y : Seated) (seq : ℕ) (value : List ℕ) (a b c d : ℕ) (old : AreInOrder None (own_of x.pass)) (now : AreInOrder None (own_of y.pass)) where
+  whole_told : (turns : ℕ) (e : LockFault) → e ≡ NotRecoverable → WholeEnds (began (ready x) Lock) turns (Append seq value) (Err e) y a b c d → HasReadRuin (own_of y.pass)
+  whole_told turns e is h = by h.3
+    where
+      all : AreInOrder None (own_of x.pass ++ h.4.0)
+      all = subst (AreInOrder None) (own_now x y h.4.0 h.4.1.calls) now
+
+      by : Comes turns (Append seq value) (Err e) h.0 h.1 h.2 → HasReadRuin (own_of y.pass)
+      by (inl k) = absurd (let no_turn : NotYet ≡ NotRecoverable = sym k.0 ∙ is in cc)
+      by (inr (few, inl k)) = absurd (let spent : NumbersSpent ≡ NotRecoverable = sym k.0 ∙ is in cc)
+      by (inr (few, inr (inl k))) = served_told x y h.0 h.1 [] [] h.2 h.4.0 h.4.1 old all k.2
+      by (inr (few, inr (inr k))) = served_told x y h.0 h.1 (OwnerDied ∷ []) (Unlocked ∷ []) h.2 h.4.0 h.4.1 old all k.2
+
+  fails_told : (turns : ℕ) (e : LockFault) → e ≡ NotRecoverable → AppendFails x turns seq value y a b c d e → HasReadRuin (own_of y.pass)
+  fails_told turns e is (inl h) = absurd (cc)
+  fails_told turns e is (inr (wide, inl h)) = absurd (cc)
+  fails_told turns e is (inr (wide, inr (may, inl h))) = absurd (let k = h.0 in cc)
+  fails_told turns e is (inr (wide, inr (may, inr h))) = whole_told turns e is h
+
+  pub append_told : (r : Result Reply LockFault) (e : LockFault) → r ≡ Err e → e ≡ NotRecoverable → IfErr r (λ e. (turns : ℕ) × AppendFails x turns seq value y a b c d e) → HasReadRuin (own_of y.pass)
+  append_told (Ok reply) e is ruined h = absurd (cc)
+  append_told (Err f) e is ruined h = fails_told h.0 f (let same : f ≡ e = cc in same ∙ ruined) h.1
+
+pub faulted : (why : LockFault) (es : List Entry) → (why ≡ NumbersSpent) ⊎ (why ≡ NotRecoverable) → (why ≡ NotRecoverable → HasReadRuin es) → (why ≡ NumbersSpent) ⊎ ((why ≡ NotRecoverable) × HasReadRuin es)
+faulted why es (inl spent) read = inl spent
+faulted why es (inr ruined) read = inr (ruined, read ruined)

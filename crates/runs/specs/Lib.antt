@@ -1,0 +1,17 @@
+pub mod Runs
+pub mod Rule
+pub mod Pass
+pub mod Lasting
+pub mod Running
+pub mod Calls
+pub mod Under
+pub mod Faults
+pub mod Tabled
+pub mod WholeSteps
+pub mod Whole
+pub mod Headline
+pub mod Telling
+pub mod Board
+pub mod Reading
+pub mod Ruins
+pub mod Gathering

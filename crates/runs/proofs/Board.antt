@@ -1,5 +1,5 @@
 -- The words of the board are what was put there last; and since its Enter a process's own puts are the last.
-use Rattle.std.proofs.Common.{◌≡◌, ◌≢◌, ℕ, ◌+◌, ◌*◌, ◌<◌, ◌==◌, ◌&&◌, nat_lt, lt-ltb, Bool, true, false, if◌then◌else◌, List, [], ◌∷◌, ◌++◌, Option, Some, None, refl, sym, ap, ◌∙◌, subst, arith, append_assoc, eqb-true, eq-eqb}
+use Rattle.std.proofs.Common.{◌≡◌, ℕ, ◌+◌, ◌*◌, ◌<◌, ◌==◌, ◌&&◌, nat_lt, lt-ltb, Bool, true, false, if◌then◌else◌, List, [], ◌∷◌, ◌++◌, Option, Some, None, refl, sym, ap, ◌∙◌, subst, arith, append_assoc, eqb-true, eq-eqb}
 use Rattle.std.proofs.lemmas.Bool.{and_parts, eqb-false, true≢false}
 use Rattle.rmecore.specs.World.{is_store}
 use Rattle.rmecore.specs.declared.kind.Kind.{Kind}

@@ -13,7 +13,7 @@ use Rattle.redomail.specs.declared.reply.Reply.{Reply}
 use Rattle.redomail.specs.declared.reply.Reply.TheVariants as reply
 use Rattle.redomail.specs.Script.{Script, Get as Asks, Put as Writes, Done}
 use Rattle.rmeworld.specs.declared.call.Call.{Call}
-use Rattle.rmeworld.specs.declared.call.Call.TheVariants.{Lock, Unlock, Consistent, Recover, Append, Close, Get, Put, Withdraw}
+use Rattle.rmeworld.specs.declared.call.Call.TheVariants.{Lock, Unlock, Consistent, Append, Close, Get, Put}
 use Rattle.rmeworld.specs.declared.answer.Answer.{Answer}
 use Rattle.rmeworld.specs.declared.why.Why.{Why}
 use Rattle.rmeworld.specs.declared.why.Why.TheVariants.{Checking, Ruining, Mending, Working}

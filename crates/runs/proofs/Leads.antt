@@ -1,5 +1,5 @@
 -- What a member's own entries tell of its spot.
-use Rattle.std.proofs.Common.{◌≡◌, ℕ, ◌+◌, ◌^◌, ◌<◌, ◌≤◌, Bool, true, false, List, [], ◌∷◌, ◌++◌, Option, None, IsSome, unwrap_or, refl, sym, ap, ◌∙◌, subst, eq-eqb, append-nil}
+use Rattle.std.proofs.Common.{◌≡◌, ℕ, ◌^◌, ◌<◌, ◌≤◌, Bool, true, false, List, [], ◌∷◌, ◌++◌, Option, None, IsSome, unwrap_or, refl, sym, ap, ◌∙◌, subst, eq-eqb, append-nil}
 use Rattle.rmecore.specs.World.{is_store}
 use Rattle.rmecore.specs.declared.kind.Kind.{Kind}
 use Rattle.rmecore.specs.declared.word.Word.{Word}

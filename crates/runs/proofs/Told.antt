@@ -1,5 +1,5 @@
 -- A worker that is told of a ruined lock has read that it is.
-use Rattle.std.proofs.Common.{◌≡◌, ◌⊎◌, ℕ, ◌+◌, ◌==◌, Bool, true, false, if◌then◌else◌, List, [], ◌∷◌, ◌++◌, Option, Some, None, Result, Ok, Err, IfErr, IsSome, refl, sym, ap, ◌∙◌, subst, inl, inr, append_assoc, eqb-true}
+use Rattle.std.proofs.Common.{◌≡◌, ◌⊎◌, ℕ, ◌==◌, Bool, true, false, if◌then◌else◌, List, [], ◌∷◌, ◌++◌, Option, Some, None, Result, Ok, Err, IfErr, IsSome, refl, sym, ap, ◌∙◌, subst, inl, inr, append_assoc, eqb-true}
 use Rattle.std.proofs.lemmas.List.Elements.{All-head, All-tail}
 use Rattle.rmecore.specs.Machine.{answer}
 use Rattle.rmecore.specs.Paid.{is_glance}

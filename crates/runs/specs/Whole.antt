@@ -7,7 +7,7 @@ use Rattle.redomail.specs.declared.reply.Reply.TheVariants.{Mended}
 use Rattle.rmeworld.specs.declared.call.Call.{Call}
 use Rattle.rmeworld.specs.declared.call.Call.TheVariants.{Lock, Unlock, Consistent, Append, Close}
 use Rattle.rmeworld.specs.declared.answer.Answer.{Answer}
-use Rattle.rmeworld.specs.declared.answer.Answer.TheVariants.{Clean, OwnerDied, NumbersSpent as SpentAnswer, NotRecoverable as RuinedAnswer, Unlocked, Mail}
+use Rattle.rmeworld.specs.declared.answer.Answer.TheVariants.{OwnerDied, NumbersSpent as SpentAnswer, NotRecoverable as RuinedAnswer, Unlocked, Mail}
 use Rattle.runs.specs.declared.lock_fault.LockFault.{LockFault}
 use Rattle.runs.specs.declared.lock_fault.LockFault.TheVariants.{Crashed, NotYet, NumbersSpent, NotRecoverable, AlreadyIn, BadWidth}
 use Rattle.runs.specs.declared.entry_kind.Entry.{Entry as Entering}

@@ -1,4 +1,4 @@
-pub mod Plans
+pub use Rattle.plans.specs.Plans
 pub mod Variants
 pub mod VariantScripts
 pub mod VariantSpots

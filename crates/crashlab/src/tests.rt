@@ -1,5 +1,4 @@
 //! What no contract says, by example.
 
 mod hunts;
-mod plans;
 mod rows;

@@ -14,7 +14,7 @@ ghost use Rattle.runs.specs.Faults.{fault_for as fault_of, refusal_now, Fails};
 ghost use Rattle.runs.specs.Under.{IsUnder, Begun, Fits};
 
 use crate::runner::Runner;
-use crashlab::CrashPlan;
+use plans::CrashPlan;
 use rmecore::Refusal;
 use rmeworld::{Answer, Call};
 use runs::LockFault;

@@ -11,8 +11,8 @@ ghost use Rattle.runs.specs.Under.{Begun, Fits, Leaves};
 ghost use Rattle.runs.specs.Faults.{refusal_now, ready, CutIn, LockBy, LockEnds};
 
 use crate::runner::Runner;
-use crashlab::CrashPlan;
 use crossbeam_utils::Backoff;
+use plans::CrashPlan;
 use rmecore::Refusal;
 use rmeworld::{Answer, Call};
 use runs::LockFault;

@@ -13,7 +13,7 @@ ghost use Rattle.runs.specs.Whole.{WholeEnds, WholeFails, AppendFails};
 
 use crate::laws;
 use crate::member::Member;
-use crashlab::CrashPlan;
+use plans::CrashPlan;
 use redomail::Reply;
 use rmecore::Body;
 use rmeworld::Call;

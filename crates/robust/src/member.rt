@@ -17,7 +17,7 @@ ghost use Rattle.runs.specs.Faults.{refusal_now, ready, Fails, FailsOut, Answere
 use crate::laws;
 use crate::runner::Runner;
 use crate::walker::Walker;
-use crashlab::CrashPlan;
+use plans::CrashPlan;
 use redomail::{Message, Reply};
 use rmecore::Found;
 use rmeworld::{Answer, Call};

@@ -11,7 +11,7 @@ ghost use Rattle.runs.specs.Under.{Begun};
 ghost use Rattle.runs.specs.Pass.{Advances, Looks, IsPass, fresh, spot_now, moved_spot};
 
 use crate::walker::Walker;
-use crashlab::CrashPlan;
+use plans::CrashPlan;
 use redomail::Layout;
 use rmecore::{Access, Kind, Refusal, Word};
 use rmeworld::{Call, Outcome, Process};

@@ -15,7 +15,7 @@ ghost use Rattle.runs.specs.WholeSteps.{InsideCounts, most_inside, most_whole};
 ghost use Rattle.runs.specs.Whole.{IsTask, IsFront, IsInner, IsWithin, Inner, WholeBy, WholeGoes, WholeEnds, WholeFails};
 
 use crate::runner::Runner;
-use crashlab::CrashPlan;
+use plans::CrashPlan;
 use redomail::Reply;
 use rmeworld::{Answer, Call};
 use runs::{Entry, LockFault};
@@ -152,7 +152,7 @@ impl Runner {
     }
 
     /// A whole mailbox call, which gives up once it is blocked more often than it was given turns.
-    #[tactic(auto, using(crate::proofs::WholeCalls::whole_replied, crate::proofs::WholeCalls::whole_fails, crate::proofs::WholeCalls::cut_fails, crate::proofs::WholeCalls::goes_idle, crate::proofs::WholeCalls::task_fits, crate::proofs::Chained::lock_idle))]
+    #[tactic(auto, using(runs::proofs::WholeCalls::whole_replied, runs::proofs::WholeCalls::whole_fails, runs::proofs::WholeCalls::cut_fails, runs::proofs::WholeCalls::goes_idle, runs::proofs::WholeCalls::task_fits, runs::proofs::Chained::lock_idle))]
     pub fn mail_within<C: CrashPlan>(
         &mut self,
         plan: &mut C,

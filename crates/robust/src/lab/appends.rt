@@ -2,7 +2,7 @@
 
 ghost use Rattle.std.specs.Prelude.{◌≡◌, ◌<◌};
 
-use crashlab::CrashPlan;
+use plans::CrashPlan;
 use redomail::Reply;
 use rmecore::Body;
 use runs::LockFault;

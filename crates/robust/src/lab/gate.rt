@@ -2,7 +2,7 @@
 
 ghost use Rattle.std.specs.Prelude.{◌≡◌};
 
-use crashlab::{CrashPlan, Never, Seeded};
+use plans::{CrashPlan, Never, Seeded};
 
 /// A worker's plan of crashes, which also hears of the worker's answers. A test can hold a worker at an asking by one.
 pub trait Gate: CrashPlan {

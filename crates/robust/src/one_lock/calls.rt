@@ -9,7 +9,7 @@ ghost use Rattle.robust.specs.OneLockMember.{Goes, AskedEach, AskedOnceMore, Cou
 
 use crate::one_lock::member::Member;
 use crate::one_lock::standing::Standing;
-use crashlab::CrashPlan;
+use plans::CrashPlan;
 use redomail::Reply;
 use rmecore::{Body, Found};
 use rmeworld::{Answer, Call};

@@ -12,7 +12,7 @@ use crate::lab::{Gate, LabFault, LabResult, Spec};
 use crate::one_lock::arena::Arena;
 use crate::one_lock::gathering::gather;
 use crate::one_lock::member::Member;
-use crashlab::CrashPlan;
+use plans::CrashPlan;
 use redomail::{Layout, Reply};
 use rmecore::Body;
 use runs::LockFault;

@@ -2,7 +2,7 @@
 
 use super::kit::two;
 use crate::{Arena, Entry, LockFault};
-use crashlab::{At, Never};
+use plans::{At, Never};
 use rmecore::{Found, Refusal};
 use std::test::Fail;
 

@@ -1,6 +1,6 @@
 //! A plan that counts.
 
-use crashlab::{At, CrashPlan, Never};
+use plans::{At, CrashPlan, Never};
 
 /// A plan with the askings that it has met.
 #[derive(Drop)]

@@ -9,7 +9,7 @@ ghost use Rattle.robust.specs.Making.{fresh_members};
 ghost use Rattle.robust.specs.Working.{seat_of, seats_of};
 
 use crate::{Arena, Entry, LockFault, Member, gather};
-use crashlab::{CrashPlan, Seeded};
+use plans::{CrashPlan, Seeded};
 use redomail::Layout;
 use rmeworld::{Image, start_of};
 use std::alloc::{AllocError, Global};

@@ -1,8 +1,8 @@
 //! A gate that holds its worker at one asking, until the other worker has come far enough.
 
 use crate::lab::Gate;
-use crashlab::{CrashPlan, Never};
 use crossbeam_utils::Backoff;
+use plans::{CrashPlan, Never};
 use std::alloc::{AllocError, Global};
 use std::sync::Arc;
 use std::sync::atomic::{AtomicU64, Ordering};

@@ -3,7 +3,7 @@
 use super::gated::{Gated, meeting};
 use super::kit::{body, two};
 use crate::{Entry, LockFault, Member};
-use crashlab::Never;
+use plans::Never;
 use redomail::Reply;
 use rmecore::Body;
 use std::sync::Wait;

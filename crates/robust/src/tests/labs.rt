@@ -3,7 +3,7 @@
 use super::gated::{Gated, Progress, Until, meeting};
 use super::kit::are;
 use crate::{LabFault, LockFault, Spec, run_lab};
-use crashlab::{Never, Seeded};
+use plans::{Never, Seeded};
 use redomail::{Message, Reply};
 use std::alloc::Global;
 use std::process::Abort;

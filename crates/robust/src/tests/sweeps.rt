@@ -6,7 +6,7 @@ ghost use Rattle.robust.specs.Working.{seat_of};
 use super::counted::{Counted, at, never};
 use super::kit::{answered_after, are, blocked_after, body, gathered, shows, two};
 use crate::{Entry, LockFault, Member};
-use crashlab::{Both, CrashPlan};
+use plans::{Both, CrashPlan};
 use redomail::Reply;
 use std::alloc::Global;
 use std::process::Abort;

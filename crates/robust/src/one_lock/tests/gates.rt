@@ -8,7 +8,7 @@ use crate::LockFault;
 use crate::lab::{LabFault, Spec};
 use crate::one_lock::{Entry, Member, run_lab};
 use crate::tests::gated::{Gated, Progress, Until, meeting};
-use crashlab::{CrashPlan, Never};
+use plans::{CrashPlan, Never};
 use redomail::{Message, Reply};
 use rmecore::Body;
 use std::alloc::{AllocError, Global};

@@ -3,7 +3,7 @@
 use crate::lab::{LabFault, Spec};
 use crate::one_lock::run_lab;
 use crate::tests::labs::are_all_sent;
-use crashlab::{Never, Seeded};
+use plans::{Never, Seeded};
 use redomail::{Message, Reply};
 use std::alloc::Global;
 use std::process::Abort;

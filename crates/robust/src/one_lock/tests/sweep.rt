@@ -8,7 +8,7 @@ use crate::LockFault;
 use crate::one_lock::{Entry, Member};
 use crate::tests::counted::{Counted, at, never};
 use crate::tests::kit::{answered_after, blocked_after, body, shows};
-use crashlab::{Both, CrashPlan};
+use plans::{Both, CrashPlan};
 use redomail::Reply;
 use std::alloc::Global;
 use std::marker::Brand;

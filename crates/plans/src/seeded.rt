@@ -20,7 +20,7 @@ pub struct Seeded {
 }
 
 impl Model for Seeded {
-    ghost use Rattle.crashlab.specs.Plans.{Drawing};
+    ghost use Rattle.plans.specs.Plans.{Drawing};
 
     ghost Value = { Drawing };
 
@@ -28,7 +28,7 @@ impl Model for Seeded {
 }
 
 impl Seeded {
-    ghost use Rattle.crashlab.specs.Plans.{unasked};
+    ghost use Rattle.plans.specs.Plans.{unasked};
     ghost use Rattle.rand_pcg.specs.Pcg.{pcg32_of_seed};
     ghost use Rattle.rand_core.specs.Pcg32Seed.{pcg32_seed};
 

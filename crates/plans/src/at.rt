@@ -15,7 +15,7 @@ pub struct At {
 }
 
 impl Model for At {
-    ghost use Rattle.crashlab.specs.Plans.{One};
+    ghost use Rattle.plans.specs.Plans.{One};
 
     ghost Value = { One };
 
@@ -23,7 +23,7 @@ impl Model for At {
 }
 
 impl At {
-    ghost use Rattle.crashlab.specs.Plans.{unasked};
+    ghost use Rattle.plans.specs.Plans.{unasked};
 
     /// Falls at asking `place`, counted from 1; at 0 never.
     pub fn new(place: u64) -> At
@@ -37,7 +37,7 @@ impl At {
 }
 
 impl CrashPlan for At {
-    ghost use Rattle.crashlab.specs.Plans.{next_asking};
+    ghost use Rattle.plans.specs.Plans.{next_asking};
 
     ghost asked = { λ a. a.count.asked };
 

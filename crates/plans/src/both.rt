@@ -16,7 +16,7 @@ pub struct Both {
 }
 
 impl Model for Both {
-    ghost use Rattle.crashlab.specs.Plans.{Two};
+    ghost use Rattle.plans.specs.Plans.{Two};
 
     ghost Value = { Two };
 
@@ -24,7 +24,7 @@ impl Model for Both {
 }
 
 impl Both {
-    ghost use Rattle.crashlab.specs.Plans.{unasked};
+    ghost use Rattle.plans.specs.Plans.{unasked};
 
     /// Falls at the askings `place` and `place + later`, counted from 1. With `place` 0 it falls at asking `later`
     /// alone, with `later` 0 at asking `place` alone, and a sum above 2^64 - 1 is never reached.
@@ -40,7 +40,7 @@ impl Both {
 }
 
 impl CrashPlan for Both {
-    ghost use Rattle.crashlab.specs.Plans.{next_asking};
+    ghost use Rattle.plans.specs.Plans.{next_asking};
 
     ghost asked = { λ b. b.count.asked };
 

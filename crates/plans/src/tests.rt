@@ -1,10 +1,6 @@
 //! Where each plan falls.
 
-use crate::at::At;
-use crate::both::Both;
-use crate::crash_plan::CrashPlan;
-use crate::never::Never;
-use crate::seeded::Seeded;
+use crate::{At, Both, CrashPlan, Never, Seeded};
 use std::alloc::{AllocFailed, Global};
 
 /// The askings at which a plan falls, of its first twelve.

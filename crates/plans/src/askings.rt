@@ -13,7 +13,7 @@ pub struct Askings {
 }
 
 impl Model for Askings {
-    ghost use Rattle.crashlab.specs.Plans.{Count};
+    ghost use Rattle.plans.specs.Plans.{Count};
 
     ghost Value = { Count };
 
@@ -21,7 +21,7 @@ impl Model for Askings {
 }
 
 impl Askings {
-    ghost use Rattle.crashlab.specs.Plans.{next_asking, unasked};
+    ghost use Rattle.plans.specs.Plans.{next_asking, unasked};
 
     /// Before the first asking.
     pub fn new() -> Askings

@@ -14,7 +14,7 @@ pub struct Never {
 }
 
 impl Model for Never {
-    ghost use Rattle.crashlab.specs.Plans.{Count};
+    ghost use Rattle.plans.specs.Plans.{Count};
 
     ghost Value = { Count };
 
@@ -22,7 +22,7 @@ impl Model for Never {
 }
 
 impl Never {
-    ghost use Rattle.crashlab.specs.Plans.{unasked};
+    ghost use Rattle.plans.specs.Plans.{unasked};
 
     pub fn new() -> Never
         ensures { result ≡ unasked }

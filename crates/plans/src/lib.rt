@@ -1,0 +1,18 @@
+//! Plans of crashes: at each asking a plan says whether its process crashes there.
+#![tactic(auto)]
+
+mod askings;
+mod at;
+mod both;
+mod crash_plan;
+mod never;
+mod seeded;
+
+pub use at::At;
+pub use both::Both;
+pub use crash_plan::CrashPlan;
+pub use never::Never;
+pub use seeded::Seeded;
+
+#[cfg(test)]
+mod tests;

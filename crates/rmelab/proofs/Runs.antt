@@ -2,7 +2,7 @@
 use Rattle.std.proofs.Common.{◌≡◌, ℕ, ◌-◌, ◌*◌, ◌^◌, ◌≤◌, min, refl, inl, inr, arith}
 use Rattle.std.proofs.Math.Nat.{min-eq_left, one-le-mul}
 use Rattle.std.proofs.lemmas.Nat.{mul-le}
-use Rattle.robust.specs.Lab.{IsBadSpec}
+use Rattle.one_lock.specs.Lab.{IsBadSpec}
 use Rattle.rmelab.specs.declared.order.RunOrder.{RunOrder}
 use Rattle.rmelab.specs.Commands.{lab_for}
 use Rattle.rmelab.specs.Sizes.{RunFits}

@@ -4,7 +4,7 @@ use Rattle.crashlab.specs.declared.variant.Variant.{Variant}
 use Rattle.crashlab.specs.declared.variant.Variant.TheVariants.{Right}
 use Rattle.crashlab.specs.Hunts.{IsFound}
 use Rattle.rmeworld.specs.declared.image.Image.{Image}
-use Rattle.robust.specs.declared.lab.spec.Spec.{Spec}
+use Rattle.one_lock.specs.declared.lab.spec.Spec.{Spec}
 use Rattle.schedule.specs.declared.replay_fault.ReplayFault.{ReplayFault}
 use Rattle.schedule.specs.declared.verdict.Verdict.{Verdict}
 use Rattle.schedule.specs.Plays.{Tape, Writes}

@@ -2,8 +2,8 @@
 use Rattle.std.specs.Prelude.{ℕ, Result, Ok, Err}
 use Rattle.crashlab.specs.declared.hunt_fault.HuntFault.{HuntFault}
 use Rattle.crashlab.specs.declared.hunt_fault.HuntFault.TheVariants as of_hunt
-use Rattle.robust.specs.declared.lab.lab_fault.LabFault.{LabFault}
-use Rattle.robust.specs.declared.lab.lab_fault.LabFault.TheVariants as of_lab
+use Rattle.one_lock.specs.declared.lab.lab_fault.LabFault.{LabFault}
+use Rattle.one_lock.specs.declared.lab.lab_fault.LabFault.TheVariants as of_lab
 use Rattle.schedule.specs.declared.fault.TextFault.{TextFault}
 use Rattle.schedule.specs.declared.fault.TextFault.TheVariants as of_text
 use Rattle.schedule.specs.declared.replay_fault.ReplayFault.{ReplayFault}

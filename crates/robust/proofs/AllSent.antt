@@ -17,11 +17,11 @@ use Rattle.rmeworld.specs.ImageRules.{layout_of, IsLawfulImage}
 use Rattle.rmeworld.specs.Sent.{EveryMessageWasSent, IsSent}
 use Rattle.rmeworld.specs.Spot.{Happening, Begins, Falls}
 use Rattle.runs.specs.declared.entry.Entry.{Entry}
-use Rattle.robust.specs.declared.lab.spec.Spec.{Spec}
+use Rattle.one_lock.specs.declared.lab.spec.Spec.{Spec}
 use Rattle.runs.specs.declared.setup.Setup.{Setup}
 use Rattle.runs.specs.Gathering.{Gathers, IsGlance, IsTold, has_member, image_at}
 use Rattle.runs.specs.Headline.{deeds_of, shown_by}
-use Rattle.robust.specs.Lab.{AreAllSent, words_sent, messages_sent, messages_by}
+use Rattle.one_lock.specs.Lab.{AreAllSent, words_sent, messages_sent, messages_by}
 use Rattle.runs.specs.Reading.{cells_of, RunsShow}
 use Rattle.runs.specs.Rule.{Begins as Starts}
 use Rattle.runs.specs.Running.{Seated}

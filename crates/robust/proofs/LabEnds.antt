@@ -17,15 +17,15 @@ use Rattle.rmeworld.specs.World.{at_first}
 use Rattle.redomail.specs.declared.layout.Layout.{Layout}
 use Rattle.runs.specs.declared.entry.Entry.{Entry}
 use Rattle.runs.specs.declared.setup.Setup.{Setup}
-use Rattle.robust.specs.declared.lab.lab_fault.LabFault.{LabFault}
-use Rattle.robust.specs.declared.lab.lab_fault.LabFault.TheVariants.{Member, Reply as Replied}
-use Rattle.robust.specs.declared.lab.spec.Spec.{Spec}
+use Rattle.one_lock.specs.declared.lab.lab_fault.LabFault.{LabFault}
+use Rattle.one_lock.specs.declared.lab.lab_fault.LabFault.TheVariants.{Member, Reply as Replied}
+use Rattle.one_lock.specs.declared.lab.spec.Spec.{Spec}
 use Rattle.robust.specs.declared.lab.worker.Done.{Done}
-use Rattle.robust.specs.declared.lab.worker.Ending.{Ending}
-use Rattle.robust.specs.declared.lab.worker.Ending.TheVariants.{AllSent, Fault, Refused}
+use Rattle.one_lock.specs.declared.lab.ending.Ending.{Ending}
+use Rattle.one_lock.specs.declared.lab.ending.Ending.TheVariants.{AllSent, Fault, Refused}
 use Rattle.runs.specs.Gathering.{Gathers, IsGlance, has_member, image_at}
 use Rattle.runs.specs.Headline.{judged_by, shown_by}
-use Rattle.robust.specs.Endings.{fault_by}
+use Rattle.one_lock.specs.Endings.{fault_by}
 use Rattle.robust.specs.LabFaults.{IsFirstFault, EndsSo, EndsLab}
 use Rattle.runs.specs.Reading.{cells_of, RunsShow, LoadsTell}
 use Rattle.runs.specs.Ruins.{AreInOrder, NobodyRuins}

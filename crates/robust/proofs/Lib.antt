@@ -1,4 +1,3 @@
-pub mod OneLockStories
 pub mod Errands
 pub mod Appended
 pub mod Sending
@@ -7,9 +6,5 @@ pub mod Numbered
 pub mod AllSent
 pub mod LabEnds
 pub mod Unruined
-pub mod Endings
-pub mod OneLockSteps
-pub mod OneLockSeats
-pub mod OneLockAnswers
 pub mod Working
 pub mod Worked

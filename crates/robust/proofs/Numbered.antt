@@ -9,7 +9,7 @@ use Rattle.redomail.specs.Mailbox.{message, is_by, IsAmong}
 use Rattle.redomail.specs.Shape.{entry, entries, count_of, IsNumbered}
 use Rattle.redomail.proofs.Changes.{count_of-push}
 use Rattle.judge.proofs.Counts.{one_if, count_cons}
-use Rattle.robust.specs.Lab.{words_sent, message_sent, messages_sent, messages_by}
+use Rattle.one_lock.specs.Lab.{words_sent, message_sent, messages_sent, messages_by}
 use Rattle.robust.proofs.Appended.{all_at, among_more}
 use Rattle.runs.proofs.Gathered.{all_left, all_right}
 

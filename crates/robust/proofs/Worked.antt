@@ -6,10 +6,10 @@ use Rattle.std.proofs.lemmas.List.Elements.{All-nil, All-cons, All-head, All-tai
 use Rattle.atomic_table.specs.Seated.{TableId}
 use Rattle.redomail.specs.Layout.{IsLayout}
 use Rattle.runs.specs.declared.setup.Setup.{Setup}
-use Rattle.robust.specs.declared.lab.spec.Spec.{Spec}
+use Rattle.one_lock.specs.declared.lab.spec.Spec.{Spec}
 use Rattle.robust.specs.declared.lab.worker.Done.{Done}
-use Rattle.robust.specs.declared.lab.worker.Ending.TheVariants.{AllSent}
-use Rattle.robust.specs.Lab.{IsBadSpec}
+use Rattle.one_lock.specs.declared.lab.ending.Ending.TheVariants.{AllSent}
+use Rattle.one_lock.specs.Lab.{IsBadSpec}
 use Rattle.robust.specs.Worked.{seat_done, sizes_of, HasWorked}
 use Rattle.runs.specs.Runs.{has}
 use Rattle.runs.specs.Rule.{count_from}

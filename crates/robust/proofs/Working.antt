@@ -12,7 +12,7 @@ use Rattle.runs.specs.Pass.{spot_now, Calls}
 use Rattle.runs.specs.Running.{Seated, began, fell}
 use Rattle.runs.specs.Faults.{ready}
 use Rattle.runs.specs.Whole.{WholeEnds, WholeFails, AppendFails}
-use Rattle.robust.specs.Lab.{words_sent}
+use Rattle.one_lock.specs.Lab.{words_sent}
 use Rattle.robust.specs.Sending.{IsSending}
 use Rattle.robust.specs.Working.{seat_of}
 

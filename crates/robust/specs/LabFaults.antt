@@ -5,13 +5,13 @@ use Rattle.redomail.specs.declared.reply.Reply.TheVariants.{Full, Closed}
 use Rattle.rmeworld.specs.Sent.{ReplyTells}
 use Rattle.runs.specs.declared.entry.Entry.{Entry}
 use Rattle.runs.specs.declared.lock_fault.LockFault.TheVariants as fault
-use Rattle.robust.specs.declared.lab.lab_fault.LabFault.{LabFault}
-use Rattle.robust.specs.declared.lab.lab_fault.LabFault.TheVariants.{BadSpec, OutOfMemory, Member, Reply as Replied}
-use Rattle.robust.specs.declared.lab.spec.Spec.{Spec}
+use Rattle.one_lock.specs.declared.lab.lab_fault.LabFault.{LabFault}
+use Rattle.one_lock.specs.declared.lab.lab_fault.LabFault.TheVariants.{BadSpec, OutOfMemory, Member, Reply as Replied}
+use Rattle.one_lock.specs.declared.lab.spec.Spec.{Spec}
 use Rattle.robust.specs.declared.lab.worker.Done.{Done}
-use Rattle.robust.specs.declared.lab.worker.Ending.{Ending}
-use Rattle.robust.specs.declared.lab.worker.Ending.TheVariants.{AllSent, Fault, Refused}
-use Rattle.robust.specs.Endings.{fault_by}
+use Rattle.one_lock.specs.declared.lab.ending.Ending.{Ending}
+use Rattle.one_lock.specs.declared.lab.ending.Ending.TheVariants.{AllSent, Fault, Refused}
+use Rattle.one_lock.specs.Endings.{fault_by}
 use Rattle.runs.specs.Headline.{judged_by}
 use Rattle.runs.specs.Pass.{own_of}
 use Rattle.runs.specs.Ruins.{HasReadRuin}

@@ -15,13 +15,9 @@ pub use Rattle.runs.specs.Board
 pub use Rattle.runs.specs.Reading
 pub use Rattle.runs.specs.Ruins
 pub use Rattle.runs.specs.Gathering
+pub use Rattle.one_lock.specs.Lab
+pub use Rattle.one_lock.specs.Endings
 pub mod Making
-pub mod Lab
-pub mod Endings
-pub mod OneLockStory
-pub mod OneLockMember
-pub mod OneLockAnswers
-pub mod OneLockLab
 pub mod Working
 pub mod Sending
 pub mod LabFaults

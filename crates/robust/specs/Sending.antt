@@ -7,7 +7,7 @@ use Rattle.runs.specs.declared.entry.Entry.{Entry}
 use Rattle.runs.specs.declared.setup.Setup.{Setup}
 use Rattle.runs.specs.Faults.{refusal_now, ready}
 use Rattle.runs.specs.Headline.{shown_by}
-use Rattle.robust.specs.Lab.{words_sent}
+use Rattle.one_lock.specs.Lab.{words_sent}
 use Rattle.runs.specs.Pass.{own_of}
 use Rattle.runs.specs.Running.{Seated}
 

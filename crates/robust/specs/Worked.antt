@@ -2,7 +2,7 @@
 use Rattle.std.specs.Prelude.{ℕ, None}
 use Rattle.atomic_table.specs.Seated.{TableId}
 use Rattle.runs.specs.declared.setup.Setup.{Setup}
-use Rattle.robust.specs.declared.lab.spec.Spec.{Spec}
+use Rattle.one_lock.specs.declared.lab.spec.Spec.{Spec}
 use Rattle.robust.specs.declared.lab.worker.Done.{Done}
 use Rattle.robust.specs.declared.lab.worker.HandsBack.{HandsBack}
 use Rattle.robust.specs.LabFaults.{EndsSo}

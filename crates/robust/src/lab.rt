@@ -1,18 +1,7 @@
-//! The laboratory: workers that send numbered messages through one mailbox while their plans let them crash.
+//! The laboratory over the running lock. Its sizes, gates, faults and what it sends are those of the plain reference's.
 
-pub(crate) mod appends;
-pub(crate) mod crew;
-mod gate;
-mod lab_fault;
-mod lab_result;
 mod running;
-mod sending;
-pub(crate) mod showing;
-mod spec;
 mod worker;
 
-pub use gate::Gate;
-pub use lab_fault::LabFault;
-pub use lab_result::LabResult;
+pub use one_lock::lab::{Gate, LabFault, LabResult, Spec};
 pub use running::run_lab;
-pub use spec::Spec;

@@ -3,14 +3,12 @@
 
 pub mod arena;
 mod drive;
-pub mod gather_fault;
 pub mod gathering;
 pub mod lab;
 pub mod laws;
 mod locking;
 pub mod mailing;
 pub mod member;
-pub mod one_lock;
 mod reading;
 pub mod rule;
 pub mod runner;
@@ -19,10 +17,11 @@ pub mod walker;
 mod whole;
 
 pub use arena::Arena;
-pub use gather_fault::GatherFault;
 pub use gathering::gather;
 pub use lab::{Gate, LabFault, LabResult, Spec, run_lab};
 pub use member::Member;
+pub use one_lock;
+pub use one_lock::GatherFault;
 pub use runs::{Entry, LockFault, Setup};
 
 #[cfg(test)]

@@ -7,6 +7,7 @@ pub mod gated;
 mod held;
 pub mod kit;
 pub mod labs;
+mod plain;
 mod rows;
 mod scarce;
 mod sweeps;

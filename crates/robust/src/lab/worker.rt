@@ -11,26 +11,15 @@ ghost use Rattle.robust.specs.Worked.{HasWorked, sizes_of};
 ghost use Rattle.robust.specs.Sending.{IsNew, IsSending, SendsOnly, HasShown};
 ghost use Rattle.robust.specs.Working.{seat_of};
 
-use crate::lab::sending::value_sent;
-use crate::lab::{Gate, Spec};
 use crate::member::Member;
+use one_lock::lab::sending::value_sent;
+use one_lock::lab::{Ending, Gate, Spec};
 use redomail::Reply;
 use rmecore::Body;
 use runs::LockFault;
 use std::snapshot::Snapshot;
 use std::sync::Wait;
 use std::thread::Promise;
-
-/// How a worker ended.
-#[derive(Clone, Copy, Debug, PartialEq, Eq)]
-pub enum Ending {
-    /// Each of its messages was answered Stored or Already.
-    AllSent,
-    /// A call ended with a fault.
-    Fault(LockFault),
-    /// A call was answered by another reply.
-    Refused(Reply),
-}
 
 /// A worker that has ended, with the member that it was given.
 #[derive(Drop)]

@@ -2,10 +2,10 @@ use Rattle.std.proofs.Common.{◌≡◌, ◌∙◌, List, map, All, slice_index,
 use Rattle.std.specs.Prelude.{vec_len}
 use Rattle.redomail.specs.Layout.{words_of}
 use Rattle.redomail.specs.Shape.{entries, IsNumbered}
-use Rattle.robust.specs.declared.lab.worker.Ending.TheVariants.{AllSent}
+use Rattle.one_lock.specs.declared.lab.ending.Ending.TheVariants.{AllSent}
 use Rattle.robust.specs.declared.lab.worker.Done.{Done}
 use Rattle.runs.specs.Gathering.{Gathers}
-use Rattle.robust.specs.Lab.{AreAllSent}
+use Rattle.one_lock.specs.Lab.{AreAllSent}
 use Rattle.robust.specs.LabFaults.{IsFirstFault}
 use Rattle.runs.specs.Running.{Seated}
 use Rattle.robust.specs.Worked.{sizes_of}

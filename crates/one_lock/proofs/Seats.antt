@@ -1,0 +1,59 @@
+-- All members of an arena, at its making and when they are handed back.
+use Rattle.std.proofs.Common.{◌≡◌, ℕ, zero, suc, ◌+◌, ◌<◌, List, [], ◌∷◌, ◌++◌, map, length, All, refl, sym, ap, ◌∙◌, subst}
+use Rattle.std.proofs.lemmas.List.Elements.{All-nil, All-cons, All-head, All-tail}
+use Rattle.redomail.specs.declared.layout.Layout.{Layout}
+use Rattle.one_lock.specs.declared.standing.Standing.TheVariants.{Out}
+use Rattle.one_lock.specs.Member.{Seat, new_seats, AreAll}
+use Rattle.one_lock.specs.Shown.{place_of}
+
+-- the members are of an arena of so many processes
+abbrev FitAll : ℕ → List Seat → Type 0
+FitAll n members = All (λ (m : Seat). m.layout.procs ≡ n) members
+
+fit_more : (n : ℕ) (ms : List Seat) (m : Seat) → FitAll n ms → m.layout.procs ≡ n → FitAll n (ms ++ m ∷ [])
+fit_more n [] m all fits = All-cons (λ (x : Seat). x.layout.procs ≡ n) m [] fits (All-nil _)
+fit_more n (x ∷ xs) m all fits =
+    All-cons (λ (y : Seat). y.layout.procs ≡ n) x (xs ++ m ∷ []) (All-head (λ (y : Seat). y.layout.procs ≡ n) x xs all) (fit_more n xs m (All-tail (λ (y : Seat). y.layout.procs ≡ n) x xs all) fits)
+
+length_more : (ms : List Seat) (m : Seat) → length (ms ++ m ∷ []) ≡ suc (length ms)
+length_more [] m = refl
+length_more (x ∷ xs) m = ap suc (length_more xs m)
+
+pub new_fit : (l : Layout) (n : ℕ) → FitAll l.procs (new_seats l n)
+new_fit l zero = All-nil _
+new_fit l (suc n) = fit_more l.procs (new_seats l n) (record { process = n; layout = l; standing = Out; steps = 0; counted = 0 }) (new_fit l n) refl
+
+pub new_count : (l : Layout) (n : ℕ) → length (new_seats l n) ≡ n
+new_count l zero = refl
+new_count l (suc n) = length_more (new_seats l n) (record { process = n; layout = l; standing = Out; steps = 0; counted = 0 }) ∙ ap suc (new_count l n)
+
+-- the members of a new arena, told by how many parts its ledger has
+pub new_arena : (l : Layout) (n : ℕ) (ms : List Seat) → ms ≡ new_seats l l.procs → l.procs ≡ n → FitAll n ms
+new_arena l n ms made e = subst (λ (xs : List Seat). FitAll n xs) (sym made) (subst (λ (k : ℕ). FitAll k (new_seats l l.procs)) e (new_fit l l.procs))
+
+pub new_all : (l : Layout) (n : ℕ) (ms : List Seat) → ms ≡ new_seats l l.procs → l.procs ≡ n → 0 < n → AreAll n ms
+new_all l n ms made e some = (some, ap length made ∙ new_count l l.procs ∙ e)
+
+head_same : (x y : Seat) (xs ys : List Seat) → map place_of (x ∷ xs) ≡ map place_of (y ∷ ys) → place_of x ≡ place_of y
+head_same x y xs ys e = cc
+
+tail_same : (x y : Seat) (xs ys : List Seat) → map place_of (x ∷ xs) ≡ map place_of (y ∷ ys) → map place_of xs ≡ map place_of ys
+tail_same x y xs ys e = cc
+
+no_place : (x : Seat) (xs : List Seat) → map place_of (x ∷ xs) ≡ [] → ⊥
+no_place x xs e = cc
+
+-- members in the same places are of arenas with the same sizes
+pub same_fit : (n : ℕ) (xs ys : List Seat) → map place_of xs ≡ map place_of ys → FitAll n ys → FitAll n xs
+same_fit n [] ys e all = All-nil _
+same_fit n (x ∷ xs) [] e all = absurd (no_place x xs e)
+same_fit n (x ∷ xs) (y ∷ ys) e all =
+    let here : place_of x ≡ place_of y = head_same x y xs ys e in
+    let fits : x.layout.procs ≡ n = ap (λ (p : ℕ × Layout). p.1.procs) here ∙ All-head (λ (m : Seat). m.layout.procs ≡ n) y ys all in
+    All-cons (λ (m : Seat). m.layout.procs ≡ n) x xs fits (same_fit n xs ys (tail_same x y xs ys e) (All-tail (λ (m : Seat). m.layout.procs ≡ n) y ys all))
+
+pub same_count : (xs ys : List Seat) → map place_of xs ≡ map place_of ys → length xs ≡ length ys
+same_count [] [] e = refl
+same_count [] (y ∷ ys) e = absurd (no_place y ys (sym e))
+same_count (x ∷ xs) [] e = absurd (no_place x xs e)
+same_count (x ∷ xs) (y ∷ ys) e = ap suc (same_count xs ys (tail_same x y xs ys e))

@@ -1,0 +1,44 @@
+-- What is known of the world under the lock stays known at each happening.
+use Rattle.std.proofs.Common.{◌≡◌, ℕ, ◌+◌, List, [], ◌∷◌, ◌++◌, refl, sym, ap, ◌∙◌, subst, arith}
+use Rattle.rmeworld.specs.Spot.{Happening, Begins, Falls, Moves, Glances}
+use Rattle.rmeworld.specs.World.{at_first, Can, onward, Story, last_scene, event_deeds, deeds}
+use Rattle.rmeworld.specs.WorldState.{WorldState, scene_of, Takes, new_world}
+use Rattle.rmeworld.proofs.StoryGrows.{story_more, last_more, deeds_more}
+use Rattle.rmeworld.proofs.Worlds.{new_scene}
+use Rattle.one_lock.specs.Story.{steps_of, IsTold}
+
+pub steps_more : (es : List Happening) (e : Happening) → steps_of (es ++ e ∷ []) ≡ steps_of (e ∷ []) + steps_of es
+steps_more [] (Begins p call) = refl
+steps_more [] (Falls p) = refl
+steps_more [] (Moves p kind word v) = refl
+steps_more [] (Glances p word v) = refl
+steps_more (Begins p call ∷ es) e = steps_more es e
+steps_more (Falls p ∷ es) e = steps_more es e
+steps_more (Moves p kind word v ∷ es) e = let r = steps_more es e in omega (arith, r)
+steps_more (Glances p word v ∷ es) e = let r = steps_more es e in omega (arith, r)
+
+pub told_more : (s : WorldState) (n m : ℕ) (e : Happening) (new : WorldState) → steps_of (e ∷ []) + n ≡ m → Takes s e new → IsTold s n → IsTold new m
+told_more s n m e new sum takes told =
+    let story = told.story ++ e ∷ [] in
+    record {
+      story = story;
+      told = let can = subst (λ w. Can s.layout s.limit w e) (sym told.last) takes.can in
+          subst (λ k. Story k new.limit at_first story) (sym takes.layout)
+          (subst (λ k. Story s.layout k at_first story) (sym takes.limit) (story_more s.layout s.limit at_first told.story e told.told can));
+      last = (λ i. last_scene (takes.layout i) (takes.limit i) at_first story) ∙ last_more s.layout s.limit at_first told.story e
+          ∙ ap (λ w. onward s.layout s.limit w e) told.last ∙ sym takes.scene;
+      done = (λ i. deeds (takes.layout i) (takes.limit i) at_first story) ∙ deeds_more s.layout s.limit at_first told.story e
+          ∙ (λ i. told.done i ++ event_deeds s.layout (told.last i) e) ∙ sym takes.history;
+      counted = steps_more told.story e ∙ ap (λ k. steps_of (e ∷ []) + k) told.counted ∙ sum;
+    }
+
+-- a new world has come from nothing
+pub told_first : (s : WorldState) → s ≡ new_world s.layout s.limit → IsTold s 0
+told_first s is =
+    record {
+      story = [];
+      told = tt;
+      last = sym (new_scene s.layout s.limit) ∙ ap scene_of (sym is);
+      done = ap (λ (w : WorldState). w.history) (sym is);
+      counted = refl;
+    }

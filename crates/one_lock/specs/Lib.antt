@@ -1,0 +1,6 @@
+pub mod Lab
+pub mod Endings
+pub mod Story
+pub mod Member
+pub mod Answers
+pub mod Shown

@@ -1,0 +1,141 @@
+-- A member of an arena over one world: what contracts see of it, what its calls may answer, and where they leave it.
+use Rattle.std.specs.Prelude.{◌≡◌, ℕ, Bool, true, false, not, ◌+◌, ◌-◌, ◌^◌, ◌<◌, ◌≤◌, min, zero, suc, List, [], ◌∷◌, ◌++◌, length, Result, Ok, Err}
+use Rattle.rmecore.specs.Simulated.{one_more}
+use Rattle.rmecore.specs.declared.found.Found.{Found}
+use Rattle.rmecore.specs.declared.found.Found.TheVariants.{Inside as FoundInside}
+use Rattle.redomail.specs.declared.layout.Layout.{Layout}
+use Rattle.rmeworld.specs.declared.call.Call.{Call}
+use Rattle.rmeworld.specs.declared.call.Call.TheVariants.{Lock, Recover, Consistent, Append, Close, Withdraw}
+use Rattle.runs.specs.declared.lock_fault.LockFault.{LockFault}
+use Rattle.runs.specs.declared.lock_fault.LockFault.TheVariants.{Crashed, NotYet, NumbersSpent, NotRecoverable, OutOfMemory}
+use Rattle.runs.specs.declared.entry_kind.Entry.{Entry}
+use Rattle.runs.specs.declared.entry_kind.Entry.TheVariants.{Clean, OwnerDied}
+use Rattle.one_lock.specs.declared.standing.Standing.{Standing}
+use Rattle.one_lock.specs.declared.standing.Standing.TheVariants.{Out, Lost, Mended, Unmended}
+
+-- a member: its process, the sizes of its arena, where it stands between its calls, its own steps so far, its share of the
+-- ledger, and how many it has counted of the last call that was started, held at the greatest u64
+pub record Seat : Type 0 where
+  pub process : ℕ
+  pub layout : Layout
+  pub standing : Standing
+  pub steps : ℕ
+  pub counted : ℕ
+
+-- the members of a new arena: as many at rest, from process 0 on
+abbrev pub new_seats : Layout → ℕ → List Seat
+new_seats l zero = []
+new_seats l (suc n) = new_seats l n ++ record { process = n; layout = l; standing = Out; steps = 0; counted = 0 } ∷ []
+
+abbrev pub is_in : Standing → Bool
+is_in Mended = true
+is_in Unmended = true
+is_in _ = false
+
+abbrev pub is_lost : Standing → Bool
+is_lost Lost = true
+is_lost _ = false
+
+-- the calls that a process may start where its member stands
+abbrev pub may_start : Standing → Call → Bool
+may_start standing Lock = not (is_in standing)
+may_start standing Recover = not (is_in standing)
+may_start Unmended Consistent = true
+may_start _ Consistent = false
+may_start Mended (Append seq value) = true
+may_start _ (Append seq value) = false
+may_start Mended Close = true
+may_start _ Close = false
+may_start standing Withdraw = false
+may_start standing _ = is_in standing
+
+-- no call changes whose member it is, nor takes back a step
+abbrev pub Goes : Seat → Seat → Type 0
+Goes old new = (new.process ≡ old.process) × (new.layout ≡ old.layout) × (old.steps ≤ new.steps)
+
+-- as many askings as own steps, from a to b; and one more. They are counted up to 2^64 - 1
+abbrev pub AskedEach : Seat → Seat → ℕ → ℕ → Type 0
+AskedEach old new a b = b < 2 ^ 64 - 1 → b + old.steps ≡ a + new.steps
+
+abbrev pub AskedOnceMore : Seat → Seat → ℕ → ℕ → Type 0
+AskedOnceMore old new a b = b < 2 ^ 64 - 1 → b + old.steps ≡ a + new.steps + 1
+
+-- a call that was started has counted what it added to the member's share; and a part of it has gone on counting. Counts
+-- are held at the greatest u64
+abbrev pub Counts : Seat → Seat → Type 0
+Counts old new = new.counted ≡ min (new.steps - old.steps) (2 ^ 64 - 1)
+
+abbrev pub CountsOn : Seat → Seat → Type 0
+CountsOn old new = new.counted ≡ min (old.counted + (new.steps - old.steps)) (2 ^ 64 - 1)
+
+-- the falls after a call, from those before it: it ends with the first asking that fell
+abbrev pub falls_with : LockFault → ℕ → ℕ
+falls_with Crashed f = one_more f
+falls_with _ f = f
+
+abbrev pub falls_by : {T : Type 0} → Result T LockFault → ℕ → ℕ
+falls_by (Ok a) f = f
+falls_by (Err e) f = falls_with e f
+
+-- the faults of the calls that lock, each with its cause before the first asking aside
+abbrev pub of_lock : LockFault → Bool
+of_lock Crashed = true
+of_lock NotYet = true
+of_lock NumbersSpent = true
+of_lock NotRecoverable = true
+of_lock OutOfMemory = true
+of_lock _ = false
+
+-- those of a call that waits as long as it has to
+abbrev pub of_wait : LockFault → Bool
+of_wait NotYet = false
+of_wait e = of_lock e
+
+-- those of a call that only steps
+abbrev pub of_steps : LockFault → Bool
+of_steps Crashed = true
+of_steps OutOfMemory = true
+of_steps _ = false
+
+abbrev pub of_consistent : LockFault → Bool
+of_consistent NotRecoverable = true
+of_consistent e = of_steps e
+
+-- where a fault leaves the member: out of the line, or without its private memory
+abbrev pub fallen_to : LockFault → Standing
+fallen_to NumbersSpent = Out
+fallen_to NotRecoverable = Out
+fallen_to _ = Lost
+
+abbrev pub stands_entered : Result Entry LockFault → Standing
+stands_entered (Ok Clean) = Mended
+stands_entered (Ok OwnerDied) = Unmended
+stands_entered (Err e) = fallen_to e
+
+abbrev pub stands_out : {T : Type 0} → Result T LockFault → Standing
+stands_out (Ok a) = Out
+stands_out (Err e) = fallen_to e
+
+abbrev pub stands_found : Result Found LockFault → Standing
+stands_found (Ok FoundInside) = Unmended
+stands_found (Ok _) = Out
+stands_found (Err e) = Lost
+
+abbrev pub stands_mended : Result Bool LockFault → Standing
+stands_mended (Ok b) = Mended
+stands_mended (Err NotRecoverable) = Unmended
+stands_mended (Err e) = Lost
+
+-- a call on the board leaves the member as it stood
+abbrev pub stands_still : {T : Type 0} → Standing → Result T LockFault → Standing
+stands_still s (Ok a) = s
+stands_still s (Err e) = Lost
+
+-- all members of an arena of so many processes. No two of them are one process's
+abbrev pub AreAll : ℕ → List Seat → Type 0
+AreAll procs members = (0 < procs) × (length members ≡ procs)
+
+-- the own steps of these members together
+abbrev pub steps_taken : List Seat → ℕ
+steps_taken [] = 0
+steps_taken (m ∷ ms) = m.steps + steps_taken ms

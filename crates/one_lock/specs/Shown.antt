@@ -1,0 +1,24 @@
+-- The laboratory over one world under one lock: which members its workers hand back, and what it leaves.
+use Rattle.std.specs.Prelude.{◌≡◌, ℕ, List, slice_index}
+use Rattle.redomail.specs.declared.layout.Layout.{Layout}
+use Rattle.redomail.specs.declared.message.Message.{Message}
+use Rattle.redomail.specs.Content.{IsContent}
+use Rattle.redomail.specs.Layout.{words_of}
+use Rattle.redomail.specs.Shape.{entries}
+use Rattle.rmeworld.specs.declared.image.Image.{Image}
+use Rattle.rmeworld.specs.ImageRules.{IsLawfulImage}
+use Rattle.one_lock.specs.Member.{Seat}
+use Rattle.one_lock.specs.Story.{IsLeftBy}
+
+-- whose member it is, in an arena of which sizes
+abbrev pub place_of : Seat → ℕ × Layout
+place_of m = (m.process, m.layout)
+
+-- These are the messages shown by the data words of a lawful image, which some run from all words 0 has left.
+pub record AreShown (l : Layout) (messages : List Message) : Type 0 where
+  pub image : Image
+  pub steps : ℕ
+  pub left : IsLeftBy steps image
+  pub lawful : IsLawfulImage image
+  pub content : IsContent l image.cells
+  pub shown : messages ≡ entries l (words_of image.cells) (slice_index image.cells 2)

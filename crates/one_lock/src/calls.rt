@@ -1,0 +1,486 @@
+//! The calls of a member. Each takes the world's lock once for each of its steps, and promises only if it returns.
+//!
+//! Each plan is asked before each step and once before the answer, while no lock is held. The first asking that falls ends
+//! the call. A call that is refused for where the member stands or for what it is given takes no step and asks nothing.
+
+ghost use Rattle.std.specs.Prelude.{◌≡◌, ◌≢◌, ◌<◌, ◌≤◌, ◌⊎◌, ◌↔◌, ℕ, Ok, IfOk, IfErr, IsErrOf, OnOk, OnErr, IsNone, IsSome, true, false, length};
+ghost use Rattle.one_lock.specs.Answers.{Answered, IsReply, entry_by, found_by, mended_by, word_by, reply_by};
+ghost use Rattle.one_lock.specs.Member.{Goes, AskedEach, AskedOnceMore, Counts, CountsOn, is_in, may_start, of_lock, of_wait, of_steps, of_consistent, falls_by, stands_entered, stands_out, stands_found, stands_mended, stands_still};
+
+use crate::member::Member;
+use crate::standing::Standing;
+use plans::CrashPlan;
+use redomail::Reply;
+use rmecore::{Body, Found};
+use rmeworld::{Answer, Call};
+use runs::{Entry, LockFault};
+use std::sync::Wait;
+use std::sync::ledger::Ledger;
+
+/// How many words the board has.
+const BOARD: u64 = 4;
+
+/// What a lock answers, and where it leaves the member. With no answer it has waited as often as it may.
+fn entered(answer: Option<Answer>) -> (Result<Entry, LockFault>, Standing)
+    ensures told { result.0 ≡ entry_by answer }
+    ensures stands { result.1 ≡ stands_entered result.0 }
+    ensures inside { OnOk result.0 (is_in result.1 ≡ true) }
+    ensures falls { (f : ℕ) → falls_by result.0 f ≡ f }
+    ensures faults { IfErr result.0 (λ e. of_lock e ≡ true) }
+    ensures patient { IsErrOf result.0 LockFault.NotYet → IsNone answer }
+{
+    match answer {
+        None => (Err(LockFault::NotYet), Standing::Lost),
+        Some(Answer::Clean) => (Ok(Entry::Clean), Standing::Mended),
+        Some(Answer::OwnerDied) => (Ok(Entry::OwnerDied), Standing::Unmended),
+        Some(Answer::NumbersSpent) => (Err(LockFault::NumbersSpent), Standing::Out),
+        Some(_) => (Err(LockFault::NotRecoverable), Standing::Out),
+    }
+}
+
+/// What a recovery answers, and where it leaves the member.
+fn found(answer: Option<Answer>) -> (Result<Found, LockFault>, Standing)
+    ensures told { result.0 ≡ found_by answer }
+    ensures stands { result.1 ≡ stands_found result.0 }
+    ensures falls { (f : ℕ) → falls_by result.0 f ≡ f }
+    ensures fine { OnErr result.0 ⊥ }
+{
+    match answer {
+        Some(Answer::Found(Found::Inside)) => (Ok(Found::Inside), Standing::Unmended),
+        Some(Answer::Found(Found::Left)) => (Ok(Found::Left), Standing::Out),
+        Some(Answer::Found(Found::Doorway)) => (Ok(Found::Doorway), Standing::Out),
+        Some(Answer::Found(Found::Waiting)) => (Ok(Found::Waiting), Standing::Out),
+        _ => (Ok(Found::Idle), Standing::Out),
+    }
+}
+
+/// What `consistent` answers, and where it leaves the member.
+fn mended(answer: Option<Answer>) -> (Result<bool, LockFault>, Standing)
+    ensures told { result.0 ≡ mended_by answer }
+    ensures stands { result.1 ≡ stands_mended result.0 }
+    ensures falls { (f : ℕ) → falls_by result.0 f ≡ f }
+    ensures faults { IfErr result.0 (λ e. e ≡ LockFault.NotRecoverable) }
+{
+    match answer {
+        Some(Answer::Mail(Reply::Mended(repaired))) => (Ok(repaired), Standing::Mended),
+        _ => (Err(LockFault::NotRecoverable), Standing::Unmended),
+    }
+}
+
+/// What a task answers.
+fn replied(answer: Option<Answer>) -> Reply
+    ensures { result ≡ reply_by answer }
+{
+    match answer {
+        Some(Answer::Mail(reply)) => reply,
+        _ => Reply::Done,
+    }
+}
+
+/// The word of the board that a call read.
+fn word_read(answer: Option<Answer>) -> u64
+    ensures { Ok result ≡ word_by answer }
+{
+    match answer {
+        Some(Answer::Mail(Reply::Word(word))) => word,
+        _ => 0,
+    }
+}
+
+impl<L: Ledger> Member<L> {
+    /// Enters the section, also after a crash. After a crash inside the answer is `OwnerDied`. `NotYet` after one blocked
+    /// reading more than `turns`; the next lock waits on with the same number.
+    pub fn lock_within<R: Wait, P: CrashPlan>(
+        &mut self,
+        rt: &R,
+        plan: &mut P,
+        turns: u64,
+    ) -> Result<Entry, LockFault>
+        ensures refused { IsErrOf result LockFault.AlreadyIn ↔ (is_in self.old.standing ≡ true) }
+        ensures unasked { is_in self.old.standing ≡ true → (self.new ≡ self.old) × (P.asked plan.new ≡ P.asked plan.old) }
+        ensures asked { is_in self.old.standing ≡ false → AskedOnceMore self.old self.new (P.asked plan.old) (P.asked plan.new) }
+        ensures counted { is_in self.old.standing ≡ false → Counts self.old self.new }
+        ensures fallen { P.fallen plan.new ≡ falls_by result (P.fallen plan.old) }
+        ensures goes { Goes self.old self.new }
+        ensures stands { is_in self.old.standing ≡ false → self.new.standing ≡ stands_entered result }
+        ensures faults { is_in self.old.standing ≡ false → IfErr result (λ e. of_lock e ≡ true) }
+        ensures answered { is_in self.old.standing ≡ false → Answered entry_by self.old Call.Lock result }
+    {
+        self.lock_by(rt, plan, Some(turns))
+    }
+
+    /// Enters the section, and waits for as long as it has to.
+    pub fn lock<R: Wait, P: CrashPlan>(&mut self, rt: &R, plan: &mut P) -> Result<Entry, LockFault>
+        ensures refused { IsErrOf result LockFault.AlreadyIn ↔ (is_in self.old.standing ≡ true) }
+        ensures unasked { is_in self.old.standing ≡ true → (self.new ≡ self.old) × (P.asked plan.new ≡ P.asked plan.old) }
+        ensures asked { is_in self.old.standing ≡ false → AskedOnceMore self.old self.new (P.asked plan.old) (P.asked plan.new) }
+        ensures counted { is_in self.old.standing ≡ false → Counts self.old self.new }
+        ensures fallen { P.fallen plan.new ≡ falls_by result (P.fallen plan.old) }
+        ensures goes { Goes self.old self.new }
+        ensures stands { is_in self.old.standing ≡ false → self.new.standing ≡ stands_entered result }
+        ensures faults { is_in self.old.standing ≡ false → IfErr result (λ e. of_wait e ≡ true) }
+        ensures answered { is_in self.old.standing ≡ false → Answered entry_by self.old Call.Lock result }
+    {
+        self.lock_by(rt, plan, None)
+    }
+
+    /// A lock, with as many turns as it is given, or with no end of them.
+    #[tactic(auto, using(crate::proofs::Answered::cut_off, crate::proofs::Answered::as_told))]
+    fn lock_by<R: Wait, P: CrashPlan>(
+        &mut self,
+        rt: &R,
+        plan: &mut P,
+        turns: Option<u64>,
+    ) -> Result<Entry, LockFault>
+        ensures refused { IsErrOf result LockFault.AlreadyIn ↔ (is_in self.old.standing ≡ true) }
+        ensures unasked { is_in self.old.standing ≡ true → (self.new ≡ self.old) × (P.asked plan.new ≡ P.asked plan.old) }
+        ensures patient { IsErrOf result LockFault.NotYet → IsSome turns }
+        ensures asked { is_in self.old.standing ≡ false → AskedOnceMore self.old self.new (P.asked plan.old) (P.asked plan.new) }
+        ensures counted { is_in self.old.standing ≡ false → Counts self.old self.new }
+        ensures fallen { P.fallen plan.new ≡ falls_by result (P.fallen plan.old) }
+        ensures goes { Goes self.old self.new }
+        ensures stands { is_in self.old.standing ≡ false → self.new.standing ≡ stands_entered result }
+        ensures faults { is_in self.old.standing ≡ false → IfErr result (λ e. of_lock e ≡ true) }
+        ensures answered { is_in self.old.standing ≡ false → Answered entry_by self.old Call.Lock result }
+    {
+        if self.standing.is_in() {
+            return Err(LockFault::AlreadyIn);
+        }
+        let (entry, standing) = entered(self.begin(rt, plan, Call::Lock, turns)?);
+        self.conclude(plan, entry, standing)
+    }
+
+    /// Finds out where a crash has left the process, and goes no further than it must. One that died inside is inside again,
+    /// and has to mend.
+    #[tactic(auto, using(crate::proofs::Answered::cut_off, crate::proofs::Answered::as_told))]
+    pub fn recover<R: Wait, P: CrashPlan>(
+        &mut self,
+        rt: &R,
+        plan: &mut P,
+    ) -> Result<Found, LockFault>
+        ensures refused { IsErrOf result LockFault.AlreadyIn ↔ (is_in self.old.standing ≡ true) }
+        ensures unasked { is_in self.old.standing ≡ true → (self.new ≡ self.old) × (P.asked plan.new ≡ P.asked plan.old) }
+        ensures asked { is_in self.old.standing ≡ false → AskedOnceMore self.old self.new (P.asked plan.old) (P.asked plan.new) }
+        ensures counted { is_in self.old.standing ≡ false → Counts self.old self.new }
+        ensures fallen { P.fallen plan.new ≡ falls_by result (P.fallen plan.old) }
+        ensures goes { Goes self.old self.new }
+        ensures stands { is_in self.old.standing ≡ false → self.new.standing ≡ stands_found result }
+        ensures faults { is_in self.old.standing ≡ false → IfErr result (λ e. of_steps e ≡ true) }
+        ensures answered { is_in self.old.standing ≡ false → Answered found_by self.old Call.Recover result }
+    {
+        if self.standing.is_in() {
+            return Err(LockFault::AlreadyIn);
+        }
+        let (found, standing) = found(self.begin(rt, plan, Call::Recover, None)?);
+        self.conclude(plan, found, standing)
+    }
+
+    /// Mends what a crash inside has left, and answers whether there was something to mend (POSIX: pthread_mutex_consistent).
+    /// After `NotRecoverable` the member is still inside and has not mended.
+    #[tactic(auto, using(crate::proofs::Answered::cut_off, crate::proofs::Answered::as_told))]
+    pub fn consistent<R: Wait, P: CrashPlan>(
+        &mut self,
+        rt: &R,
+        plan: &mut P,
+    ) -> Result<bool, LockFault>
+        ensures refused { IsErrOf result LockFault.NotInconsistent ↔ (self.old.standing ≢ Standing.Unmended) }
+        ensures unasked { self.old.standing ≢ Standing.Unmended → (self.new ≡ self.old) × (P.asked plan.new ≡ P.asked plan.old) }
+        ensures asked { self.old.standing ≡ Standing.Unmended → AskedOnceMore self.old self.new (P.asked plan.old) (P.asked plan.new) }
+        ensures counted { self.old.standing ≡ Standing.Unmended → Counts self.old self.new }
+        ensures fallen { P.fallen plan.new ≡ falls_by result (P.fallen plan.old) }
+        ensures goes { Goes self.old self.new }
+        ensures stands { self.old.standing ≡ Standing.Unmended → self.new.standing ≡ stands_mended result }
+        ensures faults { self.old.standing ≡ Standing.Unmended → IfErr result (λ e. of_consistent e ≡ true) }
+        ensures answered { self.old.standing ≡ Standing.Unmended → Answered mended_by self.old Call.Consistent result }
+    {
+        if self.standing != Standing::Unmended {
+            return Err(LockFault::NotInconsistent);
+        }
+        let (repaired, standing) = mended(self.begin(rt, plan, Call::Consistent, None)?);
+        self.conclude(plan, repaired, standing)
+    }
+
+    /// Leaves the section. One that has not mended ruins the lock.
+    #[tactic(auto, using(crate::proofs::Answered::cut_off, crate::proofs::Answered::as_told))]
+    pub fn unlock<R: Wait, P: CrashPlan>(&mut self, rt: &R, plan: &mut P) -> Result<(), LockFault>
+        ensures refused { IsErrOf result LockFault.NotOwner ↔ (is_in self.old.standing ≡ false) }
+        ensures unasked { is_in self.old.standing ≡ false → (self.new ≡ self.old) × (P.asked plan.new ≡ P.asked plan.old) }
+        ensures asked { is_in self.old.standing ≡ true → AskedOnceMore self.old self.new (P.asked plan.old) (P.asked plan.new) }
+        ensures counted { is_in self.old.standing ≡ true → Counts self.old self.new }
+        ensures fallen { P.fallen plan.new ≡ falls_by result (P.fallen plan.old) }
+        ensures goes { Goes self.old self.new }
+        ensures stands { is_in self.old.standing ≡ true → self.new.standing ≡ stands_out result }
+        ensures faults { is_in self.old.standing ≡ true → IfErr result (λ e. of_steps e ≡ true) }
+        ensures answered { is_in self.old.standing ≡ true → Answered (λ _. Ok tt) self.old Call.Unlock result }
+    {
+        if !self.standing.is_in() {
+            return Err(LockFault::NotOwner);
+        }
+        self.begin(rt, plan, Call::Unlock, None)?;
+        self.conclude(plan, Ok(()), Standing::Out)
+    }
+
+    /// Reads a word of the board, 0 to 3.
+    #[tactic(auto, using(crate::proofs::Answered::cut_off, crate::proofs::Answered::as_told))]
+    pub fn get<R: Wait, P: CrashPlan>(
+        &mut self,
+        rt: &R,
+        i: u64,
+        plan: &mut P,
+    ) -> Result<u64, LockFault>
+        ensures refused { IsErrOf result LockFault.NotOwner ↔ (is_in self.old.standing ≡ false) }
+        ensures past { IsErrOf result LockFault.BadIndex ↔ ((is_in self.old.standing ≡ true) × (4 ≤ i)) }
+        ensures unasked { is_in self.old.standing ≡ false → (self.new ≡ self.old) × (P.asked plan.new ≡ P.asked plan.old) }
+        ensures untaken { 4 ≤ i → (self.new ≡ self.old) × (P.asked plan.new ≡ P.asked plan.old) }
+        ensures asked { is_in self.old.standing ≡ true → i < 4 → AskedOnceMore self.old self.new (P.asked plan.old) (P.asked plan.new) }
+        ensures counted { is_in self.old.standing ≡ true → i < 4 → Counts self.old self.new }
+        ensures fallen { P.fallen plan.new ≡ falls_by result (P.fallen plan.old) }
+        ensures goes { Goes self.old self.new }
+        ensures stands { is_in self.old.standing ≡ true → i < 4 → self.new.standing ≡ stands_still self.old.standing result }
+        ensures faults { is_in self.old.standing ≡ true → i < 4 → IfErr result (λ e. of_steps e ≡ true) }
+        ensures answered { is_in self.old.standing ≡ true → i < 4 → Answered word_by self.old (Call.Get i) result }
+    {
+        if !self.standing.is_in() {
+            return Err(LockFault::NotOwner);
+        }
+        if i >= BOARD {
+            return Err(LockFault::BadIndex);
+        }
+        let standing = self.standing;
+        let word = word_read(self.begin(rt, plan, Call::Get(i), None)?);
+        self.conclude(plan, Ok(word), standing)
+    }
+
+    /// Writes a word of the board, 0 to 3.
+    #[tactic(auto, using(crate::proofs::Answered::cut_off, crate::proofs::Answered::as_told))]
+    pub fn put<R: Wait, P: CrashPlan>(
+        &mut self,
+        rt: &R,
+        i: u64,
+        value: u64,
+        plan: &mut P,
+    ) -> Result<(), LockFault>
+        ensures refused { IsErrOf result LockFault.NotOwner ↔ (is_in self.old.standing ≡ false) }
+        ensures past { IsErrOf result LockFault.BadIndex ↔ ((is_in self.old.standing ≡ true) × (4 ≤ i)) }
+        ensures unasked { is_in self.old.standing ≡ false → (self.new ≡ self.old) × (P.asked plan.new ≡ P.asked plan.old) }
+        ensures untaken { 4 ≤ i → (self.new ≡ self.old) × (P.asked plan.new ≡ P.asked plan.old) }
+        ensures asked { is_in self.old.standing ≡ true → i < 4 → AskedOnceMore self.old self.new (P.asked plan.old) (P.asked plan.new) }
+        ensures counted { is_in self.old.standing ≡ true → i < 4 → Counts self.old self.new }
+        ensures fallen { P.fallen plan.new ≡ falls_by result (P.fallen plan.old) }
+        ensures goes { Goes self.old self.new }
+        ensures stands { is_in self.old.standing ≡ true → i < 4 → self.new.standing ≡ stands_still self.old.standing result }
+        ensures faults { is_in self.old.standing ≡ true → i < 4 → IfErr result (λ e. of_steps e ≡ true) }
+        ensures answered { is_in self.old.standing ≡ true → i < 4 → Answered (λ _. Ok tt) self.old (Call.Put i value) result }
+    {
+        if !self.standing.is_in() {
+            return Err(LockFault::NotOwner);
+        }
+        if i >= BOARD {
+            return Err(LockFault::BadIndex);
+        }
+        let standing = self.standing;
+        self.begin(rt, plan, Call::Put(i, value), None)?;
+        self.conclude(plan, Ok(()), standing)
+    }
+
+    /// Locks, mends where the owner died, stores a message with this number, and unlocks. Its one answer is that of the
+    /// storing.
+    pub fn append_within<R: Wait, P: CrashPlan>(
+        &mut self,
+        rt: &R,
+        seq: u64,
+        value: Body,
+        plan: &mut P,
+        turns: u64,
+    ) -> Result<Reply, LockFault>
+        ensures narrow { IsErrOf result LockFault.BadWidth ↔ (length value ≢ self.old.layout.width) }
+        ensures refused { IsErrOf result LockFault.AlreadyIn ↔ ((length value ≡ self.old.layout.width) × (is_in self.old.standing ≡ true)) }
+        ensures unasked { is_in self.old.standing ≡ true → (self.new ≡ self.old) × (P.asked plan.new ≡ P.asked plan.old) }
+        ensures untaken { length value ≢ self.old.layout.width → (self.new ≡ self.old) × (P.asked plan.new ≡ P.asked plan.old) }
+        ensures asked { is_in self.old.standing ≡ false → length value ≡ self.old.layout.width → AskedOnceMore self.old self.new (P.asked plan.old) (P.asked plan.new) }
+        ensures counted { is_in self.old.standing ≡ false → length value ≡ self.old.layout.width → Counts self.old self.new }
+        ensures fallen { P.fallen plan.new ≡ falls_by result (P.fallen plan.old) }
+        ensures goes { Goes self.old self.new }
+        ensures stands { is_in self.old.standing ≡ false → length value ≡ self.old.layout.width → self.new.standing ≡ stands_out result }
+        ensures faults { is_in self.old.standing ≡ false → length value ≡ self.old.layout.width → IfErr result (λ e. of_lock e ≡ true) }
+        ensures answered { IfOk result (λ reply. IsReply self.old.process (Call.Append seq value) reply) }
+    {
+        self.append_by(rt, seq, value, plan, Some(turns))
+    }
+
+    /// The same, and waits for as long as it has to.
+    pub fn append<R: Wait, P: CrashPlan>(
+        &mut self,
+        rt: &R,
+        seq: u64,
+        value: Body,
+        plan: &mut P,
+    ) -> Result<Reply, LockFault>
+        ensures narrow { IsErrOf result LockFault.BadWidth ↔ (length value ≢ self.old.layout.width) }
+        ensures refused { IsErrOf result LockFault.AlreadyIn ↔ ((length value ≡ self.old.layout.width) × (is_in self.old.standing ≡ true)) }
+        ensures unasked { is_in self.old.standing ≡ true → (self.new ≡ self.old) × (P.asked plan.new ≡ P.asked plan.old) }
+        ensures untaken { length value ≢ self.old.layout.width → (self.new ≡ self.old) × (P.asked plan.new ≡ P.asked plan.old) }
+        ensures asked { is_in self.old.standing ≡ false → length value ≡ self.old.layout.width → AskedOnceMore self.old self.new (P.asked plan.old) (P.asked plan.new) }
+        ensures counted { is_in self.old.standing ≡ false → length value ≡ self.old.layout.width → Counts self.old self.new }
+        ensures fallen { P.fallen plan.new ≡ falls_by result (P.fallen plan.old) }
+        ensures goes { Goes self.old self.new }
+        ensures stands { is_in self.old.standing ≡ false → length value ≡ self.old.layout.width → self.new.standing ≡ stands_out result }
+        ensures faults { is_in self.old.standing ≡ false → length value ≡ self.old.layout.width → IfErr result (λ e. of_wait e ≡ true) }
+        ensures answered { IfOk result (λ reply. IsReply self.old.process (Call.Append seq value) reply) }
+    {
+        self.append_by(rt, seq, value, plan, None)
+    }
+
+    /// A message stored by one call, with as many turns as it is given, or with no end of them.
+    fn append_by<R: Wait, P: CrashPlan>(
+        &mut self,
+        rt: &R,
+        seq: u64,
+        value: Body,
+        plan: &mut P,
+        turns: Option<u64>,
+    ) -> Result<Reply, LockFault>
+        ensures narrow { IsErrOf result LockFault.BadWidth ↔ (length value ≢ self.old.layout.width) }
+        ensures refused { IsErrOf result LockFault.AlreadyIn ↔ ((length value ≡ self.old.layout.width) × (is_in self.old.standing ≡ true)) }
+        ensures unasked { is_in self.old.standing ≡ true → (self.new ≡ self.old) × (P.asked plan.new ≡ P.asked plan.old) }
+        ensures untaken { length value ≢ self.old.layout.width → (self.new ≡ self.old) × (P.asked plan.new ≡ P.asked plan.old) }
+        ensures patient { IsErrOf result LockFault.NotYet → IsSome turns }
+        ensures asked { is_in self.old.standing ≡ false → length value ≡ self.old.layout.width → AskedOnceMore self.old self.new (P.asked plan.old) (P.asked plan.new) }
+        ensures counted { is_in self.old.standing ≡ false → length value ≡ self.old.layout.width → Counts self.old self.new }
+        ensures fallen { P.fallen plan.new ≡ falls_by result (P.fallen plan.old) }
+        ensures goes { Goes self.old self.new }
+        ensures stands { is_in self.old.standing ≡ false → length value ≡ self.old.layout.width → self.new.standing ≡ stands_out result }
+        ensures faults { is_in self.old.standing ≡ false → length value ≡ self.old.layout.width → IfErr result (λ e. of_lock e ≡ true) }
+        ensures answered { IfOk result (λ reply. IsReply self.old.process (Call.Append seq value) reply) }
+    {
+        if value.width() != self.layout.width {
+            return Err(LockFault::BadWidth);
+        }
+        self.mail_by(rt, plan, Call::Append { seq, value }, turns)
+    }
+
+    /// Locks, mends where the owner died, closes the mailbox, and unlocks. Its one answer is that of the closing.
+    pub fn close_within<R: Wait, P: CrashPlan>(
+        &mut self,
+        rt: &R,
+        plan: &mut P,
+        turns: u64,
+    ) -> Result<Reply, LockFault>
+        ensures refused { IsErrOf result LockFault.AlreadyIn ↔ (is_in self.old.standing ≡ true) }
+        ensures unasked { is_in self.old.standing ≡ true → (self.new ≡ self.old) × (P.asked plan.new ≡ P.asked plan.old) }
+        ensures asked { is_in self.old.standing ≡ false → AskedOnceMore self.old self.new (P.asked plan.old) (P.asked plan.new) }
+        ensures counted { is_in self.old.standing ≡ false → Counts self.old self.new }
+        ensures fallen { P.fallen plan.new ≡ falls_by result (P.fallen plan.old) }
+        ensures goes { Goes self.old self.new }
+        ensures stands { is_in self.old.standing ≡ false → self.new.standing ≡ stands_out result }
+        ensures faults { is_in self.old.standing ≡ false → IfErr result (λ e. of_lock e ≡ true) }
+        ensures answered { IfOk result (λ reply. IsReply self.old.process Call.Close reply) }
+    {
+        self.mail_by(rt, plan, Call::Close, Some(turns))
+    }
+
+    /// The same, and waits for as long as it has to.
+    pub fn close<R: Wait, P: CrashPlan>(&mut self, rt: &R, plan: &mut P) -> Result<Reply, LockFault>
+        ensures refused { IsErrOf result LockFault.AlreadyIn ↔ (is_in self.old.standing ≡ true) }
+        ensures unasked { is_in self.old.standing ≡ true → (self.new ≡ self.old) × (P.asked plan.new ≡ P.asked plan.old) }
+        ensures asked { is_in self.old.standing ≡ false → AskedOnceMore self.old self.new (P.asked plan.old) (P.asked plan.new) }
+        ensures counted { is_in self.old.standing ≡ false → Counts self.old self.new }
+        ensures fallen { P.fallen plan.new ≡ falls_by result (P.fallen plan.old) }
+        ensures goes { Goes self.old self.new }
+        ensures stands { is_in self.old.standing ≡ false → self.new.standing ≡ stands_out result }
+        ensures faults { is_in self.old.standing ≡ false → IfErr result (λ e. of_wait e ≡ true) }
+        ensures answered { IfOk result (λ reply. IsReply self.old.process Call.Close reply) }
+    {
+        self.mail_by(rt, plan, Call::Close, None)
+    }
+
+    /// A whole call of the mailbox: a lock, `consistent` where the entry is `OwnerDied`, the task and an unlock. It is asked
+    /// once before its one answer.
+    fn mail_by<R: Wait, P: CrashPlan>(
+        &mut self,
+        rt: &R,
+        plan: &mut P,
+        call: Call,
+        turns: Option<u64>,
+    ) -> Result<Reply, LockFault>
+        requires { may_start Standing.Mended call ≡ true }
+        ensures refused { IsErrOf result LockFault.AlreadyIn ↔ (is_in self.old.standing ≡ true) }
+        ensures unasked { is_in self.old.standing ≡ true → (self.new ≡ self.old) × (P.asked plan.new ≡ P.asked plan.old) }
+        ensures patient { IsErrOf result LockFault.NotYet → IsSome turns }
+        ensures asked { is_in self.old.standing ≡ false → AskedOnceMore self.old self.new (P.asked plan.old) (P.asked plan.new) }
+        ensures counted { is_in self.old.standing ≡ false → Counts self.old self.new }
+        ensures fallen { P.fallen plan.new ≡ falls_by result (P.fallen plan.old) }
+        ensures goes { Goes self.old self.new }
+        ensures stands { is_in self.old.standing ≡ false → self.new.standing ≡ stands_out result }
+        ensures faults { is_in self.old.standing ≡ false → IfErr result (λ e. of_lock e ≡ true) }
+        ensures answered { IfOk result (λ reply. IsReply self.old.process call reply) }
+    {
+        if self.standing.is_in() {
+            return Err(LockFault::AlreadyIn);
+        }
+        let (entry, standing) = entered(self.begin(rt, plan, Call::Lock, turns)?);
+        match entry {
+            Ok(_) => {
+                self.standing = standing;
+                let reply = self.work(rt, plan, call)?;
+                self.conclude(plan, reply, Standing::Out)
+            }
+            Err(fault) => self.conclude(plan, Err(fault), standing),
+        }
+    }
+
+    /// What a call of the mailbox does once it is in, up to the asking before its answer. A lock that can't be mended is left
+    /// as it is.
+    fn work<R: Wait, P: CrashPlan>(
+        &mut self,
+        rt: &R,
+        plan: &mut P,
+        call: Call,
+    ) -> Result<Result<Reply, LockFault>, LockFault>
+        requires inside { is_in self.old.standing ≡ true }
+        requires task { may_start Standing.Mended call ≡ true }
+        ensures goes { Goes self.old self.new }
+        ensures counted { CountsOn self.old self.new }
+        ensures asked { OnOk result (AskedEach self.old self.new (P.asked plan.old) (P.asked plan.new)) }
+        ensures ended { OnErr result (AskedOnceMore self.old self.new (P.asked plan.old) (P.asked plan.new)) }
+        ensures fallen { P.fallen plan.new ≡ falls_by result (P.fallen plan.old) }
+        ensures falls { IfOk result (λ reply. (f : ℕ) → falls_by reply f ≡ f) }
+        ensures faults { IfOk result (λ reply. IfErr reply (λ e. e ≡ LockFault.NotRecoverable)) }
+        ensures lost { OnErr result (self.new.standing ≡ Standing.Lost) }
+        ensures only { IfErr result (λ e. (e ≡ LockFault.Crashed) ⊎ (e ≡ LockFault.OutOfMemory)) }
+        ensures answered { IfOk result (λ answer. IfOk answer (λ reply. IsReply self.old.process call reply)) }
+    {
+        let mended = self.mend(rt, plan)?;
+        let reply = match mended {
+            Ok(_) => Ok(replied(self.pursue(rt, plan, call, None)?)),
+            Err(fault) => Err(fault),
+        };
+        self.pursue(rt, plan, Call::Unlock, None)?;
+        Ok(reply)
+    }
+
+    /// Mends where the owner died.
+    fn mend<R: Wait, P: CrashPlan>(
+        &mut self,
+        rt: &R,
+        plan: &mut P,
+    ) -> Result<Result<bool, LockFault>, LockFault>
+        requires { is_in self.old.standing ≡ true }
+        ensures goes { Goes self.old self.new }
+        ensures counted { CountsOn self.old self.new }
+        ensures asked { OnOk result (AskedEach self.old self.new (P.asked plan.old) (P.asked plan.new)) }
+        ensures ended { OnErr result (AskedOnceMore self.old self.new (P.asked plan.old) (P.asked plan.new)) }
+        ensures fallen { P.fallen plan.new ≡ falls_by result (P.fallen plan.old) }
+        ensures stands { IfOk result (λ mended. self.new.standing ≡ stands_mended mended) }
+        ensures faults { IfOk result (λ mended. IfErr mended (λ e. e ≡ LockFault.NotRecoverable)) }
+        ensures lost { OnErr result (self.new.standing ≡ Standing.Lost) }
+        ensures only { IfErr result (λ e. (e ≡ LockFault.Crashed) ⊎ (e ≡ LockFault.OutOfMemory)) }
+    {
+        if self.standing == Standing::Mended {
+            return Ok(Ok(false));
+        }
+        let (repaired, standing) = mended(self.pursue(rt, plan, Call::Consistent, None)?);
+        self.standing = standing;
+        Ok(repaired)
+    }
+}

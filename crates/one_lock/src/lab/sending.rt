@@ -1,0 +1,25 @@
+//! What the workers of a lab send.
+
+ghost use Rattle.std.specs.Prelude.{◌≡◌, ◌<◌, ◌≤◌, length};
+ghost use Rattle.one_lock.specs.Lab.{words_sent};
+
+use rmecore::Body;
+
+/// The value of worker p's message with this number, of so many words: word j is 1,000,000 * p + seq + j.
+pub fn value_sent(p: u64, seq: u64, width: u64) -> Body
+    requires process { p < 64 }
+    requires number { seq ≤ 4096 }
+    requires least { 1 ≤ width }
+    requires most { width ≤ 8 }
+    ensures words { result ≡ words_sent p seq width }
+    ensures width { length result ≡ width }
+{
+    let mut words = [0; 8];
+    for j in 0..width {
+        words[j as usize] = 1_000_000 * p + seq + j;
+    }
+    let Ok(value) = Body::new(&words[..width as usize]) else {
+        unreachable!()
+    };
+    value
+}

@@ -1,0 +1,42 @@
+//! The sizes of a lab.
+
+ghost use Rattle.std.specs.Prelude.{◌↔◌, IsTrue};
+ghost use Rattle.one_lock.specs.Lab.{IsOutside, IsBadSpec};
+
+use rmecore::simulated::{MOST_LIMIT, MOST_PROCS};
+use rmeworld::images::rules::{MOST_CAP, MOST_WIDTH};
+
+/// How many messages a worker sends at most.
+pub const MOST_MESSAGES: u64 = 4_096;
+
+/// The sizes of a lab: so many workers (1 to 64), each of which sends so many messages (1 to 4,096), over an arena with this
+/// limit (1 to 2^62), a mailbox of so many places (1 to 65,536), and values of so many words (1 to 8).
+#[derive(Clone, Copy, Debug, PartialEq, Eq)]
+pub struct Spec {
+    pub procs: u64,
+    pub messages: u64,
+    pub limit: u64,
+    pub cap: u64,
+    pub width: u64,
+}
+
+/// Is a number outside 1 to `most`?
+fn is_outside(most: u64, n: u64) -> bool
+    ensures { IsTrue result ↔ IsOutside most n }
+{
+    n == 0 || n > most
+}
+
+impl Spec {
+    /// Is a size outside its limits, or are there not as many gates as workers?
+    pub fn is_bad(&self, gates: u64) -> bool
+        ensures { IsTrue result ↔ IsBadSpec self.now gates }
+    {
+        is_outside(MOST_PROCS, self.procs)
+            || is_outside(MOST_LIMIT, self.limit)
+            || is_outside(MOST_CAP, self.cap)
+            || is_outside(MOST_WIDTH, self.width)
+            || is_outside(MOST_MESSAGES, self.messages)
+            || gates != self.procs
+    }
+}

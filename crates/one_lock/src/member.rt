@@ -1,0 +1,236 @@
+//! A process's way to the world.
+
+ghost use Rattle.std.specs.Prelude.{◌≡◌, ℕ, ◌<◌, ◌≤◌, ◌+◌, IfOk, IfErr, OnOk, OnErr, IsNone, IsSome, true};
+ghost use Rattle.rmecore.specs.Simulated.{one_more};
+ghost use Rattle.one_lock.specs.Member.{Goes, AskedEach, AskedOnceMore, Counts, CountsOn, falls_by, may_start};
+ghost use Rattle.one_lock.specs.Answers.{Gives, IsAnswered};
+
+use crate::opening::Opening;
+use crate::shared::{Shared, Turn};
+use crate::standing::Standing;
+use crossbeam_utils::Backoff;
+use plans::CrashPlan;
+use redomail::Layout;
+use rmeworld::{Answer, Call};
+use runs::LockFault;
+use std::marker::Model;
+use std::sync::ledger::{Ledger, Share};
+use std::sync::{Arc, Mutex, Wait};
+
+/// One process's way to the world. It may move to a thread. Its share of the ledger counts its own steps, and takes no
+/// bytes; those of its last call it counts itself.
+#[derive(Drop)]
+pub struct Member<L: Ledger> {
+    pub(super) process: u64,
+    pub(super) layout: Layout,
+    pub(super) standing: Standing,
+    pub(super) shared: Arc<Mutex<Shared<L>>>,
+    pub(super) share: Share<L>,
+    pub(super) counted: u64,
+}
+
+impl<L: Ledger> Model for Member<L> {
+    ghost use Rattle.std.specs.Prelude.{◌≡◌, ◌<◌};
+    ghost use Rattle.one_lock.specs.Member.{Seat};
+
+    ghost Value = { Seat };
+
+    ghost view = { λ m. record { process = m.process; layout = m.layout; standing = m.standing; steps = m.share.amount; counted = m.counted } };
+
+    ghost invariant = { λ m. (m.share.parts ≡ 1) × (m.process < 64) };
+}
+
+impl<L: Ledger> Member<L> {
+    ghost use Rattle.std.specs.Prelude.{Err, ◌⊎◌};
+
+    /// A member whose process is at rest.
+    pub(super) fn new(
+        process: u64,
+        layout: Layout,
+        shared: Arc<Mutex<Shared<L>>>,
+        share: Share<L>,
+    ) -> Member<L>
+        requires part { share.parts ≡ 1 }
+        requires few { process < 64 }
+        ensures { result ≡ record { process = process; layout = layout; standing = Standing.Out; steps = share.amount; counted = 0 } }
+    {
+        Member {
+            process,
+            layout,
+            standing: Standing::Out,
+            shared,
+            share,
+            counted: 0,
+        }
+    }
+
+    /// Its process.
+    pub fn process(&self) -> u64
+        ensures value { result ≡ self.now.process }
+        ensures few { result < 64 }
+    {
+        self.process
+    }
+
+    /// Where it stands between its calls.
+    pub fn standing(&self) -> Standing
+        ensures { result ≡ self.now.standing }
+    {
+        self.standing
+    }
+
+    /// The own steps of the last call that was started: what it added to the member's share, held at the greatest u64. A step
+    /// that the world refused for want of memory is none, and a call that is answered without an asking was not started.
+    /// Before any call 0.
+    pub fn steps(&self) -> u64
+        ensures { result ≡ self.now.counted }
+    {
+        self.counted
+    }
+
+    /// Its share of the ledger, one part with its own steps.
+    pub(super) fn into_share(self) -> Share<L>
+        ensures parts { result.parts ≡ 1 }
+        ensures amount { result.amount ≡ self.steps }
+    {
+        let Member { share, .. } = self;
+        share
+    }
+
+    /// Asks the plan. Where it falls, the process has lost its private memory.
+    fn ask<P: CrashPlan>(&mut self, plan: &mut P) -> Result<(), LockFault>
+        ensures asked { P.asked plan.new ≡ one_more (P.asked plan.old) }
+        ensures fallen { P.fallen plan.new ≡ falls_by result (P.fallen plan.old) }
+        ensures ok { OnOk result (self.new ≡ self.old) }
+        ensures err { OnErr result (self.new ≡ record self.old { standing = Standing.Lost }) }
+        ensures only { IfErr result (λ e. e ≡ LockFault.Crashed) }
+    {
+        if plan.falls() {
+            self.standing = Standing::Lost;
+            return Err(LockFault::Crashed);
+        }
+        Ok(())
+    }
+
+    /// One step of its process: it asks the plan, and then takes the lock for one step of the world. A step that the world
+    /// refuses leaves the member lost; its process can do what the member asks for, so that memory was wanting.
+    fn step<R: Wait, P: CrashPlan>(
+        &mut self,
+        rt: &R,
+        plan: &mut P,
+        opening: Opening,
+    ) -> Result<Turn, LockFault>
+        ensures asked { P.asked plan.new ≡ one_more (P.asked plan.old) }
+        ensures fallen { P.fallen plan.new ≡ falls_by result (P.fallen plan.old) }
+        ensures ok { OnOk result (self.new ≡ record self.old { steps = self.old.steps + 1; counted = one_more self.old.counted }) }
+        ensures err { OnErr result (self.new ≡ record self.old { standing = Standing.Lost }) }
+        ensures only { IfErr result (λ e. (e ≡ LockFault.Crashed) ⊎ (e ≡ LockFault.OutOfMemory)) }
+        ensures gives { IfOk result (λ turn. Gives self.old.process opening turn.answer) }
+    {
+        self.ask(plan)?;
+        let turn = self
+            .shared
+            .lock(rt)
+            .step(&mut self.share, self.process, opening);
+        match turn {
+            Ok(turn) => {
+                self.counted = self.counted.saturating_add(1);
+                Ok(turn)
+            }
+            Err(_) => {
+                self.standing = Standing::Lost;
+                Err(LockFault::OutOfMemory)
+            }
+        }
+    }
+
+    /// Starts a call, and pursues it. Its own steps are counted from nothing.
+    pub(super) fn begin<R: Wait, P: CrashPlan>(
+        &mut self,
+        rt: &R,
+        plan: &mut P,
+        call: Call,
+        turns: Option<u64>,
+    ) -> Result<Option<Answer>, LockFault>
+        requires { may_start self.old.standing call ≡ true }
+        ensures goes { Goes self.old self.new }
+        ensures counted { Counts self.old self.new }
+        ensures asked { OnOk result (AskedEach self.old self.new (P.asked plan.old) (P.asked plan.new)) }
+        ensures ended { OnErr result (AskedOnceMore self.old self.new (P.asked plan.old) (P.asked plan.new)) }
+        ensures fallen { P.fallen plan.new ≡ falls_by result (P.fallen plan.old) }
+        ensures kept { OnOk result (self.new.standing ≡ self.old.standing) }
+        ensures lost { OnErr result (self.new.standing ≡ Standing.Lost) }
+        ensures only { IfErr result (λ e. (e ≡ LockFault.Crashed) ⊎ (e ≡ LockFault.OutOfMemory)) }
+        ensures patient { IsNone turns → IfOk result (λ answer. IsSome answer) }
+        ensures answered { IfOk result (λ answer. IsAnswered self.old.process self.old.standing call answer) }
+    {
+        self.counted = 0;
+        self.pursue(rt, plan, call, turns)
+    }
+
+    /// Takes a call that its process may start to its answer, or until one blocked reading more than it has turns; with no
+    /// turns it waits as long as it has to. Its own steps are counted on. The asking before the answer is left to the caller.
+    #[tactic(auto, using(crate::proofs::Answered::answered_by, crate::proofs::Answered::goes_further))]
+    pub(super) fn pursue<R: Wait, P: CrashPlan>(
+        &mut self,
+        rt: &R,
+        plan: &mut P,
+        call: Call,
+        turns: Option<u64>,
+    ) -> Result<Option<Answer>, LockFault>
+        requires { may_start self.old.standing call ≡ true }
+        ensures goes { Goes self.old self.new }
+        ensures counted { CountsOn self.old self.new }
+        ensures asked { OnOk result (AskedEach self.old self.new (P.asked plan.old) (P.asked plan.new)) }
+        ensures ended { OnErr result (AskedOnceMore self.old self.new (P.asked plan.old) (P.asked plan.new)) }
+        ensures fallen { P.fallen plan.new ≡ falls_by result (P.fallen plan.old) }
+        ensures kept { OnOk result (self.new.standing ≡ self.old.standing) }
+        ensures lost { OnErr result (self.new.standing ≡ Standing.Lost) }
+        ensures only { IfErr result (λ e. (e ≡ LockFault.Crashed) ⊎ (e ≡ LockFault.OutOfMemory)) }
+        ensures patient { IsNone turns → IfOk result (λ answer. IsSome answer) }
+        ensures answered { IfOk result (λ answer. IsAnswered self.old.process self.old.standing call answer) }
+    {
+        let mut left = turns;
+        let mut opening = Opening {
+            crash: self.standing.is_lost(),
+            call: Some(call),
+        };
+        let backoff = Backoff::new();
+        for _ in rt.forever() {
+            let turn = self.step(rt, plan, opening)?;
+            if turn.answer.is_some() {
+                return Ok(turn.answer);
+            }
+            opening = Opening {
+                crash: false,
+                call: None,
+            };
+            if turn.blocked {
+                match left {
+                    Some(0) => return Ok(None),
+                    Some(more) => left = Some(more - 1),
+                    None => {}
+                }
+                backoff.snooze();
+            }
+        }
+        unreachable!()
+    }
+
+    /// The last asking of a call, before its answer; and where the answer leaves the member.
+    pub(super) fn conclude<P: CrashPlan, T: Copy>(
+        &mut self,
+        plan: &mut P,
+        answer: Result<T, LockFault>,
+        standing: Standing,
+    ) -> Result<T, LockFault>
+        requires { (f : ℕ) → falls_by answer f ≡ f }
+        ensures asked { P.asked plan.new ≡ one_more (P.asked plan.old) }
+        ensures fallen { P.fallen plan.new ≡ falls_by result (P.fallen plan.old) }
+        ensures answer { ((result ≡ answer) × (self.new ≡ record self.old { standing = standing })) ⊎ ((result ≡ Err LockFault.Crashed) × (self.new ≡ record self.old { standing = Standing.Lost })) }
+    {
+        self.ask(plan)?;
+        self.standing = standing;
+        answer
+    }
+}

@@ -1,0 +1,150 @@
+//! What lies under the lock.
+
+ghost use Rattle.std.specs.Prelude.{◌≡◌, ◌≢◌, ◌<◌, ◌+◌, ◌↔◌, IfOk, OnOk, OnErr, IsTrue};
+ghost use Rattle.rmecore.specs.Simulated.{tally_at};
+ghost use Rattle.rmeworld.specs.Replayed.{advanced, stepped, started, crashed, image_of};
+ghost use Rattle.rmeworld.specs.ImageRules.{IsLawfulImage};
+ghost use Rattle.rmeworld.specs.WorldState.{new_world};
+ghost use Rattle.one_lock.specs.Answers.{opened, Gives};
+
+use crate::opening::Opening;
+use rmecore::Refusal;
+use rmeworld::{Answer, Call, Image, World};
+use std::marker::Model;
+use std::sync::ledger::{Book, Ledger, Share};
+
+/// The world that all members step in, and the book that counts their steps.
+#[derive(Drop)]
+pub struct Shared<L: Ledger> {
+    world: World,
+    book: Book<L>,
+}
+
+impl<L: Ledger> Model for Shared<L> {
+    ghost use Rattle.one_lock.specs.Story.{Held, IsTold};
+
+    ghost Value = { Held };
+
+    ghost view = { λ s. record { world = s.world; total = s.book.total } };
+
+    ghost invariant = { λ s. IsTold s.world s.book.total };
+}
+
+/// What a step tells the member that took it.
+#[derive(Clone, Copy, Debug)]
+pub struct Turn {
+    /// Where the step ends its call.
+    pub answer: Option<Answer>,
+    /// A look or a weigh that has to be taken again.
+    pub blocked: bool,
+}
+
+impl<L: Ledger> Shared<L> {
+    ghost use Rattle.one_lock.specs.Story.{IsLeftBy, IsTold};
+
+    /// A new world, and a book that has counted nothing.
+    pub fn new(world: World, book: Book<L>) -> Shared<L>
+        requires world { world ≡ new_world world.layout world.limit }
+        requires book { book.total ≡ 0 }
+        ensures { result ≡ record { world = world; total = 0 } }
+    {
+        Shared { world, book }
+    }
+
+    /// One step of a process, with what comes before it. The book and the share grow by one.
+    pub fn step(&mut self, share: &mut Share<L>, p: u64, opening: Opening) -> Result<Turn, Refusal>
+        requires { 0 < share.old.parts }
+        ensures book { OnOk result (self.new.total ≡ self.old.total + 1) }
+        ensures share { OnOk result (share.new.amount ≡ share.old.amount + 1) }
+        ensures uncounted { OnErr result ((self.new.total ≡ self.old.total) × (share.new.amount ≡ share.old.amount)) }
+        ensures parts { share.new.parts ≡ share.old.parts }
+        ensures gives { IfOk result (λ turn. Gives p opening turn.answer) }
+    {
+        self.told();
+        self.open(p, opening)?;
+        self.advance(share, p)
+    }
+
+    /// What is known whenever the lock is free: the world is one that some run has come to.
+    fn told(&self)
+        ensures { IsTold self.now.world self.now.total }
+    {
+        let _ = &self.world;
+    }
+
+    /// What comes before a step.
+    fn open(&mut self, p: u64, opening: Opening) -> Result<(), Refusal>
+        ensures ok { OnOk result (self.new.world ≡ opened opening p self.old.world) }
+        ensures book { self.new.total ≡ self.old.total }
+    {
+        if opening.crash {
+            self.crash(p)?;
+        }
+        if let Some(call) = opening.call {
+            self.start(p, call)?;
+        }
+        Ok(())
+    }
+
+    /// One step of the world, counted.
+    fn advance(&mut self, share: &mut Share<L>, p: u64) -> Result<Turn, Refusal>
+        requires { 0 < share.old.parts }
+        ensures world { OnOk result (self.new.world ≡ advanced self.old.world p) }
+        ensures answer { IfOk result (λ turn. turn.answer ≡ (stepped self.old.world p).answer) }
+        ensures blocked { IfOk result (λ turn. IsTrue turn.blocked ↔ ((tally_at self.new.world.tallies p).blocked ≢ (tally_at self.old.world.tallies p).blocked)) }
+        ensures book { OnOk result (self.new.total ≡ self.old.total + 1) }
+        ensures share { OnOk result (share.new.amount ≡ share.old.amount + 1) }
+        ensures uncounted { OnErr result ((self.new.world ≡ self.old.world) × (self.new.total ≡ self.old.total) × (share.new.amount ≡ share.old.amount)) }
+        ensures parts { share.new.parts ≡ share.old.parts }
+    {
+        let before = self.world.blocked(p)?;
+        let step = self.world.advance(p)?;
+        self.book.add(share, 1);
+        let blocked = match self.world.blocked(p) {
+            Ok(after) => after != before,
+            Err(_) => false,
+        };
+        Ok(Turn {
+            answer: step.answer,
+            blocked,
+        })
+    }
+
+    /// A process loses its private memory.
+    fn crash(&mut self, p: u64) -> Result<(), Refusal>
+        ensures ok { OnOk result (self.new.world ≡ crashed self.old.world p) }
+        ensures err { OnErr result (self.new.world ≡ self.old.world) }
+        ensures book { self.new.total ≡ self.old.total }
+    {
+        self.world.crash(p)?;
+        Ok(())
+    }
+
+    /// A process starts a call.
+    fn start(&mut self, p: u64, call: Call) -> Result<(), Refusal>
+        ensures ok { OnOk result (self.new.world ≡ started self.old.world p call) }
+        ensures err { OnErr result (self.new.world ≡ self.old.world) }
+        ensures book { self.new.total ≡ self.old.total }
+    {
+        self.world.start(p, call)?;
+        Ok(())
+    }
+
+    /// The words that stand. They are what the steps counted so far have left.
+    pub fn image(&self) -> Result<Image, Refusal>
+        ensures ok { IfOk result (λ image. image ≡ image_of self.now.world) }
+        ensures left { IfOk result (λ image. IsLeftBy self.now.total image) }
+        ensures lawful { IfOk result (λ image. IsLawfulImage image) }
+    {
+        self.world.image()
+    }
+
+    /// Nothing changes. Who has all shares has taken all steps.
+    pub fn audit(&mut self, all: &mut Share<L>)
+        requires { all.old.parts ≡ L.parts }
+        ensures same { self.new ≡ self.old }
+        ensures whole { all.old.amount ≡ self.old.total }
+    {
+        self.book.audit(all);
+    }
+}

@@ -1,5 +1,0 @@
-use Rattle.robust.proofs.one_lock.lab.run_lab.Given as goal
-
--- the ledger of the blank that was just made
-abbrev pub ghosts-run : goal.ghosts-run
-ghosts-run g a = record { name = a.blank.name; parts = a.blank.parts }

@@ -1,10 +1,10 @@
 //! The worked rows that name the program, on its two functions.
 
 mod images;
+mod lab_runs;
 mod lock_memory;
 mod memory;
 mod replays;
-mod runs;
 mod scarce;
 mod texts;
 mod variants;

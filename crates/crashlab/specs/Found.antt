@@ -2,7 +2,7 @@
 use Rattle.crashlab.specs.declared.moves.Made.{Made}
 use Rattle.crashlab.specs.declared.moves.Made.TheVariants.{On, Caught}
 use Rattle.crashlab.specs.declared.variant.Variant.{Variant}
-use Rattle.std.specs.Prelude.{◌≡◌, List, [], ◌∷◌, ◌++◌, Option, Some, Err}
+use Rattle.std.specs.Prelude.{◌≡◌, ℕ, Bool, true, false, List, [], ◌∷◌, ◌++◌, Option, Some, Err}
 use Rattle.rmecore.specs.declared.fault.Fault.{Fault}
 use Rattle.redomail.specs.declared.deed.Deed.{Deed}
 use Rattle.judge.specs.Kept.{Kept}
@@ -51,3 +51,14 @@ abbrev pub line_by : Move → Line
 line_by (Start p call) = line.Start p call
 line_by (Step p) = line.Step p 1
 line_by (Crash p) = line.Crash p
+
+-- whose move it is
+abbrev pub mover : Move → ℕ
+mover (Start p call) = p
+mover (Step p) = p
+mover (Crash p) = p
+
+abbrev pub is_crash : Move → Bool
+is_crash (Start p call) = false
+is_crash (Step p) = false
+is_crash (Crash p) = true

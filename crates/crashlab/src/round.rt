@@ -1,6 +1,6 @@
 //! One move of a hunt: made in the world, written into the schedule, and its deed told to the judge.
 
-ghost use Rattle.std.specs.Prelude.{◌≡◌, IfOk, IfErr, OnOk, List};
+ghost use Rattle.std.specs.Prelude.{◌≡◌, ◌+◌, ◌≤◌, IfOk, IfErr, OnOk, List, length};
 ghost use Rattle.redomail.specs.declared.deed.Deed.{Deed as DeedOf};
 ghost use Rattle.judge.specs.Table.{empty};
 ghost use Rattle.judge.specs.Stands.{StandsAfter};
@@ -24,6 +24,7 @@ pub fn make(
     made: &Move,
 ) -> Result<Made, HuntFault>
     ensures ends { (variant : VariantOf) → IsPlayed variant schedule.old world.old judge.old → IfOk result (Ends variant schedule.new world.new judge.new) }
+    ensures grows { OnOk result (length schedule.new.lines ≤ length schedule.old.lines + 1) }
     ensures memory { IfErr result (λ e. e ≡ HuntFault.OutOfMemory) }
 {
     match *made {
@@ -55,6 +56,7 @@ fn start(
 ) -> Result<Made, HuntFault>
     requires { line ≡ Line.Start p call }
     ensures ends { (variant : VariantOf) → IsPlayed variant schedule.old world.old judge.old → IfOk result (Ends variant schedule.new world.new judge.new) }
+    ensures grows { OnOk result (length schedule.new.lines ≤ length schedule.old.lines + 1) }
     ensures memory { IfErr result (λ e. e ≡ HuntFault.OutOfMemory) }
 {
     match world.take_start(p, call) {
@@ -71,6 +73,7 @@ fn step(
     p: u64,
 ) -> Result<Made, HuntFault>
     ensures ends { (variant : VariantOf) → IsPlayed variant schedule.old world.old judge.old → IfOk result (Ends variant schedule.new world.new judge.new) }
+    ensures grows { OnOk result (length schedule.new.lines ≤ length schedule.old.lines + 1) }
     ensures memory { IfErr result (λ e. e ≡ HuntFault.OutOfMemory) }
 {
     match world.take_step(p) {
@@ -93,6 +96,7 @@ fn crash(
     p: u64,
 ) -> Result<Made, HuntFault>
     ensures ends { (variant : VariantOf) → IsPlayed variant schedule.old world.old judge.old → IfOk result (Ends variant schedule.new world.new judge.new) }
+    ensures grows { OnOk result (length schedule.new.lines ≤ length schedule.old.lines + 1) }
     ensures memory { IfErr result (λ e. e ≡ HuntFault.OutOfMemory) }
 {
     match world.take_crash(p) {

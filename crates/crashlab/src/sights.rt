@@ -1,5 +1,8 @@
 //! What a hunt sees of the processes, and the move that it makes of a draw.
 
+ghost use Rattle.std.specs.Prelude.{◌≡◌, ◌/◌, ◌%◌, ◌↔◌, IsTrue};
+ghost use Rattle.crashlab.specs.Found.{mover, is_crash};
+
 use crate::moves::Move;
 use redomail::Reply;
 use rmecore::Body;
@@ -99,7 +102,10 @@ impl Sights {
     }
 
     /// The move of a draw: of its process a crash, a step, or the call that is due.
-    pub fn draw(&self, word: u32) -> Move {
+    pub fn draw(&self, word: u32) -> Move
+        ensures process { mover result ≡ word % 3 }
+        ensures crash { IsTrue (is_crash result) ↔ (word / 64 % 16 ≡ 0) }
+    {
         let p = word % 3;
         let sight = &self.sights[p as usize];
         let p = u64::from(p);

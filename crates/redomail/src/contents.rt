@@ -20,6 +20,7 @@ pub fn content<A: Allocator + Clone>(
     ensures messages { IfOk result (λ messages. messages.items ≡ entries layout (words_of words.now) (slice_index words.now 2)) }
     ensures kept { OnOk result (IsContent layout words.now) }
     ensures refused { IsErrOf result Refusal.BadShape → IsContent layout words.now → ⊥ }
+    ensures heads { (HeadsHold layout words.now → ⊥) → IsErrOf result Refusal.BadShape }
     ensures only { IfErr result (λ refusal. (refusal ≡ Refusal.BadShape) ⊎ (refusal ≡ Refusal.OutOfMemory)) }
 {
     if !heads_hold(layout, words) {

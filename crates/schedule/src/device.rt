@@ -65,11 +65,16 @@ pub struct Text<'a> {
     piece: usize,
     ended: bool,
     ghost within: { at ≤ length all.now },
+    // It tells its end only where nothing is left.
+    ghost told: { ended ≡ true → at ≡ length all.now },
 }
 
 impl<'a> Text<'a> {
     pub fn new(all: &'a [u8], piece: usize) -> Text<'a>
-        ensures { result.at ≡ 0 }
+        ensures all { result.all.now ≡ all.now }
+        ensures at { result.at ≡ 0 }
+        ensures piece { result.piece ≡ piece }
+        ensures ended { result.ended ≡ false }
     {
         Text {
             all,
@@ -91,8 +96,9 @@ impl<'a> Source for Text<'a> {
         let left = self.all.len() - self.at;
         let n = left.min(buf.len()).min(self.piece.max(1));
         buf[..n].copy_from_slice(&self.all[self.at..self.at + n]);
+        let ends = n == 0 && !buf.is_empty();
         self.at += n;
-        if n == 0 {
+        if ends {
             self.ended = true;
         }
         Ok(n)

@@ -1,6 +1,6 @@
 //! The lines of a text but the first.
 
-ghost use Rattle.std.specs.Prelude.{◌≡◌, ℕ, ◌+◌, ◌^◌, ◌<◌, ◌≤◌, ◌⊎◌, ◌++◌, ◌∷◌, [], Bool, List, Result, length, IfOk, OnOk, OnErr, IfErr, IsTrue, IsFalse};
+ghost use Rattle.std.specs.Prelude.{◌≡◌, ℕ, ◌+◌, ◌^◌, ◌<◌, ◌≤◌, ◌⊎◌, ◌++◌, ◌∷◌, [], Bool, List, Result, length, IfOk, OnOk, OnErr, IfErr, IsErrOf, IsTrue, IsFalse};
 ghost use Rattle.schedule.specs.declared.fault.LineFault.{LineFault};
 ghost use Rattle.schedule.specs.Words.{Reads, words_of};
 ghost use Rattle.schedule.specs.Texts.{Gives, items_at, parts_of, text_at};
@@ -36,6 +36,7 @@ pub fn add<T: Item>(items: &mut Vec<T>, width: u64, item: T) -> Result<(), Refus
     ensures item { OnOk result (T.is_item width item) }
     ensures accepted { OnOk result (IsTrue (T.fits width item)) }
     ensures refused { IfErr result (λ refusal. (refusal ≡ Refusal.BadWidth) × IsFalse (T.fits width item) ⊎ (refusal ≡ Refusal.OutOfMemory)) }
+    ensures width { IsFalse (T.fits width item) → IsErrOf result Refusal.BadWidth }
     ensures err { OnErr result (items.new.items ≡ items.old.items) }
 {
     if !item.fits(width) {

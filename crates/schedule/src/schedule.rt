@@ -1,6 +1,6 @@
 //! Schedules and their texts.
 
-ghost use Rattle.std.specs.Prelude.{◌≡◌, ℕ, ◌≤◌, ◌↔◌, ◌⊎◌, List, [], ◌∷◌, ◌++◌, Result, Ok, Err, IsOk, IfOk, IfErr, OnOk, OnErr, IsTrue, IsFalse};
+ghost use Rattle.std.specs.Prelude.{◌≡◌, ℕ, ◌≤◌, ◌↔◌, ◌⊎◌, List, [], ◌∷◌, ◌++◌, Result, Ok, Err, IsOk, IfOk, IfErr, IsErrOf, OnOk, OnErr, IsTrue, IsFalse};
 ghost use Rattle.schedule.specs.Commands.{fits};
 ghost use Rattle.schedule.specs.Texts.{Gives};
 ghost use Rattle.schedule.specs.Schedules.{Scheduled, IsScheduled, spelling, schedule_at, head_of};
@@ -62,6 +62,8 @@ impl Schedule {
         ensures ok { OnOk result (self.new ≡ record self.old { lines = self.old.lines ++ line ∷ [] }) }
         ensures accepted { OnOk result (IsTrue (fits self.old.width line)) }
         ensures refused { IfErr result (λ refusal. (refusal ≡ Refusal.BadWidth) × IsFalse (fits self.old.width line) ⊎ (refusal ≡ Refusal.OutOfMemory)) }
+        // A wrong width is told before any want of memory.
+        ensures width { IsFalse (fits self.old.width line) → IsErrOf result Refusal.BadWidth }
         ensures err { OnErr result (self.new ≡ self.old) }
     {
         // Rattle's borrow checker has to see what a line holds.

@@ -1,6 +1,6 @@
 //! Traces and their texts.
 
-ghost use Rattle.std.specs.Prelude.{◌≡◌, ℕ, ◌≤◌, ◌↔◌, ◌⊎◌, List, [], ◌∷◌, ◌++◌, Result, Ok, Err, IsOk, IfOk, IfErr, OnOk, OnErr, IsTrue, IsFalse};
+ghost use Rattle.std.specs.Prelude.{◌≡◌, ℕ, ◌≤◌, ◌↔◌, ◌⊎◌, List, [], ◌∷◌, ◌++◌, Result, Ok, Err, IsOk, IfOk, IfErr, IsErrOf, OnOk, OnErr, IsTrue, IsFalse};
 ghost use Rattle.schedule.specs.Texts.{Gives};
 ghost use Rattle.schedule.specs.Deeds.{deed_at, fits};
 ghost use Rattle.schedule.specs.Traces.{Traced, IsTraced, trace_spelling, trace_at, trace_head_of, trace_head_at};
@@ -94,6 +94,8 @@ impl Trace {
         ensures ok { OnOk result (self.new ≡ record self.old { deeds = self.old.deeds ++ deed ∷ [] }) }
         ensures accepted { OnOk result (IsTrue (fits self.old.width deed)) }
         ensures refused { IfErr result (λ refusal. (refusal ≡ Refusal.BadWidth) × IsFalse (fits self.old.width deed) ⊎ (refusal ≡ Refusal.OutOfMemory)) }
+        // A wrong width is told before any want of memory.
+        ensures width { IsFalse (fits self.old.width deed) → IsErrOf result Refusal.BadWidth }
         ensures err { OnErr result (self.new ≡ self.old) }
     {
         add(&mut self.deeds, self.width, deed)

@@ -1,6 +1,6 @@
 //! Readers and writers of std as devices.
 
-ghost use Rattle.std.specs.Prelude.{◌≡◌, ◌+◌, ◌-◌, ◌^◌, ◌<◌, ◌≤◌, ◌++◌, List, ℕ, [], length, take, OnOk, OnErr, IfOk, min};
+ghost use Rattle.std.specs.Prelude.{◌≡◌, ◌+◌, ◌-◌, ◌^◌, ◌<◌, ◌≤◌, ◌++◌, List, ℕ, [], length, take, OnOk, OnErr, IfOk, min, false};
 
 use crate::device::{Failed, Sink, Source};
 use crate::log::Log;
@@ -37,6 +37,7 @@ impl<R> FromReader<R> {
     /// A reader that has given nothing yet.
     pub fn new(inner: R) -> FromReader<R>
         ensures given { result.given.items ≡ [] }
+        ensures ended { result.ended ≡ false }
         ensures failures { result.failures ≡ 0 }
     {
         FromReader {

@@ -3,8 +3,8 @@ use Rattle.std.proofs.Math.Seq.{take-add}
 use Rattle.std.proofs.lemmas.List.{take_at, length-take}
 use Rattle.schedule.proofs.device.TextSource.read.Goals as goal
 
-pub returns-else-n-eq0-clause-given : goal.returns-else-n-eq0-clause-given
-returns-else-n-eq0-clause-given c =
+pub returns-else-ends-clause-given : goal.returns-else-ends-clause-given
+returns-else-ends-clause-given c =
     let s = c.args.self.now in
     let n = c.min-n.result in
     let k : s.at + n - s.at ≡ n = omega arith in

@@ -52,16 +52,18 @@ fn members<R>(rt: &R, alloc: Global, procs: u64, width: u64) -> Result<Vec<Membe
     }
 }
 
-/// Locks and unlocks so many times.
+/// Locks and unlocks so many times, and counts the entries.
 pub fn enter<R: Wait>(rt: &R, mut member: Member, rounds: u64) -> Result<u64, LockFault>
     ensures { IfOk result (λ count. count ≡ rounds) }
 {
     let mut plan = Never::new();
+    let mut entries = 0;
     for _ in 0..rounds {
         member.lock(rt, &mut plan)?;
         member.unlock(&mut plan)?;
+        entries += 1;
     }
-    Ok(rounds)
+    Ok(entries)
 }
 
 /// The first members lock and unlock, each on a thread of its own.
@@ -86,7 +88,7 @@ fn enter_all<R: Threads + Wait + Sync>(
     Ok(count)
 }
 
-/// Appends so many messages, numbered from 1.
+/// Appends so many messages, numbered from 1, and counts those that were stored.
 pub fn send<R: Wait>(rt: &R, member: &mut Member, width: u64, rounds: u64) -> Result<u64, Fault>
     requires least { 1 ≤ width }
     requires most { width ≤ 8 }
@@ -97,12 +99,13 @@ pub fn send<R: Wait>(rt: &R, member: &mut Member, width: u64, rounds: u64) -> Re
         unreachable!()
     };
     let mut plan = Never::new();
+    let mut stored = 0;
     for seq in 1..rounds + 1 {
         match member.append(rt, seq, value, &mut plan) {
-            Ok(Reply::Stored) => {}
+            Ok(Reply::Stored) => stored += 1,
             Ok(_) => return Err(Fault::Refused),
             Err(fault) => return Err(Fault::Lock(fault)),
         }
     }
-    Ok(rounds)
+    Ok(stored)
 }

@@ -24,5 +24,3 @@ pub use one_lock;
 pub use one_lock::GatherFault;
 pub use runs::{Entry, LockFault, Setup};
 
-#[cfg(test)]
-mod tests;

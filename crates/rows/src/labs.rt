@@ -1,0 +1,156 @@
+//! The lab over the running lock, and workers that meet: each waits at an asking until the other has come far enough.
+
+use super::gated::{Gated, Progress, Until, meeting};
+use super::kit::are;
+use plans::{Never, Seeded};
+use redomail::{Message, Reply};
+use robust::{LabFault, LockFault, Spec, run_lab};
+use std::alloc::Global;
+use std::process::Abort;
+use std::sync::Wait;
+use std::test::Fail;
+use std::thread::Threads;
+
+pub const TWO: Spec = Spec {
+    procs: 2,
+    messages: 1,
+    limit: 10,
+    cap: 2,
+    width: 1,
+};
+
+#[test]
+fn both_at_once(rt: HostRuntime) -> Result<(), Fail> {
+    let (first, second, zero, one) = meeting(rt.alloc(), 20)?;
+    let mut gates = Vec::new(rt.alloc());
+    gates.push(first)?;
+    gates.push(second)?;
+    let lab = run_lab(&rt, rt.alloc(), TWO, gates)?;
+    assert!(rt; !zero.has_given_up() && !one.has_given_up());
+    assert!(rt;
+        are(
+            &rt,
+            lab.messages.as_slice(),
+            &[(0, 1, 1), (1, 1, 1_000_001)]
+        )
+    );
+    Ok(())
+}
+
+#[test]
+fn numbers_spent(rt: HostRuntime) -> Result<(), Fail> {
+    let (first, second, zero, one) = meeting(rt.alloc(), 7)?;
+    let mut gates = Vec::new(rt.alloc());
+    gates.push(first)?;
+    gates.push(second)?;
+    let mut spec = TWO;
+    spec.limit = 1;
+    let fault = run_lab(&rt, rt.alloc(), spec, gates).err();
+    assert!(rt; !zero.has_given_up() && !one.has_given_up());
+    let spent = LockFault::NumbersSpent;
+    assert!(rt; fault == Some(LabFault::Member { p: 1, fault: spent }));
+    Ok(())
+}
+
+/// Worker p waits at its first asking for the answer of the other.
+fn waits_for_the_other<R: Abort + Threads + Wait + Sync>(
+    rt: &R,
+    alloc: Global,
+    p: u64,
+) -> Result<(), Fail> {
+    let zero = Progress::new(alloc)?;
+    let one = Progress::new(alloc)?;
+    let (first, second) = if p == 0 { (1, 0) } else { (0, 1) };
+    let mut gates = Vec::new(alloc);
+    gates.push(Gated::new(first, Until::Answer(1), &zero, &one)?)?;
+    gates.push(Gated::new(second, Until::Answer(1), &one, &zero)?)?;
+    let lab = run_lab(rt, alloc, TWO, gates)?;
+    assert_eq!(rt; lab.messages.len(), 2);
+    assert!(rt; !zero.has_given_up() && !one.has_given_up(), "worker {p}");
+    Ok(())
+}
+
+#[test]
+fn two_workers_at_once(rt: HostRuntime) -> Result<(), Fail> {
+    waits_for_the_other(&rt, rt.alloc(), 0)?;
+    waits_for_the_other(&rt, rt.alloc(), 1)?;
+    Ok(())
+}
+
+#[test]
+fn a_full_mailbox(rt: HostRuntime) -> Result<(), Fail> {
+    let spec = Spec {
+        procs: 1,
+        messages: 2,
+        limit: 10,
+        cap: 1,
+        width: 1,
+    };
+    let mut gates = Vec::new(rt.alloc());
+    gates.push(Never::new())?;
+    let full = Some(LabFault::Reply {
+        p: 0,
+        reply: Reply::Full,
+    });
+    assert!(rt; run_lab(&rt, rt.alloc(), spec, gates).err() == full);
+    Ok(())
+}
+
+/// Each worker's messages stand once, in order and as they were sent, and there are no others.
+pub fn are_all_sent(rt: &impl Abort, spec: Spec, messages: &[Message]) {
+    assert_eq!(rt;
+        messages.len() as u64,
+        spec.procs.saturating_mul(spec.messages)
+    );
+    for p in 0..spec.procs {
+        let mut seq = 0u64;
+        for message in messages {
+            if message.sender == p {
+                seq = seq.saturating_add(1);
+                assert_eq!(rt; message.seq, seq, "of worker {p}");
+                for j in 0..spec.width {
+                    let word = p
+                        .saturating_mul(1_000_000)
+                        .saturating_add(seq)
+                        .saturating_add(j);
+                    assert!(rt;
+                        message.value.word(j) == Ok(word),
+                        "worker {p}, {seq}, word {j}"
+                    );
+                }
+            }
+        }
+        assert_eq!(rt; seq, spec.messages, "worker {p}");
+    }
+}
+
+/// So many workers, each of which crashes at 20 of 1,000 askings.
+fn sends_all<R: Abort + Threads + Wait + Sync>(
+    rt: &R,
+    alloc: Global,
+    procs: u64,
+    width: u64,
+) -> Result<(), Fail> {
+    let spec = Spec {
+        procs,
+        messages: 50,
+        limit: 1 << 62,
+        cap: procs.saturating_mul(50),
+        width,
+    };
+    let mut gates = Vec::new(alloc);
+    for p in 0..procs {
+        gates.push(Seeded::new(p.saturating_add(7), 20))?;
+    }
+    let lab = run_lab(rt, alloc, spec, gates)?;
+    are_all_sent(rt, spec, lab.messages.as_slice());
+    Ok(())
+}
+
+#[test]
+fn lab_run(rt: HostRuntime) -> Result<(), Fail> {
+    for (procs, width) in [(1, 1), (4, 1), (4, 8), (8, 1), (8, 8)] {
+        sends_all(&rt, rt.alloc(), procs, width)?;
+    }
+    Ok(())
+}

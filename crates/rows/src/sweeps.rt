@@ -1,0 +1,118 @@
+//! A call that is cut off at each of its askings in turn.
+
+ghost use Rattle.std.specs.Prelude.{◌≡◌};
+ghost use Rattle.robust.specs.Working.{seat_of};
+
+use super::counted::{Counted, at, never};
+use super::kit::{answered_after, are, blocked_after, body, gathered, shows, two};
+use plans::{Both, CrashPlan};
+use redomail::Reply;
+use robust::{Entry, LockFault, Member};
+use std::alloc::Global;
+use std::process::Abort;
+use std::test::Fail;
+
+/// An append of member 0 that crashes.
+fn cut<C: CrashPlan>(rt: &impl Abort, member: &mut Member, plan: &mut Counted<C>)
+    ensures { seat_of member.new ≡ seat_of member.old }
+{
+    let value = body(rt, 5);
+    assert!(rt; member.append_within(1, value, plan, 0) == Err(LockFault::Crashed));
+    assert!(rt; plan.taken() == member.steps().saturating_add(1));
+}
+
+/// The append of member 1 that comes last, and what the mailbox shows then.
+fn both_stand(rt: &impl Abort, alloc: Global, one: Member, mut other: Member)
+    requires { one.pass.table ≡ other.pass.table }
+{
+    let mut plan = never();
+    assert!(rt; other.append_within(1, body(rt, 9), &mut plan, 0) == Ok(Reply::Stored));
+    assert!(rt; plan.taken() == other.steps().saturating_add(1));
+    let image = gathered(rt, alloc, one, other);
+    assert!(rt; shows(rt, alloc, &image, &[(0, 1, 5), (1, 1, 9)]));
+}
+
+#[test]
+fn crash_sweep(rt: HostRuntime) -> Result<(), Fail> {
+    for k in 1..28 {
+        let (mut one, other) = two(&rt, rt.alloc(), 10, 4);
+        cut(&rt, &mut one, &mut at(k));
+        let (reply, steps) = answered_after(k);
+        let mut plan = never();
+        assert!(rt;
+            one.append_within(1, body(&rt, 5), &mut plan, 0) == Ok(reply),
+            "at {k}"
+        );
+        assert!(rt;
+            one.steps() == steps && plan.taken() == steps.saturating_add(1),
+            "at {k}"
+        );
+        both_stand(&rt, rt.alloc(), one, other);
+    }
+    Ok(())
+}
+
+#[test]
+fn crash_pairs(rt: HostRuntime) -> Result<(), Fail> {
+    for k in 1..28 {
+        let (_, steps) = answered_after(k);
+        for m in 1..steps.saturating_add(2) {
+            let (mut one, other) = two(&rt, rt.alloc(), 10, 4);
+            let mut plan = Counted::new(Both::new(k, m));
+            cut(&rt, &mut one, &mut plan);
+            cut(&rt, &mut one, &mut plan);
+            let reply = one.append_within(1, body(&rt, 5), &mut plan, 0);
+            assert!(rt;
+                matches!(reply, Ok(Reply::Stored | Reply::Already)),
+                "at {k} and {m}"
+            );
+            assert!(rt;
+                plan.taken() == one.steps().saturating_add(1),
+                "at {k} and {m}"
+            );
+            both_stand(&rt, rt.alloc(), one, other);
+        }
+    }
+    Ok(())
+}
+
+#[test]
+fn blocked_by_a_crash(rt: HostRuntime) -> Result<(), Fail> {
+    for k in 1..28 {
+        let (mut one, mut other) = two(&rt, rt.alloc(), 10, 4);
+        cut(&rt, &mut one, &mut at(k));
+        let mut plan = never();
+        let entered = other.lock_within(&mut plan, 0);
+        match blocked_after(k) {
+            Some(steps) => {
+                assert!(rt; entered == Err(LockFault::NotYet), "at {k}");
+                assert_eq!(rt; other.steps(), steps, "at {k}");
+            }
+            None => assert!(rt; entered == Ok(Entry::Clean), "at {k}"),
+        }
+        assert!(rt; plan.taken() == other.steps().saturating_add(1), "at {k}");
+        gathered(&rt, rt.alloc(), one, other);
+    }
+    Ok(())
+}
+
+#[test]
+fn late_reader(rt: HostRuntime) -> Result<(), Fail> {
+    for k in 1..29 {
+        let (mut one, mut other) = two(&rt, rt.alloc(), 10, 4);
+        let answer = one.append_within(1, body(&rt, 5), &mut at(k), 0);
+        let wanted = if k < 28 {
+            Err(LockFault::Crashed)
+        } else {
+            Ok(Reply::Stored)
+        };
+        assert!(rt; answer == wanted, "at {k}");
+        let messages = other.read_from(rt.alloc(), 0)?;
+        if k < 24 {
+            assert!(rt; messages.is_empty(), "at {k}");
+        } else {
+            assert!(rt; are(&rt, messages.as_slice(), &[(0, 1, 5)]), "at {k}");
+        }
+    }
+    Ok(())
+}

@@ -23,4 +23,3 @@ pub use member::Member;
 pub use one_lock;
 pub use one_lock::GatherFault;
 pub use runs::{Entry, LockFault, Setup};
-

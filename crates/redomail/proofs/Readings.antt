@@ -3,6 +3,7 @@ use Rattle.std.proofs.Common.{◌≡◌, ◌≢◌, ℕ, zero, suc, ◌+◌, ◌
 use Rattle.std.proofs.Math.ListN.{length-set}
 use Rattle.std.specs.Prelude.{◌⊎◌}
 use Rattle.std.proofs.lemmas.Bool.{cond_both, cases_Bool, eqb-true, eqb-false, true≢false, cases_eq, eq-eqb, ne_eqb}
+use Rattle.rmecore.specs.Body.{zeros}
 use Rattle.redomail.specs.declared.message.Message.{Message}
 use Rattle.redomail.specs.declared.layout.Layout.{Layout}
 use Rattle.redomail.specs.Layout.{Words, words_of, row, place_at}
@@ -11,6 +12,11 @@ use Rattle.redomail.specs.Laws.{ContentIsShape}
 use Rattle.redomail.specs.Content.{HeadsHold, AreCounts}
 use Rattle.redomail.proofs.Words.{place_low, place_up}
 use Rattle.redomail.proofs.Changes.{entries-more, count_of-push}
+
+pub at_zeros : (n q : ℕ) → slice_index (zeros n) q ≡ 0
+at_zeros zero q = refl
+at_zeros (suc n) zero = refl
+at_zeros (suc n) (suc q) = at_zeros n q
 
 pub row-slice : (xs : List ℕ) (i n : ℕ) → i + n ≤ length xs → row (words_of xs) i n ≡ take n (drop i xs)
 row-slice xs i zero h = refl

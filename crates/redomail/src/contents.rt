@@ -7,6 +7,7 @@ ghost use Rattle.redomail.specs.Content.{HeadsHold, EntriesHold, IsContent, AreC
 
 use crate::layout::{ARMED, CLOSED, COUNT, Layout, RECORD, RUINED};
 use crate::message::Message;
+use rmecore::simulated::MOST_PROCS;
 use rmecore::{Body, Refusal};
 use std::alloc::{AllocError, Allocator};
 
@@ -21,24 +22,57 @@ pub fn content<A: Allocator + Clone>(
     ensures kept { OnOk result (IsContent layout words.now) }
     ensures refused { IsErrOf result Refusal.BadShape → IsContent layout words.now → ⊥ }
     ensures heads { (HeadsHold layout words.now → ⊥) → IsErrOf result Refusal.BadShape }
+    ensures shape { layout.procs ≤ 64 → (IsContent layout words.now → ⊥) → IsErrOf result Refusal.BadShape }
     ensures only { IfErr result (λ refusal. (refusal ≡ Refusal.BadShape) ⊎ (refusal ≡ Refusal.OutOfMemory)) }
 {
-    if !heads_hold(layout, words) {
-        return Err(Refusal::BadShape);
-    }
-    let mut counts = vec![in alloc.clone()?; 0; layout.procs as usize]?;
-    if !count_entries(layout, words, &mut counts) {
-        return Err(Refusal::BadShape);
-    }
-    let lawful = if word(words, ARMED) == 1 {
-        any_record(layout, words, &counts)
-    } else {
-        lasts_are(layout, words, &counts, layout.procs)
-    };
-    if !lawful {
+    if !heads_hold(layout, words) || !has_entries(&alloc, layout, words)? {
         return Err(Refusal::BadShape);
     }
     Ok(shown(alloc, layout, words)?)
+}
+
+// Do the entries and the record keep their rules? It takes memory for a layout of more processes than a lock has, and for
+// no other.
+fn has_entries<A: Allocator + Clone>(
+    alloc: &A,
+    layout: Layout,
+    words: &[u64],
+) -> Result<bool, Refusal>
+    requires { HeadsHold layout words.now }
+    ensures holds { IfOk result (λ holds. IsTrue holds ↔ EntriesHold layout words.now) }
+    ensures memory { IfErr result (λ refusal. (refusal ≡ Refusal.OutOfMemory) × (64 < layout.procs)) }
+{
+    if layout.procs <= MOST_PROCS {
+        let mut all = counters();
+        let counts = &mut all[..layout.procs as usize];
+        return Ok(entries_hold(layout, words, counts));
+    }
+    let mut counts = vec![in alloc.clone()?; 0; layout.procs as usize]?;
+    Ok(entries_hold(layout, words, &mut counts))
+}
+
+// Do the entries and the record keep their rules? There is a counter, 0 at first, for each process.
+fn entries_hold(layout: Layout, words: &[u64], counts: &mut [u64]) -> bool
+    requires heads { HeadsHold layout words.now }
+    requires each { length counts.old ≡ layout.procs }
+    requires zero { (q : ℕ) → slice_index counts.old q ≡ 0 }
+    ensures { IsTrue result ↔ EntriesHold layout words.now }
+{
+    if !count_entries(layout, words, counts) {
+        return false;
+    }
+    if word(words, ARMED) == 1 {
+        any_record(layout, words, counts)
+    } else {
+        lasts_are(layout, words, counts, layout.procs)
+    }
+}
+
+/// A counter for each process that a lock can have.
+pub fn counters() -> [u64; 64]
+    ensures { (q : ℕ) → slice_index result q ≡ 0 }
+{
+    [0; 64]
 }
 
 // A word, 0 past the end.

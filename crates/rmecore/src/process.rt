@@ -116,6 +116,7 @@ impl LockProcess {
         ensures at { IfSome result (λ r. at_scan self.now r.0 ≡ self.now) }
         ensures next { IfSome result (λ r. next_access self.now ≡ Some r.1) }
         ensures allowed { IfSome result (λ r. IsAllowed self.now r.1) }
+        ensures least { IfSome result (λ r. IsLeast self.now r.1) }
         ensures within { IfSome result (λ r. InLock self.now.procs (word_of r.1)) }
         ensures own { IfSome result (λ r. StoresOwn self.now.index r.1) }
     {

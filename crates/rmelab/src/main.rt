@@ -19,9 +19,9 @@ use crate::ending::Ending;
 use crate::fault::Fault;
 use crate::order::Command;
 use crate::words::{WordsFault, read_words};
-use schedule::{FromReader, Page, ToWriter};
+use schedule::{FromReader, Page, Sink, ToWriter};
 use std::alloc::Global;
-use std::io::BufReader;
+use std::io::{BufReader, BufWriter};
 use std::process::ExitCode;
 use std::rt::{Env, Files};
 use std::sync::Wait;
@@ -65,22 +65,22 @@ fn input_of(words: &Command) -> Option<&str> {
 }
 
 /// Runs a command over the file that it names, or over standard input.
-fn run<R: Files + Print + Eprint + Input + Threads + Wait + Sync>(
+fn run<R: Files + Eprint + Input + Threads + Wait + Sync, W: Sink>(
     rt: &R,
     alloc: Global,
     words: &Command,
     image: Option<&[u8]>,
+    out: &mut W,
 ) -> io::Result<Ending> {
-    let mut out = ToWriter::new(io::writer(rt));
     let mut err = Page::new(alloc);
     let ending = match input_of(words) {
         Some(path) => {
             let mut input = FromReader::new(BufReader::new(alloc, fs::open(rt, path)?)?);
-            command(rt, alloc, words, image, &mut input, &mut out, &mut err)
+            command(rt, alloc, words, image, &mut input, out, &mut err)
         }
         None => {
             let mut input = FromReader::new(BufReader::new(alloc, rt.reader())?);
-            command(rt, alloc, words, image, &mut input, &mut out, &mut err)
+            command(rt, alloc, words, image, &mut input, out, &mut err)
         }
     };
     if let Ok(line) = str::from_utf8(err.as_slice()) {
@@ -122,9 +122,17 @@ fn main(rt: HostRuntime) -> ExitCode {
     let Ok(image) = image_text(&rt, &words) else {
         return told(&rt, Fault::Read);
     };
-    let Ok(ending) = run(&rt, alloc, &words, image.as_deref()) else {
+    let Ok(writer) = BufWriter::new(alloc, io::writer(&rt)) else {
+        return told(&rt, Fault::OutOfMemory);
+    };
+    let mut out = ToWriter::new(writer);
+    let Ok(ending) = run(&rt, alloc, &words, image.as_deref(), &mut out) else {
         return told(&rt, Fault::Read);
     };
+    // Where the command met a failed write itself, that is told already.
+    if out.flush().is_err() && ending.status != Fault::Write.status() {
+        return told(&rt, Fault::Write);
+    }
     if save(&rt, &words, &ending).is_err() {
         return told(&rt, Fault::Write);
     }

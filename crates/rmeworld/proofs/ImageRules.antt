@@ -1,8 +1,7 @@
 -- The rules of an image, one by another.
-use Rattle.std.proofs.Common.{◌≡◌, ◌≢◌, ℕ, zero, suc, ◌<◌, true, length, slice_index, inl, inr, refl, sym, subst, arith}
+use Rattle.std.proofs.Common.{◌≡◌, ◌≢◌, ℕ, ◌<◌, true, length, slice_index, inl, inr, sym, subst, arith}
 use Rattle.std.proofs.lemmas.Bool.{cases_eq}
 use Rattle.std.proofs.lemmas.Bool.Decides.{nat_tests}
-use Rattle.rmecore.specs.Body.{zeros}
 use Rattle.rmecore.specs.Lawful.{IsLawful}
 use Rattle.rmecore.specs.Place.{is_before}
 use Rattle.rmecore.specs.Simulated.{own_at}
@@ -12,11 +11,6 @@ use Rattle.redomail.specs.Layout.{Words, words_of}
 use Rattle.redomail.specs.Shape.{IsNumbered, RecordRule}
 use Rattle.rmeworld.specs.declared.image.Image.{Image}
 use Rattle.rmeworld.specs.ImageRules.{layout_of, IsIn, IsRecorded, Keeps}
-
-pub at_zeros : (n q : ℕ) → slice_index (zeros n) q ≡ 0
-at_zeros zero q = refl
-at_zeros (suc n) zero = refl
-at_zeros (suc n) (suc q) = at_zeros n q
 
 pub record_is_numbered : (l : Layout) (p : ℕ) (w : Words) → RecordRule l p w → IsNumbered l w (w 2)
 record_is_numbered l p w r = elim r.rule [ inl h ↦ h.numbered | inr h ↦ h.listed.numbered ]

@@ -16,6 +16,7 @@ pub mod Stories
 pub mod WorldSteps
 pub mod StoryGrows
 pub mod Worlds
+pub mod Advancing
 pub mod Reaching
 pub mod Holders
 pub mod LawfulNow

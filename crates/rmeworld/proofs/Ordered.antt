@@ -12,7 +12,6 @@ use Rattle.rmecore.specs.declared.refusal.Refusal.TheVariants.{Unmended, BadInde
 use Rattle.redomail.specs.declared.layout.Layout.{Layout}
 use Rattle.redomail.specs.declared.reply.Reply.{Reply}
 use Rattle.redomail.specs.declared.reply.Reply.TheVariants.{Ruined}
-use Rattle.redomail.specs.declared.task.Task.{Task}
 use Rattle.redomail.specs.declared.task.Task.TheVariants as task
 use Rattle.redomail.specs.Jobs.{FitsStage}
 use Rattle.redomail.specs.Layout.{IsLayout}

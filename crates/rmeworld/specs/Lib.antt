@@ -15,6 +15,7 @@ pub mod Law
 pub mod Holders
 pub mod WorldState
 pub mod Replayed
+pub mod Advancing
 pub mod Reached
 pub mod UnderWay
 pub mod OwnSteps

@@ -22,7 +22,7 @@ use Rattle.rmeworld.specs.declared.outcome.Outcome.{Outcome}
 use Rattle.rmeworld.specs.declared.stepped.Stepped.{Stepped}
 use Rattle.rmeworld.specs.Refused.{is_idle, start_refusal as spot_refusal}
 use Rattle.rmeworld.specs.Spot.{Happening, Moves}
-use Rattle.rmeworld.specs.Stand.{next_access, outcome, stepped as stand_stepped, started as stand_started, crashed as stand_crashed}
+use Rattle.rmeworld.specs.Stand.{Stand, next_access, outcome, stepped as stand_stepped, started as stand_started, crashed as stand_crashed}
 use Rattle.rmeworld.specs.World.{reading, put_deeds, event_deeds}
 use Rattle.rmeworld.specs.WorldState.{WorldState, stand_at, spot_at, scene_of}
 
@@ -88,6 +88,10 @@ the_deed (d ∷ ds) = Some d
 -- the deeds of an access that is this for its process
 abbrev pub prospect_of : WorldState → ℕ → Access → Outcome → List Deed
 prospect_of s p a o = or_else o.progress.outer (mail_by s.layout p (words_of s.cells) a)
+
+-- the deeds of an access that a process may take next, with the value that it finds
+abbrev pub deeds_ahead : Stand → Words → Access → ℕ → List Deed
+deeds_ahead s cells a v = or_else (outcome s (Some a) v).progress.outer (mail_by s.layout s.index cells a)
 
 -- what this access tells
 abbrev pub stepped_by : WorldState → ℕ → Access → Stepped

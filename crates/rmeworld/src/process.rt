@@ -161,6 +161,7 @@ impl Process {
         ensures at { IfSome result (λ r. at_scan (standing self.now) r.0 ≡ standing self.now) }
         ensures next { IfSome result (λ r. next_access self.now ≡ Some r.1) }
         ensures allowed { IfSome result (λ r. IsAllowed self.now r.1) }
+        ensures least { IfSome result (λ r. IsLeast self.now r.1) }
         ensures within { IfSome result (λ r. InWords self.now.layout.procs (word_of r.1)) }
         ensures own { IfSome result (λ r. StoresOwn self.now.index r.1) }
     {

@@ -1,10 +1,10 @@
 //! A whole world in memory, each step taken on request.
 
-ghost use Rattle.std.specs.Prelude.{◌≡◌, ◌<◌, ◌≤◌, ◌⊎◌, ◌++◌, ℕ, map, is_some, true, IfOk, IfErr, OnOk, OnErr, IsErrOf, Some, None, vec_len, slice_index_or, slice_get};
+ghost use Rattle.std.specs.Prelude.{◌≡◌, ◌<◌, ◌≤◌, ◌⊎◌, ◌++◌, ℕ, map, is_some, true, IfOk, IfErr, OnOk, OnErr, IsErrOf, Some, None, vec_len, vec_capacity, length, [], slice_index_or, slice_get};
 ghost use Rattle.rmecore.specs.Machine.{carried, word_of};
 ghost use Rattle.rmecore.specs.Simulated.{cause, fresh};
-ghost use Rattle.redomail.specs.Layout.{words_of};
-ghost use Rattle.rmeworld.specs.Replayed.{list_of};
+ghost use Rattle.redomail.specs.Layout.{words_of, size};
+ghost use Rattle.rmeworld.specs.Replayed.{list_of, deeds_ahead};
 ghost use Rattle.rmeworld.specs.Spot.{Begins, Falls};
 ghost use Rattle.rmeworld.specs.Stand.{IsSize, IsAllowed, IsLeast, InWords, StoresOwn, next_access, outcome, resting, crashed};
 ghost use Rattle.rmeworld.specs.World.{reading};
@@ -22,7 +22,7 @@ use crate::process::Process;
 use crate::stepped::Stepped;
 use redomail::{Deed, Layout};
 use rmecore::simulated::{MOST_LIMIT, MOST_PROCS};
-use rmecore::{Access, Happened, Outer, Own, Refusal, Tally};
+use rmecore::{Access, Happened, Outer, Own, Refusal, Scan, Tally};
 use std::alloc::Global;
 use std::marker::Model;
 
@@ -67,8 +67,6 @@ struct Prospect {
     access: Access,
     /// What the word holds.
     found: u64,
-    outcome: Outcome,
-    deed: Option<Deed>,
 }
 
 fn all_at_rest(alloc: Global, layout: Layout, limit: u64) -> Result<Vec<Process>, Refusal>
@@ -115,17 +113,40 @@ fn all_unstarted(alloc: Global, words: &[Own]) -> Result<Vec<Tally>, Refusal>
     Ok(tallies)
 }
 
-/// Writes a deed down, if there is one. Refused, it has changed nothing.
-fn note(history: &mut Vec<Deed>, deed: Option<Deed>) -> Result<(), Refusal>
-    ensures ok { OnOk result (history.new.items ≡ history.old.items ++ list_of deed) }
-    ensures err { OnErr result (history.new.items ≡ history.old.items) }
-    ensures some { OnErr result (is_some deed ≡ true) }
+/// Room for the deed of a step of a process, where it is one. What the step will be is worked out only where there is no
+/// room yet.
+fn make_room(
+    history: &mut Vec<Deed>,
+    process: &Process,
+    cells: &[u64],
+    access: Access,
+    found: u64,
+) -> Result<(), Refusal>
+    requires next { next_access process.now ≡ Some access }
+    requires filled { length cells.now ≡ size process.now.layout }
+    ensures same { history.new.items ≡ history.old.items }
+    ensures room { OnOk result (vec_len history.new < vec_capacity history.new) ⊎ (deeds_ahead process.now (words_of cells.now) access found ≡ []) }
+    ensures some { OnErr result ((deeds_ahead process.now (words_of cells.now) access found ≡ []) → ⊥) }
     ensures memory { IfErr result (λ e. e ≡ Refusal.OutOfMemory) }
 {
-    if let Some(deed) = deed {
-        history.push(deed)?;
+    if history.len() < history.capacity() {
+        return Ok(());
+    }
+    let outer = process.outlook(found).progress.outer;
+    if deed_of(process.layout(), process.index(), cells, access, outer).is_some() {
+        history.reserve(1)?;
     }
     Ok(())
+}
+
+/// Writes a deed down, if there is one. There is room for it.
+fn note(history: &mut Vec<Deed>, deed: &Option<Deed>)
+    requires { is_some deed.now ≡ true → vec_len history.old < vec_capacity history.old }
+    ensures { history.new.items ≡ history.old.items ++ list_of deed.now }
+{
+    if let Some(deed) = deed {
+        history.push(*deed).unwrap();
+    }
 }
 
 impl World {
@@ -139,7 +160,8 @@ impl World {
     ghost use Rattle.rmeworld.specs.Reached.{IsReached, IsLegalHistory};
     ghost use Rattle.rmeworld.specs.ImageRules.{IsLawfulImage};
     ghost use Rattle.rmeworld.specs.ImageStart.{IsUnstarted};
-    ghost use Rattle.rmeworld.specs.Replayed.{start_refusal, started, advance_refusal, stepped, advanced, crash_refusal, crash_deed, crashed as world_crashed, image_of, prospect_of};
+    ghost use Rattle.rmeworld.specs.Replayed.{start_refusal, started, advance_refusal, stepped, advanced, crash_refusal, crash_deed, crashed as world_crashed, image_of};
+    ghost use Rattle.rmeworld.specs.Advancing.{Advances, GoesOn};
 
     /// A new world: all words are 0, and all processes at rest.
     pub fn new(
@@ -216,7 +238,7 @@ impl World {
         })
     }
 
-    /// What the next step of a process will be.
+    /// The next step of a process, and what its word holds.
     fn prospect(&self, p: u64) -> Result<Prospect, Refusal>
         ensures accepted { OnOk result (advance_refusal self.now p ≡ None) }
         ensures refused { IfErr result (λ e. advance_refusal self.now p ≡ Some e) }
@@ -228,25 +250,15 @@ impl World {
         ensures within { IfOk result (λ step. InWords self.now.layout.procs (word_of step.access)) }
         ensures own { IfOk result (λ step. StoresOwn (stand_at self.now.processes p).index step.access) }
         ensures found { IfOk result (λ step. step.found ≡ reading (scene_of self.now) (word_of step.access)) }
-        ensures outcome { IfOk result (λ step. step.outcome ≡ outcome (stand_at self.now.processes p) (Some step.access) step.found) }
-        ensures deed { IfOk result (λ step. list_of step.deed ≡ prospect_of self.now p step.access step.outcome) }
     {
         if p >= self.layout.procs {
             return Err(Refusal::NoSuchProcess);
         }
-        let process = &self.processes[p as usize];
-        let Some(access) = process.next() else {
+        let Some(access) = self.processes[p as usize].next() else {
             return Err(Refusal::NothingToDo);
         };
         let found = load(&self.words, &self.cells, access.word());
-        let outcome = process.outlook(found);
-        let deed = deed_of(self.layout, p, &self.cells, access, outcome.progress.outer);
-        Ok(Prospect {
-            access,
-            found,
-            outcome,
-            deed,
-        })
+        Ok(Prospect { access, found })
     }
 
     /// Takes the next step of a process. Refused for want of memory it has changed nothing, and can be taken again. A step
@@ -263,12 +275,67 @@ impl World {
         ensures taken { IfOk result (λ s. IfSome s.answer (λ a. IsExact (tally_at self.new.tallies p) → HasTaken self.old.layout (spot_at self.old.processes p) (tally_at self.new.tallies p) a)) }
         ensures err { OnErr result (self.new ≡ self.old) }
     {
+        match self.scan(p) {
+            Some((scan, access)) => Ok(self.scan_on(p, scan, access)),
+            None => self.step_on(p),
+        }
+    }
+
+    /// A scan of process p that goes on, and its next load.
+    fn scan(&self, p: u64) -> Option<(Scan, Access)>
+        ensures below { IfSome result (λ r. p < self.now.layout.procs) }
+        ensures goes_on { IfSome result (λ r. GoesOn (stand_at self.now.processes p) r.0 r.1) }
+    {
+        if p >= self.layout.procs {
+            return None;
+        }
+        let (scan, access) = self.processes[p as usize].scan()?;
+        match access {
+            Access::Load(..) => Some((scan, access)),
+            Access::Store(..) => None,
+        }
+    }
+
+    /// Takes the next step of a scan, which is a load and no deed.
+    fn scan_on(&mut self, p: u64, scan: Scan, access: Access) -> Stepped
+        requires below { p < self.old.layout.procs }
+        requires goes_on { GoesOn (stand_at self.old.processes p) scan access }
+        ensures { Advances self.old p result self.new }
+    {
+        let step = Prospect {
+            access,
+            found: load(&self.words, &self.cells, access.word()),
+        };
+        let scanned = self.processes[p as usize].scan_on(scan, step.found);
+        self.tallies[p as usize].count(scanned.progress.blocked);
+        step.told(scanned, None)
+    }
+
+    /// Takes the next step of a process, whatever it is.
+    fn step_on(&mut self, p: u64) -> Result<Stepped, Refusal>
+        ensures accepted { OnOk result (advance_refusal self.old p ≡ None) }
+        ensures refused { IfErr result (λ e. (e ≡ Refusal.OutOfMemory) ⊎ (advance_refusal self.old p ≡ Some e)) }
+        ensures memory { IsErrOf result Refusal.OutOfMemory → (advance_refusal self.old p ≡ None) × (is_some (stepped self.old p).deed ≡ true) }
+        ensures ok { IfOk result (λ s. Advances self.old p s self.new) }
+        ensures err { OnErr result (self.new ≡ self.old) }
+    {
         let step = self.prospect(p)?;
-        note(&mut self.history, step.deed)?;
+        let layout = self.layout;
+        let process = &self.processes[p as usize];
+        make_room(
+            &mut self.history,
+            process,
+            &self.cells,
+            step.access,
+            step.found,
+        )?;
+        let outcome = self.processes[p as usize].feed(step.found);
+        let outer = outcome.progress.outer;
+        let deed = deed_of(layout, p, &self.cells, step.access, outer);
         store(&mut self.words, &mut self.cells, step.access);
-        self.processes[p as usize].feed(step.found);
-        self.tallies[p as usize].count(step.outcome.progress.blocked);
-        Ok(step.told())
+        note(&mut self.history, &deed);
+        self.tallies[p as usize].count(outcome.progress.blocked);
+        Ok(step.told(outcome, deed))
     }
 
     /// Process p loses its private memory, and with it a call that is under way.
@@ -383,19 +450,19 @@ impl Prospect {
     ghost use Rattle.rmecore.specs.Machine.{kind_of, word_of, carried};
 
     /// What the step tells, once it is taken.
-    fn told(&self) -> Stepped
-        ensures { result ≡ record { happened = record { kind = kind_of self.now.access; word = word_of self.now.access; value = carried self.now.access self.now.found; outer = self.now.outcome.progress.outer; done = self.now.outcome.progress.done }; deed = self.now.deed; answer = self.now.outcome.answer } }
+    fn told(&self, outcome: Outcome, deed: Option<Deed>) -> Stepped
+        ensures { result ≡ record { happened = record { kind = kind_of self.now.access; word = word_of self.now.access; value = carried self.now.access self.now.found; outer = outcome.progress.outer; done = outcome.progress.done }; deed = deed; answer = outcome.answer } }
     {
         Stepped {
             happened: Happened {
                 kind: self.access.kind(),
                 word: self.access.word(),
                 value: self.value(),
-                outer: self.outcome.progress.outer,
-                done: self.outcome.progress.done,
+                outer: outcome.progress.outer,
+                done: outcome.progress.done,
             },
-            deed: self.deed,
-            answer: self.outcome.answer,
+            deed,
+            answer: outcome.answer,
         }
     }
 

@@ -12,6 +12,7 @@ use crate::fault::OutOfMemory;
 use crate::head::Head;
 use crate::line::Line;
 use crate::schedule::Schedule;
+use itoa::Buffer;
 use rmecore::Body;
 use rmeworld::Call;
 use std::alloc::{AllocError, Global};
@@ -21,8 +22,7 @@ pub fn put_number(out: &mut Vec<u8>, number: u64) -> Result<(), AllocError>
     ensures { OnOk result (out.new.items ≡ out.old.items ++ 32 ∷ decimal number) }
 {
     out.push(b' ')?;
-    let digits = number.to_string(*out.allocator())?;
-    out.extend_from_slice(digits.as_bytes())
+    out.extend_from_slice(Buffer::new().format(number).as_bytes())
 }
 
 /// Writes one more word of a line for each word of the value.

@@ -11,7 +11,7 @@ ghost use Rattle.rmeworld.specs.ImageRules.{layout_of, IsVersioned, IsSized, IsI
 
 use crate::image::Image;
 use redomail::Layout;
-use redomail::contents::{any_record, count_entries, has_record, heads_hold, lasts_are};
+use redomail::contents::{any_record, count_entries, counters, has_record, heads_hold, lasts_are};
 use redomail::layout::{ARMED, RUINED};
 use rmecore::Own;
 use rmecore::simulated::{MOST_LIMIT, MOST_PROCS};
@@ -150,13 +150,6 @@ pub(crate) fn word(words: &[u64], i: u64) -> u64
     ensures { result ≡ slice_index words.now i }
 {
     words.get(i as usize).copied().unwrap_or(0)
-}
-
-// A counter for each process that there can be.
-fn counters() -> [u64; 64]
-    ensures { (q : ℕ) → slice_index result q ≡ 0 }
-{
-    [0; 64]
 }
 
 // With no record armed: does the list rule hold?

@@ -1,8 +1,8 @@
 use Rattle.std.proofs.Common.{◌≡◌, Option, Some, None, IfSome, subst}
-use Rattle.rmecore.specs.Machine.{Standing, next_access, word_of, InLock, IsAllowed, StoresOwn}
+use Rattle.rmecore.specs.Machine.{Standing, next_access, word_of, InLock, IsAllowed, IsLeast, StoresOwn}
 use Rattle.rmecore.specs.declared.access.Access.{Access}
 use Rattle.rmecore.specs.declared.scan.Scan.{Scan}
-use Rattle.rmecore.proofs.Accesses.{orderly, all_allowed, within, stores_own}
+use Rattle.rmecore.proofs.Accesses.{orderly, all_allowed, all_least, within, stores_own}
 use Rattle.rmecore.proofs.process.LockProcess.scan.Goals as goal
 
 -- what holds of the next access holds of the scan's, which it is
@@ -12,6 +12,11 @@ told n Q h (Some r) k = subst (λ m. IfSome m Q) k h
 
 pub returns-clause-allowed : goal.returns-clause-allowed
 returns-clause-allowed c = told (next_access c.args.self.now) (IsAllowed c.args.self.now) (all_allowed c.args.self.now) c.scanned.result c.scanned.ensures.next
+
+pub returns-clause-least : goal.returns-clause-least
+returns-clause-least c =
+    let h = all_least _ (orderly c.self.inside.procs c.self.inside.index c.self.inside.stage) in
+    told (next_access c.args.self.now) (IsLeast c.args.self.now) (subst (λ (s : Standing). IfSome (next_access s) (IsLeast s)) c.self.view_is h) c.scanned.result c.scanned.ensures.next
 
 pub returns-clause-within : goal.returns-clause-within
 returns-clause-within c =

@@ -1,0 +1,93 @@
+-- A step that the code has made is the world's.
+use Rattle.std.proofs.Common.{◌≡◌, ℕ, false, if◌then◌else◌, List, [], Option, Some, None, IfSome, refl, sym, ap, ◌∙◌, subst}
+use Rattle.std.proofs.lemmas.Bool.{true≢false}
+use Rattle.rmecore.specs.Machine.{Standing, first, at_scan, kind_of}
+use Rattle.rmecore.specs.Place.{above, Door, Wait}
+use Rattle.rmecore.specs.World.{is_store, step_deed}
+use Rattle.rmecore.specs.declared.kind.Kind.{Kind}
+use Rattle.rmecore.specs.declared.kind.Kind.TheVariants.{Open as Opens, Peek as Peeks, Take as TakesNumber, Shut as Shuts, Look as Looks, Weigh as Weighs, Mark as Marks, Drop as Drops, Reread as Rereads, Get as Gets, Put as Puts, Glance as Glances}
+use Rattle.rmecore.specs.declared.own.Own.{Own}
+use Rattle.rmecore.specs.declared.scan.Scan.{Scan}
+use Rattle.rmecore.specs.declared.scan.Scan.TheVariants.{Peeking, Waiting}
+use Rattle.redomail.specs.Layout.{Words}
+use Rattle.redomail.specs.declared.layout.Layout.{Layout}
+use Rattle.rmecore.specs.Paid.{is_glance}
+use Rattle.rmecore.specs.Simulated.{tally_at}
+use Rattle.rmecore.specs.Tallied.{IsExact}
+use Rattle.rmecore.specs.declared.access.Access.{Access}
+use Rattle.rmecore.specs.declared.access.Access.TheVariants.{Load, Store}
+use Rattle.rmeworld.specs.Advancing.{Advances, IsLoad, GoesOn}
+use Rattle.rmeworld.specs.Answered.{answer_at}
+use Rattle.rmeworld.specs.Errands.{errand_of}
+use Rattle.rmeworld.specs.Reached.{IsWorld}
+use Rattle.rmeworld.specs.Replayed.{value_of, happening, or_else, mail_by, words_by, cells_by, stepped_by, stepped_if, advanced_if}
+use Rattle.rmeworld.specs.Spot.{outer_by}
+use Rattle.rmeworld.specs.Stand.{Stand, standing, outcome, IsLeast}
+use Rattle.rmeworld.specs.Tallied.{HasTaken}
+use Rattle.rmeworld.specs.WorldState.{WorldState, stand_at, spot_at, Takes, happening_of, ChoosesLeast}
+use Rattle.rmeworld.specs.declared.answer.Answer.{Answer}
+use Rattle.rmeworld.specs.declared.errand.Errand.{Errand as Chore}
+use Rattle.rmeworld.specs.declared.stepped.Stepped.{Stepped}
+use Rattle.rmeworld.proofs.WorldSteps.{IsStep, step_takes}
+use Rattle.rmeworld.proofs.WorldTallies.{no_glance, answered_step}
+use Rattle.rmeworld.proofs.Worlds.{Made, made_is}
+
+pub advances : (s : WorldState) (p : ℕ) (a : Access) (told : Stepped) (new : WorldState) → IsWorld s → IsStep s p a → IsLeast (stand_at s.processes p) a → Made s p a new → told ≡ stepped_by s p a
+    → Advances s p told new
+advances s p a told new world step least made is =
+    let st : Stand = stand_at s.processes p in
+    let seat = step.seated.seats p step.below in
+    let Taken : Option Answer → WorldState → Type 0 = λ o. λ after. IfSome o (λ x. IsExact (tally_at after.tallies p) → HasTaken s.layout (spot_at s.processes p) (tally_at after.tallies p) x) in
+    record {
+      step = subst (λ (x : Stepped). Takes s (happening_of p x.happened) new) (sym is) (subst (Takes s (happening s p a)) (sym (made_is made)) (step_takes s p a step));
+      kind = ap (λ (x : Stepped). is_glance x.happened.kind) is ∙ no_glance st.limit st.index st.lock (errand_of st.errand) a step.next;
+      least = subst (λ (x : Stepped). ChoosesLeast s p x.happened) (sym is) (λ word v some. least word v (rw (seat.0, seat.1, seat.2) some));
+      told = is ∙ ap (stepped_if s p) (sym step.next);
+      ok = made_is made ∙ ap (advanced_if s p) (sym step.next);
+      taken = subst (λ (x : Stepped). Taken x.answer new) (sym is) (subst (Taken (answer_at (spot_at s.processes p) (kind_of a) (value_of s a))) (sym (made_is made)) (answered_step s p a step world.tallied));
+    }
+
+-- a load in the doorway or in the line is no deed
+door_is_quiet : (p : ℕ) (unread : List ℕ) (m : ℕ) (kind : Kind) (x : ℕ) → is_store kind ≡ false → step_deed p (Door unread m) kind x ≡ None
+door_is_quiet p unread m Opens x h = absurd (true≢false h)
+door_is_quiet p unread m Peeks x h = refl
+door_is_quiet p unread m TakesNumber x h = absurd (true≢false h)
+door_is_quiet p unread m Shuts x h = absurd (true≢false h)
+door_is_quiet p unread m Looks x h = refl
+door_is_quiet p unread m Weighs x h = refl
+door_is_quiet p unread m Marks x h = absurd (true≢false h)
+door_is_quiet p unread m Drops x h = absurd (true≢false h)
+door_is_quiet p unread m Rereads x h = refl
+door_is_quiet p unread m Gets x h = refl
+door_is_quiet p unread m Puts x h = absurd (true≢false h)
+door_is_quiet p unread m Glances x h = refl
+
+line_is_quiet : (p k : ℕ) (unpassed : List ℕ) (looked : Option ℕ) (kind : Kind) (x : ℕ) → is_store kind ≡ false → step_deed p (Wait k unpassed looked) kind x ≡ None
+line_is_quiet p k unpassed looked Opens x h = absurd (true≢false h)
+line_is_quiet p k unpassed looked Peeks x h = refl
+line_is_quiet p k unpassed looked TakesNumber x h = absurd (true≢false h)
+line_is_quiet p k unpassed looked Shuts x h = absurd (true≢false h)
+line_is_quiet p k unpassed looked Looks x h = refl
+line_is_quiet p k unpassed looked Weighs x h = refl
+line_is_quiet p k unpassed looked Marks x h = absurd (true≢false h)
+line_is_quiet p k unpassed looked Drops x h = absurd (true≢false h)
+line_is_quiet p k unpassed looked Rereads x h = refl
+line_is_quiet p k unpassed looked Gets x h = refl
+line_is_quiet p k unpassed looked Puts x h = absurd (true≢false h)
+line_is_quiet p k unpassed looked Glances x h = refl
+
+place_is_quiet : (st : Stand) (scan : Scan) (kind : Kind) (x : ℕ) → at_scan (standing st) scan ≡ standing st → is_store kind ≡ false → step_deed st.index st.lock kind x ≡ None
+place_is_quiet st (Peeking i m) kind x at h = subst (λ (t : Standing). step_deed st.index t.place kind x ≡ None) at (door_is_quiet st.index (above st.layout.procs st.index i) m kind x h)
+place_is_quiet st (Waiting k i looked) kind x at h =
+    subst (λ (t : Standing). step_deed st.index t.place kind x ≡ None) at (line_is_quiet st.index k (above st.layout.procs st.index i) (if looked then first (above st.layout.procs st.index i) else None) kind x h)
+
+-- the next load of a scan is no deed
+pub scan_is_quiet : (st : Stand) (scan : Scan) (a : Access) (l : Layout) (p : ℕ) (cells : Words) (v : ℕ) → GoesOn st scan a → or_else (outcome st (Some a) v).progress.outer (mail_by l p cells a) ≡ []
+scan_is_quiet st scan (Store kind word w) l p cells v goes = absurd goes.load
+scan_is_quiet st scan (Load kind word) l p cells v goes =
+    let none : outer_by st.index st.lock (errand_of st.errand) kind v ≡ None = subst (λ (e : Chore). outer_by st.index st.lock (errand_of e) kind v ≡ None) (sym goes.free) (place_is_quiet st scan kind v goes.at goes.own) in
+    ap (λ o. or_else o (mail_by l p cells (Load kind word))) none
+
+pub load_leaves : (a : Access) (words : List Own) (cells : List ℕ) → IsLoad a → (words_by words a ≡ words) × (cells_by cells a ≡ cells)
+load_leaves (Load kind word) words cells load = (refl, refl)
+load_leaves (Store kind word w) words cells load = absurd load

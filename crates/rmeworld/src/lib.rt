@@ -5,6 +5,7 @@ pub mod answer;
 pub mod call;
 pub mod cells;
 mod errand;
+mod history;
 pub mod image;
 pub mod images;
 pub mod laws;

@@ -1,10 +1,9 @@
 //! A whole world in memory, each step taken on request.
 
-ghost use Rattle.std.specs.Prelude.{◌≡◌, ◌<◌, ◌≤◌, ◌⊎◌, ◌++◌, ℕ, map, is_some, true, IfOk, IfErr, OnOk, OnErr, IsErrOf, Some, None, vec_len, vec_capacity, length, [], slice_index_or, slice_get};
+ghost use Rattle.std.specs.Prelude.{◌≡◌, ◌<◌, ◌≤◌, ◌⊎◌, ◌++◌, ℕ, map, is_some, true, IfOk, IfErr, OnOk, OnErr, IsErrOf, Some, None, vec_len, slice_index_or, slice_get};
 ghost use Rattle.rmecore.specs.Machine.{carried, word_of};
 ghost use Rattle.rmecore.specs.Simulated.{cause, fresh};
-ghost use Rattle.redomail.specs.Layout.{words_of, size};
-ghost use Rattle.rmeworld.specs.Replayed.{list_of, deeds_ahead};
+ghost use Rattle.redomail.specs.Layout.{words_of};
 ghost use Rattle.rmeworld.specs.Spot.{Begins, Falls};
 ghost use Rattle.rmeworld.specs.Stand.{IsSize, IsAllowed, IsLeast, InWords, StoresOwn, next_access, outcome, resting, crashed};
 ghost use Rattle.rmeworld.specs.World.{reading};
@@ -12,6 +11,7 @@ ghost use Rattle.rmeworld.specs.WorldState.{absent, stand_at, spot_at, scene_of,
 
 use crate::call::Call;
 use crate::cells::Cells;
+use crate::history::{make_room, note};
 use crate::image::Image;
 use crate::images::rules::{MOST_CAP, MOST_WIDTH, first_rule, layout};
 use crate::machine::Machine;
@@ -111,42 +111,6 @@ fn all_unstarted(alloc: Global, words: &[Own]) -> Result<Vec<Tally>, Refusal>
         })?;
     }
     Ok(tallies)
-}
-
-/// Room for the deed of a step of a process, where it is one. What the step will be is worked out only where there is no
-/// room yet.
-fn make_room(
-    history: &mut Vec<Deed>,
-    process: &Process,
-    cells: &[u64],
-    access: Access,
-    found: u64,
-) -> Result<(), Refusal>
-    requires next { next_access process.now ≡ Some access }
-    requires filled { length cells.now ≡ size process.now.layout }
-    ensures same { history.new.items ≡ history.old.items }
-    ensures room { OnOk result (vec_len history.new < vec_capacity history.new) ⊎ (deeds_ahead process.now (words_of cells.now) access found ≡ []) }
-    ensures some { OnErr result ((deeds_ahead process.now (words_of cells.now) access found ≡ []) → ⊥) }
-    ensures memory { IfErr result (λ e. e ≡ Refusal.OutOfMemory) }
-{
-    if history.len() < history.capacity() {
-        return Ok(());
-    }
-    let outer = process.outlook(found).progress.outer;
-    if deed_of(process.layout(), process.index(), cells, access, outer).is_some() {
-        history.reserve(1)?;
-    }
-    Ok(())
-}
-
-/// Writes a deed down, if there is one. There is room for it.
-fn note(history: &mut Vec<Deed>, deed: &Option<Deed>)
-    requires { is_some deed.now ≡ true → vec_len history.old < vec_capacity history.old }
-    ensures { history.new.items ≡ history.old.items ++ list_of deed.now }
-{
-    if let Some(deed) = deed {
-        history.push(*deed).unwrap();
-    }
 }
 
 impl World {

@@ -1,19 +1,15 @@
 -- All members of an arena, at its making and when they are handed back.
-use Rattle.std.proofs.Common.{◌≡◌, ℕ, zero, suc, ◌+◌, ◌<◌, List, [], ◌∷◌, ◌++◌, map, length, All, refl, sym, ap, ◌∙◌, subst}
-use Rattle.std.proofs.lemmas.List.Elements.{All-nil, All-cons, All-head, All-tail}
+use Rattle.std.proofs.Common.{◌≡◌, ℕ, zero, suc, ◌<◌, List, [], ◌∷◌, ◌++◌, map, length, All, refl, sym, ap, ◌∙◌, subst, append_assoc}
+use Rattle.std.proofs.lemmas.List.{map-append}
+use Rattle.std.proofs.lemmas.List.Elements.{All-nil, All-cons, All-head, All-tail, All-push}
 use Rattle.redomail.specs.declared.layout.Layout.{Layout}
 use Rattle.one_lock.specs.declared.standing.Standing.TheVariants.{Out}
 use Rattle.one_lock.specs.Member.{Seat, new_seats, AreAll}
-use Rattle.one_lock.specs.Shown.{place_of}
+use Rattle.one_lock.specs.Shown.{CanSend, place_of}
 
 -- the members are of an arena of so many processes
 abbrev FitAll : ℕ → List Seat → Type 0
 FitAll n members = All (λ (m : Seat). m.layout.procs ≡ n) members
-
-fit_more : (n : ℕ) (ms : List Seat) (m : Seat) → FitAll n ms → m.layout.procs ≡ n → FitAll n (ms ++ m ∷ [])
-fit_more n [] m all fits = All-cons (λ (x : Seat). x.layout.procs ≡ n) m [] fits (All-nil _)
-fit_more n (x ∷ xs) m all fits =
-    All-cons (λ (y : Seat). y.layout.procs ≡ n) x (xs ++ m ∷ []) (All-head (λ (y : Seat). y.layout.procs ≡ n) x xs all) (fit_more n xs m (All-tail (λ (y : Seat). y.layout.procs ≡ n) x xs all) fits)
 
 length_more : (ms : List Seat) (m : Seat) → length (ms ++ m ∷ []) ≡ suc (length ms)
 length_more [] m = refl
@@ -21,7 +17,7 @@ length_more (x ∷ xs) m = ap suc (length_more xs m)
 
 pub new_fit : (l : Layout) (n : ℕ) → FitAll l.procs (new_seats l n)
 new_fit l zero = All-nil _
-new_fit l (suc n) = fit_more l.procs (new_seats l n) (record { process = n; layout = l; standing = Out; steps = 0; counted = 0 }) (new_fit l n) refl
+new_fit l (suc n) = All-push (λ (m : Seat). m.layout.procs ≡ l.procs) (new_seats l n) (record { process = n; layout = l; standing = Out; steps = 0; counted = 0 }) (new_fit l n) refl
 
 pub new_count : (l : Layout) (n : ℕ) → length (new_seats l n) ≡ n
 new_count l zero = refl
@@ -33,6 +29,10 @@ new_arena l n ms made e = subst (λ (xs : List Seat). FitAll n xs) (sym made) (s
 
 pub new_all : (l : Layout) (n : ℕ) (ms : List Seat) → ms ≡ new_seats l l.procs → l.procs ≡ n → 0 < n → AreAll n ms
 new_all l n ms made e some = (some, ap length made ∙ new_count l l.procs ∙ e)
+
+pub new_ready : (l : Layout) (n : ℕ) → All (CanSend l.width) (new_seats l n)
+new_ready l zero = All-nil _
+new_ready l (suc n) = All-push (CanSend l.width) (new_seats l n) (record { process = n; layout = l; standing = Out; steps = 0; counted = 0 }) (new_ready l n) (refl, refl)
 
 head_same : (x y : Seat) (xs ys : List Seat) → map place_of (x ∷ xs) ≡ map place_of (y ∷ ys) → place_of x ≡ place_of y
 head_same x y xs ys e = cc
@@ -57,3 +57,8 @@ same_count [] [] e = refl
 same_count [] (y ∷ ys) e = absurd (no_place y ys (sym e))
 same_count (x ∷ xs) [] e = absurd (no_place x xs e)
 same_count (x ∷ xs) (y ∷ ys) e = ap suc (same_count xs ys (tail_same x y xs ys e))
+
+-- one more of them has been taken and handed back
+pub moved_on : {A B C : Type 0} (f : A → C) (g : B → C) (done : List A) (d : A) (x : B) (left rest : List B) (all : List C) → map f done ++ map g left ≡ all → left ≡ x ∷ rest → f d ≡ g x → map f (done ++ d ∷ []) ++ map g rest ≡ all
+moved_on {A = A} {B = B} {C = C} f g done d x left rest all old is same =
+    ap (λ (l : List C). l ++ map g rest) (map-append f done (d ∷ [])) ∙ append_assoc (map f done) (f d ∷ []) (map g rest) ∙ ap (λ (c : C). map f done ++ c ∷ map g rest) same ∙ ap (λ (l : List B). map f done ++ map g l) (sym is) ∙ old

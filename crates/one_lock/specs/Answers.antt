@@ -1,5 +1,7 @@
 -- What a member's call is answered: what the world under the lock answers its process.
 use Rattle.std.specs.Prelude.{◌≡◌, ℕ, Bool, true, false, ◌⊎◌, Option, Some, None, Result, Ok, Err}
+use Rattle.rmecore.specs.declared.refusal.Refusal.{Refusal}
+use Rattle.rmecore.specs.declared.refusal.Refusal.TheVariants.{OutOfMemory as WantsMemory}
 use Rattle.rmecore.specs.declared.found.Found.{Found}
 use Rattle.rmecore.specs.declared.found.Found.TheVariants.{Idle}
 use Rattle.redomail.specs.declared.reply.Reply.{Reply}
@@ -7,7 +9,7 @@ use Rattle.redomail.specs.declared.reply.Reply.TheVariants.{Mended as MendedOrNo
 use Rattle.rmeworld.specs.declared.call.Call.{Call}
 use Rattle.rmeworld.specs.declared.answer.Answer.{Answer}
 use Rattle.rmeworld.specs.declared.answer.Answer.TheVariants.{Clean, OwnerDied, NumbersSpent, Found as FoundOut, Mail}
-use Rattle.rmeworld.specs.Replayed.{stepped, started, crashed}
+use Rattle.rmeworld.specs.Replayed.{stepped, started, crashed, start_refusal, advance_refusal, crash_refusal}
 use Rattle.rmeworld.specs.WorldState.{WorldState}
 use Rattle.runs.specs.declared.entry_kind.Entry.{Entry}
 use Rattle.runs.specs.declared.entry_kind.Entry.TheVariants.{Clean as CleanEntry, OwnerDied as OwnerDiedEntry}
@@ -30,6 +32,16 @@ start_by (Some call) p s = started s p call
 -- the world once what comes before a step of p has come
 abbrev pub opened : Opening → ℕ → WorldState → WorldState
 opened o p s = start_by o.call p (crash_by o.crash p s)
+
+-- why what comes before a step of p may be refused: want of memory, its crash, or its call
+abbrev pub RefusesToOpen : ℕ → Opening → WorldState → Refusal → Type 0
+RefusesToOpen p o s e =
+    (e ≡ WantsMemory) ⊎ ((o.crash ≡ true) × (crash_refusal s p ≡ Some e))
+    ⊎ ((call : Call) × (o.call ≡ Some call) × (start_refusal (crash_by o.crash p s) p call ≡ Some e))
+
+-- why a step of p that is opened so may be refused: all that, or the step itself
+abbrev pub Refuses : ℕ → Opening → WorldState → Refusal → Type 0
+Refuses p o s e = RefusesToOpen p o s e ⊎ (advance_refusal (opened o p s) p ≡ Some e)
 
 -- Some run from all words 0 ends in a world in which a step of p, opened so, gives this answer.
 pub record Gives (p : ℕ) (o : Opening) (answer : Option Answer) : Type 0 where

@@ -1,10 +1,11 @@
 -- How the workers of a laboratory ended, by process from 0 on, and which fault is told of it.
-use Rattle.std.specs.Prelude.{◌≡◌, ℕ, List, All, Contains, take, slice_get, Option, Some, None}
+use Rattle.std.specs.Prelude.{◌≡◌, ◌≢◌, ◌<◌, ◌⊎◌, ℕ, List, All, Contains, take, slice_get, Option, Some, None}
 use Rattle.one_lock.specs.declared.lab.lab_fault.LabFault.{LabFault}
-use Rattle.one_lock.specs.declared.lab.lab_fault.LabFault.TheVariants.{Member, Reply}
+use Rattle.one_lock.specs.declared.lab.lab_fault.LabFault.TheVariants.{BadSpec, OutOfMemory as WantsMemory, Member, Reply}
 use Rattle.one_lock.specs.declared.lab.ending.Ending.{Ending}
 use Rattle.one_lock.specs.declared.lab.ending.Ending.TheVariants.{AllSent, Fault, Refused}
-use Rattle.runs.specs.declared.lock_fault.LockFault.TheVariants.{OutOfMemory}
+use Rattle.redomail.specs.declared.reply.Reply.TheVariants.{Stored, Already}
+use Rattle.runs.specs.declared.lock_fault.LockFault.TheVariants.{NumbersSpent, NotRecoverable, OutOfMemory}
 
 -- each worker has sent all its messages
 abbrev pub HaveAllSent : List Ending → Type 0
@@ -27,3 +28,17 @@ pub record IsOfLeast (endings : List Ending) (fault : LabFault) : Type 0 where
   pub at : slice_get endings p ≡ Some ending
   pub before : HaveAllSent (take p endings)
   pub told : fault_by p ending ≡ Some fault
+
+-- How a worker may end: all its messages are shown; or it is out of numbers, is told that the lock is ruined, or wants memory;
+-- or one of its messages was answered by a reply that doesn't show it.
+abbrev pub MayEnd : Ending → Type 0
+MayEnd AllSent = Unit {0}
+MayEnd (Fault why) = (why ≡ NumbersSpent) ⊎ (why ≡ NotRecoverable) ⊎ (why ≡ OutOfMemory)
+MayEnd (Refused reply) = (reply ≢ Stored) × (reply ≢ Already)
+
+-- what may end a lab of so many workers early
+abbrev pub MayEndLab : ℕ → LabFault → Type 0
+MayEndLab procs BadSpec = ⊥
+MayEndLab procs WantsMemory = Unit {0}
+MayEndLab procs (Member p why) = (p < procs) × ((why ≡ NumbersSpent) ⊎ (why ≡ NotRecoverable))
+MayEndLab procs (Reply p reply) = (p < procs) × (reply ≢ Stored) × (reply ≢ Already)

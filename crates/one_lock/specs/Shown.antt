@@ -1,5 +1,5 @@
 -- The laboratory over one world under one lock: which members its workers hand back, and what it leaves.
-use Rattle.std.specs.Prelude.{◌≡◌, ℕ, List, slice_index}
+use Rattle.std.specs.Prelude.{◌≡◌, ℕ, false, List, slice_index}
 use Rattle.redomail.specs.declared.layout.Layout.{Layout}
 use Rattle.redomail.specs.declared.message.Message.{Message}
 use Rattle.redomail.specs.Content.{IsContent}
@@ -7,12 +7,16 @@ use Rattle.redomail.specs.Layout.{words_of}
 use Rattle.redomail.specs.Shape.{entries}
 use Rattle.rmeworld.specs.declared.image.Image.{Image}
 use Rattle.rmeworld.specs.ImageRules.{IsLawfulImage}
-use Rattle.one_lock.specs.Member.{Seat}
+use Rattle.one_lock.specs.Member.{Seat, is_in}
 use Rattle.one_lock.specs.Story.{IsLeftBy}
 
 -- whose member it is, in an arena of which sizes
 abbrev pub place_of : Seat → ℕ × Layout
 place_of m = (m.process, m.layout)
+
+-- a member out of the section, in an arena whose values have so many words
+abbrev pub CanSend : ℕ → Seat → Type 0
+CanSend width m = (is_in m.standing ≡ false) × (m.layout.width ≡ width)
 
 -- These are the messages shown by the data words of a lawful image, which some run from all words 0 has left.
 pub record AreShown (l : Layout) (messages : List Message) : Type 0 where

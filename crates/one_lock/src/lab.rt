@@ -1,6 +1,5 @@
 //! The laboratory: workers that send numbered messages through one mailbox while their plans let them crash.
 
-mod appends;
 mod crew;
 pub mod ending;
 mod gate;

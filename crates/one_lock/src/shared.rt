@@ -1,11 +1,11 @@
 //! What lies under the lock.
 
-ghost use Rattle.std.specs.Prelude.{◌≡◌, ◌≢◌, ◌<◌, ◌+◌, ◌↔◌, IfOk, OnOk, OnErr, IsTrue};
+ghost use Rattle.std.specs.Prelude.{◌≡◌, ◌≢◌, ◌<◌, ◌+◌, ◌⊎◌, ◌↔◌, Some, IfOk, IfErr, OnOk, OnErr, IsTrue};
 ghost use Rattle.rmecore.specs.Simulated.{tally_at};
-ghost use Rattle.rmeworld.specs.Replayed.{advanced, stepped, started, crashed, image_of};
+ghost use Rattle.rmeworld.specs.Replayed.{advanced, stepped, started, crashed, start_refusal, advance_refusal, crash_refusal, image_of};
 ghost use Rattle.rmeworld.specs.ImageRules.{IsLawfulImage};
 ghost use Rattle.rmeworld.specs.WorldState.{new_world};
-ghost use Rattle.one_lock.specs.Answers.{opened, Gives};
+ghost use Rattle.one_lock.specs.Answers.{opened, Gives, Refuses, RefusesToOpen};
 
 use crate::opening::Opening;
 use rmecore::Refusal;
@@ -59,6 +59,7 @@ impl<L: Ledger> Shared<L> {
         ensures uncounted { OnErr result ((self.new.total ≡ self.old.total) × (share.new.amount ≡ share.old.amount)) }
         ensures parts { share.new.parts ≡ share.old.parts }
         ensures gives { IfOk result (λ turn. Gives p opening turn.answer) }
+        ensures refused { IfErr result (Refuses p opening self.old.world) }
     {
         self.told();
         self.open(p, opening)?;
@@ -75,6 +76,7 @@ impl<L: Ledger> Shared<L> {
     /// What comes before a step.
     fn open(&mut self, p: u64, opening: Opening) -> Result<(), Refusal>
         ensures ok { OnOk result (self.new.world ≡ opened opening p self.old.world) }
+        ensures refused { IfErr result (RefusesToOpen p opening self.old.world) }
         ensures book { self.new.total ≡ self.old.total }
     {
         if opening.crash {
@@ -94,6 +96,7 @@ impl<L: Ledger> Shared<L> {
         ensures blocked { IfOk result (λ turn. IsTrue turn.blocked ↔ ((tally_at self.new.world.tallies p).blocked ≢ (tally_at self.old.world.tallies p).blocked)) }
         ensures book { OnOk result (self.new.total ≡ self.old.total + 1) }
         ensures share { OnOk result (share.new.amount ≡ share.old.amount + 1) }
+        ensures refused { IfErr result (λ e. (e ≡ Refusal.OutOfMemory) ⊎ (advance_refusal self.old.world p ≡ Some e)) }
         ensures uncounted { OnErr result ((self.new.world ≡ self.old.world) × (self.new.total ≡ self.old.total) × (share.new.amount ≡ share.old.amount)) }
         ensures parts { share.new.parts ≡ share.old.parts }
     {
@@ -113,6 +116,7 @@ impl<L: Ledger> Shared<L> {
     /// A process loses its private memory.
     fn crash(&mut self, p: u64) -> Result<(), Refusal>
         ensures ok { OnOk result (self.new.world ≡ crashed self.old.world p) }
+        ensures refused { IfErr result (λ e. (e ≡ Refusal.OutOfMemory) ⊎ (crash_refusal self.old.world p ≡ Some e)) }
         ensures err { OnErr result (self.new.world ≡ self.old.world) }
         ensures book { self.new.total ≡ self.old.total }
     {
@@ -123,6 +127,7 @@ impl<L: Ledger> Shared<L> {
     /// A process starts a call.
     fn start(&mut self, p: u64, call: Call) -> Result<(), Refusal>
         ensures ok { OnOk result (self.new.world ≡ started self.old.world p call) }
+        ensures refused { IfErr result (λ e. start_refusal self.old.world p call ≡ Some e) }
         ensures err { OnErr result (self.new.world ≡ self.old.world) }
         ensures book { self.new.total ≡ self.old.total }
     {
@@ -135,6 +140,7 @@ impl<L: Ledger> Shared<L> {
         ensures ok { IfOk result (λ image. image ≡ image_of self.now.world) }
         ensures left { IfOk result (λ image. IsLeftBy self.now.total image) }
         ensures lawful { IfOk result (λ image. IsLawfulImage image) }
+        ensures memory { IfErr result (λ e. e ≡ Refusal.OutOfMemory) }
     {
         self.world.image()
     }

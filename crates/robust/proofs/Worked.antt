@@ -1,6 +1,5 @@
 -- What a lab has of its arena when its workers have handed their members back.
-use Rattle.std.proofs.Common.{◌≡◌, ◌≢◌, ℕ, zero, suc, ◌+◌, ◌<◌, ◌≤◌, ◌==◌, ◌||◌, Bool, true, false, List, [], ◌∷◌, ◌++◌, map, length, Result, Ok, Err, IfOk, OnOk, All, refl, sym, ap, ◌∙◌, subst, inl, inr, arith, append_assoc}
-use Rattle.std.proofs.lemmas.List.{map-append}
+use Rattle.std.proofs.Common.{◌≡◌, ◌≢◌, ℕ, zero, suc, ◌+◌, ◌<◌, ◌≤◌, ◌==◌, ◌||◌, Bool, true, false, List, [], ◌∷◌, ◌++◌, map, length, Result, Ok, Err, IfOk, OnOk, All, refl, sym, ap, ◌∙◌, subst, inl, inr, arith}
 use Rattle.std.proofs.lemmas.Bool.{true≢false, cases_eq, cases_lt}
 use Rattle.std.proofs.lemmas.List.Elements.{All-nil, All-cons, All-head, All-tail}
 use Rattle.atomic_table.specs.Seated.{TableId}
@@ -32,11 +31,6 @@ tail_same x y xs ys e = cc
 
 no_seat : (x : Seat) (xs : List Seat) → x ∷ xs ≡ [] → ⊥
 no_seat x xs e = cc
-
--- one more of them has been taken and handed back
-pub moved_on : {A B C : Type 0} (f : A → C) (g : B → C) (done : List A) (d : A) (x : B) (left rest : List B) (all : List C) → map f done ++ map g left ≡ all → left ≡ x ∷ rest → f d ≡ g x → map f (done ++ d ∷ []) ++ map g rest ≡ all
-moved_on {A = A} {B = B} {C = C} f g done d x left rest all old is same =
-    ap (λ (l : List C). l ++ map g rest) (map-append f done (d ∷ [])) ∙ append_assoc (map f done) (f d ∷ []) (map g rest) ∙ ap (λ (c : C). map f done ++ c ∷ map g rest) same ∙ ap (λ (l : List B). map f done ++ map g l) (sym is) ∙ old
 
 -- members with the same seats are of the same arena, and the same are missing
 same_tables : (t : TableId) (xs ys : List Seated) → seats_of xs ≡ seats_of ys → All (λ (x : Seated). x.pass.table ≡ t) ys → All (λ (x : Seated). x.pass.table ≡ t) xs

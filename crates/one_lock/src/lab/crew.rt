@@ -1,59 +1,67 @@
-//! The workers of a lab, over the members of whatever lock.
+//! The workers of the lab over the plain reference.
 
-ghost use Rattle.std.specs.Prelude.{◌≡◌, ◌≢◌, ◌≤◌, ◌↔◌, Some, IsNone, IsTrue, IfOk, IfSome, map, vec_len};
+ghost use Rattle.std.specs.Prelude.{◌≡◌, ◌≢◌, ◌≤◌, ◌⊎◌, ◌↔◌, Some, All, IsNone, IsTrue, IfOk, IfErr, IfSome, false, length, map, vec_len};
 ghost use Rattle.std.specs.Thread.{IsSend, IsSync};
-ghost use Rattle.one_lock.specs.Endings.{HaveAllSent, WantedMemory, IsOfLeast};
+ghost use Rattle.one_lock.specs.Endings.{HaveAllSent, WantedMemory, IsOfLeast, MayEnd};
+ghost use Rattle.one_lock.specs.Member.{is_in};
+ghost use Rattle.one_lock.specs.Shown.{CanSend, place_of};
 
-use crate::lab::appends::Appends;
 use crate::lab::ending::Ending;
-use crate::lab::sending::value_sent;
+use crate::lab::sending::{is_crash, is_sent, value_sent};
 use crate::lab::{Gate, LabFault, Spec};
+use crate::member::Member;
 use redomail::Reply;
 use rmecore::Body;
 use runs::LockFault;
 use std::alloc::{AllocError, Global};
 use std::snapshot::Snapshot;
 use std::sync::Wait;
+use std::sync::ledger::Ledger;
 use std::thread;
 use std::thread::{Promise, PromisedHandle, Scope, Threads};
 
 /// A worker that has ended, with the member that it was given.
 #[derive(Drop)]
-pub struct Done<M> {
-    pub member: M,
+pub struct Done<L: Ledger> {
+    pub member: Member<L>,
     pub ending: Ending,
 }
 
-/// That a worker hands back the member that it was given.
+/// That a worker hands back the member that it was given, and has ended as workers do.
 #[derive(Drop)]
-pub struct HandsBack<M>(pub Snapshot<M>);
+pub struct HandsBack<L: Ledger>(pub Snapshot<Member<L>>);
 
-impl<M: Appends> Promise<Done<M>> for HandsBack<M> {
+impl<L: Ledger> Promise<Done<L>> for HandsBack<L> {
     ghost use Rattle.std.specs.Prelude.{◌≡◌};
+    ghost use Rattle.one_lock.specs.Endings.{MayEnd};
+    ghost use Rattle.one_lock.specs.Shown.{place_of};
 
-    ghost kept_by = { λ promise done. M.seat done.member ≡ M.seat promise.0.value };
+    ghost kept_by = { λ promise done. (place_of done.member ≡ place_of promise.0.value) × MayEnd done.ending };
 }
 
 /// Sends the messages of a worker, numbered from 1, each again until it is answered. An answer is told to the gate.
-fn work<M: Appends, G: Gate + Drop, R: Wait>(
+fn work<L: Ledger, G: Gate + Drop, R: Wait>(
     rt: &R,
-    mut member: M,
+    mut member: Member<L>,
     mut gate: G,
     spec: Spec,
-) -> Done<M>
+) -> Done<L>
     requires most { spec.messages ≤ 4096 }
     requires least { 1 ≤ spec.width }
     requires wide { spec.width ≤ 8 }
-    ensures { M.seat result.member ≡ M.seat member }
+    requires ready { CanSend spec.width member }
+    ensures place { place_of result.member ≡ place_of member }
+    ensures ends { MayEnd result.ending }
 {
-    let p = member.sender();
+    let p = member.process();
     for seq in 1..spec.messages + 1 {
         let value = value_sent(p, seq, spec.width);
         match send(rt, &mut member, &mut gate, seq, value) {
-            Ok(Reply::Stored | Reply::Already) => {}
             Ok(reply) => {
-                let ending = Ending::Refused(reply);
-                return Done { member, ending };
+                if !is_sent(reply) {
+                    let ending = Ending::Refused(reply);
+                    return Done { member, ending };
+                }
             }
             Err(fault) => {
                 let ending = Ending::Fault(fault);
@@ -66,23 +74,29 @@ fn work<M: Appends, G: Gate + Drop, R: Wait>(
 }
 
 /// Sends one message until it is answered.
-fn send<M: Appends, G: Gate, R: Wait>(
+fn send<L: Ledger, G: Gate, R: Wait>(
     rt: &R,
-    member: &mut M,
+    member: &mut Member<L>,
     gate: &mut G,
     seq: u64,
     value: Body,
 ) -> Result<Reply, LockFault>
-    ensures { M.seat member.new ≡ M.seat member.old }
+    requires { CanSend (length value) member.old }
+    ensures place { place_of member.new ≡ place_of member.old }
+    ensures ready { is_in member.new.standing ≡ false }
+    ensures faults { IfErr result (λ why. (why ≡ LockFault.NumbersSpent) ⊎ (why ≡ LockFault.NotRecoverable) ⊎ (why ≡ LockFault.OutOfMemory)) }
 {
     for _ in rt.forever() {
-        match member.send(rt, seq, value, gate) {
+        match member.append(rt, seq, value, gate) {
             Ok(reply) => {
                 gate.answered(seq);
                 return Ok(reply);
             }
-            Err(LockFault::Crashed) => {}
-            Err(fault) => return Err(fault),
+            Err(fault) => {
+                if !is_crash(fault) {
+                    return Err(fault);
+                }
+            }
         }
     }
     unreachable!()
@@ -90,24 +104,26 @@ fn send<M: Appends, G: Gate, R: Wait>(
 
 /// Runs all workers, each in a thread of its own, and answers them once all have ended. Where a thread can't be made it
 /// returns too once those that run have ended.
-pub fn work_all<M: Appends + Send + Drop, G: Gate + Send + Drop, R: Threads + Wait + Sync>(
+pub fn work_all<L: Ledger + Send + Sync, G: Gate + Send + Drop, R: Threads + Wait + Sync>(
     rt: &R,
     alloc: Global,
     spec: Spec,
-    members: Vec<M>,
+    members: Vec<Member<L>>,
     gates: Vec<G>,
-) -> Result<Vec<Done<M>>, AllocError>
+) -> Result<Vec<Done<L>>, AllocError>
     requires gates { vec_len gates ≡ vec_len members }
     requires messages { spec.messages ≤ 4096 }
     requires width { (1 ≤ spec.width) × (spec.width ≤ 8) }
-    ensures { IfOk result (λ all. map (λ d. M.seat d.member) all.items ≡ map M.seat members.items) }
+    requires ready { All (CanSend spec.width) members.items }
+    ensures places { IfOk result (λ all. map (λ d. place_of d.member) all.items ≡ map place_of members.items) }
+    ensures ends { IfOk result (λ all. All (λ d. MayEnd d.ending) all.items) }
 {
     thread::scope(
         thread::scope_env(),
         rt,
-        |scope| -> Result<Vec<Done<M>>, AllocError>
-            requires { IsSend M.row × IsSend G.row × IsSync R.row × (vec_len gates ≡ vec_len members) × (spec.messages ≤ 4096) × (1 ≤ spec.width) × (spec.width ≤ 8) }
-            ensures { IfOk result (λ all. map (λ d. M.seat d.member) all.items ≡ map M.seat members.items) }
+        |scope| -> Result<Vec<Done<L>>, AllocError>
+            requires { IsSend G.row × IsSync R.row × (vec_len gates ≡ vec_len members) × (spec.messages ≤ 4096) × (1 ≤ spec.width) × (spec.width ≤ 8) × All (CanSend spec.width) members.items }
+            ensures { IfOk result (λ all. (map (λ d. place_of d.member) all.items ≡ map place_of members.items) × All (λ d. MayEnd d.ending) all.items) }
         {
             let threads = start_all(scope, rt, alloc, spec, members, gates)?;
             join_all(rt, alloc, threads)
@@ -116,18 +132,19 @@ pub fn work_all<M: Appends + Send + Drop, G: Gate + Send + Drop, R: Threads + Wa
 }
 
 /// A thread of the scope for each worker, by process.
-fn start_all<'s, E: 's, M: Appends + Send + Drop + 's, G: Gate + Send + Drop + 's, R: Wait + Sync>(
+fn start_all<'s, E: 's, L: Ledger + Send + Sync + 's, G: Gate + Send + Drop + 's, R: Wait + Sync>(
     scope: &Scope<'s, E>,
     rt: &'s R,
     alloc: Global,
     spec: Spec,
-    members: Vec<M>,
+    members: Vec<Member<L>>,
     gates: Vec<G>,
-) -> Result<Vec<PromisedHandle<Done<M>, HandsBack<M>>>, AllocError>
+) -> Result<Vec<PromisedHandle<Done<L>, HandsBack<L>>>, AllocError>
     requires gates { vec_len gates ≡ vec_len members }
     requires messages { spec.messages ≤ 4096 }
     requires width { (1 ≤ spec.width) × (spec.width ≤ 8) }
-    ensures { IfOk result (λ threads. map (λ h. M.seat h.promise.0.value) threads.items ≡ map M.seat members.items) }
+    requires ready { All (CanSend spec.width) members.items }
+    ensures { IfOk result (λ threads. map (λ h. place_of h.promise.0.value) threads.items ≡ map place_of members.items) }
 {
     let mut threads = Vec::new(alloc);
     let mut gates = gates.into_iter();
@@ -136,8 +153,8 @@ fn start_all<'s, E: 's, M: Appends + Send + Drop + 's, G: Gate + Send + Drop + '
             unreachable!()
         };
         let promise = HandsBack(Snapshot::of(&member));
-        let job = move || -> Done<M>
-            requires { IsSend M.row × IsSend G.row × IsSync R.row × (spec.messages ≤ 4096) × (1 ≤ spec.width) × (spec.width ≤ 8) }
+        let job = move || -> Done<L>
+            requires { IsSend G.row × IsSync R.row × (spec.messages ≤ 4096) × (1 ≤ spec.width) × (spec.width ≤ 8) × CanSend spec.width member }
         { work(rt, member, gate, spec) };
         let Ok(thread) = scope.spawn_with(promise, job) else {
             return Err(AllocError);
@@ -148,12 +165,13 @@ fn start_all<'s, E: 's, M: Appends + Send + Drop + 's, G: Gate + Send + Drop + '
 }
 
 /// What these threads hand back, once they have ended.
-fn join_all<M: Appends + Drop, R: Threads>(
+fn join_all<L: Ledger, R: Threads>(
     rt: &R,
     alloc: Global,
-    threads: Vec<PromisedHandle<Done<M>, HandsBack<M>>>,
-) -> Result<Vec<Done<M>>, AllocError>
-    ensures { IfOk result (λ all. map (λ d. M.seat d.member) all.items ≡ map (λ h. M.seat h.promise.0.value) threads.items) }
+    threads: Vec<PromisedHandle<Done<L>, HandsBack<L>>>,
+) -> Result<Vec<Done<L>>, AllocError>
+    ensures places { IfOk result (λ all. map (λ d. place_of d.member) all.items ≡ map (λ h. place_of h.promise.0.value) threads.items) }
+    ensures ends { IfOk result (λ all. All (λ d. MayEnd d.ending) all.items) }
 {
     let mut all = Vec::new(alloc);
     for thread in threads {
@@ -164,7 +182,7 @@ fn join_all<M: Appends + Drop, R: Threads>(
 
 /// The fault that is told of how these workers ended, if any ended early: want of memory of any of them, else what ended the
 /// least.
-pub fn first_fault<M>(ended: &[Done<M>]) -> Option<LabFault>
+pub fn first_fault<L: Ledger>(ended: &[Done<L>]) -> Option<LabFault>
     ensures none { IsNone result ↔ HaveAllSent (map (λ d. d.ending) ended.now) }
     ensures memory { (result ≡ Some LabFault.OutOfMemory) ↔ WantedMemory (map (λ d. d.ending) ended.now) }
     ensures least { IfSome result (λ fault. fault ≢ LabFault.OutOfMemory → IsOfLeast (map (λ d. d.ending) ended.now) fault) }
@@ -178,7 +196,7 @@ pub fn first_fault<M>(ended: &[Done<M>]) -> Option<LabFault>
 
 /// Whether one of these workers ended for want of memory.
 #[tactic(auto, using(crate::proofs::Endings::one_wanted))]
-fn want_memory<M>(ended: &[Done<M>]) -> bool
+fn want_memory<L: Ledger>(ended: &[Done<L>]) -> bool
     ensures { IsTrue result ↔ WantedMemory (map (λ d. d.ending) ended.now) }
 {
     for done in ended {
@@ -190,7 +208,7 @@ fn want_memory<M>(ended: &[Done<M>]) -> bool
 }
 
 /// What ended the least worker that has ended early.
-fn least_fault<M>(ended: &[Done<M>]) -> Option<LabFault>
+fn least_fault<L: Ledger>(ended: &[Done<L>]) -> Option<LabFault>
     ensures none { IsNone result → HaveAllSent (map (λ d. d.ending) ended.now) }
     ensures least { IfSome result (λ fault. IsOfLeast (map (λ d. d.ending) ended.now) fault) }
 {
@@ -205,11 +223,11 @@ fn least_fault<M>(ended: &[Done<M>]) -> Option<LabFault>
 }
 
 /// The members of workers that have ended.
-pub fn members_of<M: Appends + Drop>(
+pub fn members_of<L: Ledger>(
     alloc: Global,
-    ended: Vec<Done<M>>,
-) -> Result<Vec<M>, AllocError>
-    ensures { IfOk result (λ all. map M.seat all.items ≡ map (λ d. M.seat d.member) ended.items) }
+    ended: Vec<Done<L>>,
+) -> Result<Vec<Member<L>>, AllocError>
+    ensures { IfOk result (λ all. map place_of all.items ≡ map (λ d. place_of d.member) ended.items) }
 {
     let mut members = Vec::with_capacity(alloc, ended.len())?;
     for done in ended {

@@ -1,50 +1,22 @@
 //! The laboratory over the plain reference.
 
-ghost use Rattle.std.specs.Prelude.{◌≡◌, ◌≢◌, ◌↔◌, IfOk, IfErr, IsErrOf, vec_len};
+ghost use Rattle.std.specs.Prelude.{◌≡◌, ◌⊎◌, ◌↔◌, IfOk, IfErr, IsErrOf, vec_len};
+ghost use Rattle.one_lock.specs.Endings.{MayEndLab};
 ghost use Rattle.one_lock.specs.Lab.{IsBadSpec};
 ghost use Rattle.one_lock.specs.Shown.{AreShown};
 
 use crate::arena::Arena;
 use crate::gather_fault::GatherFault;
 use crate::gathering::gather;
-use crate::lab::appends::Appends;
 use crate::lab::crew::{first_fault, members_of, work_all};
 use crate::lab::showing::shown;
 use crate::lab::{Gate, LabFault, LabResult, Spec};
-use crate::member::Member;
-use plans::CrashPlan;
-use redomail::{Layout, Reply};
-use rmecore::Body;
-use runs::LockFault;
+use redomail::Layout;
 use std::alloc::Global;
 use std::marker::Brand;
 use std::sync::Wait;
 use std::sync::ledger::{Blank, Ledger};
 use std::thread::Threads;
-
-impl<L: Ledger> Appends for Member<L> {
-    ghost use Rattle.std.specs.Prelude.{ℕ};
-    ghost use Rattle.redomail.specs.declared.layout.Layout.{Layout};
-    ghost use Rattle.one_lock.specs.Shown.{place_of};
-
-    ghost Seat = { ℕ × Layout };
-
-    ghost seat = { place_of };
-
-    fn sender(&self) -> u64 {
-        self.process()
-    }
-
-    fn send<R: Wait, P: CrashPlan>(
-        &mut self,
-        rt: &R,
-        seq: u64,
-        value: Body,
-        plan: &mut P,
-    ) -> Result<Reply, LockFault> {
-        self.append(rt, seq, value, plan)
-    }
-}
 
 /// Runs a worker for each process of a new arena, all at the same time, each on a thread of its own. Worker p appends its
 /// messages with the numbers from 1 on; it calls again after each crash that its gate lets fall, and tells its gate of each
@@ -57,6 +29,7 @@ pub fn run_lab<G: Gate + Send + Drop, R: Threads + Wait + Sync>(
     gates: Vec<G>,
 ) -> Result<LabResult, LabFault>
     ensures bad_spec { IsErrOf result LabFault.BadSpec ↔ IsBadSpec spec (vec_len gates) }
+    ensures ends { IfErr result (λ fault. (fault ≡ LabFault.BadSpec) ⊎ MayEndLab spec.procs fault) }
     ensures shown { IfOk result (λ lab. AreShown (record { procs = spec.procs; cap = spec.cap; width = spec.width }) lab.messages.items) }
 {
     if spec.is_bad(gates.len() as u64) {
@@ -77,7 +50,7 @@ fn run<L: Ledger + Send + Sync, G: Gate + Send + Drop, R: Threads + Wait + Sync>
     requires name { blank.name ≡ L.name }
     requires parts { blank.parts ≡ L.parts }
     requires each { blank.parts ≡ spec.procs }
-    ensures faults { IfErr result (λ fault. fault ≢ LabFault.BadSpec) }
+    ensures ends { IfErr result (MayEndLab spec.procs) }
     ensures shown { IfOk result (λ lab. AreShown (record { procs = spec.procs; cap = spec.cap; width = spec.width }) lab.messages.items) }
 {
     let Ok(members) = Arena::new::<L>(alloc, spec.procs, spec.limit, spec.cap, spec.width, blank)

@@ -1,9 +1,11 @@
-//! What the workers of a lab send.
+//! What the workers of a lab send, and what they make of an answer.
 
-ghost use Rattle.std.specs.Prelude.{◌≡◌, ◌<◌, ◌≤◌, length};
+ghost use Rattle.std.specs.Prelude.{◌≡◌, ◌<◌, ◌≤◌, ◌⊎◌, ◌↔◌, IsTrue, length};
 ghost use Rattle.one_lock.specs.Lab.{words_sent};
 
+use redomail::Reply;
 use rmecore::Body;
+use runs::LockFault;
 
 /// The value of worker p's message with this number, of so many words: word j is 1,000,000 * p + seq + j.
 pub fn value_sent(p: u64, seq: u64, width: u64) -> Body
@@ -22,4 +24,18 @@ pub fn value_sent(p: u64, seq: u64, width: u64) -> Body
         unreachable!()
     };
     value
+}
+
+/// Is the message shown by this reply?
+pub fn is_sent(reply: Reply) -> bool
+    ensures { IsTrue result ↔ (reply ≡ Reply.Stored) ⊎ (reply ≡ Reply.Already) }
+{
+    matches!(reply, Reply::Stored | Reply::Already)
+}
+
+/// Has the process crashed, and calls again?
+pub fn is_crash(fault: LockFault) -> bool
+    ensures { IsTrue result ↔ (fault ≡ LockFault.Crashed) }
+{
+    matches!(fault, LockFault::Crashed)
 }

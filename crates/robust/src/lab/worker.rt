@@ -1,6 +1,6 @@
 //! A worker of the lab over the running lock.
 
-ghost use Rattle.std.specs.Prelude.{◌≡◌, ◌≤◌, ◌↔◌, ◌⊎◌, ℕ, None, IsTrue, IfOk, IfErr, length};
+ghost use Rattle.std.specs.Prelude.{◌≡◌, ◌≤◌, ◌⊎◌, ℕ, None, IfOk, IfErr, length};
 ghost use Rattle.rmeworld.specs.declared.call.Call.TheVariants.{Lock, Append};
 ghost use Rattle.runs.specs.Faults.{refusal_now, ready};
 ghost use Rattle.runs.specs.Pass.{own_of};
@@ -12,7 +12,7 @@ ghost use Rattle.robust.specs.Sending.{IsNew, IsSending, SendsOnly, HasShown};
 ghost use Rattle.robust.specs.Working.{seat_of};
 
 use crate::member::Member;
-use one_lock::lab::sending::value_sent;
+use one_lock::lab::sending::{is_crash, is_sent, value_sent};
 use one_lock::lab::{Ending, Gate, Spec};
 use redomail::Reply;
 use rmecore::Body;
@@ -68,20 +68,6 @@ pub fn work<G: Gate + Drop, R: Wait>(rt: &R, mut member: Member, mut gate: G, sp
     }
     let ending = Ending::AllSent;
     Done { member, ending }
-}
-
-/// Is the message shown by this reply?
-fn is_sent(reply: Reply) -> bool
-    ensures { IsTrue result ↔ (reply ≡ Reply.Stored) ⊎ (reply ≡ Reply.Already) }
-{
-    matches!(reply, Reply::Stored | Reply::Already)
-}
-
-/// Has the process crashed, and calls again?
-fn is_crash(fault: LockFault) -> bool
-    ensures { IsTrue result ↔ (fault ≡ LockFault.Crashed) }
-{
-    matches!(fault, LockFault::Crashed)
 }
 
 /// Sends one message until it is answered.

@@ -1,7 +1,8 @@
 use Rattle.std.proofs.Common.{◌≡◌, ◌++◌, map}
 use Rattle.std.specs.Vec.Iter.{into_iter_items}
+use Rattle.one_lock.specs.Shown.{place_of}
 use Rattle.one_lock.proofs.lab.crew.members_of.Given as goal
 
 abbrev pub invariant-loop-done : goal.invariant-loop-done
 invariant-loop-done g l =
-    record { seats : map g.M.Appends.seat l.members.items ++ map (λ d. g.M.Appends.seat d.member) (into_iter_items l.done-iterator) ≡ map (λ d. g.M.Appends.seat d.member) l.fn.ended.items }
+    record { places : map place_of l.members.items ++ map (λ d. place_of d.member) (into_iter_items l.done-iterator) ≡ map (λ d. place_of d.member) l.fn.ended.items }

@@ -1,9 +1,11 @@
-use Rattle.std.proofs.Common.{◌≡◌, ◌++◌, map}
+use Rattle.std.proofs.Common.{◌≡◌, ◌++◌, map, All}
 use Rattle.std.specs.Vec.Iter.{into_iter_items, into_iter_len}
+use Rattle.one_lock.specs.Shown.{CanSend, place_of}
 use Rattle.one_lock.proofs.lab.crew.start_all.Given as goal
 
 abbrev pub invariant-loop-member : goal.invariant-loop-member
 invariant-loop-member g l = record {
-  seats : map (λ h. g.M.Appends.seat h.promise.0.value) l.threads.items ++ map g.M.Appends.seat (into_iter_items l.member-iterator) ≡ map g.M.Appends.seat l.fn.members.items;
+  places : map (λ h. place_of h.promise.0.value) l.threads.items ++ map place_of (into_iter_items l.member-iterator) ≡ map place_of l.fn.members.items;
   gates : into_iter_len l.gates ≡ into_iter_len l.member-iterator;
+  ready : All (CanSend l.fn.spec.width) (into_iter_items l.member-iterator);
 }

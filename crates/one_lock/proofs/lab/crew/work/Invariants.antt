@@ -1,5 +1,9 @@
 use Rattle.std.proofs.Common.{◌≡◌}
+use Rattle.one_lock.specs.Shown.{CanSend, place_of}
 use Rattle.one_lock.proofs.lab.crew.work.Given as goal
 
 abbrev pub invariant-loop-seq : goal.invariant-loop-seq
-invariant-loop-seq g l = record { seat : g.M.Appends.seat l.member ≡ g.M.Appends.seat l.fn.member }
+invariant-loop-seq g l = record {
+  place : place_of l.member ≡ place_of l.fn.member;
+  ready : CanSend l.fn.spec.width l.member;
+}

@@ -1,4 +1,6 @@
-use Rattle.std.proofs.Common.{rules, ◌≡◌, ℕ, List, Result, Ok, Err, IfOk, OnOk, slice_index, ◌∙◌, subst}
+use Rattle.std.proofs.Common.{rules, ◌≡◌, ℕ, List, length, map, All, Result, Ok, Err, IfOk, OnOk, slice_index, sym, ap, ◌∙◌, subst}
+use Rattle.std.proofs.lemmas.List.{length-map}
+use Rattle.std.proofs.lemmas.List.Elements.{All-map}
 use Rattle.redomail.specs.declared.layout.Layout.{Layout}
 use Rattle.redomail.specs.declared.message.Message.{Message}
 use Rattle.redomail.specs.Content.{IsContent}
@@ -7,20 +9,39 @@ use Rattle.redomail.specs.Shape.{entries}
 use Rattle.rmeworld.specs.declared.image.Image.{Image}
 use Rattle.rmeworld.specs.ImageRules.{IsLawfulImage}
 use Rattle.one_lock.specs.declared.lab.lab_fault.LabFault.{LabFault}
-use Rattle.one_lock.specs.Shown.{AreShown}
+use Rattle.one_lock.specs.Endings.{MayEnd}
+use Rattle.one_lock.specs.Shown.{AreShown, CanSend, place_of}
 use Rattle.one_lock.specs.Member.{steps_taken}
 use Rattle.one_lock.specs.Story.{IsLeftBy}
-use Rattle.one_lock.proofs.Seats.{same_fit, same_count}
+use Rattle.one_lock.proofs.Endings.{may_end_lab}
+use Rattle.one_lock.proofs.Seats.{same_fit, same_count, new_count, new_ready}
 use Rattle.one_lock.proofs.lab.running.run.Goals as goal
+
+pub work_all-requires-clause-ready : goal.work_all-requires-clause-ready
+work_all-requires-clause-ready g c =
+    let l : Layout = record { procs = c.args.spec.procs; cap = c.args.spec.cap; width = c.args.spec.width } in
+    λ lifetimes lives. subst (All (CanSend c.args.spec.width)) (sym c.in-Ok.ensures.ok) (new_ready l c.args.spec.procs)
+
+pub returns-in-Some-clause-ends : goal.returns-in-Some-clause-ends
+returns-in-Some-clause-ends g c =
+    let l : Layout = record { procs = c.args.spec.procs; cap = c.args.spec.cap; width = c.args.spec.width } in
+    let ended = c.in-Ok-work_all.ended.items in
+    let looked : c.as_slice.result.now ≡ ended = c.as_slice.ensures.value in
+    let same = c.in-Ok-work_all.ensures.places in
+    let members : length ended ≡ length c.in-Ok.members.items = sym (length-map ended (λ d. place_of d.member)) ∙ ap length same ∙ length-map c.in-Ok.members.items place_of in
+    let all : length ended ≡ c.args.spec.procs = members ∙ ap length c.in-Ok.ensures.ok ∙ new_count l c.args.spec.procs in
+    may_end_lab (map (λ d. d.ending) c.as_slice.result.now) c.args.spec.procs c.in-Some.fault (length-map c.as_slice.result.now (λ d. d.ending) ∙ ap length looked ∙ all)
+    (All-map MayEnd (λ d. d.ending) c.as_slice.result.now (subst (All (λ d. MayEnd d.ending)) (sym looked) c.in-Ok-work_all.ensures.ends))
+    (λ wanted. let e = c.in-Some.ensures.memory.1 wanted in cc) c.in-Some.ensures.bad_spec c.in-Some.ensures.least
 
 pub gather-requires : goal.gather-requires
 gather-requires g c =
-    let same = c.in-Ok-members_of.ensures ∙ c.in-Ok-work_all.ensures in
+    let same = c.in-Ok-members_of.ensures ∙ c.in-Ok-work_all.ensures.places in
     record { arena = same_fit g.L.Ledger.parts c.in-Ok-members_of.members.items c.in-Ok.members.items same c.in-Ok.ensures.arena }
 
 pub unreachable-requires : goal.unreachable-requires
 unreachable-requires g c =
-    let same = c.in-Ok-members_of.ensures ∙ c.in-Ok-work_all.ensures in
+    let same = c.in-Ok-members_of.ensures ∙ c.in-Ok-work_all.ensures.places in
     let all = c.in-Ok.ensures.all in
     c.in-Err-default-NotAll.ensures.missing c.in-Err-default-NotAll.field-0-1-is (all.0, same_count c.in-Ok-members_of.members.items c.in-Ok.members.items same ∙ all.1)
 

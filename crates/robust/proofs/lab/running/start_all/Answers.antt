@@ -5,7 +5,7 @@ use Rattle.robust.specs.declared.lab.worker.HandsBack.{HandsBack}
 use Rattle.robust.specs.Worked.{seat_promised, sizes_of}
 use Rattle.robust.specs.Sending.{IsNew}
 use Rattle.robust.specs.Working.{seat_of}
-use Rattle.robust.proofs.Worked.{moved_on}
+use Rattle.one_lock.proofs.Seats.{moved_on}
 use Rattle.robust.proofs.lab.running.start_all.Goals as goal
 
 pub loop-member-preserved : goal.loop-member-preserved

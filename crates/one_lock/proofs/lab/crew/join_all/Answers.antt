@@ -1,0 +1,17 @@
+use Rattle.std.proofs.Common.{◌∙◌, ◌++◌, map, All, sym, ap, subst}
+use Rattle.std.specs.Vec.Iter.{into_iter_items}
+use Rattle.std.proofs.lemmas.List.Elements.{All-push}
+use Rattle.one_lock.specs.Endings.{MayEnd}
+use Rattle.one_lock.specs.Shown.{place_of}
+use Rattle.one_lock.proofs.Seats.{moved_on}
+use Rattle.one_lock.proofs.lab.crew.join_all.Goals as goal
+
+pub loop-thread-preserved : goal.loop-thread-preserved
+loop-thread-preserved g c =
+    let i = c.loop-thread.invariant in
+    let left = into_iter_items c.next.new.self in
+    let items = c.in_ok-push.ensures.items in
+    record {
+      places = ap (λ l. map (λ d. place_of d.member) l ++ map (λ h. place_of h.promise.0.value) left) items ∙ moved_on (λ d. place_of d.member) (λ h. place_of h.promise.0.value) c.loop-thread.all.items c.join.result c.in-Some.thread _ left _ i.places c.in-Some.ensures.steps.0 c.join.ensures.0;
+      ends = subst (All (λ d. MayEnd d.ending)) (sym items) (All-push (λ d. MayEnd d.ending) c.loop-thread.all.items c.join.result i.ends c.join.ensures.1);
+    }

@@ -1,5 +1,5 @@
 -- The end of a report, and the whole.
-use Rattle.std.proofs.Common.{◌≡◌, ℕ, ◌+◌, ◌-◌, ◌^◌, min, List, [], ◌++◌, Option, Some, None, Result, Ok, Err, OnOk, IfErr, refl, sym, ap, ◌∙◌, append_assoc, ◌⊎◌, inl, inr}
+use Rattle.std.proofs.Common.{◌≡◌, ℕ, ◌+◌, ◌-◌, ◌^◌, min, List, [], ◌++◌, Option, Some, None, Result, Ok, Err, OnOk, IfErr, refl, sym, ap, subst, ◌∙◌, append_assoc, ◌⊎◌, inl, inr}
 use Rattle.std.proofs.lemmas.List.{append-nil}
 use Rattle.rmecore.specs.declared.refusal.Refusal.{Refusal}
 use Rattle.redomail.specs.declared.layout.Layout.{Layout}
@@ -10,15 +10,15 @@ use Rattle.judge.specs.Kept.{Kept}
 use Rattle.redomail.specs.declared.deed.Deed.{Deed}
 use Rattle.schedule.specs.declared.hearing.Hearing.{Hearing}
 use Rattle.schedule.specs.declared.verdict.Verdict.{Verdict}
-use Rattle.schedule.specs.declared.verdict.Verdict.TheVariants.{Fine, Against}
 use Rattle.schedule.specs.declared.replay_fault.ReplayFault.{ReplayFault}
 use Rattle.schedule.specs.declared.replay_fault.ReplayFault.TheVariants.{Refused, Write, OutOfMemory, Text, Read}
 use Rattle.schedule.specs.Runs.{Part, deeds_of}
 use Rattle.schedule.specs.Verdicts.{verdict_on}
 use Rattle.schedule.specs.Reports.{told_text, owns_text, verdict_line, layout_of, IsMailText, IsEnd}
-use Rattle.schedule.specs.Hearings.{opened, bench, with_more, Hears}
+use Rattle.schedule.specs.Hearings.{opened, bench, with_more, heard_with, Hears}
 use Rattle.schedule.specs.Plays.{Tape, Writes, Begins, Ends, IsRefused}
 use Rattle.schedule.specs.Replays.{IsAll, Reported, CutShort, Closes}
+use Rattle.schedule.proofs.Heard.{no_more}
 use Rattle.schedule.proofs.Playing.{begins_further, begins_wider, begins_nothing}
 
 -- the mailbox's part of a report is one text
@@ -121,9 +121,19 @@ module _ {S : Type 0} (start : State) (image_of : S → Image) (run : Part S (�
         };
       }
 
-no_more : (v : Verdict) (k : ℕ) (s : State) → with_more v k s [] ≡ v
-no_more Fine k s = refl
-no_more (Against at fault) k s = refl
+-- a refusal that is answered after a flush is the one of the run
+pub still_refused : (old new : ℕ) (fault result : ReplayFault) → ((result ≡ fault) × (new ≡ old)) ⊎ ((result ≡ Write) × (new ≡ min (old + 1) (2 ^ 64 - 1)) × IsRefused fault)
+    → IsRefused result → IsRefused fault
+still_refused old new fault result (inl kept) is = subst IsRefused kept.0 is
+still_refused old new fault result (inr failed) is = failed.2
+
+-- an end is never refused
+pub never_refused : (before now : Tape) (image : Image) (verdict : Verdict) (fault : ReplayFault) → Closes {A = Unit {0}} before now image verdict (Err fault) → IsRefused fault → ⊥
+never_refused before now image verdict (Text line number) h is = is
+never_refused before now image verdict (Refused line number) h is = h
+never_refused before now image verdict Read h is = is
+never_refused before now image verdict Write h is = is
+never_refused before now image verdict OutOfMemory h is = is
 
 -- the verdict of all deeds that were heard
 pub ruled_on : (judge now : Kept) (first hearing : Hearing) (deeds : List Deed) (start : State) → first ≡ opened → Hears (bench judge first) deeds (bench now hearing) → Keeps judge start
@@ -131,4 +141,4 @@ pub ruled_on : (judge now : Kept) (first hearing : Hearing) (deeds : List Deed) 
 ruled_on judge now first hearing deeds start fresh hears keeps =
     let h = hears start (λ fine. keeps) in
     let ruled : with_more first.verdict first.number start (deeds ++ []) ≡ verdict_on start (deeds ++ []) = rw fresh refl in
-    sym (no_more hearing.verdict hearing.number h.0) ∙ sym (h.2 []) ∙ ruled ∙ ap (verdict_on start) (append-nil deeds)
+    sym (no_more hearing.verdict hearing.number (heard_with first.verdict start deeds)) ∙ sym (h.1 []) ∙ ruled ∙ ap (verdict_on start) (append-nil deeds)

@@ -17,7 +17,7 @@ use Rattle.schedule.specs.Runs.{Told, Did, Answered, did, answered, told_of, dee
 use Rattle.schedule.specs.Reports.{told_line, told_text}
 use Rattle.schedule.specs.Hearings.{Bench, Hears}
 use Rattle.schedule.proofs.Heard.{hears_none, hears_both}
-use Rattle.schedule.specs.Plays.{Tape, Writes, Begins, halted, halt_of, Halts, Tells, Plays, Ends, fault_at}
+use Rattle.schedule.specs.Plays.{Tape, Writes, Begins, halted, halt_of, Halts, Tells, Stops, IsRefusal, IsRefused, Plays, Ends, fault_at}
 
 answer_is_no_deed : (p : ℕ) (answer : Option Answer) → deeds_of (answered p answer) ≡ []
 answer_is_no_deed p None = refl
@@ -99,6 +99,12 @@ halts_further t u v a b told next after all refused OutOfMemory so_far e h =
     let text : told_text all ≡ told_text told ++ (told_text next ++ told_text after) = ap told_text e ∙ told_append told (next ++ after) ∙ ap (λ (xs : List ℕ). told_text told ++ xs) (told_append next after) in
     (rw text (begins_further t.taken u.taken v.taken (told_text told) (told_text next ++ told_text after) so_far.writes.taken (begins_wider u.taken v.taken (told_text next) (told_text after) h.0)), rw (← so_far.writes.fine) h.1)
 
+-- what is not refused does not end by a refusal
+pub never_stops : {S : Type 0} (t u : Tape) (text : List ℕ) (halt : Halt) (a b : Bench) (told : List Told) (left s : S) → Halts t u text None halt → IsRefusal halt → Stops a b told left s
+never_stops t u text (Refused number) a b told left s h is = absurd (let no : None ≡ Some h.1.0 = h.1.1 in cc)
+never_stops t u text Write a b told left s h is = absurd is
+never_stops t u text OutOfMemory a b told left s h is = absurd is
+
 -- there is no memory for the next step
 pub halts_here : (t u : Tape) (a b : Bench) (told after all : List Told) (refused : Option Refusal) → Played t u a b told → all ≡ told ++ after → Halts t u (told_text all) refused OutOfMemory
 halts_here t u a b told after all refused so_far e =
@@ -109,6 +115,9 @@ halts_here t u a b told after all refused so_far e =
 
 pub told_is : {S : Type 0} (a b : List Told × S) → a ≡ b → a.0 ≡ b.0
 told_is a b e = ap (λ x. x.0) e
+
+pub left_is : {S : Type 0} (a b : List Told × S) → a ≡ b → a.1 ≡ b.1
+left_is a b e = ap (λ x. x.1) e
 
 module _ {S : Type 0} (b : Behaviour S) (p : ℕ) where
   -- where steps are still to be taken after what was told
@@ -167,13 +176,13 @@ plays_then t u v a b c told total rest refused s (Ok x) so_far e accepted h =
     let all = played_more t u v a b c told rest.0 so_far h.0 h.1 in
     rw e (all.writes, all.hears, accepted, h.3)
 plays_then t u v a b c told total rest refused s (Err halt) so_far e accepted h =
-    halts_further t u v a b told rest.0 [] total.0 refused halt so_far (told_is _ _ e ∙ ap (λ (xs : List Told). told ++ xs) (sym (append-nil rest.0))) h
+    (halts_further t u v a b told rest.0 [] total.0 refused halt so_far (told_is _ _ e ∙ ap (λ (xs : List Told). told ++ xs) (sym (append-nil rest.0))) h.0, never_stops u v (told_text rest.0) halt a c total.0 total.1 s h.0)
 
 -- what is told is all of a part
 pub plays_told : {S A : Type 0} (t u : Tape) (a b : Bench) (told all : List Told) (left : S) (refused : Option Refusal) (s : S) (r : Result A Halt)
     → Tells t u a b told r → all ≡ told → s ≡ left → refused ≡ None → Plays t u a b all left refused s r
 plays_told t u a b told all left refused s (Ok x) h e is accepted = rw e (h.0, h.1, accepted, is)
-plays_told t u a b told all left refused s (Err halt) h e is accepted = rw (e, accepted) h
+plays_told t u a b told all left refused s (Err halt) h e is accepted = (rw (e, accepted) h, never_stops t u (told_text told) halt a b all left s h)
 
 -- a refusal, or no memory, before anything is told
 numbered_halts : (t : Tape) (text : List ℕ) (o : Option Refusal) (e : Refusal) (n : Option ℕ) → number_of e ≡ n → (e ≡ refusals.OutOfMemory) ⊎ (o ≡ Some e) → (o ≡ Some e → text ≡ [])
@@ -183,8 +192,17 @@ numbered_halts t text o e (Some number) is (inl memory) silent = absurd (let no 
 numbered_halts t text o e (Some number) is (inr refused) silent =
     (record { taken = rw (silent refused) (sym (append-nil t.taken)); fine = refl }, (e, refused, is))
 
-pub refusal_halts : (t : Tape) (text : List ℕ) (o : Option Refusal) (e : Refusal) → (e ≡ refusals.OutOfMemory) ⊎ (o ≡ Some e) → (o ≡ Some e → text ≡ []) → Halts t t text o (halt_of e)
-refusal_halts t text o e why silent = numbered_halts t text o e (number_of e) refl why silent
+numbered_stops : {S : Type 0} (a : Bench) (told : List Told) (left s : S) (o : Option Refusal) (e : Refusal) (n : Option ℕ) → number_of e ≡ n → (e ≡ refusals.OutOfMemory) ⊎ (o ≡ Some e) → (o ≡ Some e → (told ≡ []) × (s ≡ left))
+    → IsRefusal (halted n) → Stops a a told left s
+numbered_stops a told left s o e None is why silent stopped = absurd stopped
+numbered_stops a told left s o e (Some number) is (inl memory) silent stopped = absurd (let no : number_of refusals.OutOfMemory ≡ Some number = ap number_of (sym memory) ∙ is in cc)
+numbered_stops a told left s o e (Some number) is (inr refused) silent stopped =
+    let still = silent refused in record { hears = rw still.0 (hears_none a); stands = still.1 }
+
+pub refusal_halts : {S : Type 0} (t : Tape) (a : Bench) (told : List Told) (left s : S) (o : Option Refusal) (e : Refusal) → (e ≡ refusals.OutOfMemory) ⊎ (o ≡ Some e) → (o ≡ Some e → (told ≡ []) × (s ≡ left))
+    → Halts t t (told_text told) o (halt_of e) × (IsRefusal (halt_of e) → Stops a a told left s)
+refusal_halts t a told left s o e why silent =
+    (numbered_halts t (told_text told) o e (number_of e) refl why (λ refused. ap told_text (silent refused).0), numbered_stops a told left s o e (number_of e) refl why silent)
 
 -- ---- one line after another
 
@@ -199,10 +217,10 @@ unless_refused : {S : Type 0} (o : Option Refusal) (s : S) (told : List Told) (l
 unless_refused None s told left = refl
 unless_refused (Some e) s told left = refl
 
-pub unless_halts : {S : Type 0} (t : Tape) (o : Option Refusal) (s : S) (told : List Told) (left : S) (e : Refusal) → (e ≡ refusals.OutOfMemory) ⊎ (o ≡ Some e)
-    → Halts t t (told_text (unless o s told left).told) (unless o s told left).refused (halt_of e)
-unless_halts t o s told left e why =
-    rw (unless_refused o s told left) (refusal_halts t (told_text (unless o s told left).told) o e why (λ refused. rw refused refl))
+pub unless_halts : {S : Type 0} (t : Tape) (a : Bench) (o : Option Refusal) (s : S) (told : List Told) (left now : S) (e : Refusal) → (e ≡ refusals.OutOfMemory) ⊎ (o ≡ Some e) → now ≡ s
+    → Halts t t (told_text (unless o s told left).told) (unless o s told left).refused (halt_of e) × (IsRefusal (halt_of e) → Stops a a (unless o s told left).told (unless o s told left).left now)
+unless_halts t a o s told left now e why same =
+    rw (unless_refused o s told left) (refusal_halts t a (unless o s told left).told (unless o s told left).left now o e why (λ refused. rw refused (refl, same)))
 
 module _ {S : Type 0} (b : Behaviour S) where
   -- where lines are still to be played after what was told
@@ -227,29 +245,32 @@ module _ {S : Type 0} (b : Behaviour S) where
       let is : run ≡ record { told = told; left = s; refused = None } = still ∙ rw none (ap (λ (xs : List Told). record { told = xs; left = s; refused = None }) (append-nil told)) in
       rw is (played.writes, played.hears, refl, refl)
 
-  pub runs_halt : (t u v : Tape) (a c : Bench) (run : Part S (ℕ × Refusal)) (told : List Told) (k : ℕ) (s : S) (line : Line) (lines rest : List Line) (halt : Halt)
+  pub runs_halt : (t u v : Tape) (a c d : Bench) (run : Part S (ℕ × Refusal)) (told : List Told) (k : ℕ) (s now : S) (line : Line) (lines rest : List Line) (halt : Halt)
       → Played t u a c told → RunsOn run told k s lines → lines ≡ line ∷ rest
-      → Halts u v (told_text (line_on b s line).told) (line_on b s line).refused halt → Ends t v run (fault_at k halt)
+      → Halts u v (told_text (line_on b s line).told) (line_on b s line).refused halt × (IsRefusal halt → Stops c d (line_on b s line).told (line_on b s line).left now)
+      → Ends t v run (fault_at k halt) × (IsRefused (fault_at k halt) → Stops a d run.told run.left now)
   unfolding run_on
-  runs_halt t u v a c run told k s line lines rest (Refused number) played still e h =
+  runs_halt t u v a c d run told k s now line lines rest (Refused number) played still e h =
       let part : Part S Refusal = line_on b s line in
-      let r = h.1 in
+      let r = h.0.1 in
+      let stops = h.1 tt in
       let is : run ≡ record { told = told ++ part.told; left = part.left; refused = Some (k, r.0) } = still ∙ rw e (rw r.1 refl) in
-      let w = h.0 in
+      let w = h.0.0 in
       let taken : v.taken ≡ t.taken ++ told_text (told ++ part.told) =
       w.taken ∙ ap (λ (xs : List ℕ). xs ++ told_text part.told) played.writes.taken ∙ append_assoc t.taken (told_text told) (told_text part.told)
       ∙ ap (λ (xs : List ℕ). t.taken ++ xs) (sym (told_append told part.told)) in
-      rw is (record { taken = taken; fine = w.fine ∙ played.writes.fine }, (r.0, refl, r.2))
-  runs_halt t u v a c run told k s line lines rest Write played still e h =
+      let hears : Hears a (deeds_of (told ++ part.told)) d = rw (deeds_append told part.told) (hears_both a c d (deeds_of told) (deeds_of part.told) played.hears stops.hears) in
+      rw is ((record { taken = taken; fine = w.fine ∙ played.writes.fine }, (r.0, refl, r.2)), λ refused. record { hears = hears; stands = stops.stands })
+  runs_halt t u v a c d run told k s now line lines rest Write played still e h =
       let part : Part S Refusal = line_on b s line in
       let after = followed_told k part part.refused (run_on b (k + 1) part.left rest) in
       let whole : run.told ≡ told ++ (part.told ++ after.0) = ap (λ x. x.told) still ∙ rw e (ap (λ (xs : List Told). told ++ xs) after.1) in
-      halts_further t u v a c told part.told after.0 run.told None Write played whole h
-  runs_halt t u v a c run told k s line lines rest OutOfMemory played still e h =
+      (halts_further t u v a c told part.told after.0 run.told None Write played whole h.0, λ no. absurd no)
+  runs_halt t u v a c d run told k s now line lines rest OutOfMemory played still e h =
       let part : Part S Refusal = line_on b s line in
       let after = followed_told k part part.refused (run_on b (k + 1) part.left rest) in
       let whole : run.told ≡ told ++ (part.told ++ after.0) = ap (λ x. x.told) still ∙ rw e (ap (λ (xs : List Told). told ++ xs) after.1) in
-      halts_further t u v a c told part.told after.0 run.told None OutOfMemory played whole h
+      (halts_further t u v a c told part.told after.0 run.told None OutOfMemory played whole h.0, λ no. absurd no)
 
   -- ---- one line
 

@@ -47,11 +47,21 @@ abbrev pub Tells : {A : Type 0} → Tape → Tape → Bench → Bench → List T
 Tells before now bench heard told (Ok x) = Writes before now (told_text told) × Hears bench (deeds_of told) heard
 Tells before now bench heard told (Err halt) = Halts before now (told_text told) None halt
 
+-- what was told is heard, and the machine stands where it is left
+pub record Stops {S : Type 0} (bench heard : Bench) (told : List Told) (left s : S) : Type 0 where
+  pub hears : Hears bench (deeds_of told) heard
+  pub stands : s ≡ left
+
+-- the machine refuses it
+abbrev pub IsRefusal : Halt → Type 0
+IsRefusal (Refused number) = Unit {0}
+IsRefusal halt = ⊥
+
 -- a part of the run is played
 abbrev pub Plays : {S A : Type 0} → Tape → Tape → Bench → Bench → List Told → S → Option Refusal → S → Result A Halt → Type 0
 Plays before now bench heard told left refused s (Ok x) =
     Writes before now (told_text told) × Hears bench (deeds_of told) heard × (refused ≡ None) × (s ≡ left)
-Plays before now bench heard told left refused s (Err halt) = Halts before now (told_text told) refused halt
+Plays before now bench heard told left refused s (Err halt) = Halts before now (told_text told) refused halt × (IsRefusal halt → Stops bench heard told left s)
 
 -- what is answered where line k halts
 abbrev pub fault_at : ℕ → Halt → ReplayFault
@@ -67,12 +77,18 @@ Ends before now run faults.Write = Begins before.taken now.taken (told_text run.
 Ends before now run faults.OutOfMemory = Begins before.taken now.taken (told_text run.told) × (now.failures ≡ before.failures)
 Ends before now run fault = ⊥
 
+-- a line is refused
+abbrev pub IsRefused : ReplayFault → Type 0
+IsRefused (faults.Refused line number) = Unit {0}
+IsRefused fault = ⊥
+
 -- the lines of a run are played
 abbrev pub Runs : {S A : Type 0} → Tape → Tape → Bench → Bench → Part S (ℕ × Refusal) → S → Result A ReplayFault → Type 0
 Runs before now bench heard run s (Ok x) =
     Writes before now (told_text run.told) × Hears bench (deeds_of run.told) heard × (run.refused ≡ None) × (s ≡ run.left)
-Runs before now bench heard run s (Err fault) = Ends before now run fault
+Runs before now bench heard run s (Err fault) = Ends before now run fault × (IsRefused fault → Stops bench heard run.told run.left s)
 
-abbrev pub IsRefused : ReplayFault → Type 0
-IsRefused (faults.Refused line number) = Unit {0}
-IsRefused fault = ⊥
+-- the run is over: with a verdict, or at the line that is refused
+abbrev pub IsOver : {A : Type 0} → Result A ReplayFault → Type 0
+IsOver (Ok x) = Unit {0}
+IsOver (Err fault) = IsRefused fault

@@ -3,8 +3,9 @@
 ghost use Rattle.std.specs.Prelude.{◌≡◌, ℕ, ◌+◌, ◌-◌, ◌^◌, min, ◌⊎◌, List, None, Some, OnOk, IfErr};
 ghost use Rattle.judge.specs.Table.{State};
 ghost use Rattle.judge.specs.Stands.{Keeps};
-ghost use Rattle.schedule.specs.Plays.{tape, Writes, Begins, IsRefused};
-ghost use Rattle.schedule.specs.Runs.{behaviour, run_on};
+ghost use Rattle.schedule.specs.Plays.{tape, Writes, Begins, IsRefused, IsOver};
+ghost use Rattle.schedule.specs.Runs.{behaviour, deeds_of, run_on};
+ghost use Rattle.schedule.specs.Hearings.{heard};
 ghost use Rattle.schedule.specs.Replays.{Replays, Closes};
 
 use crate::clerk::Clerk;
@@ -68,8 +69,10 @@ pub fn replay_on<M: Machine, W: Sink>(
 ) -> Result<Verdict, ReplayFault>
     // The report of just this run is written, and its verdict answered; or why not.
     ensures replay { (start : State) → Keeps judge.old start → Replays (tape (W.taken w.old) (W.failures w.old)) (tape (W.taken w.new) (W.failures w.new)) start M.image_of (run_on (behaviour M.start_refusal M.started M.advance_refusal M.stepped M.advanced M.crash_refusal M.crash_deed M.crashed) 2 machine.old schedule.now.lines) result }
-    // The machine is left as the run leaves it.
-    ensures left { OnOk result (machine.new ≡ (run_on (behaviour M.start_refusal M.started M.advance_refusal M.stepped M.advanced M.crash_refusal M.crash_deed M.crashed) 2 machine.old schedule.now.lines).left) }
+    // After a verdict, or a refused line, the machine is left as the run leaves it: a run stops at the line that is refused.
+    ensures left { IsOver result → machine.new ≡ (run_on (behaviour M.start_refusal M.started M.advance_refusal M.stepped M.advanced M.crash_refusal M.crash_deed M.crashed) 2 machine.old schedule.now.lines).left }
+    // And the judge has heard the deeds of just this run, up to the first that is not allowed.
+    ensures heard { (start : State) → Keeps judge.old start → IsOver result → Keeps judge.new (heard start (deeds_of (run_on (behaviour M.start_refusal M.started M.advance_refusal M.stepped M.advanced M.crash_refusal M.crash_deed M.crashed) 2 machine.old schedule.now.lines).told)) }
 {
     let mut clerk = Clerk::new(alloc);
     if let Err(fault) = play_lines(machine, judge, &mut clerk, w, schedule.lines()) {

@@ -2,7 +2,7 @@ use Rattle.std.proofs.Common.{◌≡◌, suc, ◌+◌, ◌-◌, ◌++◌, None, 
 use Rattle.std.proofs.lemmas.List.{append-nil}
 use Rattle.std.proofs.lemmas.Result.{err_from_is_err_and}
 use Rattle.schedule.specs.Runs.{told_of}
-use Rattle.schedule.proofs.Playing.{played_none, played_more, halts_here, halts_further, told_is, step_more, step_last, step_begun, step_refused, steps_none, is_refused, plays_all}
+use Rattle.schedule.proofs.Playing.{played_none, played_more, halts_here, halts_further, told_is, step_more, step_last, step_begun, step_refused, steps_none, is_refused, never_stops, plays_all}
 use Rattle.schedule.proofs.play.more_steps.Goals as goal
 
 pub loop-init : goal.loop-init
@@ -12,7 +12,7 @@ loop-init g c =
 
 pub returns-in_default : goal.returns-in_default
 returns-in_default g c =
-    halts_here _ _ _ _ c.loop.invariant.0 _ _ None c.loop.invariant.1 (told_is _ _ c.loop.invariant.2)
+    (halts_here _ _ _ _ c.loop.invariant.0 _ _ None c.loop.invariant.1 (told_is _ _ c.loop.invariant.2), λ no. absurd no)
 
 pub returns-in-Refused : goal.returns-in-Refused
 returns-in-Refused g c =
@@ -26,7 +26,10 @@ returns-in_err-tell g c =
     let count : c.args.n - c.loop.counter ≡ suc (c.args.n - (c.loop.counter + 1)) = omega (arith, c.loop-test.true) in
     let p = err_from_is_err_and c.from_residual.result c.from_residual.ensures.1 in
     let begun = step_begun _ c.args.p _ c.loop.invariant.0 _ _ c.loop.machine c.in-Ok.stepped c.loop.invariant.2 count c.in-Ok.ensures.accepted c.in-Ok.ensures.told in
-    rw (p.1, p.2) (halts_further _ _ _ _ _ c.loop.invariant.0 (told_of c.args.p c.in-Ok.stepped.deed c.in-Ok.stepped.answer) begun.0 _ None c.in_err-tell.field-0.0 c.loop.invariant.1 begun.1 c.in_err-tell.ensures)
+    rw (p.1, p.2) (
+      halts_further _ _ _ _ _ c.loop.invariant.0 (told_of c.args.p c.in-Ok.stepped.deed c.in-Ok.stepped.answer) begun.0 _ None c.in_err-tell.field-0.0 c.loop.invariant.1 begun.1 c.in_err-tell.ensures,
+      never_stops _ _ _ c.in_err-tell.field-0.0 _ _ _ _ _ c.in_err-tell.ensures,
+    )
 
 pub returns-then-is_some : goal.returns-then-is_some
 returns-then-is_some g c =

@@ -14,7 +14,7 @@ returns-in-Err g c =
     let lines = c.args.lines.now in
     let item = c.line-item.result in
     let e : drop i lines ≡ item ∷ drop (i + 1) lines = drop_more lines i item c.loop-line-test.true ∙ ap (λ x. x ∷ drop (i + 1) lines) (sym c.line-item.is) in
-    rw c.at.ensures (runs_halt _ _ _ _ _ _ _ c.loop-line.invariant.0 _ c.loop-line.machine item _ _ c.in-Err.halt c.loop-line.invariant.1 c.loop-line.invariant.2 e c.in-Err.ensures)
+    rw c.at.ensures (runs_halt _ _ _ _ _ _ _ _ c.loop-line.invariant.0 _ c.loop-line.machine _ item _ _ c.in-Err.halt c.loop-line.invariant.1 c.loop-line.invariant.2 e c.in-Err.ensures)
 
 pub loop-line-preserved : goal.loop-line-preserved
 loop-line-preserved g c =

@@ -1,17 +1,16 @@
-use Rattle.std.proofs.Common.{◌≡◌, suc, ◌-◌, [], refl, ap, arith}
+use Rattle.std.proofs.Common.{◌≡◌, suc, ◌-◌, [], refl, sym, ◌∙◌, arith}
 use Rattle.std.proofs.lemmas.Result.{err_from_is_err_and}
 use Rattle.schedule.specs.Hearings.{bench}
 use Rattle.schedule.specs.Runs.{told_of}
-use Rattle.schedule.specs.Reports.{told_text}
-use Rattle.schedule.proofs.Playing.{played_none, played_more, refusal_halts, halts_further, told_is, step_more, step_last, step_begun, step_refused, plays_all, plays_then}
+use Rattle.schedule.proofs.Playing.{played_none, played_more, refusal_halts, halts_further, never_stops, told_is, left_is, step_more, step_last, step_begun, step_refused, plays_all, plays_then}
 use Rattle.schedule.proofs.play.take_steps.Goals as goal
 
 pub returns-in_err-stepped : goal.returns-in_err-stepped
 returns-in_err-stepped g c =
     let count : c.args.n ≡ suc (c.args.n - 1) = omega (arith, c.requires) in
     let p = err_from_is_err_and c.from_residual.result c.from_residual.ensures.1 in
-    rw (p.1, p.2) (refusal_halts _ _ _ c.in_err-stepped.field-0.0 c.in_err-stepped.ensures.refused
-    (λ refused. ap told_text (told_is _ _ (step_refused _ c.args.p _ [] _ _ c.args.machine.now _ refl count refused))))
+    rw (p.1, p.2) (refusal_halts _ _ _ _ c.advance.new.self _ c.in_err-stepped.field-0.0 c.in_err-stepped.ensures.refused
+    (λ refused. let none = step_refused _ c.args.p _ [] _ _ c.args.machine.now _ refl count refused in (told_is _ _ none, c.in_err-stepped.ensures.err ∙ sym (left_is _ _ none))))
 
 pub returns-in_err-tell : goal.returns-in_err-tell
 returns-in_err-tell g c =
@@ -19,7 +18,10 @@ returns-in_err-tell g c =
     let p = err_from_is_err_and c.from_residual-in_err-tell.result c.from_residual-in_err-tell.ensures.1 in
     let step = c.in_ok-stepped.stepped in
     let begun = step_begun _ c.args.p _ [] _ _ c.args.machine.now step refl count c.in_ok-stepped.ensures.accepted c.in_ok-stepped.ensures.told in
-    rw (p.1, p.2) (halts_further _ _ _ _ _ [] (told_of c.args.p step.deed step.answer) begun.0 _ _ c.in_err-tell.field-0.0 (played_none _ (bench c.args.judge.now c.args.clerk.now)) begun.1 c.in_err-tell.ensures)
+    rw (p.1, p.2) (
+      halts_further _ _ _ _ _ [] (told_of c.args.p step.deed step.answer) begun.0 _ _ c.in_err-tell.field-0.0 (played_none _ (bench c.args.judge.now c.args.clerk.now)) begun.1 c.in_err-tell.ensures,
+      never_stops _ _ _ c.in_err-tell.field-0.0 _ _ _ _ _ c.in_err-tell.ensures,
+    )
 
 pub returns-then-is_some : goal.returns-then-is_some
 returns-then-is_some g c =

@@ -1,5 +1,5 @@
--- The sizes of the work.
-use Rattle.std.specs.Prelude.{ℕ, ◌≤◌}
+-- What words ask for, and the sizes of the work.
+use Rattle.std.specs.Prelude.{◌≡◌, ℕ, ◌≤◌, List, codes}
 use Rattle.rmebench.specs.declared.order.Order.{Order}
 use Rattle.rmebench.specs.declared.order.Order.TheVariants.{Lock, Append}
 
@@ -7,3 +7,8 @@ use Rattle.rmebench.specs.declared.order.Order.TheVariants.{Lock, Append}
 abbrev pub IsFit : Order → Type 0
 IsFit (Lock procs threads rounds) = (1 ≤ threads) × (threads ≤ procs) × (procs ≤ 64)
 IsFit (Append procs width rounds) = (1 ≤ procs) × (procs ≤ 64) × (1 ≤ width) × (width ≤ 8) × (rounds ≤ 65536)
+
+-- what a name and three numbers ask for
+abbrev pub Asks : List ℕ → ℕ → ℕ → ℕ → Order → Type 0
+Asks name first second third (Lock procs threads rounds) = (name ≡ codes "lock") × (procs ≡ first) × (threads ≡ second) × (rounds ≡ third)
+Asks name first second third (Append procs width rounds) = (name ≡ codes "append") × (procs ≡ first) × (width ≡ second) × (rounds ≡ third)

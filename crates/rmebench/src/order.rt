@@ -1,7 +1,8 @@
 //! What the words of the command line ask for.
 
-ghost use Rattle.std.specs.Prelude.{IfSome};
-ghost use Rattle.rmebench.specs.Sizes.{IsFit};
+ghost use Rattle.std.specs.Prelude.{IfSome, IsNone};
+ghost use Rattle.rmebench.specs.declared.order.Order.{Order as OrderOf};
+ghost use Rattle.rmebench.specs.Sizes.{Asks, IsFit};
 
 /// How many messages a mailbox holds at most.
 pub const MOST_MESSAGES: u64 = 65_536;
@@ -37,8 +38,11 @@ impl Order {
         Order::of(words[1].as_str(), procs, second, rounds)
     }
 
+    /// What this name and these numbers ask for, if it fits.
     fn of(name: &str, procs: u64, second: u64, rounds: u64) -> Option<Order>
-        ensures { IfSome result IsFit }
+        ensures fits { IfSome result IsFit }
+        ensures asked { IfSome result (Asks name.now procs second rounds) }
+        ensures none { IsNone result → (order : OrderOf) → Asks name.now procs second rounds order → IsFit order → ⊥ }
     {
         if procs == 0 || procs > 64 || second == 0 {
             return None;

@@ -1,6 +1,5 @@
 use Rattle.std.proofs.Common.{◌≡◌, ℕ, ◌-◌, refl, sym, ◌∙◌, subst, arith}
 use Rattle.rmecore.specs.declared.word.Word.TheVariants.{Data as DataAt}
-use Rattle.redomail.specs.Shape.{entries}
 use Rattle.runs.specs.Pass.{Looks}
 use Rattle.runs.specs.Reading.{cells_of, entry_words, Glances}
 use Rattle.runs.proofs.Glanced.{told, count_within, drop_none, reads_all, both_ok}

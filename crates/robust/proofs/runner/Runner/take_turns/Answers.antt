@@ -1,4 +1,4 @@
-use Rattle.std.proofs.Common.{◌≡◌, ℕ, ◌+◌, ◌-◌, ◌≤◌, [], ◌++◌, length, refl, ap, ◌∙◌, subst, arith}
+use Rattle.std.proofs.Common.{◌≡◌, ℕ, ◌+◌, ◌≤◌, [], ◌++◌, length, refl, ap, ◌∙◌, subst, arith}
 use Rattle.rmecore.specs.Simulated.{one_more}
 use Rattle.rmeworld.specs.declared.call.Call.TheVariants.{Lock}
 use Rattle.runs.specs.Running.{many_more}

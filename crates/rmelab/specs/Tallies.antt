@@ -1,6 +1,7 @@
--- How a tally grows by a message.
-use Rattle.std.specs.Prelude.{ℕ, Bool, true, false, leb}
+-- How a tally grows by a message, and when it is fine.
+use Rattle.std.specs.Prelude.{◌≡◌, ℕ, Bool, true, false, leb}
 use Rattle.rmecore.specs.Simulated.{one_more}
+use Rattle.rmelab.specs.declared.tally.Tally.{Tally}
 
 -- one more where the number came before
 abbrev pub and_again : Bool → ℕ → ℕ
@@ -11,3 +12,7 @@ and_again false twice = twice
 abbrev pub in_step : Bool → ℕ → ℕ → Bool
 in_step true last seq = leb last seq
 in_step false last seq = false
+
+-- each number stands once, and in its order
+abbrev pub IsFine : Tally → Type 0
+IsFine tally = (tally.twice ≡ 0) × (tally.ordered ≡ true)

@@ -1,8 +1,9 @@
 //! The command `run`.
 
-ghost use Rattle.std.specs.Prelude.{◌≡◌, ◌⊎◌, None, IfOk, vec_len};
+ghost use Rattle.std.specs.Prelude.{◌≡◌, ◌⊎◌, ◌↔◌, All, None, IfOk, vec_len};
 ghost use Rattle.rmelab.specs.Commands.{lab_for, RunEnds};
 ghost use Rattle.rmelab.specs.Statuses.{status_ended};
+ghost use Rattle.rmelab.specs.Tallies.{IsFine};
 
 use crate::ending::Ending;
 use crate::fault::Fault;
@@ -64,7 +65,8 @@ pub fn lines_of(alloc: Global, tallies: &IndexMap<u64, Tally>) -> Result<String,
 
 /// 0 where each message stands once and in its order, else 1.
 pub fn status_of_tallies(tallies: &IndexMap<u64, Tally>) -> u8
-    ensures { (result ≡ 0) ⊎ (result ≡ 1) }
+    ensures either { (result ≡ 0) ⊎ (result ≡ 1) }
+    ensures fine { (result ≡ 0) ↔ All (λ e. IsFine e.1) tallies.now.entries }
 {
     for (_, tally) in tallies {
         if !tally.is_fine() {

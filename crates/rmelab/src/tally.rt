@@ -2,7 +2,7 @@
 
 ghost use Rattle.std.specs.Prelude.{◌≡◌, ◌↔◌, true};
 ghost use Rattle.rmecore.specs.Simulated.{one_more};
-ghost use Rattle.rmelab.specs.Tallies.{and_again, in_step};
+ghost use Rattle.rmelab.specs.Tallies.{and_again, in_step, IsFine};
 
 use indexmap::{IndexMap, IndexSet};
 use redomail::Message;
@@ -53,7 +53,7 @@ impl Tally {
 
     /// Whether each number stands once, and in its order.
     pub fn is_fine(&self) -> bool
-        ensures { result ≡ true ↔ ((self.now.twice ≡ 0) × (self.now.ordered ≡ true)) }
+        ensures { result ≡ true ↔ IsFine self.now }
     {
         self.twice == 0 && self.ordered
     }

@@ -135,8 +135,6 @@ Shape-from_whole l p w s r h =
     }
 
 -- From the shape to the modes, for a process that is inside a lock that isn't ruined.
-abbrev pub Mode : Layout → ℕ → Words → Mailbox → Type 0
-Mode l p w s = Idle l p w s ⊎ ((r : Record) × (Half l p w s r ⊎ Whole l p w s r))
 
 pub closed_off : (s : Mailbox) (x : ℕ) → x ≡ bit s.closed → (x ≡ 1 → ⊥) → s.closed ≡ false
 closed_off s x e other = cond_both s.closed 1 0 (λ y. x ≡ y → s.closed ≡ false) (λ _ h. absurd (other h)) (λ h _. h) e

@@ -16,7 +16,7 @@ use Rattle.redomail.specs.Tasks.{script}
 use Rattle.redomail.specs.Shape.{Shape}
 use Rattle.redomail.specs.declared.deed.Deed.{Deed}
 use Rattle.redomail.specs.Runs.{stepped_to, Run, ran, start, added_by}
-use Rattle.redomail.specs.Cells.{step_over, steps_over, outcome, steps_left, IsOnWay, Ready, TaskKept, TaskAnswered}
+use Rattle.redomail.specs.Cells.{step_over, steps_over, outcome, IsOnWay, Ready, TaskKept, TaskAnswered}
 use Rattle.redomail.proofs.Words.{put-other, put-same}
 use Rattle.redomail.specs.Safe.{Safe}
 use Rattle.redomail.proofs.Keeps.{tasks_keep, stood}
@@ -27,9 +27,6 @@ pub record IsReached (e : Script Reply) (xs : List ℕ) (f : Script Reply) (ys :
   pub left_is : (steps_over count e xs).0 ≡ f
   pub words_is : (steps_over count e xs).1 ≡ ys
   pub same : outcome f ys ≡ outcome e xs
-
-pub reached_start : (e : Script Reply) (xs : List ℕ) → IsReached e xs e xs
-reached_start e xs = record { count = 0; left_is = refl; words_is = refl; same = refl }
 
 outcome-step : (f : Script Reply) (ys : List ℕ) → outcome (step_over f ys).0 (step_over f ys).1 ≡ outcome f ys
 outcome-step (Get i next) ys = refl
@@ -65,11 +62,6 @@ is_done (Put j u rest) a e = cc
 is_done (Done b) a e =
     let same : a ≡ b = cc in rw same refl
 
-left_falls : (f : Script Reply) (ys : List ℕ) → ((a : Reply) → head f ≡ want.Done a → ⊥) → steps_left (step_over f ys).0 (step_over f ys).1 < steps_left f ys
-left_falls (Get j next) ys n = omega arith
-left_falls (Put j u rest) ys n = omega arith
-left_falls (Done a) ys n = absurd (n a refl)
-
 -- one more step, with the equations that a loop over the words has
 pub reached_got : (e : Script Reply) (xs : List ℕ) (f : Script Reply) (ys : List ℕ) (i word : ℕ) (f2 : Script Reply) (ys2 : List ℕ) → want.Get i ≡ head f → word ≡ slice_index ys i → f2 ≡ tail f word → ys2 ≡ ys
     → IsReached e xs f ys → IsReached e xs f2 ys2
@@ -86,20 +78,6 @@ reached_put e xs f ys i v f2 ys2 en ef ey h =
     let a : (step_over f ys).0 ≡ f2 = ap (λ z. z.0) s ∙ sym ef in
     let b : (step_over f ys).1 ≡ ys2 = ap (λ z. z.1) s ∙ sym ey in
     rw (← a, ← b) (reached_step e xs f ys h)
-
-pub falls_got : (f : Script Reply) (ys : List ℕ) (i word : ℕ) (f2 : Script Reply) (ys2 : List ℕ) → want.Get i ≡ head f → word ≡ slice_index ys i → f2 ≡ tail f word → ys2 ≡ ys → steps_left f2 ys2 < steps_left f ys
-falls_got f ys i word f2 ys2 en ew ef ey =
-    let s : step_over f ys ≡ (tail f (slice_index ys i), ys) = step_of_get f ys i en in
-    let a : (step_over f ys).0 ≡ f2 = ap (λ z. z.0) s ∙ sym (ef ∙ ap (tail f) ew) in
-    let b : (step_over f ys).1 ≡ ys2 = ap (λ z. z.1) s ∙ sym ey in
-    rw (← a, ← b) (left_falls f ys (λ c h. let bad : want.Get i ≡ want.Done c = en ∙ h in cc))
-
-pub falls_put : (f : Script Reply) (ys : List ℕ) (i v : ℕ) (f2 : Script Reply) (ys2 : List ℕ) → want.Put i v ≡ head f → f2 ≡ tail f 0 → ys2 ≡ slice_set ys i v → steps_left f2 ys2 < steps_left f ys
-falls_put f ys i v f2 ys2 en ef ey =
-    let s : step_over f ys ≡ (tail f 0, slice_set ys i v) = step_of_put f ys i v en in
-    let a : (step_over f ys).0 ≡ f2 = ap (λ z. z.0) s ∙ sym ef in
-    let b : (step_over f ys).1 ≡ ys2 = ap (λ z. z.1) s ∙ sym ey in
-    rw (← a, ← b) (left_falls f ys (λ c h. let bad : want.Put i v ≡ want.Done c = en ∙ h in cc))
 
 words_of-set : (xs : List ℕ) (i v : ℕ) → i < length xs → put (words_of xs) i v ≡ words_of (slice_set xs i v)
 words_of-set xs i v l = λ t j. each j t

@@ -4,7 +4,7 @@ use Rattle.redomail.specs.declared.reply.Reply.{Reply}
 use Rattle.redomail.specs.declared.layout.Layout.{Layout}
 use Rattle.redomail.specs.declared.stage.Stage.{Stage}
 use Rattle.redomail.specs.declared.stage.Stage.TheVariants as stage
-use Rattle.redomail.specs.declared.reply.Reply.TheVariants.{AlreadyClosed, ClosedNow, Mended, Word, Ruined}
+use Rattle.redomail.specs.declared.reply.Reply.TheVariants.{ClosedNow, Word, Ruined}
 use Rattle.redomail.specs.declared.reply.Reply.TheVariants as reply
 use Rattle.redomail.specs.Layout.{board_at, last_at}
 use Rattle.redomail.specs.Script.{Script, Get, Put, Done, puts, gets}

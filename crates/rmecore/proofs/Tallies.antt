@@ -1,11 +1,11 @@
 -- The tallies of a simulated core count the steps of the table.
-use Rattle.std.proofs.Common.{◌≡◌, ℕ, zero, suc, ◌+◌, ◌-◌, ◌^◌, ◌<◌, Bool, true, false, ◌==◌, nat_lt, if◌then◌else◌, List, [], ◌∷◌, Option, Some, None, IsSome, IfSome, unwrap_or, refl, sym, ap, ◌∙◌, inl, inr, arith, eqb-true}
+use Rattle.std.proofs.Common.{◌≡◌, ℕ, zero, suc, ◌+◌, ◌-◌, ◌<◌, Bool, true, false, ◌==◌, nat_lt, if◌then◌else◌, List, [], ◌∷◌, Option, Some, None, IsSome, IfSome, unwrap_or, refl, sym, ap, ◌∙◌, inl, inr, arith, eqb-true}
 use Rattle.std.proofs.lemmas.Bool.{cases_Bool}
 use Rattle.rmecore.specs.Place.{Steps, Place, Rest, Dead, Reread, Opening, Door, Shutting, Wait, Inside, Leaving, Withdrawing, Unmarking, only, relocked, recovered, restart, shut, unmarked, next}
 use Rattle.rmecore.specs.World.{World, Reads, stored, is_store, write}
 use Rattle.rmecore.specs.Machine.{access, kind_of, is_blocked, answer}
 use Rattle.rmecore.specs.Paid.{ReadsBegun, is_glance}
-use Rattle.rmecore.specs.Simulated.{one_more, counted}
+use Rattle.rmecore.specs.Simulated.{counted}
 use Rattle.rmecore.specs.Tallied.{IsExact, HasTaken, IsRereading, IsTallied}
 use Rattle.rmecore.proofs.Accesses.{passed}
 use Rattle.rmecore.proofs.Payments.{Comes, pays}
@@ -41,9 +41,6 @@ never_glances limit p Dead = tt
 never_glances limit p Inside = tt
 
 -- counting
-
-counts_one : (x : ℕ) → one_more x < 2 ^ 64 - 1 → one_more x ≡ x + 1
-counts_one x e = omega arith
 
 pub exact_before : (t : Tally) (b : Bool) → IsExact (counted t b) → IsExact t
 exact_before t b e = omega arith

@@ -15,12 +15,11 @@ use Rattle.redomail.specs.Script.{Script, Get as Asks, Put as Writes, Done, head
 use Rattle.redomail.specs.declared.next.Next.TheVariants as want
 use Rattle.redomail.specs.Tasks.{script}
 use Rattle.redomail.specs.Left.{Pending, left, begun}
-use Rattle.rmeworld.specs.declared.answer.Answer.TheVariants.{NotRecoverable}
 use Rattle.rmeworld.specs.declared.errand.Errand.{Errand as Chore}
 use Rattle.rmeworld.specs.declared.errand.Errand.TheVariants.{Free as IsFree, Asking, Doing as Does}
 use Rattle.rmeworld.specs.declared.why.Why.{Why}
 use Rattle.rmeworld.specs.declared.why.Why.TheVariants.{Checking, Mending}
-use Rattle.rmeworld.specs.Answered.{by_lock, by_script}
+use Rattle.rmeworld.specs.Answered.{by_lock}
 use Rattle.rmeworld.specs.Entered.{is_entry}
 use Rattle.rmeworld.specs.Errands.{errand_of, HasStep, Held}
 use Rattle.rmeworld.specs.Spot.{Errand, Free, Doing, Spot, only_spot, begun_from, moved_by, mended_entered, errand_entered, at_lock, settled}
@@ -87,17 +86,6 @@ job_goes s why job job' v h e = left_goes s why job' (left job') refl h.0 ∙ ap
         let same : (x == x) ≡ true = eq-eqb x x refl in
         rw (own, same) refl
     by (Done reply) h = absurd h
-
--- what the step of a script answers while another comes
-pub nothing_answered : (why : Why) (b : Bool) (e : Script Reply) → HasStep e → by_script why b e ≡ None
-nothing_answered why b (Asks i rest) h = refl
-nothing_answered why b (Writes i v rest) h = refl
-nothing_answered why b (Done reply) h = absurd h
-
--- what the get of ruined with which consistent begins answers
-pub asked_answers : (b : Bool) (c : Bool) (e : Script Reply) → HasStep e → by_script Mending b (if c then Done (Ruined true) else e) ≡ (if c then Some NotRecoverable else None)
-asked_answers b true e h = refl
-asked_answers b false e h = nothing_answered Mending b e h
 
 at_lock_some : (l : Layout) (p : ℕ) (s : Place) (b c : Bool) (o : Option Place) → IsSome o → IsSome (at_lock l p s b c o)
 at_lock_some l p s b c None some = some

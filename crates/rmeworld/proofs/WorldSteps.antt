@@ -107,9 +107,6 @@ module _ (s : WorldState) (p : ℕ) (a : Access) where
     pub own : StoresOwn (stand_at s.processes p).index a
     pub goes : spot_of (stand_stepped (stand_at s.processes p) (reading (scene_of s) (word_of a))) ≡ spot_after (stand_at s.processes p) (next_access (stand_at s.processes p)) (reading (scene_of s) (word_of a))
 
-seat_at : {l : Layout} {limit : ℕ} {words : List Own} {processes : List Stand} {tallies : List Tally} → IsSeated l limit words processes tallies → (p : ℕ) → p < l.procs → HasSeat l limit p (stand_at processes p)
-seat_at seated p below = seated.seats p below
-
 reads_so : (s : WorldState) (p q : ℕ) (a : Access) → StoresOwn q a → Reads (scene_of s) (Moves p (kind_of a) (word_of a) (carried a (reading (scene_of s) (word_of a))))
 reads_so s p q (Load kind word) own load = refl
 reads_so s p q (Store kind word x) own load = cc

@@ -21,7 +21,7 @@ use Rattle.runs.specs.Running.{Seated, many_more, began, fell}
 use Rattle.runs.proofs.Turned.{later_blocked, turned_served, turned_cut, turned_out}
 use Rattle.runs.specs.Calls.{Turning, answers_of, blocked_of, blocks, Takes, Ran, CutOff, Served, Calm}
 use Rattle.rmeworld.specs.Refused.{is_idle}
-use Rattle.runs.specs.Faults.{ready, LockEnds, answer_of}
+use Rattle.runs.specs.Faults.{ready, LockEnds}
 use Rattle.runs.specs.Tabled.{KeepsTable, CountsAtMost, words_begun, spot_begun, table_steps, blocked_since, LockCounts, LockCountsOut}
 use Rattle.runs.proofs.Called.{first_crash, first_start, are_moves, calls_of}
 use Rattle.runs.proofs.Tabled.{keeps_the_table, calls_keep_the_table}
@@ -82,11 +82,6 @@ lock_counts x y turns a b c d None h =
     let r = h.1 in
     let told = calls_keep_the_table x Lock [] (turns + 1) y h.0 r in
     (told.0, told.2, counted_as x y Lock [] (turns + 1) h.0 told.0 r told.1)
-
--- what a lock tells its caller
-pub counts_in : (x y : Seated) (o : Option Answer) (a : Answer) (r : Result Entering LockFault) → o ≡ Some a → LockCounts x o y → IfOk r (λ entry. a ≡ answer_of entry) → IfOk r (λ entry. LockCounts x (Some (answer_of entry)) y)
-counts_in x y o a (Err e) is h k = tt
-counts_in x y o a (Ok entry) is h k = subst (λ (u : Option Answer). LockCounts x u y) (is ∙ ap (λ (b : Answer). Some b) k) h
 
 out_of : (x y : Seated) (a : Answer) (e : LockFault) → LockCounts x (Some a) y → ((e ≡ NumbersSpent) × (a ≡ SpentAnswer)) ⊎ ((e ≡ NotRecoverable) × (a ≡ RuinedAnswer)) → LockCountsOut x y e
 out_of x y a e h (inl k) = (

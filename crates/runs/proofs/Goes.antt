@@ -1,5 +1,5 @@
 -- What a step leads to, from a spot of a call.
-use Rattle.std.proofs.Common.{◌≡◌, ℕ, zero, suc, ◌+◌, ◌<◌, ◌≤◌, Bool, true, false, ◌==◌, if◌then◌else◌, [], ◌∷◌, Option, Some, None, IsSome, unwrap_or, refl, sym, ap, ◌∙◌, subst, inl, inr, arith}
+use Rattle.std.proofs.Common.{◌≡◌, ℕ, zero, suc, ◌+◌, ◌<◌, ◌≤◌, Bool, true, false, ◌==◌, if◌then◌else◌, Option, Some, None, IsSome, unwrap_or, refl, sym, ap, ◌∙◌, subst, inl, inr, arith}
 use Rattle.rmecore.specs.Place.{Place, Rest, Dead, Reread, Opening, Door, Shutting, Wait, Inside, Leaving, Withdrawing, Unmarking, next}
 use Rattle.rmecore.specs.Machine.{answer, is_blocked}
 use Rattle.rmecore.specs.Paid.{is_glance}
@@ -192,34 +192,3 @@ module _ (l : Layout) (p k : ℕ) where
       some_place None h = absurd (cc)
       some_place (Some t) h = refl
   spot_step call limit s b c (Doing why left) kind word v some moves u lasts = script_step call s b c limit why left kind word v some u lasts.0 lasts.1 lasts.2
-
--- a call that is under way has a step left
-pub none_left : (n : ℕ) (s : Place) (b c : Bool) (e : Errand) → is_idle (record { lock = s; mended = b; barred = c; errand = e }) ≡ false → Lasts n 0 (record { lock = s; mended = b; barred = c; errand = e }) → ⊥
-none_left n Rest b c Free idle h = absurd (cc)
-none_left n Dead b c Free idle h = absurd (cc)
-none_left n Inside b c Free idle h = absurd (cc)
-none_left n (Reread call []) b c Free idle h = let few = h.1 in omega arith
-none_left n (Reread call (x ∷ [])) b c Free idle h = let few = h.1 in omega arith
-none_left n (Reread call (x ∷ y ∷ more)) b c Free idle h = let few = h.1 in omega arith
-none_left n Opening b c Free idle h = let few = h.1 in omega arith
-none_left n (Door unread m) b c Free idle h = let few = h.1 in omega arith
-none_left n (Shutting call k) b c Free idle h = let few = h.1 in omega arith
-none_left n (Wait k unpassed None) b c Free idle h = let few = h.1 in omega arith
-none_left n (Wait k unpassed (Some j)) b c Free idle h = let few = h.1 in omega arith
-none_left n Leaving b c Free idle h = let few = h.1 in omega arith
-none_left n Withdrawing b c Free idle h = let few = h.1 in omega arith
-none_left n (Unmarking core.Lock) b c Free idle h = let few = h.1 in omega arith
-none_left n (Unmarking core.Recover) b c Free idle h = let few = h.1 in omega arith
-none_left n (Unmarking core.Unlock) b c Free idle h = let few = h.1 in omega arith
-none_left n (Unmarking core.Withdraw) b c Free idle h = let few = h.1 in omega arith
-none_left n s b c (Doing why (Done r)) idle h = h.3
-none_left n s b c (Doing why (Asks i rest)) idle h = none_asked h.0 h.1 h.2
-  where
-    none_asked : (m : ℕ) → Within m (Asks i rest) → m + exit_of why ≤ 0 → ⊥
-    none_asked zero w few = w
-    none_asked (suc m) w few = omega arith
-none_left n s b c (Doing why (Writes i v rest)) idle h = none_written h.0 h.1 h.2
-  where
-    none_written : (m : ℕ) → Within m (Writes i v rest) → m + exit_of why ≤ 0 → ⊥
-    none_written zero w few = w
-    none_written (suc m) w few = omega arith

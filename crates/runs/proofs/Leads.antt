@@ -1,5 +1,5 @@
 -- What a member's own entries tell of its spot.
-use Rattle.std.proofs.Common.{◌≡◌, ℕ, ◌^◌, ◌<◌, ◌≤◌, Bool, true, false, List, [], ◌∷◌, ◌++◌, Option, None, IsSome, unwrap_or, refl, sym, ap, ◌∙◌, subst, eq-eqb, append-nil}
+use Rattle.std.proofs.Common.{◌≡◌, ℕ, ◌^◌, ◌<◌, ◌≤◌, Bool, true, false, List, [], ◌∷◌, ◌++◌, Option, IsSome, unwrap_or, refl, sym, ap, ◌∙◌, subst, eq-eqb, append-nil}
 use Rattle.rmecore.specs.World.{is_store}
 use Rattle.rmecore.specs.declared.kind.Kind.{Kind}
 use Rattle.rmecore.specs.declared.word.Word.{Word}
@@ -11,7 +11,7 @@ use Rattle.runs.specs.declared.entry.Entry.{Entry}
 use Rattle.runs.specs.declared.entry.Known.{Known}
 use Rattle.rmeworld.specs.Stand.{IsSize}
 use Rattle.runs.specs.Runs.{own, has, word_count, before, taken, happenings, spelled, gone, spot_of, Goes, index, InTable, IsBeyond, IsRun}
-use Rattle.runs.specs.Rule.{Did, May, MayLoad, MayStore, MayPass}
+use Rattle.runs.specs.Rule.{Did, May, MayLoad, MayPass}
 use Rattle.runs.specs.Pass.{Pass, view_of, alone, owed, next_entry, glanced, glance_entry, spot_now, moved_spot, IsPass, Adds, Advances, Looks}
 use Rattle.runs.proofs.Runs.{own-append, own_mine, spelled_snoc}
 
@@ -72,29 +72,12 @@ stays_pass x y word value a k = record {
   goes = subst (λ (t : Spot × Bool × Option Call × Setup × ℕ). Goes t.3 t.0 (before t.1 t.2 t.4)) (λ i. (sym (looked_spot x y word value a) i, sym a.fallen i, sym a.start i, sym a.adds.setup i, sym a.adds.by i)) k.goes;
 }
 
-pub advanced_pass : (x y : Pass) (kind : Kind) (word : Word) (value : ℕ) → Advances x kind word value y → IsPass x → IsPass y
-advanced_pass x y kind word value a k = record {
-  size = subst (λ (s : Setup). IsSize s.layout) (sym a.adds.setup) k.size;
-  limited = subst (λ (s : Setup). (1 ≤ s.limit) × (s.limit ≤ 2 ^ 62)) (sym a.adds.setup) k.limited;
-  words = ap (λ t. t.words) a.adds.table ∙ k.words ∙ ap word_count (sym a.adds.setup);
-  below = subst (λ (t : Setup × ℕ). t.1 < t.0.layout.procs) (λ i. (sym a.adds.setup i, sym a.adds.by i)) k.below;
-  run = a.adds.run;
-  goes = subst (λ (t : Bool × Option Call). Goes y.setup (spot_of y.setup y.by y.seen) (before t.0 t.1 y.by)) (λ i. (sym a.fallen i, sym a.start i)) tt;
-}
-
 alone_is : (x : Pass) (k : Known) → k ≡ alone x.setup x.by x.seen → k.view ≡ view_of x
 alone_is x k e = ap (λ (l : Known). l.view) e
 
 pub may_load : (x : Pass) (k : Known) (kind : Kind) (word : Word) (at : ℕ) → k ≡ alone x.setup x.by x.seen → IsPass x → InTable x.setup word → at ≡ index x.setup word → is_store kind ≡ false → ((found : ℕ) → found < 18446744073709551616 → IsSome (moved_spot x kind word found)) → MayLoad (owed x kind word) at k.view
 may_load x k kind word at e pass t is loads some =
     subst (λ v. MayLoad (owed x kind word) at v) (sym (alone_is x k e)) (is, t, loads, λ found small. may x kind word found pass (some found small))
-
-pub may_store : (x : Pass) (k : Known) (kind : Kind) (word : Word) (at new : ℕ) → k ≡ alone x.setup x.by x.seen → IsPass x → InTable x.setup word → at ≡ index x.setup word → is_store kind ≡ true → IsSome (moved_spot x kind word new) → MayStore (owed x kind word) at k.view new
-may_store x k kind word at new e pass t is stores some =
-    subst (λ v. MayStore (owed x kind word) at v new) (sym (alone_is x k e)) (is, t, stores, may x kind word new pass some)
-
-pub may_look : (x : Pass) (k : Known) (word : Word) (at : ℕ) → k ≡ alone x.setup x.by x.seen → InTable x.setup word → at ≡ index x.setup word → MayLoad (glanced word) at k.view
-may_look x k word at e t is = subst (λ v. MayLoad (glanced word) at v) (sym (alone_is x k e)) (is, t, refl, λ found small. may_glance x word found)
 
 -- what a step tells, as the pass grows
 adds_of : (x : Pass) (step : Step) (value : ℕ) (l : Known) (y : Pass) → Did step (alone x.setup x.by x.seen) value l → y.table ≡ x.table → y.setup ≡ x.setup → y.by ≡ x.by → y.seen ≡ l.view.seen → Adds x (record { by = x.by; step = step; value = value }) y
@@ -107,14 +90,6 @@ adds_of x step value l y d table setup by seen = record {
   apart = d.apart x.by (has_one x.by);
   run = subst (λ (t : Setup × List Entry). IsRun t.0 t.1) (λ i. ((d.setup ∙ sym setup) i, sym seen i)) d.run;
 }
-
-pub advances_of : (x : Pass) (k : Known) (kind : Kind) (word : Word) (value : ℕ) (l : Known) (y : Pass) → k ≡ alone x.setup x.by x.seen → Did (owed x kind word) k value l → y ≡ record { table = x.table; setup = x.setup; by = x.by; fallen = false; start = None; seen = l.view.seen } → Advances x kind word value y
-advances_of x k kind word value l y e d is =
-    record {
-      adds = adds_of x (owed x kind word) value l y (subst (λ (k : Known). Did (owed x kind word) k value l) e d) (ap (λ (p : Pass). p.table) is) (ap (λ (p : Pass). p.setup) is) (ap (λ (p : Pass). p.by) is) (ap (λ (p : Pass). p.seen) is);
-      fallen = ap (λ (p : Pass). p.fallen) is;
-      start = ap (λ (p : Pass). p.start) is;
-    }
 
 pub looks_of : (x : Pass) (k : Known) (word : Word) (value : ℕ) (l : Known) (y : Pass) → k ≡ alone x.setup x.by x.seen → Did (glanced word) k value l → y ≡ record { table = x.table; setup = x.setup; by = x.by; fallen = x.fallen; start = x.start; seen = l.view.seen } → Looks x word value y
 looks_of x k word value l y e d is =
@@ -135,13 +110,6 @@ alone_after x k step value l e d =
 pub load_as : (x now : Pass) (k : Known) (kind : Kind) (word : Word) (at : ℕ) → x ≡ now → k ≡ alone x.setup x.by x.seen → IsPass x → InTable now.setup word → at ≡ index x.setup word → is_store kind ≡ false → ((found : ℕ) → found < 18446744073709551616 → IsSome (moved_spot now kind word found)) → MayLoad (owed x kind word) at k.view
 load_as x now k kind word at same e pass t is loads some =
     may_load x k kind word at e pass (subst (λ (y : Pass). InTable y.setup word) (sym same) t) is loads (subst (λ (y : Pass). (found : ℕ) → found < 18446744073709551616 → IsSome (moved_spot y kind word found)) (sym same) some)
-
-pub store_as : (x now : Pass) (k : Known) (kind : Kind) (word : Word) (at new : ℕ) → x ≡ now → k ≡ alone x.setup x.by x.seen → IsPass x → InTable now.setup word → at ≡ index x.setup word → is_store kind ≡ true → IsSome (moved_spot now kind word new) → MayStore (owed x kind word) at k.view new
-store_as x now k kind word at new same e pass t is stores some =
-    may_store x k kind word at new e pass (subst (λ (y : Pass). InTable y.setup word) (sym same) t) is stores (subst (λ (y : Pass). IsSome (moved_spot y kind word new)) (sym same) some)
-
-pub look_as : (x now : Pass) (k : Known) (word : Word) (at : ℕ) → x ≡ now → k ≡ alone x.setup x.by x.seen → InTable now.setup word → at ≡ index x.setup word → MayLoad (glanced word) at k.view
-look_as x now k word at same e t is = may_look x k word at e (subst (λ (y : Pass). InTable y.setup word) (sym same) t) is
 
 pub pass_as : (x now : Pass) (k : Known) (kind : Kind) (word : Word) (value : ℕ) → x ≡ now → k ≡ alone x.setup x.by x.seen → IsPass x → IsBeyond now.setup word → (is_store kind ≡ false → value ≡ 0) → IsSome (moved_spot now kind word value) → MayPass (owed x kind word) k.view value
 pass_as x now k kind word value same e pass t none some =

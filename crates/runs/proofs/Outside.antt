@@ -1,17 +1,16 @@
 -- A process that isn't in the section may set out on another lock.
-use Rattle.std.proofs.Common.{◌≡◌, ◌≢◌, ℕ, List, Bool, true, false, if◌then◌else◌, Option, None, refl, sym, ap, ◌∙◌, subst}
+use Rattle.std.proofs.Common.{◌≡◌, ◌≢◌, ℕ, List, Bool, true, false, if◌then◌else◌, Option, None, refl, sym, ap, ◌∙◌}
 use Rattle.rmecore.specs.Place.{Rest, Dead}
 use Rattle.rmeworld.specs.declared.answer.Answer.{Answer}
 use Rattle.rmeworld.specs.declared.answer.Answer.TheVariants.{Clean, OwnerDied, NumbersSpent, NotRecoverable}
 use Rattle.rmeworld.specs.declared.call.Call.{Call}
-use Rattle.rmeworld.specs.declared.call.Call.TheVariants.{Lock, Unlock}
+use Rattle.rmeworld.specs.declared.call.Call.TheVariants.{Lock}
 use Rattle.rmeworld.specs.Refused.{is_idle, is_inside}
 use Rattle.runs.specs.Faults.{refusal_now, ready, CutBy}
 use Rattle.runs.specs.Pass.{spot_now}
 use Rattle.runs.specs.Running.{Seated, fell}
 use Rattle.runs.specs.Runs.{before, gone, spot_of}
 use Rattle.runs.specs.Under.{Fits, Leaves}
-use Rattle.runs.proofs.WholeCalls.{unlocked_is}
 
 either_out : (b : Bool) (x : Seated) → is_idle (spot_now x.pass) ≡ b → (b ≡ true → is_inside (spot_now x.pass).lock ≡ false) → refusal_now (if b then x else fell x) Lock ≡ None
 either_out true x idle away = rw idle (rw (away refl) refl)
@@ -34,16 +33,9 @@ fallen_out x fallen none =
     let dead : (spot_now x.pass).lock ≡ Dead = ap (λ (u : Bool × Option Call). (gone s (spot_of s x.pass.by x.pass.seen) (before u.0 u.1 x.pass.by)).lock) (λ i. (fallen i, none i)) in
     away_out x (ap is_inside dead)
 
-pub fell_out : (x y : Seated) → y ≡ fell x → refusal_now (ready y) Lock ≡ None
-fell_out x y e = subst (λ (u : Seated). refusal_now (ready u) Lock ≡ None) (sym e) (fallen_out (fell x) refl refl)
-
 -- one that a crash cut off
 pub cut_out : (x y : Seated) (P : List Call → Type 0) (a b c d : ℕ) → CutBy x P y a b c d → refusal_now (ready y) Lock ≡ None
 cut_out x y P a b c d h = fallen_out y h.1.fallen h.1.idle
-
--- behind an unlock
-pub unlocked_out : (x : Seated) (a : Answer) → Fits Unlock a → Leaves Unlock a (spot_now x.pass) → refusal_now (ready x) Lock ≡ None
-unlocked_out x a fits leaves = rest_out x (subst (λ (b : Answer). Leaves Unlock b (spot_now x.pass)) (unlocked_is a fits) leaves)
 
 -- behind a lock that didn't enter
 pub turned_out : (x : Seated) (a : Answer) → Fits Lock a → Leaves Lock a (spot_now x.pass) → a ≢ Clean → a ≢ OwnerDied → refusal_now (ready x) Lock ≡ None

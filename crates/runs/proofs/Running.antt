@@ -12,7 +12,7 @@ use Rattle.redomail.specs.Layout.{size, place_at}
 use Rattle.redomail.specs.Script.{Script, Get, Put, Done}
 use Rattle.rmeworld.specs.declared.call.Call.{Call}
 use Rattle.rmeworld.specs.Spot.{Errand, Free, Doing, Spot, Moves, Begins, next_spot}
-use Rattle.rmeworld.specs.Stand.{Stand, spot_of as standing_at, access_by, next_access, outcome, spot_after, IsAllowed, crashed, progress_by, stepped, stepped_by, job_left, started, placed, works, calm}
+use Rattle.rmeworld.specs.Stand.{Stand, spot_of as standing_at, access_by, next_access, outcome, spot_after, IsAllowed, progress_by, stepped, stepped_by, job_left, started, placed, works, calm}
 use Rattle.rmeworld.specs.declared.errand.Errand.{Errand as Chore}
 use Rattle.rmeworld.specs.declared.errand.Errand.TheVariants.{Free as IsFree, Asking, Doing as Does}
 use Rattle.rmeworld.specs.declared.why.Why.{Why}
@@ -119,10 +119,6 @@ pub outcome_same : (x : Pass) (s : Stand) (a : Access) (v : ℕ) → IsRunBy x s
 outcome_same x s a v r e =
     ap (λ (o : Option Access). outcome s o v) e
     ∙ ap (λ (t : ℕ × Spot). record { progress = progress_by t.0 t.1 a v; answer = answer_at t.1 (kind_of a) (carried a v) }) (λ i. (r.index i, r.spot i))
-
--- a crash
-pub run_by_crash : (x : Pass) (s : Stand) → IsRunBy x s → IsRunBy (record x { fallen = true; start = None }) (crashed s)
-run_by_crash x s r = record { layout = r.layout; limit = r.limit; index = r.index; spot = refl }
 
 -- a start
 begun_by : (s : Setup) (q : Spot) (b : Bool) (p : ℕ) (call : Call) → gone s q (before b (Some call) p) ≡ unwrap_or (next_spot s.layout s.limit (gone s q (before b None p)) (Begins p call)) (gone s q (before b None p))

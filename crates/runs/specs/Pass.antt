@@ -1,5 +1,5 @@
 -- What a contract sees of a member's seat: its pass, and what its next step has to carry.
-use Rattle.std.specs.Prelude.{◌≡◌, ℕ, ◌-◌, ◌<◌, ◌≤◌, ◌^◌, Bool, false, List, [], ◌∷◌, ◌++◌, map, Option, None}
+use Rattle.std.specs.Prelude.{◌≡◌, ℕ, ◌-◌, ◌<◌, ◌≤◌, ◌^◌, Bool, false, List, [], ◌∷◌, ◌++◌, Option, None}
 use Rattle.atomic_table.specs.Seated.{TableId}
 use Rattle.rmecore.specs.declared.kind.Kind.{Kind}
 use Rattle.rmecore.specs.declared.kind.Kind.TheVariants.{Glance}
@@ -39,9 +39,6 @@ rest_known s p = record { view = record { setup = s; answers = count_from p (s.l
 -- a member before any step
 abbrev pub fresh : TableId → Setup → ℕ → Pass
 fresh t s p = record { table = t; setup = s; by = p; fallen = false; start = None; seen = [] }
-
-abbrev pub fresh_passes : TableId → Setup → List Pass
-fresh_passes t s = map (fresh t s) (count_from 0 s.layout.procs)
 
 -- the caller's own entries
 abbrev pub own_of : Pass → List Entry

@@ -27,12 +27,6 @@ item h = deed_at h.width
 pub ended_first : (lines : List (List ℕ)) → Stands stages.First lines → trace_answer (lines ++ [] ∷ []) ≡ Err (Text 1 1)
 ended_first lines none = rw none (ap answer_of (none_empty trace_head_at item))
 
-pub ended_faulty : (lines : List (List ℕ)) (k : ℕ) (f : LineFault) → Stands (stages.Faulty k f) lines → trace_answer (lines ++ [] ∷ []) ≡ Err (Text k (number_of f))
-ended_faulty lines k f h = ap answer_of h.0
-
-pub ended_refused : (lines : List (List ℕ)) (head : TraceHead) (number : ℕ) → Stands (stages.Refused head number) lines → trace_answer (lines ++ [] ∷ []) ≡ Err (Refused 1 number)
-ended_refused lines head number h = ap answer_of h.1 ∙ ap (λ (o : Option ℕ). judged_of o head.procs head.cap h.0) h.2
-
 pub ended_judging : (lines : List (List ℕ)) (head : TraceHead) (judge : Kept) (hearing : Hearing) → Stands (stages.Judging head judge hearing) lines
     → trace_answer (lines ++ [] ∷ []) ≡ Ok hearing.verdict
 ended_judging lines head judge hearing h =

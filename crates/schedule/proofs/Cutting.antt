@@ -1,19 +1,14 @@
 -- Pieces of a text.
-use Rattle.std.proofs.Common.{◌≡◌, ℕ, ◌-◌, ◌<◌, ◌≤◌, false, eqb, List, [], ◌∷◌, ◌++◌, length, take, drop, refl, sym, ap, ◌∙◌, append_assoc, length-append, arith, inl, inr}
+use Rattle.std.proofs.Common.{◌≡◌, ℕ, ◌-◌, ◌<◌, ◌≤◌, false, eqb, List, [], ◌∷◌, ◌++◌, length, refl, sym, ap, ◌∙◌, length-append, arith, inl, inr}
 use Rattle.std.specs.List.{onto_first}
 use Rattle.std.proofs.lemmas.Bool.{cases_Bool}
-use Rattle.std.proofs.lemmas.List.{append-nil, take-append-drop, take_all, length-drop, nil_from_length}
 use Rattle.std.proofs.lemmas.List.Splits.{slice_split-cons_yes, slice_split-cons_no, length-slice_split}
 use Rattle.schedule.specs.Texts.{parts_of}
 use Rattle.std.proofs.lemmas.List.Sums.{count_by-le-length}
-use Rattle.schedule.specs.Pieces.{WritesFront}
 
 tail_same : (x : ℕ) (parts : List (List ℕ)) (xs : List ℕ) → 0 < length parts → onto_first x parts ≡ (x ∷ xs) ∷ [] → parts ≡ xs ∷ []
 tail_same x [] xs lt e = absurd (omega arith)
 tail_same x (part ∷ parts) xs lt e = cc
-
-onto_append : (x : ℕ) (a front : List ℕ) (parts tail : List (List ℕ)) → parts ≡ (a ++ front) ∷ tail → onto_first x parts ≡ (x ∷ a ++ front) ∷ tail
-onto_append x a front parts tail e = ap (onto_first x) e
 
 no_cut : (x : ℕ) (xs : List ℕ) (parts : List (List ℕ)) → [] ∷ parts ≡ (x ∷ xs) ∷ [] → ⊥
 no_cut x xs parts e = cc
@@ -72,21 +67,3 @@ lines-few text rest lines e =
     omega (arith, length-slice_split (λ b. eqb b 10) text, count_by-le-length (λ b. eqb b 10) text, ap length e, length-append lines (rest ∷ []))
 
 -- ---- writing
-
-pub writes_more : (old now new bytes rest : List ℕ) (n : ℕ) → n ≤ length rest → WritesFront old now bytes rest → new ≡ now ++ take n rest
-    → WritesFront old new bytes (take (length rest - n) (drop n rest))
-writes_more old now new bytes rest n le w e =
-    let whole : take (length rest - n) (drop n rest) ≡ drop n rest = take_all _ _ (omega (arith, length-drop n rest)) in
-    rw whole (record {
-      front = w.front ++ take n rest;
-      written = e ∙ ap (λ (l : List ℕ). l ++ take n rest) w.written ∙ append_assoc old w.front (take n rest);
-      left = w.left ∙ ap (λ (l : List ℕ). w.front ++ l) (sym (take-append-drop n rest)) ∙ sym (append_assoc w.front (take n rest) (drop n rest));
-    })
-
-pub writes_none : (old bytes : List ℕ) → WritesFront old old bytes bytes
-writes_none old bytes = record { front = []; written = sym (append-nil old); left = refl }
-
-pub writes_all : (old new bytes rest : List ℕ) → WritesFront old new bytes rest → length rest ≡ 0 → new ≡ old ++ bytes
-writes_all old new bytes rest w e =
-    let none : rest ≡ [] = nil_from_length rest e in
-    w.written ∙ ap (λ (l : List ℕ). old ++ l) (sym (w.left ∙ ap (λ (l : List ℕ). w.front ++ l) none ∙ append-nil w.front))

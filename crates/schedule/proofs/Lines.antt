@@ -46,10 +46,3 @@ is_done front width j ws total le read so_far =
     let k : width - j ≡ 0 = omega arith in
     let one : with_front front (numbers_at (many (width - j)) ws) ≡ Ok front = rw (k, read) (ap (λ (xs : List ℕ). Ok xs) (append-nil front)) in
     sym so_far ∙ one
-
-pub is_over : (front : List ℕ) (width j : ℕ) (ws : List (List ℕ)) (f : LineFault) (total : Result (List ℕ) LineFault) → width ≤ j
-    → numbers_at [] ws ≡ Err f → with_front front (numbers_at (many (width - j)) ws) ≡ total → total ≡ Err f
-is_over front width j ws f total le read so_far =
-    let k : width - j ≡ 0 = omega arith in
-    let one : with_front front (numbers_at (many (width - j)) ws) ≡ Err f = rw (k, read) refl in
-    sym so_far ∙ one

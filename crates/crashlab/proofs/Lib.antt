@@ -1,4 +1,13 @@
 pub mod Seats
 pub mod Rests
+pub mod Steady
+pub mod Starts
+pub mod Rows
+pub mod Looks
+pub mod Detours
+pub mod Repairs
+pub mod Skips
+pub mod VariantRuns
+pub mod Choices
 pub mod LockWorlds
 pub mod Lines

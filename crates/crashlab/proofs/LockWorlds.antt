@@ -1,7 +1,6 @@
 -- What the variant that is the lock does is what the world does.
-use Rattle.std.proofs.Common.{◌≡◌, ◌≢◌, ℕ, zero, suc, ◌+◌, ◌<◌, ◌⊎◌, List, [], ◌∷◌, ◌++◌, map, length, slice_set, Some, Result, Ok, Err, OnOk, refl, sym, ap, ◌∙◌, subst, inl, inr}
-use Rattle.std.proofs.lemmas.Bool.{cases_eq}
-use Rattle.std.proofs.lemmas.List.{get_or-set_same, get_or-set_other, map-set, length-map, length-replicate}
+use Rattle.std.proofs.Common.{◌≡◌, ℕ, zero, suc, ◌+◌, ◌<◌, List, [], ◌∷◌, ◌++◌, map, slice_set, Some, Result, Ok, Err, OnOk, refl, sym, ap, ◌∙◌, subst}
+use Rattle.std.proofs.lemmas.List.{map-set, length-map, length-replicate}
 use Rattle.std.proofs.Math.ListN.{get_or-map}
 use Rattle.rmecore.specs.Simulated.{zeros, fresh}
 use Rattle.rmecore.specs.declared.access.Access.{Access}
@@ -25,6 +24,7 @@ use Rattle.crashlab.specs.LockWorlds.{as_world, IsLockWorld}
 use Rattle.crashlab.specs.VariantStands.{VariantStand, IsPlain, variant_resting, variant_crashed, variant_next_access, access_beside, variant_stepped, stepped_beside, variant_outcome, outcome_beside, variant_started, change_of}
 use Rattle.crashlab.specs.VariantWorlds.{VariantState, stand_at, IsSeated, at_rest_from, new_world, found_by, started, advanced_by, crashed, crash_deed}
 use Rattle.crashlab.proofs.Rests.{seated_new, rest_at}
+use Rattle.crashlab.proofs.Seats.{set_each}
 
 -- the world's process at p
 stand_is : (s : VariantState) (h : List Deed) (p : ℕ) → world_stand (as_world s h).processes p ≡ (stand_at s.processes p).stand
@@ -44,13 +44,6 @@ world_seated s h seated =
 -- one process moved
 processes_set : (s : VariantState) (p : ℕ) (t : VariantStand) → map (λ (u : VariantStand). u.stand) (slice_set s.processes p t) ≡ slice_set (map (λ (u : VariantStand). u.stand) s.processes) p t.stand
 processes_set s p t = map-set (λ (u : VariantStand). u.stand) s.processes p t
-
-plain_set : (s : VariantState) (p : ℕ) (t : VariantStand) → length s.processes ≡ s.layout.procs → IsPlain t → p < s.layout.procs → ((q : ℕ) → q < s.layout.procs → IsPlain (stand_at s.processes q)) → (q : ℕ) → q < s.layout.procs → IsPlain (stand_at (slice_set s.processes p t) q)
-plain_set s p t each plain below all q less = go (cases_eq q p)
-  where
-    go : (q ≡ p) ⊎ (q ≢ p) → IsPlain (stand_at (slice_set s.processes p t) q)
-    go (inl e) = subst (λ r. IsPlain (stand_at (slice_set s.processes p t) r)) (sym e) (subst IsPlain (sym (get_or-set_same s.processes p t _ (rw each below))) plain)
-    go (inr ne) = subst IsPlain (sym (get_or-set_other s.processes p q t _ ne)) (all q less)
 
 -- one more happening
 more :
@@ -123,7 +116,7 @@ lock_started s h p c lock below seated to =
     let w : WorldState = record (as_world s h) { processes = slice_set (as_world s h).processes p (stand_started t.stand c) } in
     more s (started s p c) h h (Begins p c) w lock (start_takes (as_world s h) p c (stand_started t.stand c) (as_world s h).tallies (world_seated s h lock.seated) below to')
     (ap (λ processes. scene_of (record (as_world s h) { processes = processes })) (sym (processes_set s p (variant_started t c)))) refl refl refl seated
-    (plain_set s p (variant_started t c) lock.seated.processes_each (start_plain t c (lock.plain p below)) below lock.plain)
+    (set_each (λ _. IsPlain) s p (variant_started t c) lock.seated.processes_each (start_plain t c (lock.plain p below)) below lock.plain)
 
 pub lock_crashed : (s : VariantState) (h : List Deed) (p : ℕ) → IsLockWorld s h → p < s.layout.procs → IsSeated (crashed s p) → IsLockWorld (crashed s p) (h ++ crash_deed p ∷ [])
 lock_crashed s h p lock below seated =
@@ -132,7 +125,7 @@ lock_crashed s h p lock below seated =
     let at = stand_is s h p in
     more s (crashed s p) h (h ++ crash_deed p ∷ []) (Falls p) (world_crashed (as_world s h) p) lock (crash_takes (as_world s h) p (world_seated s h lock.seated) below)
     (ap (λ processes. scene_of (record (as_world s h) { processes = processes })) (ap (λ (u : Stand). slice_set (as_world s h).processes p (stand_crashed u)) at ∙ sym (processes_set s p (variant_crashed t)))) refl refl refl seated
-    (plain_set s p (variant_crashed t) lock.seated.processes_each (record { variant = plain.variant; detour = refl; change = refl }) below lock.plain)
+    (set_each (λ _. IsPlain) s p (variant_crashed t) lock.seated.processes_each (record { variant = plain.variant; detour = refl; change = refl }) below lock.plain)
 
 pub lock_advanced :
     (s : VariantState) (h : List Deed) (p : ℕ) (a : Access) (ds : List Deed) → IsLockWorld s h → p < s.layout.procs → IsSeated (advanced_by s p a)
@@ -166,7 +159,7 @@ lock_advanced s h p a ds lock below seated next allowed own goes told =
     more s (advanced_by s p a) h (h ++ ds) (happening (as_world s h) p a) (world_advanced (as_world s h) p a) lock (step_takes (as_world s h) p a step)
     (ap (λ processes. scene_of (record (as_world s h) { words = words_by s.words a; cells = cells_by s.cells a; processes = processes })) moved)
     (ap (λ list. h ++ list) (sym deeds_so)) refl refl seated
-    (plain_set s p (variant_stepped t v) lock.seated.processes_each (still_plain t v plain) below lock.plain)
+    (set_each (λ _. IsPlain) s p (variant_stepped t v) lock.seated.processes_each (still_plain t v plain) below lock.plain)
 
 -- the same, by what the calls of its parts ensure
 

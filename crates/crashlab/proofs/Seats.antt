@@ -36,6 +36,14 @@ use Rattle.crashlab.specs.VariantWorlds.{VariantState, stand_at, HasSeat, IsSeat
 pub stand_here : (processes : List VariantStand) (p n : ℕ) (s : VariantStand) → s ≡ slice_index_or processes p s → p < n → length processes ≡ n → stand_at processes p ≡ s
 stand_here processes p n s is below each = get_or_default processes p _ s (rw each below) ∙ sym is
 
+-- what holds of each process at its place, once one has moved
+pub set_each : (P : ℕ → VariantStand → Type 0) (s : VariantState) (p : ℕ) (t : VariantStand) → length s.processes ≡ s.layout.procs → P p t → p < s.layout.procs → ((q : ℕ) → q < s.layout.procs → P q (stand_at s.processes q)) → (q : ℕ) → q < s.layout.procs → P q (stand_at (slice_set s.processes p t) q)
+set_each P s p t each h below all q less = go (cases_eq q p)
+  where
+    go : (q ≡ p) ⊎ (q ≢ p) → P q (stand_at (slice_set s.processes p t) q)
+    go (inl e) = subst (λ r. P r (stand_at (slice_set s.processes p t) r)) (sym e) (subst (P p) (sym (get_or-set_same s.processes p t _ (rw each below))) h)
+    go (inr ne) = subst (P q) (sym (get_or-set_other s.processes p q t _ ne)) (all q less)
+
 pub seated : (s : VariantState) (words : List Own) (cells : List ℕ) (p : ℕ) (t : VariantStand) → IsSeated s → length words ≡ length s.words → length cells ≡ length s.cells → p < s.layout.procs → HasSeat s.variant s.layout s.limit p t → IsSeated (record s { words = words; cells = cells; processes = slice_set s.processes p t })
 seated s words cells p t h words_stay cells_stay below seat =
     record {
@@ -43,13 +51,8 @@ seated s words cells p t h words_stay cells_stay below seat =
       words_each = words_stay ∙ h.words_each;
       cells_each = cells_stay ∙ h.cells_each;
       processes_each = length-set s.processes p t ∙ h.processes_each;
-      seats = λ q less. each q less (cases_eq q p);
+      seats = set_each (HasSeat s.variant s.layout s.limit) s p t h.processes_each seat below h.seats;
     }
-  where
-    each : (q : ℕ) → q < s.layout.procs → (q ≡ p) ⊎ (q ≢ p) → HasSeat s.variant s.layout s.limit q (stand_at (slice_set s.processes p t) q)
-    each q less (inl e) =
-        subst (λ r. HasSeat s.variant s.layout s.limit r (stand_at (slice_set s.processes p t) r)) (sym e) (subst (HasSeat s.variant s.layout s.limit p) (sym (get_or-set_same s.processes p t _ (rw h.processes_each below))) seat)
-    each q less (inr ne) = subst (HasSeat s.variant s.layout s.limit q) (sym (get_or-set_other s.processes p q t _ ne)) (h.seats q less)
 
 -- the words stay as many
 
@@ -78,13 +81,13 @@ pub record SameVariant (s t : VariantStand) : Type 0 where
   pub variant : t.variant ≡ s.variant
   pub seat : SameSeat s.stand t.stand
 
-same_by : {s t : Stand} → t.layout ≡ s.layout → t.limit ≡ s.limit → t.index ≡ s.index → SameSeat s t
+pub same_by : {s t : Stand} → t.layout ≡ s.layout → t.limit ≡ s.limit → t.index ≡ s.index → SameSeat s t
 same_by layout limit index = record { layout = layout; limit = limit; index = index }
 
 then_same : {s t u : Stand} → SameSeat s t → SameSeat t u → SameSeat s u
 then_same a b = record { layout = b.layout ∙ a.layout; limit = b.limit ∙ a.limit; index = b.index ∙ a.index }
 
-with_seat : {s t : VariantStand} → t.variant ≡ s.variant → SameSeat s.stand t.stand → SameVariant s t
+pub with_seat : {s t : VariantStand} → t.variant ≡ s.variant → SameSeat s.stand t.stand → SameVariant s t
 with_seat variant seat = record { variant = variant; seat = seat }
 
 job_stays : (s : Stand) (why : Why) (job : Pending) (script : Script Reply) → SameSeat s (job_left s why job script)

@@ -4,7 +4,7 @@ use Rattle.redomail.specs.declared.layout.Layout.{Layout}
 use Rattle.redomail.specs.declared.reply.Reply.{Reply}
 use Rattle.redomail.specs.Layout.{held, last_at}
 use Rattle.redomail.specs.Script.{Script, Get, Put, Done}
-use Rattle.redomail.specs.Tasks.{repair, consistent}
+use Rattle.redomail.specs.Tasks.{consistent}
 use Rattle.crashlab.specs.declared.variant.Variant.{Variant}
 use Rattle.crashlab.specs.declared.variant.Variant.TheVariants.{CountUp, LastSkipped}
 
@@ -29,9 +29,6 @@ variant_script CountUp l p script = counting_up l.cap script
 variant_script LastSkipped l p script = leaving_out (last_at l p) script
 variant_script _ l p script = script
 
--- the repair, and the call that runs it
-abbrev pub variant_repair : Variant → Layout → ℕ → Script Reply
-variant_repair variant l p = variant_script variant l p (repair l p)
-
+-- the call that repairs
 abbrev pub variant_consistent : Variant → Layout → ℕ → Script Reply
 variant_consistent variant l p = variant_script variant l p (consistent l p)

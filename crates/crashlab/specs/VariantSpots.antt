@@ -1,19 +1,24 @@
 -- Where a process of a variant stands, and the spot that follows from its own happenings alone.
 use Rattle.std.specs.Prelude.{ℕ, Bool, true, false, Option, Some, None}
 use Rattle.rmecore.specs.Place.{Place}
+use Rattle.rmecore.specs.declared.access.Access.{Access}
 use Rattle.rmecore.specs.declared.kind.Kind.{Kind}
 use Rattle.rmecore.specs.declared.outer.Outer.{Outer}
 use Rattle.rmecore.specs.declared.outer.Outer.TheVariants.{Crash}
 use Rattle.rmecore.specs.declared.word.Word.{Word}
 use Rattle.redomail.specs.declared.layout.Layout.{Layout}
+use Rattle.redomail.specs.Script.{tail}
+use Rattle.rmeworld.specs.declared.answer.Answer.{Answer}
 use Rattle.rmeworld.specs.declared.call.Call.{Call}
 use Rattle.rmeworld.specs.declared.call.Call.TheVariants.{Consistent}
 use Rattle.rmeworld.specs.declared.why.Why.TheVariants.{Mending}
+use Rattle.rmeworld.specs.Answered.{by_lock, by_script}
+use Rattle.rmeworld.specs.Stand.{access_by}
 use Rattle.rmeworld.specs.Spot.{Errand, Free, Doing, Spot, dead, Happening, Begins, Falls, Moves, Glances, at_lock, moved_by, inside_only, begun_from}
 use Rattle.crashlab.specs.declared.detour.Detour.{Detour}
 use Rattle.crashlab.specs.declared.detour.Detour.TheVariants.{Straight}
 use Rattle.crashlab.specs.declared.variant.Variant.{Variant}
-use Rattle.crashlab.specs.Variants.{variant_next, variant_deed}
+use Rattle.crashlab.specs.Variants.{variant_next, variant_deed, variant_answer, variant_access}
 use Rattle.crashlab.specs.VariantScripts.{variant_consistent}
 
 pub record VariantSpot : Type 0 where
@@ -64,3 +69,19 @@ variant_outer variant s (Begins p call) = None
 variant_outer variant s (Falls p) = Some (Crash p)
 variant_outer variant s (Moves p kind word v) = variant_outer_by variant p s.spot.lock s.spot.errand s.detour kind v
 variant_outer variant s (Glances p word v) = None
+
+-- the answer of a step, if it is its call's last
+abbrev pub variant_answer_by : Variant → Place → Bool → Bool → Errand → Detour → Kind → ℕ → Option Answer
+variant_answer_by variant s b c Free d kind v = by_lock c (variant_answer variant s d kind v)
+variant_answer_by variant s b c (Doing why left) d kind v = by_script why b (tail left v)
+
+abbrev pub variant_answer_at : Variant → VariantSpot → Kind → ℕ → Option Answer
+variant_answer_at variant s kind v = variant_answer_by variant s.spot.lock s.spot.mended s.spot.barred s.spot.errand s.detour kind v
+
+-- the step that comes next: the script's, or the lock's
+abbrev pub variant_access_by : Variant → ℕ → ℕ → Place → Errand → Detour → Option Access
+variant_access_by variant limit p s Free d = variant_access variant limit p s d
+variant_access_by variant limit p s (Doing why left) d = access_by limit p s (Doing why left)
+
+abbrev pub variant_access_at : Variant → ℕ → ℕ → VariantSpot → Option Access
+variant_access_at variant limit p s = variant_access_by variant limit p s.spot.lock s.spot.errand s.detour

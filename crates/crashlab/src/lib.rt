@@ -5,6 +5,7 @@ mod change;
 mod detour;
 pub mod hunt;
 pub mod hunt_fault;
+pub mod laws;
 mod moves;
 mod round;
 mod sights;

@@ -1,0 +1,146 @@
+-- Which step a variant's process takes next, by its definition alone; and the variant that changes nothing.
+use Rattle.std.proofs.Common.{◌≡◌, ℕ, ◌<◌, Bool, true, false, ◌==◌, if◌then◌else◌, [], ◌∷◌, Some, None, refl, sym, ap, ◌∙◌, subst}
+use Rattle.rmecore.specs.Place.{Place, Reread, Door, Wait, next}
+use Rattle.rmecore.specs.Machine.{access}
+use Rattle.rmecore.specs.declared.access.Access.TheVariants.{Load, Store}
+use Rattle.rmecore.specs.declared.kind.Kind.TheVariants.{Get as Gets, Put as Puts}
+use Rattle.rmecore.specs.declared.word.Word.TheVariants.{Data as DataAt}
+use Rattle.redomail.specs.declared.layout.Layout.{Layout}
+use Rattle.redomail.specs.declared.reply.Reply.{Reply}
+use Rattle.redomail.specs.Layout.{last_at}
+use Rattle.redomail.specs.Script.{Script, Get as Asks, Put as Writes, Done}
+use Rattle.rmeworld.specs.declared.call.Call.{Call}
+use Rattle.rmeworld.specs.declared.call.Call.TheVariants.{Lock, Consistent}
+use Rattle.rmeworld.specs.declared.why.Why.TheVariants.{Mending}
+use Rattle.rmeworld.specs.Errands.{errand_of}
+use Rattle.rmeworld.specs.Spot.{Errand, Free, Doing, Spot, Happening, Begins, Falls, Moves, Glances, next_spot, begun_from, outer}
+use Rattle.rmeworld.specs.Stand.{Stand, access_by}
+use Rattle.crashlab.specs.declared.change.Change.{Change}
+use Rattle.crashlab.specs.declared.change.Change.TheVariants.{Nothing, LeavesOut, Counts, Counted}
+use Rattle.crashlab.specs.declared.detour.Detour.{Detour}
+use Rattle.crashlab.specs.declared.detour.Detour.TheVariants.{Straight, Dropping, Over}
+use Rattle.crashlab.specs.declared.variant.Variant.{Variant}
+use Rattle.crashlab.specs.declared.variant.Variant.TheVariants.{Right, NoLook, NoTies, Renumber, ExitOnCrash, CountUp, LastSkipped}
+use Rattle.crashlab.specs.Variants.{variant_access}
+use Rattle.crashlab.specs.VariantScripts.{raised, counting_up, leaving_out}
+use Rattle.crashlab.specs.VariantSpots.{beside, variant_begun, variant_spot, variant_outer, variant_access_by, variant_access_at}
+use Rattle.crashlab.specs.VariantStands.{unlooked, changed_errand, changed_access, access_beside, is_put}
+use Rattle.crashlab.specs.VariantWorlds.{VariantState, stand_at, access_at}
+use Rattle.crashlab.specs.VariantRuns.{IsRun, spot_at}
+use Rattle.crashlab.proofs.Steady.{Steady}
+use Rattle.crashlab.proofs.Rows.{after_next, nothing_changed}
+use Rattle.crashlab.proofs.Looks.{FitsLook}
+use Rattle.crashlab.proofs.Repairs.{mends_of}
+use Rattle.crashlab.proofs.VariantRuns.{Way, is_fit}
+
+abbrev Chosen : Variant → Detour → Change → Stand → Errand → Type 0
+Chosen variant d change s e = changed_access change (access_by s.limit s.index s.lock e) ≡ variant_access_by variant s.limit s.index (unlooked variant s.lock) (changed_errand change s.layout s.index e) d
+
+-- where the variant takes what the lock would take
+plainly : (variant : Variant) (d : Detour) (s : Stand) → unlooked variant s.lock ≡ s.lock → variant_access variant s.limit s.index s.lock d ≡ access s.limit s.index s.lock → Chosen variant d Nothing s (errand_of s.errand)
+plainly variant d s looks same =
+    by (errand_of s.errand)
+    ∙ (λ i. variant_access_by variant s.limit s.index (sym looks i) (sym (nothing_changed s.layout s.index (errand_of s.errand)) i) d)
+  where
+    by : (e : Errand) → access_by s.limit s.index s.lock e ≡ variant_access_by variant s.limit s.index s.lock e d
+    by Free = sym same
+    by (Doing why rest) = refl
+
+weighs_first : (limit p : ℕ) (s : Place) → FitsLook s → access limit p s ≡ variant_access NoLook limit p (unlooked NoLook s) Straight
+weighs_first limit p (Wait k (j ∷ js) (Some i)) h = let same : j ≡ i = cc in ap (λ x. variant_access NoLook limit p (Wait k (x ∷ js) None) Straight) (sym same)
+weighs_first limit p (Wait k [] (Some i)) h = cc
+weighs_first limit p (Wait k (j ∷ js) None) h = cc
+weighs_first limit p (Wait k [] None) h = refl
+weighs_first limit p (Reread c []) h = refl
+weighs_first limit p (Reread c (x ∷ [])) h = refl
+weighs_first limit p (Reread c (x ∷ k ∷ [])) h = refl
+weighs_first limit p (Reread c (x ∷ k ∷ i ∷ more)) h = refl
+weighs_first limit p (Door [] m) h = refl
+weighs_first limit p (Door (j ∷ js) m) h = refl
+weighs_first limit p _ h = refl
+
+looks_chosen : (s : Stand) → FitsLook s.lock → Chosen NoLook Straight Nothing s (errand_of s.errand)
+looks_chosen s h =
+    by (errand_of s.errand) ∙ (λ i. variant_access_by NoLook s.limit s.index (unlooked NoLook s.lock) (sym (nothing_changed s.layout s.index (errand_of s.errand)) i) Straight)
+  where
+    by : (e : Errand) → access_by s.limit s.index s.lock e ≡ variant_access_by NoLook s.limit s.index (unlooked NoLook s.lock) e Straight
+    by Free = weighs_first s.limit s.index s.lock h
+    by (Doing why (Asks i rest)) = refl
+    by (Doing why (Writes i v rest)) = refl
+    by (Doing why (Done r)) = refl
+
+counts_next : (s : Stand) (e : Script Reply) → Chosen CountUp Straight Counts s (Doing Mending e)
+counts_next s (Asks i rest) = refl
+counts_next s (Writes i v rest) = by (i == 2)
+  where
+    by : (put : Bool)
+        → (if put then Some (Load Gets (DataAt 2)) else Some (Store Puts (DataAt i) v)) ≡ access_by s.limit s.index s.lock (Doing Mending (if put then Asks 2 (λ count. Writes 2 (raised s.layout.cap count) rest) else Writes i v (counting_up s.layout.cap rest)))
+    by true = refl
+    by false = refl
+counts_next s (Done r) = refl
+
+skips_next : (s : Stand) (e : Script Reply) → is_put (last_at s.layout s.index) (access_by s.limit s.index s.lock (Doing Mending e)) ≡ false → Chosen LastSkipped Straight LeavesOut s (Doing Mending e)
+skips_next s (Asks i rest) other = refl
+skips_next s (Writes i v rest) other = ap (λ y. access_by s.limit s.index s.lock (Doing Mending (if y then rest else Writes i v (leaving_out (last_at s.layout s.index) rest)))) (sym other)
+skips_next s (Done r) other = refl
+
+chosen : (variant : Variant) (d : Detour) (change : Change) (s : Stand) → Steady s → Way variant d change s → access_beside s change d ≡ variant_access_by variant s.limit s.index (unlooked variant s.lock) (changed_errand change s.layout s.index (errand_of s.errand)) d
+chosen Right Straight Nothing s h way = plainly Right Straight s refl refl
+chosen NoLook Straight Nothing s h way = looks_chosen s way
+chosen NoTies Straight Nothing s h way = plainly NoTies Straight s refl refl
+chosen Renumber Straight Nothing s h way = plainly Renumber Straight s refl refl
+chosen Renumber (Over k) Nothing s h way = plainly Renumber (Over k) s refl refl
+chosen Renumber Dropping Nothing s h way = absurd way
+chosen ExitOnCrash Straight Nothing s h way = plainly ExitOnCrash Straight s refl refl
+chosen ExitOnCrash Dropping Nothing s h way =
+    subst (λ (u : Stand). access_beside u Nothing Dropping ≡ variant_access_by ExitOnCrash u.limit u.index (unlooked ExitOnCrash u.lock) (changed_errand Nothing u.layout u.index (errand_of u.errand)) Dropping) (sym way.is) refl
+chosen ExitOnCrash (Over k) Nothing s h way = absurd way
+chosen CountUp Straight Nothing s h way = plainly CountUp Straight s refl refl
+chosen CountUp Straight Counts s h way = let m = mends_of s 0 h way in subst (Chosen CountUp Straight Counts s) (sym m.at) (counts_next s m.script)
+chosen CountUp Straight (Counted n) s h way = subst (Chosen CountUp Straight (Counted n) s) (sym way.at) refl
+chosen CountUp Straight LeavesOut s h way = absurd way
+chosen LastSkipped Straight Nothing s h way = plainly LastSkipped Straight s refl refl
+chosen LastSkipped Straight LeavesOut s h way =
+    let m = mends_of s 0 h way.0 in
+    let other : is_put (last_at s.layout s.index) (access_by s.limit s.index s.lock (Doing Mending m.script)) ≡ false = ap (λ x. is_put (last_at s.layout s.index) (access_by s.limit s.index s.lock x)) (sym m.at) ∙ way.1 in
+    subst (Chosen LastSkipped Straight LeavesOut s) (sym m.at) (skips_next s m.script other)
+chosen LastSkipped Straight Counts s h way = absurd way
+chosen LastSkipped Straight (Counted n) s h way = absurd way
+chosen variant d change s h way = absurd way
+
+pub a_choice : (s : VariantState) (p : ℕ) → IsRun s → p < s.layout.procs → access_at s p ≡ variant_access_at s.variant s.limit p (spot_at s p)
+a_choice s p run below =
+    let h = is_fit s run in
+    let t = stand_at s.processes p in
+    let seat = h.seated.seats p below in
+    let fit = h.each p below in
+    chosen t.variant t.detour t.change t.stand fit.0 fit.1 ∙ (λ i. variant_access_at (seat.0 i) (seat.2 i) (seat.3 i) (spot_at s p))
+
+-- the lock itself
+
+right_begins : (l : Layout) (p : ℕ) (s : Place) (b : Bool) (e : Errand) (c : Call) → variant_begun Right l p s b e c ≡ begun_from l p s b e c
+right_begins l p s true e c = refl
+right_begins l p s false (Doing why rest) c = refl
+right_begins l p s false Free Consistent = refl
+right_begins l p s false Free Lock = refl
+right_begins l p s false Free _ = refl
+
+pub right_spots : (l : Layout) (limit : ℕ) (spot : Spot) (h : Happening) → variant_spot Right l limit (record { spot = spot; detour = Straight }) h ≡ beside Straight (next_spot l limit spot h)
+right_spots l limit spot (Begins p c) = ap (beside Straight) (right_begins l p spot.lock spot.mended spot.errand c)
+right_spots l limit spot (Falls p) = refl
+right_spots l limit spot (Glances p word v) = refl
+right_spots l limit spot (Moves p kind word v) = by spot.errand
+  where
+    by : (e : Errand) → variant_spot Right l limit (record { spot = record spot { errand = e }; detour = Straight }) (Moves p kind word v) ≡ beside Straight (next_spot l limit (record spot { errand = e }) (Moves p kind word v))
+    by Free = after_next l p spot.lock spot.mended spot.barred (next l.procs limit p spot.lock kind word v)
+    by (Doing why rest) = refl
+
+pub right_deeds : (spot : Spot) (h : Happening) → variant_outer Right (record { spot = spot; detour = Straight }) h ≡ outer spot h
+right_deeds spot (Begins p c) = refl
+right_deeds spot (Falls p) = refl
+right_deeds spot (Glances p word v) = refl
+right_deeds spot (Moves p kind word v) = by spot.errand
+  where
+    by : (e : Errand) → variant_outer Right (record { spot = record spot { errand = e }; detour = Straight }) (Moves p kind word v) ≡ outer (record spot { errand = e }) (Moves p kind word v)
+    by Free = refl
+    by (Doing why rest) = refl

@@ -1,0 +1,304 @@
+-- Processes whose repair is changed: one that counts up from the count that stands, and one that leaves out the last number.
+use Rattle.std.proofs.Common.{◌≡◌, ℕ, Bool, true, false, ◌&&◌, ◌==◌, if◌then◌else◌, Option, Some, None, IfSome, refl, sym, ap, ◌∙◌, subst, eqb-true}
+use Rattle.std.proofs.lemmas.Bool.{cond_both}
+use Rattle.rmecore.specs.Place.{Place, Inside}
+use Rattle.rmecore.specs.Machine.{access, kind_of, word_of, carried}
+use Rattle.rmecore.specs.declared.access.Access.{Access}
+use Rattle.rmecore.specs.declared.access.Access.TheVariants.{Load, Store}
+use Rattle.rmecore.specs.declared.kind.Kind.TheVariants.{Get as Gets, Put as Puts}
+use Rattle.rmecore.specs.declared.word.Word.TheVariants.{Data as DataAt}
+use Rattle.rmecore.proofs.Invariant.{eqb_self}
+use Rattle.redomail.specs.declared.reply.Reply.{Reply}
+use Rattle.redomail.specs.declared.reply.Reply.TheVariants.{Ruined}
+use Rattle.redomail.specs.Left.{Pending, left, fed}
+use Rattle.redomail.specs.Script.{Script, Get as Asks, Put as Writes, Done, tail}
+use Rattle.rmeworld.specs.declared.answer.Answer.{Answer}
+use Rattle.rmeworld.specs.declared.errand.Errand.{Errand as Chore}
+use Rattle.rmeworld.specs.declared.errand.Errand.TheVariants.{Free as IsFree, Asking, Doing as Does}
+use Rattle.rmeworld.specs.declared.outcome.Outcome.{Outcome}
+use Rattle.rmeworld.specs.declared.why.Why.TheVariants.{Checking, Ruining, Mending, Working}
+use Rattle.rmeworld.specs.Answered.{by_script, answer_by}
+use Rattle.rmeworld.specs.Errands.{errand_of, HasStep}
+use Rattle.rmeworld.specs.Spot.{Errand, Free, Doing, only_spot, settled, outer_by, end_mended, end_barred}
+use Rattle.rmeworld.specs.Stand.{Stand, spot_of, access_by, next_access, outcome, stepped, job_left}
+use Rattle.crashlab.specs.declared.change.Change.{Change}
+use Rattle.crashlab.specs.declared.change.Change.TheVariants.{Nothing, LeavesOut, Counts, Counted}
+use Rattle.crashlab.specs.declared.detour.Detour.TheVariants.{Straight}
+use Rattle.crashlab.specs.declared.variant.Variant.{Variant}
+use Rattle.crashlab.specs.declared.variant.Variant.TheVariants.{CountUp}
+use Rattle.crashlab.specs.VariantScripts.{raised, counting_up}
+use Rattle.crashlab.specs.VariantSpots.{beside, variant_moved, variant_outer_by, variant_answer_by}
+use Rattle.crashlab.specs.VariantStands.{VariantStand, variant_spot_of, unlooked, changed_script, changed_errand, changed_access, is_put, unless_answered, silent, plain_outcome, variant_stepped}
+use Rattle.crashlab.proofs.Seats.{step_stays}
+use Rattle.crashlab.proofs.Starts.{changed_spot}
+use Rattle.crashlab.proofs.Steady.{FitsJob, FitsChore, Steady, job_fed, job_stays_fit, step_steady}
+use Rattle.crashlab.proofs.Rows.{IsRow, process_of, Follows, all, lock_row}
+
+-- with no change left it goes the lock's way
+
+pub nothing_stays : (o : Option Answer) → unless_answered o Nothing ≡ Nothing
+nothing_stays None = refl
+nothing_stays (Some a) = refl
+
+abbrev pub Unchanged : Variant → Stand → ℕ → Change → Type 0
+Unchanged variant s v change = IfSome (next_access s) (IsRow variant s (variant_spot_of (process_of variant s Straight Nothing)) (variant_spot_of (process_of variant (stepped s v) Straight change)) (plain_outcome s v) v)
+
+pub count_plain : (s : Stand) (v : ℕ) → Steady s → Follows (process_of CountUp s Straight Nothing) v
+count_plain s v h =
+    subst (Unchanged CountUp s v) (sym (nothing_stays (plain_outcome s v).answer))
+    (lock_row CountUp s v v h (λ t. refl) (λ _. all (access s.limit s.index s.lock) _ (λ a. (refl, refl, refl))) (λ why rest e. refl))
+
+-- A process that mends: its script, and the job that the next step leaves.
+
+abbrev pub IsMending : Chore → Type 0
+IsMending (Asking job) = Unit {0}
+IsMending (Does Mending job) = Unit {0}
+IsMending _ = ⊥
+
+pub record Mends (s : Stand) (v : ℕ) : Type 0 where
+  pub script : Script Reply
+  pub at : errand_of s.errand ≡ Doing Mending script
+  pub step : HasStep script
+  pub inside : s.lock ≡ Inside
+  pub job : Pending
+  pub fits : FitsJob job
+  pub told : HasStep (tail script v) → left job ≡ tail script v
+  pub is : stepped s v ≡ job_left s Mending job (tail script v)
+
+job_same : (s : Stand) (job : Pending) (e : Script Reply) → HasStep e → record s { errand = Does Mending job } ≡ job_left s Mending job e
+job_same s job (Asks i rest) h = refl
+job_same s job (Writes i v rest) h = refl
+job_same s job (Done reply) h = absurd h
+
+asked_left : (s : Stand) (job : Pending) (x : Bool) → s.lock ≡ Inside → HasStep (left job) → (if x then record s { errand = IsFree } else record s { errand = Does Mending job }) ≡ job_left s Mending job (if x then Done (Ruined true) else left job)
+asked_left s job true inside h = λ i. record s { lock = inside i; errand = IsFree }
+asked_left s job false inside h = job_same s job (left job) h
+
+asked_told : (job : Pending) (x : Bool) → HasStep (if x then Done (Ruined true) else left job) → left job ≡ (if x then Done (Ruined true) else left job)
+asked_told job true h = absurd h
+asked_told job false h = refl
+
+mends_by : (s : Stand) (e : Chore) (v : ℕ) → FitsChore e s.lock → IsMending e → Mends (record s { errand = e }) v
+mends_by s IsFree v h k = absurd k
+mends_by s (Asking job) v h k =
+    record {
+      script = Asks 0 (λ x. if x == 1 then Done (Ruined true) else left job);
+      at = refl;
+      step = tt;
+      inside = h.0.0;
+      job = job;
+      fits = h.1;
+      told = asked_told job (v == 1);
+      is = asked_left (record s { errand = Asking job }) job (v == 1) h.0.0 h.0.1;
+    }
+mends_by s (Does Mending job) v h k =
+    record {
+      script = left job;
+      at = refl;
+      step = h.0.1;
+      inside = h.0.0;
+      job = fed job v;
+      fits = job_stays_fit job v h.1;
+      told = λ _. job_fed job v h.1;
+      is = ap (job_left (record s { errand = Does Mending job }) Mending (fed job v)) (job_fed job v h.1);
+    }
+mends_by s (Does Checking job) v h k = absurd k
+mends_by s (Does Ruining job) v h k = absurd k
+mends_by s (Does (Working task) job) v h k = absurd k
+
+pub mends_of : (s : Stand) (v : ℕ) → Steady s → IsMending s.errand → Mends s v
+mends_of s v h k = mends_by s s.errand v h.chore k
+
+-- where a step of it leads, by what is left of its script
+
+stands : (b c : Bool) (e : Script Reply) → HasStep e → settled b c Mending e ≡ record { lock = Inside; mended = b; barred = c; errand = Doing Mending e }
+stands b c (Asks i rest) h = refl
+stands b c (Writes i v rest) h = refl
+stands b c (Done reply) h = absurd h
+
+settles : (variant : Variant) (change : Change) (s : Stand) (job : Pending) (e : Script Reply) → ((t : Place) → unlooked variant t ≡ t) → s.lock ≡ Inside → (HasStep e → left job ≡ e) → ((r : Reply) → changed_script change s.layout s.index (Done r) ≡ Done r)
+    → (HasStep e → HasStep (changed_script change s.layout s.index e))
+    → settled s.mended s.barred Mending (changed_script change s.layout s.index e) ≡ changed_spot variant (unless_answered (by_script Mending s.mended e) change) s.layout s.index (spot_of (job_left s Mending job e))
+settles variant change s job (Done r) looks inside told done step =
+    ap (settled s.mended s.barred Mending) (done r) ∙ (λ i. record { lock = sym (looks Inside) i; mended = end_mended Mending s.mended r; barred = end_barred Mending s.barred r; errand = Free })
+settles variant change s job (Asks i rest) looks inside told done step =
+    stands s.mended s.barred (changed_script change s.layout s.index (Asks i rest)) (step tt)
+    ∙ (λ k. record { lock = (sym inside ∙ sym (looks s.lock)) k; mended = s.mended; barred = s.barred; errand = Doing Mending (changed_script change s.layout s.index (sym (told tt) k)) })
+settles variant change s job (Writes i v rest) looks inside told done step =
+    stands s.mended s.barred (changed_script change s.layout s.index (Writes i v rest)) (step tt)
+    ∙ (λ k. record { lock = (sym inside ∙ sym (looks s.lock)) k; mended = s.mended; barred = s.barred; errand = Doing Mending (changed_script change s.layout s.index (sym (told tt) k)) })
+
+pub lands : (variant : Variant) (change : Change) (s : Stand) (v : ℕ) (job : Pending) (e : Script Reply) (o : Option Answer) → ((t : Place) → unlooked variant t ≡ t) → ((r : Reply) → changed_script change s.layout s.index (Done r) ≡ Done r)
+    → (HasStep e → HasStep (changed_script change s.layout s.index e)) → s.lock ≡ Inside → (HasStep e → left job ≡ e) → stepped s v ≡ job_left s Mending job e → o ≡ by_script Mending s.mended e
+    → Some (record { spot = settled s.mended s.barred Mending (changed_script change s.layout s.index e); detour = Straight }) ≡ Some (variant_spot_of (process_of variant (stepped s v) Straight (unless_answered o change)))
+lands variant change s v job e o looks done step inside told is answer =
+    ap (λ y. Some (record { spot = y; detour = Straight })) (settles variant change s job e looks inside told done step)
+    ∙ (λ i. Some (record { spot = changed_spot variant (unless_answered (sym answer i) change) (same_layout i) (same_index i) (spot_of (sym is i)); detour = Straight }))
+  where
+    same_layout : s.layout ≡ (stepped s v).layout
+    same_layout = sym (step_stays s v).layout
+
+    same_index : s.index ≡ (stepped s v).index
+    same_index = sym (step_stays s v).index
+
+-- behind a step of a changed script comes what is left of it, as it was
+pub plain_lands : (variant : Variant) (s : Stand) (v : ℕ) (job : Pending) (e : Script Reply) (o : Option Answer) → ((t : Place) → unlooked variant t ≡ t) → s.lock ≡ Inside → (HasStep e → left job ≡ e) → stepped s v ≡ job_left s Mending job e → o ≡ by_script Mending s.mended e
+    → Some (record { spot = settled s.mended s.barred Mending e; detour = Straight }) ≡ Some (variant_spot_of (process_of variant (stepped s v) Straight (unless_answered o Nothing)))
+plain_lands variant s v job e o looks inside told is answer = lands variant Nothing s v job e o looks (λ r. refl) (λ h. h) inside told is answer
+
+-- what the outcome of a step of a script is
+pub outcome_is : (s : Stand) (e : Script Reply) (a : Access) (v : ℕ) → errand_of s.errand ≡ Doing Mending e → ((outcome s (Some a) v).progress.outer ≡ None) × ((outcome s (Some a) v).answer ≡ by_script Mending s.mended (tail e (carried a v)))
+outcome_is s e a v at = (ap (λ x. outer_by s.index s.lock x (kind_of a) (carried a v)) at, ap (λ x. answer_by s.lock s.mended s.barred x (kind_of a) (carried a v)) at)
+
+pub allowed_put : (i x : ℕ) → ((i == i) && (x == x)) ≡ true
+allowed_put i x = rw (eqb_self i, eqb_self x) refl
+
+-- count up
+
+count_step : (cap : ℕ) (e : Script Reply) → HasStep e → HasStep (counting_up cap e)
+count_step cap (Asks i rest) h = tt
+count_step cap (Writes i v rest) h = cond_both (i == 2) _ _ HasStep (λ _. tt) (λ _. tt)
+count_step cap (Done r) h = absurd h
+
+count_answer : (b : Bool) (cap : ℕ) (e : Script Reply) → by_script Mending b (counting_up cap e) ≡ by_script Mending b e
+count_answer b cap (Asks i rest) = refl
+count_answer b cap (Writes i v rest) = cond_both (i == 2) _ _ (λ x. by_script Mending b x ≡ None) (λ _. refl) (λ _. refl)
+count_answer b cap (Done r) = refl
+
+count_lands : (s : Stand) (v : ℕ) (job : Pending) (e : Script Reply) (o : Option Answer) → s.lock ≡ Inside → (HasStep e → left job ≡ e) → stepped s v ≡ job_left s Mending job e → o ≡ by_script Mending s.mended e
+    → Some (record { spot = settled s.mended s.barred Mending (counting_up s.layout.cap e); detour = Straight }) ≡ Some (variant_spot_of (process_of CountUp (stepped s v) Straight (unless_answered o Counts)))
+count_lands s v job e o inside told is answer = lands CountUp Counts s v job e o (λ t. refl) (λ r. refl) (count_step s.layout.cap e) inside told is answer
+
+-- with this put, or get, as the next step
+abbrev CountAfter : Stand → ℕ → Bool → Option Access → VariantStand
+CountAfter s v put o = if put then process_of CountUp s Straight (Counted (raised s.layout.cap v)) else process_of CountUp (stepped s v) Straight (unless_answered (outcome s o v).answer Counts)
+
+abbrev CountOutcome : Stand → ℕ → Bool → Option Access → Outcome
+CountOutcome s v put o = if put then silent else outcome s o v
+
+abbrev CountRow : Stand → ℕ → Option Access → Errand → VariantStand → Outcome → Type 0
+CountRow s v o e to out =
+    IfSome o (λ a. (variant_moved CountUp s.layout s.limit s.index s.lock s.mended s.barred e Straight (kind_of a) (word_of a) (carried a v) ≡ Some (variant_spot_of to))
+    × (variant_outer_by CountUp s.index s.lock e Straight (kind_of a) (carried a v) ≡ out.progress.outer) × (variant_answer_by CountUp s.lock s.mended s.barred e Straight (kind_of a) (carried a v) ≡ out.answer))
+
+abbrev CountGoal : Stand → ℕ → Errand → Type 0
+CountGoal s v x =
+    CountRow s v (changed_access Counts (access_by s.limit s.index s.lock x)) (changed_errand Counts s.layout s.index x) (CountAfter s v (is_put 2 (access_by s.limit s.index s.lock x)) (access_by s.limit s.index s.lock x))
+    (CountOutcome s v (is_put 2 (access_by s.limit s.index s.lock x)) (access_by s.limit s.index s.lock x))
+
+count_put : (s : Stand) (v i x : ℕ) (rest : Script Reply) (job : Pending) (put : Bool) → (i == 2) ≡ put → errand_of s.errand ≡ Doing Mending (Writes i x rest) → s.lock ≡ Inside → (HasStep rest → left job ≡ rest) → stepped s v ≡ job_left s Mending job rest
+    → CountRow s v (if put then Some (Load Gets (DataAt 2)) else Some (Store Puts (DataAt i) x)) (Doing Mending (if put then Asks 2 (λ count. Writes 2 (raised s.layout.cap count) rest) else Writes i x (counting_up s.layout.cap rest)))
+    (CountAfter s v put (Some (Store Puts (DataAt i) x))) (CountOutcome s v put (Some (Store Puts (DataAt i) x)))
+count_put s v i x rest job true e at inside told is =
+    let n : ℕ = raised s.layout.cap v in
+    let two : i ≡ 2 = eqb-true i 2 e in
+    let left_so : Doing Mending (Writes 2 n rest) ≡ changed_errand (Counted n) s.layout s.index (errand_of s.errand) = ap (λ z. Doing Mending (Writes z n rest)) (sym two) ∙ ap (changed_errand (Counted n) s.layout s.index) (sym at) in
+    (λ k. Some (record { spot = record { lock = sym inside k; mended = s.mended; barred = s.barred; errand = left_so k }; detour = Straight }), refl, refl)
+count_put s v i x rest job false e at inside told is =
+    let out = outcome_is s (Writes i x rest) (Store Puts (DataAt i) x) v at in (
+      ap (λ y. beside Straight (only_spot y (settled s.mended s.barred Mending (counting_up s.layout.cap rest)))) (allowed_put i x) ∙ count_lands s v job rest (outcome s (Some (Store Puts (DataAt i) x)) v).answer inside told is out.1,
+      sym out.0,
+      count_answer s.mended s.layout.cap rest ∙ sym out.1,
+    )
+
+count_by : (s : Stand) (v : ℕ) (e : Script Reply) (job : Pending) → errand_of s.errand ≡ Doing Mending e → HasStep e → s.lock ≡ Inside → (HasStep (tail e v) → left job ≡ tail e v) → stepped s v ≡ job_left s Mending job (tail e v) → CountGoal s v (Doing Mending e)
+count_by s v (Asks i rest) job at h inside told is =
+    let out = outcome_is s (Asks i rest) (Load Gets (DataAt i)) v at in (
+      ap (λ y. beside Straight (only_spot y (settled s.mended s.barred Mending (counting_up s.layout.cap (rest v))))) (eqb_self i) ∙ count_lands s v job (rest v) (outcome s (Some (Load Gets (DataAt i))) v).answer inside told is out.1,
+      sym out.0,
+      count_answer s.mended s.layout.cap (rest v) ∙ sym out.1,
+    )
+count_by s v (Writes i x rest) job at h inside told is = count_put s v i x rest job (i == 2) refl at inside told is
+count_by s v (Done r) job at h inside told is = absurd h
+
+counts_row : (s : Stand) (v : ℕ) → Steady s → IsMending s.errand → Follows (process_of CountUp s Straight Counts) v
+counts_row s v h k = let m = mends_of s v h k in subst (CountGoal s v) (sym m.at) (count_by s v m.script m.job m.at m.step m.inside m.told m.is)
+
+-- a put of count that puts what was counted
+pub record FitsCounted (s : Stand) : Type 0 where
+  pub value : ℕ
+  pub rest : Script Reply
+  pub mending : IsMending s.errand
+  pub at : errand_of s.errand ≡ Doing Mending (Writes 2 value rest)
+
+pub same_script : (e f : Script Reply) → Doing Mending e ≡ Doing Mending f → e ≡ f
+same_script e f h = cc
+
+abbrev CountedGoal : Stand → ℕ → ℕ → Errand → Type 0
+CountedGoal s n v x =
+    CountRow s v (changed_access (Counted n) (access_by s.limit s.index s.lock x)) (changed_errand (Counted n) s.layout s.index x) (process_of CountUp (stepped s v) Straight (unless_answered (outcome s (access_by s.limit s.index s.lock x) v).answer Nothing))
+    (outcome s (access_by s.limit s.index s.lock x) v)
+
+pub counted_row : (s : Stand) (n v : ℕ) → Steady s → FitsCounted s → Follows (process_of CountUp s Straight (Counted n)) v
+counted_row s n v h fits =
+    let m = mends_of s v h fits.mending in
+    let e : m.script ≡ Writes 2 fits.value fits.rest = same_script _ _ (sym m.at ∙ fits.at) in
+    let out = outcome_is s (Writes 2 fits.value fits.rest) (Store Puts (DataAt 2) fits.value) v fits.at in
+    let told : HasStep fits.rest → left m.job ≡ fits.rest = subst (λ f. HasStep (tail f v) → left m.job ≡ tail f v) e m.told in
+    let is : stepped s v ≡ job_left s Mending m.job fits.rest = subst (λ f. stepped s v ≡ job_left s Mending m.job (tail f v)) e m.is in
+    subst (CountedGoal s n v) (sym fits.at) (
+      ap (λ y. beside Straight (only_spot y (settled s.mended s.barred Mending fits.rest))) (allowed_put 2 n) ∙ plain_lands CountUp s v m.job fits.rest (outcome s (Some (Store Puts (DataAt 2) fits.value)) v).answer (λ t. refl) m.inside told is out.1,
+      sym out.0,
+      sym out.1,
+    )
+
+-- what a step leaves
+
+abbrev pub FitsCount : Change → Stand → Type 0
+FitsCount Nothing s = Unit {0}
+FitsCount Counts s = IsMending s.errand
+FitsCount (Counted n) s = FitsCounted s
+FitsCount LeavesOut s = ⊥
+
+-- where a script ends its call is answered
+pub answered : (b : Bool) (r : Reply) (change : Change) → unless_answered (by_script Mending b (Done r)) change ≡ Nothing
+answered b (Ruined ruined) change = refl
+answered b _ change = refl
+
+pub mends_on : (s : Stand) (job : Pending) (e : Script Reply) → HasStep e → IsMending (job_left s Mending job e).errand
+mends_on s job (Asks i rest) h = tt
+mends_on s job (Writes i x rest) h = tt
+mends_on s job (Done r) h = absurd h
+
+goes_on_fit : (s : Stand) (job : Pending) (b : Bool) (e : Script Reply) → FitsCount (unless_answered (by_script Mending b e) Counts) (job_left s Mending job e)
+goes_on_fit s job b (Asks i rest) = tt
+goes_on_fit s job b (Writes i x rest) = tt
+goes_on_fit s job b (Done r) = subst (λ change. FitsCount change (job_left s Mending job (Done r))) (sym (answered b r Counts)) tt
+
+abbrev pub CountFits : VariantStand → Type 0
+CountFits t = Steady t.stand × FitsCount t.change t.stand × (t.detour ≡ Straight)
+
+count_on : (s : Stand) (v : ℕ) (e : Script Reply) (job : Pending) (o : Option Answer) → Steady s → stepped s v ≡ job_left s Mending job e → o ≡ by_script Mending s.mended e → CountFits (process_of CountUp (stepped s v) Straight (unless_answered o Counts))
+count_on s v e job o h is answer =
+    (step_steady s v h, subst (λ u. FitsCount (unless_answered o Counts) u) (sym is) (subst (λ a. FitsCount (unless_answered a Counts) (job_left s Mending job e)) (sym answer) (goes_on_fit s job s.mended e)), refl)
+
+count_off : (s : Stand) (v : ℕ) (o : Option Answer) → Steady s → CountFits (process_of CountUp (stepped s v) Straight (unless_answered o Nothing))
+count_off s v o h = (step_steady s v h, subst (λ change. FitsCount change (stepped s v)) (sym (nothing_stays o)) tt, refl)
+
+count_put_stays : (s : Stand) (v i x : ℕ) (rest : Script Reply) (job : Pending) (put : Bool) → (i == 2) ≡ put → Steady s → IsMending s.errand → errand_of s.errand ≡ Doing Mending (Writes i x rest) → stepped s v ≡ job_left s Mending job rest
+    → CountFits (CountAfter s v put (Some (Store Puts (DataAt i) x)))
+count_put_stays s v i x rest job true e h k at is = (h, record { value = x; rest = rest; mending = k; at = at ∙ ap (λ z. Doing Mending (Writes z x rest)) (eqb-true i 2 e) }, refl)
+count_put_stays s v i x rest job false e h k at is = count_on s v rest job _ h is (outcome_is s (Writes i x rest) (Store Puts (DataAt i) x) v at).1
+
+abbrev CountStays : Stand → ℕ → Errand → Type 0
+CountStays s v x = CountFits (CountAfter s v (is_put 2 (access_by s.limit s.index s.lock x)) (access_by s.limit s.index s.lock x))
+
+count_stays_by : (s : Stand) (v : ℕ) (e : Script Reply) (job : Pending) → Steady s → IsMending s.errand → errand_of s.errand ≡ Doing Mending e → HasStep e → stepped s v ≡ job_left s Mending job (tail e v) → CountStays s v (Doing Mending e)
+count_stays_by s v (Asks i rest) job h k at step is = count_on s v (rest v) job _ h is (outcome_is s (Asks i rest) (Load Gets (DataAt i)) v at).1
+count_stays_by s v (Writes i x rest) job h k at step is = count_put_stays s v i x rest job (i == 2) refl h k at is
+count_stays_by s v (Done r) job h k at step is = absurd step
+
+counts_stay : (s : Stand) (v : ℕ) → Steady s → (k : IsMending s.errand) → CountStays s v (errand_of s.errand)
+counts_stay s v h k = let m = mends_of s v h k in subst (CountStays s v) (sym m.at) (count_stays_by s v m.script m.job h k m.at m.step m.is)
+
+pub count_row : (s : Stand) (change : Change) (v : ℕ) → Steady s → FitsCount change s → Follows (process_of CountUp s Straight change) v
+count_row s Nothing v h fits = count_plain s v h
+count_row s Counts v h fits = counts_row s v h fits
+count_row s (Counted n) v h fits = counted_row s n v h fits
+count_row s LeavesOut v h fits = absurd fits
+
+pub count_stays : (s : Stand) (change : Change) (v : ℕ) → Steady s → FitsCount change s → CountFits (variant_stepped (process_of CountUp s Straight change) v)
+count_stays s Nothing v h fits = count_off s v (plain_outcome s v).answer h
+count_stays s Counts v h fits = counts_stay s v h fits
+count_stays s (Counted n) v h fits = count_off s v (plain_outcome s v).answer h
+count_stays s LeavesOut v h fits = absurd fits

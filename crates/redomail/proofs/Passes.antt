@@ -1,7 +1,7 @@
 -- The shape passes from one process inside to the next, where one may leave.
-use Rattle.std.specs.Prelude.{Bool, true, false, ◌||◌, None, is_none}
+use Rattle.std.specs.Prelude.{true, false, None, is_none}
 use Rattle.std.proofs.Common.{◌≡◌, ℕ, refl, sym, ◌∙◌, inl, inr, arith}
-use Rattle.std.proofs.lemmas.Bool.{cases_Bool, true≢false}
+use Rattle.std.proofs.lemmas.Bool.{cases_Bool, or_right, true≢false}
 use Rattle.redomail.specs.declared.layout.Layout.{Layout}
 use Rattle.redomail.specs.Layout.{Words}
 use Rattle.redomail.specs.Shape.{pending_in}
@@ -23,16 +23,12 @@ shape_passes_on l p q w s free h = record {
   pending = λ sound. elim free [ inl off ↦ h.pending sound ∙ at_rest l p q w off | inr gone ↦ absurd (true≢false (sym gone ∙ sound)) ];
 }
 
-or_true : (b : Bool) → (b || true) ≡ true
-or_true true = refl
-or_true false = refl
-
 pub may_leave : MayLeave
 may_leave l p q cap w s free h =
     elim free [
       | inl off ↦ (elim (cases_Bool s.ruined) [
-        | inl gone ↦ (rw gone (or_true (is_none s.pending)), tt)
+        | inl gone ↦ (rw gone (or_right (is_none s.pending) true refl), tt)
         | inr sound ↦ (let none : s.pending ≡ None = h.pending sound ∙ (rw off refl) in rw none refl, tt)
       ])
-      | inr gone ↦ (rw gone (or_true (is_none s.pending)), tt)
+      | inr gone ↦ (rw gone (or_right (is_none s.pending) true refl), tt)
     ]

@@ -17,6 +17,7 @@ pub struct Stop;
 
 /// The data words, each got and put alone, in one atomic access. Any call may stop; a call that stops changes no word.
 pub trait Cells {
+    /// The data words.
     ghost words: { Self → List ℕ };
 
     /// How often it has stopped, held at the greatest u64.

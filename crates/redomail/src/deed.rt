@@ -6,6 +6,7 @@ use rmecore::{Body, Outer};
 /// the data words at that step, and not what the process holds of them.
 #[derive(Clone, Copy, Debug, PartialEq, Eq)]
 pub enum Deed {
+    /// A deed of the lock.
     Outer(Outer),
     /// A message is committed: from now on a crash can't lose it.
     Commit { p: u64, seq: u64, v: Body },

@@ -5,11 +5,8 @@ use Rattle.std.proofs.lemmas.Bool.{cond-true, cond-false, eq-eqb, ne_eqb, cases_
 use Rattle.std.proofs.lemmas.List.Sums.{sum_by-append}
 use Rattle.redomail.specs.declared.message.Message.{Message}
 use Rattle.redomail.specs.Mailbox.{is_by}
+pub use Rattle.redomail.specs.Shape.{bit as one_if}
 use Rattle.judge.specs.Kept.{Lists}
-
--- one, if the test holds
-abbrev pub one_if : Bool → ℕ
-one_if b = cond b 1 0
 
 pub count_cons : {X : Type 0} (f : X → Bool) (x : X) (xs : List X) → count_by f (x ∷ xs) ≡ one_if (f x) + count_by f xs
 count_cons f x xs = let e = sum_by-append (λ y. cond (f y) 1 0) (x ∷ []) xs in omega (arith, e)

@@ -1,5 +1,5 @@
 -- The lock's half and the mailbox's half of a list of deeds.
-use Rattle.std.specs.Prelude.{◌≡◌, ℕ, Bool, true, List, [], ◌∷◌, ◌++◌, map, Some, None, is_none, Result, Ok, refl}
+use Rattle.std.specs.Prelude.{◌≡◌, ℕ, Bool, true, List, [], ◌∷◌, ◌++◌, map, Some, None, is_none, Ok, refl}
 use Rattle.std.proofs.Common.{sym, ◌∙◌, ap, subst}
 use Rattle.std.proofs.lemmas.Bool.{cond-true}
 use Rattle.rmecore.specs.Needs.{AllHold, first_fault}
@@ -14,6 +14,7 @@ use Rattle.judge.specs.Table.{State, empty, needs, lock_needs, mail_needs, after
 use Rattle.judge.specs.Legal.{and_then, judged_all, Leads}
 use Rattle.judge.specs.Halves.{outers, MailAllows, all_after}
 use Rattle.judge.proofs.Steps.{Allowed, Allowed-from_leads}
+use Rattle.judge.proofs.Histories.{same_state}
 
 pub AllHold-append : (xs ys : List (Bool × Fault)) → AllHold xs → AllHold ys → AllHold (xs ++ ys)
 AllHold-append [] ys h g = g
@@ -85,8 +86,5 @@ Allowed-outers n cap ds legal =
     Allowed-halves (empty n cap) (map deed.Outer ds) (subst (Legal n nobody) (sym (outers-map ds)) legal) (MailAllows-outers n cap nobody nothing_shown ds refl legal)
 
 -- the state to which deeds lead
-same_ok : (s t : State) → ◌≡◌ {A = Result State Fault} (Ok s) (Ok t) → s ≡ t
-same_ok s t e = cc
-
 pub state_led : (s t : State) (ds : List Deed) → Leads s ds t → t ≡ all_after s ds
-state_led s t ds e = same_ok t (all_after s ds) (sym e ∙ Leads-allowed s ds (Allowed-from_leads s t ds e))
+state_led s t ds e = same_state t (all_after s ds) (sym e ∙ Leads-allowed s ds (Allowed-from_leads s t ds e))

@@ -7,7 +7,7 @@ use Rattle.judge.specs.Table.{State, needs, after, unless, judged}
 use Rattle.rmecore.specs.Needs.{first_fault}
 use Rattle.judge.specs.Legal.{and_then, judged_all, Leads}
 
-same_state : (s t : State) → ◌≡◌ {A = Result State Fault} (Ok s) (Ok t) → s ≡ t
+pub same_state : (s t : State) → ◌≡◌ {A = Result State Fault} (Ok s) (Ok t) → s ≡ t
 same_state s t e = cc
 
 goes_on : (r : Result State Fault) (t : State) (f : State → Result State Fault) (g : State → Result State Fault) (x : Result State Fault)

@@ -11,7 +11,8 @@ use Rattle.judge.specs.Table.{State, empty, needs, after}
 use Rattle.rmecore.specs.AbstractLock.{is_inside, is_dead_in, crashed}
 use Rattle.rmecore.specs.Needs.{put, none_below, AllHold}
 use Rattle.judge.specs.Plain.{NoneBefore, IsEntryOf, IsExitOf, IsEntry, At, Stands, NoneBetween, NoTwoInside, DeadReenters}
-use Rattle.judge.proofs.Steps.{Allowed, put_cases, put-same, none_below-at, procs-after, doer_below, inside_stays, dead_stays}
+use Rattle.rmecore.proofs.Invariant.{put_same}
+use Rattle.judge.proofs.Steps.{Allowed, put_cases, none_below-at, procs-after, doer_below, inside_stays, dead_stays}
 
 -- inside, alive or dead
 abbrev pub Holds : Phase → Type 0
@@ -76,10 +77,10 @@ Sole-empty procs cap p q lp lq hp hq = absurd (none_holds phase.Out refl refl hp
 pub entered : (s : State) (d : Deed) (p : ℕ) → AllHold (needs s d) → IsEntryOf p d → ((after s d).lock.phase p ≡ phase.Inside) × (p < (after s d).procs)
 entered s d p h (inl e) =
     let P : Deed → Type 0 = λ k. AllHold (needs s k) → ((after s k).lock.phase p ≡ phase.Inside) × (p < (after s k).procs) in
-    subst P (sym e) (λ k. (put-same s.lock.phase p phase.Inside, doer_below s (deed.Outer (Enter p)) k)) h
+    subst P (sym e) (λ k. (put_same s.lock.phase p phase.Inside, doer_below s (deed.Outer (Enter p)) k)) h
 entered s d p h (inr e) =
     let P : Deed → Type 0 = λ k. AllHold (needs s k) → ((after s k).lock.phase p ≡ phase.Inside) × (p < (after s k).procs) in
-    subst P (sym e) (λ k. (put-same s.lock.phase p phase.Inside, doer_below s (deed.Outer (Reenter p)) k)) h
+    subst P (sym e) (λ k. (put_same s.lock.phase p phase.Inside, doer_below s (deed.Outer (Reenter p)) k)) h
 
 -- Enter needs that nobody holds the lock
 no_enter : (s : State) (p q : ℕ) → AllHold (needs s (deed.Outer (Enter q))) → p < s.procs → Holds (s.lock.phase p) → ⊥
@@ -107,17 +108,14 @@ none_enters s p (d ∷ ds) (suc j) sole lp e ok none here =
     none_enters (after s d) p ds j (Sole-after s d ok.0 sole) (rw (procs-after s d) lp)
     (inside_stays s d p ok.0 e (none zero (omega arith))) ok.1 (λ k l. none (suc k) (omega arith)) here
 
-no_two : (s : State) (ds : List Deed) → Sole s → Allowed s ds → NoTwoInside ds
-no_two s [] sole ok p i j entry l none here = here
-no_two s (d ∷ ds) sole ok p i zero entry l none here = absurd (omega arith)
-no_two s (d ∷ ds) sole ok p zero (suc j) entry l none here =
+pub NoTwoInside-from_allowed : (s : State) (ds : List Deed) → Sole s → Allowed s ds → NoTwoInside ds
+NoTwoInside-from_allowed s [] sole ok p i j entry l none here = here
+NoTwoInside-from_allowed s (d ∷ ds) sole ok p i zero entry l none here = absurd (omega arith)
+NoTwoInside-from_allowed s (d ∷ ds) sole ok p zero (suc j) entry l none here =
     let at = entered s d p ok.0 entry in
     none_enters (after s d) p ds j (Sole-after s d ok.0 sole) at.1 at.0 ok.1 (λ k l. none (suc k) (omega arith) (omega arith)) here
-no_two s (d ∷ ds) sole ok p (suc i) (suc j) entry l none here =
-    no_two (after s d) ds (Sole-after s d ok.0 sole) ok.1 p i j entry (omega arith) (λ k a b. none (suc k) (omega arith) (omega arith)) here
-
-pub NoTwoInside-from_allowed : (s : State) (ds : List Deed) → Sole s → Allowed s ds → NoTwoInside ds
-NoTwoInside-from_allowed s ds sole ok = no_two s ds sole ok
+NoTwoInside-from_allowed s (d ∷ ds) sole ok p (suc i) (suc j) entry l none here =
+    NoTwoInside-from_allowed (after s d) ds (Sole-after s d ok.0 sole) ok.1 p i j entry (omega arith) (λ k a b. none (suc k) (omega arith) (omega arith)) here
 
 -- while p is dead in, the next entry is its own
 pub next_is_own : (s : State) (p : ℕ) (ds : List Deed) (j : ℕ) → Sole s → p < s.procs → s.lock.phase p ≡ phase.DeadIn → Allowed s ds → NoneBefore ds j IsEntry → At ds j IsEntry → Stands ds j (deed.Outer (Reenter p))
@@ -135,7 +133,7 @@ dead_after s p [] c j sole lp e ok none crash l quiet here = here
 dead_after s p (d ∷ ds) c zero sole lp e ok none crash l quiet here = absurd (omega arith)
 dead_after s p (d ∷ ds) zero (suc j) sole lp e ok none crash l quiet here =
     let P : Deed → Type 0 = λ k. (after s k).lock.phase p ≡ phase.DeadIn in
-    let dead : (after s d).lock.phase p ≡ phase.DeadIn = subst P (sym crash) (put-same s.lock.phase p (crashed (s.lock.phase p)) ∙ ap crashed e) in
+    let dead : (after s d).lock.phase p ≡ phase.DeadIn = subst P (sym crash) (put_same s.lock.phase p (crashed (s.lock.phase p)) ∙ ap crashed e) in
     next_is_own (after s d) p ds j (Sole-after s d ok.0 sole) (rw (procs-after s d) lp) dead ok.1
     (λ k l. quiet (suc k) (omega arith) (omega arith)) here
 dead_after s p (d ∷ ds) (suc c) (suc j) sole lp e ok none crash l quiet here =

@@ -1,10 +1,11 @@
 -- The least number with a test.
-use Rattle.std.specs.Prelude.{◌≡◌, ℕ, zero, suc, ◌<◌, Bool, true, false, not, ◌||◌, List, [], ◌∷◌, length, refl, ◌⊎◌}
+use Rattle.std.specs.Prelude.{◌≡◌, ℕ, zero, suc, ◌<◌, Bool, true, false, not, List, [], ◌∷◌, length, refl}
 use Rattle.std.specs.List.{list_any}
 use Rattle.std.proofs.Common.{sym, ◌∙◌, ap, inl, inr, arith, get_or}
 use Rattle.std.proofs.lemmas.List.Folds.{list_any_at}
-use Rattle.std.proofs.lemmas.Bool.{eq-eqb, false_from_ne_true, true≢false, false≢true}
+use Rattle.std.proofs.lemmas.Bool.{cases_Bool, or_cases, false_from_ne_true, true≢false, false≢true}
 use Rattle.rmecore.specs.Needs.{least, none_below}
+use Rattle.rmecore.proofs.Allowing.{none_below-from}
 use Rattle.judge.specs.Kept.{Lists}
 use Rattle.judge.proofs.Steps.{none_below-at}
 
@@ -21,36 +22,26 @@ least-at (suc n) test (suc q) h e below =
     let ih = least-at n (λ k. test (suc k)) q (omega arith) e (λ k l. below (suc k) (omega arith)) in
     rw (below zero (omega arith), ih) refl
 
-pub none_below-none : (n : ℕ) (test : ℕ → Bool) → ((k : ℕ) → k < n → test k ≡ false) → none_below n test ≡ true
-none_below-none n test none = eq-eqb (least n test) n (least-none n test none)
-
 pub none_below-some : (n : ℕ) (test : ℕ → Bool) (q : ℕ) → q < n → test q ≡ true → none_below n test ≡ false
 none_below-some n test q h e = false_from_ne_true (none_below n test) (λ none. none_below-at n test q none h e)
-
-or_true : (b c : Bool) → (b || c) ≡ true → (b ≡ true) ⊎ (c ≡ true)
-or_true true c e = inl refl
-or_true false c e = inr e
 
 -- where some element has the test, it stands somewhere
 any_at : {X : Type 0} (t : X → Bool) (xs : List X) (d : X) → list_any t xs ≡ true → (k : ℕ) × (k < length xs) × (t (get_or xs k d) ≡ true)
 any_at t [] d e = absurd (false≢true e)
-any_at t (x ∷ xs) d e = elim (or_true (t x) (list_any t xs) e) [
+any_at t (x ∷ xs) d e = elim (or_cases (t x) (list_any t xs) e) [
   | inl here ↦ (0, omega arith, here)
   | inr later ↦ (let w = any_at t xs d later in (suc w.0, omega (arith, w.1), w.2))
 ]
 
 -- none of the elements has the test
 pub none_below-any : {X : Type 0} (t : X → Bool) (xs : List X) (n : ℕ) (f : ℕ → X) → length xs ≡ n → Lists xs n f → not (list_any t xs) ≡ none_below n (λ q. t (f q))
-none_below-any t xs n f len lists = elim (cases_bool (list_any t xs)) [
+none_below-any t xs n f len lists = elim (cases_Bool (list_any t xs)) [
   | inl e ↦
       (let w = any_at t xs (f 0) e in
       let l : w.0 < n = omega (arith, w.1, len) in
       ap not e ∙ sym (none_below-some n (λ q. t (f q)) w.0 l (ap t (sym (lists w.0 (f 0) l)) ∙ w.2)))
   | inr e ↦
-      (ap not e ∙ sym (none_below-none n (λ q. t (f q))
+      (ap not e ∙ sym (none_below-from n (λ q. t (f q))
       (λ k l. false_from_ne_true (t (f k)) (λ h. let k' : k < length xs = omega (arith, len) in
       true≢false (sym (list_any_at t xs k (f k) k' (ap t (lists k (f k) l) ∙ h)) ∙ e)))))
-] where
-  cases_bool : (b : Bool) → (b ≡ true) ⊎ (b ≡ false)
-  cases_bool true = inl refl
-  cases_bool false = inr refl
+]

@@ -10,7 +10,8 @@ use Rattle.rmecore.specs.AbstractLock.{is_ready}
 use Rattle.rmecore.specs.Needs.{AllHold}
 use Rattle.redomail.specs.Mailbox.{doer}
 use Rattle.judge.specs.Plain.{NoneBefore, GoneBefore, IsEndOf, IsGoneOf, Stands, NoneBetween, GoneBetween, FirstComeFirstServed}
-use Rattle.judge.proofs.Steps.{Allowed, put_cases, put-same, none_below-at, procs-after, doer_below, ready_stays, is_gone, is_end_while_ready}
+use Rattle.rmecore.proofs.Invariant.{put_same}
+use Rattle.judge.proofs.Steps.{Allowed, put_cases, none_below-at, procs-after, doer_below, ready_stays, is_gone, is_end_while_ready}
 
 -- the same, one deed later
 later : (d : Deed) (ds : List Deed) (p e : ℕ) → (IsEndOf p d → ⊥) → GoneBefore ds p e → GoneBefore (d ∷ ds) p (suc e)
@@ -65,7 +66,7 @@ gone_first s p q [] b e lp r ok begins l here = absurd here
 gone_first s p q (d ∷ ds) b zero lp r ok begins l here = absurd (omega arith)
 gone_first s p q (d ∷ ds) zero (suc e) lp r ok begins l here =
     let P : Deed → Type 0 = λ k. (after s k).lock.ahead q p ≡ true in
-    let a : (after s d).lock.ahead q p ≡ true = subst P (sym begins) (ap (λ f. f p) (put-same s.lock.ahead q (λ k. is_ready (s.lock.phase k))) ∙ ap is_ready r) in
+    let a : (after s d).lock.ahead q p ≡ true = subst P (sym begins) (ap (λ f. f p) (put_same s.lock.ahead q (λ k. is_ready (s.lock.phase k))) ∙ ap is_ready r) in
     let other : IsGoneOf p d → ⊥ = λ gone. let Q : Deed → Type 0 = λ k. IsGoneOf p k in begin_is_no_gone q p (subst Q begins gone) in
     later d ds p e (is_end_while_ready s d p ok.0 r other)
     (gone_ahead (after s d) p q ds e (rw (procs-after s d) lp) (ready_stays s d p ok.0 r other) a ok.1 here)
@@ -113,7 +114,7 @@ FirstComeFirstServed-from_allowed s (d ∷ ds) ok p q r (suc b) zero readies l b
 FirstComeFirstServed-from_allowed s (d ∷ ds) ok p q zero (suc b) (suc e) readies l begins m none here =
     let P : Deed → Type 0 = λ k. (after s k).lock.phase p ≡ phase.Ready in
     let Q : Deed → Type 0 = λ k. doer k < s.procs in
-    let ready : (after s d).lock.phase p ≡ phase.Ready = subst P (sym readies) (put-same s.lock.phase p phase.Ready) in
+    let ready : (after s d).lock.phase p ≡ phase.Ready = subst P (sym readies) (put_same s.lock.phase p phase.Ready) in
     let lp : p < s.procs = subst Q readies (doer_below s d ok.0) in
     whole d ds p e (gone_first (after s d) p q ds b e (rw (procs-after s d) lp) ready ok.1 begins (omega arith) here)
 FirstComeFirstServed-from_allowed s (d ∷ ds) ok p q (suc r) (suc b) (suc e) readies l begins m none here =

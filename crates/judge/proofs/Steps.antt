@@ -1,7 +1,7 @@
 -- One step of the judge: what an allowed deed needed, and which places it keeps.
 use Rattle.std.specs.Prelude.{◌≡◌, ℕ, zero, suc, ◌<◌, ◌≤◌, Bool, true, false, ◌||◌, ◌==◌, cond, List, [], ◌∷◌, Option, Some, None, Result, Ok, refl, ◌⊎◌}
 use Rattle.std.proofs.Common.{sym, ◌∙◌, ap, subst, inl, inr, arith}
-use Rattle.std.proofs.lemmas.Bool.{cases_eq, true≢false, eqb-true, eqb-false, eq-eqb, cond_both, cond-true, ltb-true}
+use Rattle.std.proofs.lemmas.Bool.{cases_eq, true≢false, eqb-true, eqb-false, cond_both, ltb-true}
 use Rattle.rmecore.specs.declared.outer.Outer.TheVariants.{Begin, Ready, Enter, Crash, Reenter, Leave, Quit}
 use Rattle.redomail.specs.declared.deed.Deed.{Deed}
 use Rattle.redomail.specs.declared.deed.Deed.TheVariants as deed
@@ -43,9 +43,6 @@ Allowed-from_leads s t (d ∷ ds) e =
 pub put_cases : {A : Type 0} (f : ℕ → A) (p q : ℕ) (x : A) (P : A → Type 0) → (q ≡ p → P x) → ((q ≡ p → ⊥) → P (f q)) → P (put f p x q)
 put_cases f p q x P here other =
     cond_both (q == p) x (f q) P (λ e. here (eqb-true q p e)) (λ e. other (eqb-false q p e))
-
-pub put-same : {A : Type 0} (f : ℕ → A) (p : ℕ) (x : A) → put f p x p ≡ x
-put-same f p x = cond-true (p == p) x (f p) (eq-eqb p p refl)
 
 -- the least number is no more than any that has the test
 pub least-le : (n : ℕ) (test : ℕ → Bool) (k : ℕ) → k < n → test k ≡ true → least n test ≤ k

@@ -1,7 +1,6 @@
 -- What a judge keeps at the start, and after a write.
 use Rattle.std.specs.Prelude.{◌≡◌, ◌≢◌, ℕ, ◌<◌, ◌≤◌, Bool, false, List, ◌++◌, take, drop, length, refl}
 use Rattle.std.proofs.Common.{sym, ◌∙◌, ap, subst, arith, get_or, set, replicate, get_or-set_same, get_or-set_other}
-use Rattle.std.proofs.lemmas.Option.{same_Some, slice_get-get_or}
 use Rattle.std.proofs.lemmas.List.{get_or-replicate, take-append-le}
 use Rattle.std.proofs.Math.Seq.{take-length}
 use Rattle.std.proofs.lemmas.Nat.Bits.{bit_at-zero}
@@ -11,10 +10,6 @@ use Rattle.judge.specs.Kept.{Kept, IsSound, Lists, HasBits, HasRows}
 use Rattle.judge.specs.Table.{State}
 use Rattle.judge.specs.Stands.{Keeps}
 use Rattle.judge.proofs.Steps.{put_cases}
-
--- an element that is there doesn't depend on the default
-pub get_or-any : {X : Type 0} (xs : List X) (i : ℕ) (d e : X) → i < length xs → get_or xs i d ≡ get_or xs i e
-get_or-any xs i d e l = same_Some _ _ (sym (slice_get-get_or xs i d l) ∙ slice_get-get_or xs i e l)
 
 pub Lists-replicate : {X : Type 0} (xs : List X) (n : ℕ) (x : X) → xs ≡ replicate n x → Lists xs n (λ k. x)
 Lists-replicate xs n x e k d l = rw e (get_or-replicate n k x d l)

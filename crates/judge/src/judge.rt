@@ -344,7 +344,7 @@ impl Judge {
     }
 
     /// Takes the next deed of the history, or says what is wrong with it: the first of its needs that fails. After a fault
-    /// another deed may be fed. It takes no memory, and goes over the processes once or twice.
+    /// another deed may be fed. It takes no memory, and goes over the processes at most four times.
     pub fn feed(&mut self, deed: Deed) -> Result<(), Fault>
         ensures judged { (s : State) → Keeps self.old s → MatchResult result (λ _. (judged s deed ≡ Ok (after s deed)) × Keeps self.new (after s deed)) (λ fault. judged s deed ≡ Err fault) }
         ensures fed { (start : State) (history : List Deed) → StandsAfter start history self.old → MatchResult result (λ _. StandsAfter start (history ++ deed ∷ []) self.new) (λ fault. judged_all start (history ++ deed ∷ []) ≡ Err fault) }

@@ -3,7 +3,7 @@ use Rattle.std.proofs.lemmas.List.{length-map, get_or-take}
 use Rattle.std.specs.Int.{bit_at}
 use Rattle.rmecore.specs.declared.phase.Phase.TheVariants.{Out}
 use Rattle.judge.specs.Starts.{state_of, is_named}
-use Rattle.judge.proofs.Writes.{get_or-any}
+use Rattle.std.proofs.lemmas.List.{get_or_default}
 use Rattle.judge.proofs.judge.Judge.from_start.Goals as goal
 
 pub returns-clause-made : goal.returns-clause-made
@@ -19,7 +19,7 @@ returns-clause-made c =
         cap = refl;
         phases = λ k d l.
             let within : k < length start.phases = omega (arith, holds.0.phases) in
-            ap (λ xs. get_or xs k d) (c.in_ok-phases.ensures.items ∙ c.as_slice.ensures) ∙ get_or-any start.phases k d Out within;
+            ap (λ xs. get_or xs k d) (c.in_ok-phases.ensures.items ∙ c.as_slice.ensures) ∙ get_or_default start.phases k d Out within;
         ahead = λ p l q m.
             let within : p < length sets = omega (arith, holds.0.ahead, ap length c.as_slice-2.ensures, length-map {B = List ℕ} sets (λ names. names.items)) in
             let low : q < 64 = omega (arith, c.if-start-gt64.false) in

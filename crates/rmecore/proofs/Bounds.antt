@@ -8,6 +8,7 @@ use Rattle.rmecore.specs.World.{World, at_rest, is_store, read, write, May, afte
 use Rattle.rmecore.specs.Lawful.{IsRow, IsLawful, all_dead}
 use Rattle.rmecore.proofs.Invariant.{Before, Stands, Tied, put_same, put_other, row_of}
 use Rattle.rmecore.proofs.Runs.{guard, kept}
+use Rattle.rmecore.proofs.Accesses.{passed}
 use Rattle.rmecore.specs.declared.core_call.CoreCall.{CoreCall}
 use Rattle.rmecore.specs.declared.core_call.CoreCall.TheVariants.{Lock, Recover, Unlock, Withdraw}
 use Rattle.rmecore.specs.declared.kind.Kind.{Kind}
@@ -18,10 +19,6 @@ use Rattle.rmecore.specs.declared.word.Word.TheVariants.{Choosing as ChoosingOf,
 
 before_test : (k p v i : ℕ) → Before k p v i → is_before k p v i ≡ true
 before_test k p v i h = elim h [ inl less ↦ or_left _ _ (lt-ltb k v less) | inr both ↦ or_right _ _ (and_from _ _ (eq-eqb k v both.0) (lt-ltb p i both.1)) ]
-
-passed : (b : Bool) (t : Place) → IsSome (only b t) → b ≡ true
-passed true t some = refl
-passed false t some = cc
 
 last : (b c : Bool) (t : Place) → IsSome (only (b && c) t) → c ≡ true
 last b c t some = (and_parts b c (passed (b && c) t some)).1

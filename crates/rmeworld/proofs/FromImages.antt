@@ -28,14 +28,7 @@ use Rattle.rmeworld.proofs.WorldSteps.{le-ltb}
 use Rattle.rmeworld.proofs.WorldTallies.{unstarted}
 use Rattle.rmeworld.proofs.ImageJudged.{alone}
 use Rattle.rmeworld.proofs.ImageStarts.{lawful_content}
-
-in_numbers : (c k i : ℕ) → IsIn (dead_phase c k i) → (0 < k) × (0 < i)
-in_numbers zero zero i h = absurd h
-in_numbers (suc c) zero i h = absurd h
-in_numbers zero (suc k) zero h = absurd h
-in_numbers (suc c) (suc k) zero h = absurd h
-in_numbers zero (suc k) (suc i) h = (omega arith, omega arith)
-in_numbers (suc c) (suc k) (suc i) h = (omega arith, omega arith)
+use Rattle.rmeworld.proofs.Stories.{in_numbers}
 
 numbers_in : (c k i : ℕ) → 0 < k → 0 < i → IsIn (dead_phase c k i)
 numbers_in c zero i h x = absurd (omega arith)

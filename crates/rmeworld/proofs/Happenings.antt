@@ -1,10 +1,10 @@
 -- What each happening leaves: its deeds are allowed, and everything that is known stands after it.
 use Rattle.std.proofs.Common.{◌≡◌, ◌≢◌, ℕ, ◌<◌, Bool, true, false, ◌&&◌, ◌==◌, nat_lt, length, List, [], ◌∷◌, ◌++◌, Option, Some, None, Ok, refl, sym, ap, ◌∙◌, subst, inl, inr, ◌⊎◌}
-use Rattle.std.proofs.lemmas.Bool.{cases_Bool, cases_eq, true≢false, ltb-true, lt-ltb}
+use Rattle.std.proofs.lemmas.Bool.{cases_Bool, true≢false, ltb-true, lt-ltb}
 use Rattle.rmecore.specs.Needs.{AllHold, put}
 use Rattle.rmecore.specs.AbstractLock.{Abstract, is_inside, crashed, needs, done}
 use Rattle.rmecore.specs.Place.{Place, Rest, Dead, Reread, Opening, Door, Shutting, Wait, Inside, Leaving, Withdrawing, Unmarking, next, started}
-use Rattle.rmecore.specs.Sole.{IsIn, Sole}
+use Rattle.rmecore.specs.Sole.{IsIn, Sole, IsLeave}
 use Rattle.rmecore.specs.Turn.{Elsewhere, Plain, Turn, Enters, Reenters, Exits, Same, Else}
 use Rattle.rmecore.specs.World.{step_deed}
 use Rattle.rmecore.specs.declared.core_call.CoreCall.{CoreCall}
@@ -17,7 +17,7 @@ use Rattle.rmecore.specs.declared.phase.Phase.TheVariants as phase
 use Rattle.rmecore.specs.declared.word.Word.{Word}
 use Rattle.rmecore.proofs.Allowing.{Allows, allows_from}
 use Rattle.rmecore.proofs.Invariant.{put_same, put_other}
-use Rattle.rmecore.proofs.Soles.{sole_done}
+use Rattle.rmecore.proofs.Soles.{sole_done, in_after}
 use Rattle.rmecore.proofs.Turns.{turn}
 use Rattle.redomail.specs.declared.deed.Deed.{Deed}
 use Rattle.redomail.specs.declared.deed.Deed.TheVariants as deed
@@ -91,38 +91,6 @@ shape_in l a w m p k below i = k.shape p (λ r lt j. k.sole r p lt below j i)
 clean_by : (l : Layout) (p : ℕ) (w : Words) (m : Mailbox) → Shape l p w m → (w 0 ≡ 0 → w 3 ≡ 0) → (w 3 ≡ 0) ⊎ (m.ruined ≡ true)
 clean_by l p w m h clean = elim (cases_Bool m.ruined) [ inl t ↦ inr t | inr f ↦ inl (clean (h.ruined ∙ ap bit f)) ]
 
--- who stays in when p's phase is put
-crashed_in : (ph : Phase) → IsIn ph → IsIn (crashed ph)
-crashed_in phase.Out h = h
-crashed_in phase.Door h = h
-crashed_in phase.Ready h = h
-crashed_in phase.Inside h = tt
-crashed_in phase.DeadIn h = tt
-
-more_put : (f : ℕ → Phase) (p : ℕ) (x : Phase) (q : ℕ) → (IsIn (f p) → IsIn x) → IsIn (f q) → IsIn (put f p x q)
-more_put f p x q go h =
-    elim (cases_eq q p) [
-      | inl e ↦ subst (λ r. IsIn (put f p x r)) (sym e) (subst IsIn (sym (put_same f p x)) (go (subst (λ r. IsIn (f r)) e h)))
-      | inr ne ↦ subst IsIn (sym (put_other f p x q ne)) h
-    ]
-
-abbrev pub IsLeave : Outer → Type 0
-IsLeave (Leave p) = Unit {0}
-IsLeave _ = ⊥
-
-out_of : (ph x : Phase) → ph ≡ x → (IsIn x → ⊥) → IsIn ph → ⊥
-out_of ph x e h i = h (subst IsIn e i)
-
-more_in : (n : ℕ) (a : Abstract) (d : Outer) (q : ℕ) → Allows n a d → (IsLeave d → ⊥) → IsIn (a.phase q) → IsIn ((done a d).phase q)
-more_in n a (Begin p) q h ne i = more_put a.phase p phase.Door q (out_of (a.phase p) phase.Out h.1 (λ x. x)) i
-more_in n a (Ready p) q h ne i = more_put a.phase p phase.Ready q (out_of (a.phase p) phase.Door h.1 (λ x. x)) i
-more_in n a (Enter p) q h ne i = more_put a.phase p phase.Inside q (λ x. tt) i
-more_in n a (Crash p) q h ne i = more_put a.phase p (crashed (a.phase p)) q (crashed_in (a.phase p)) i
-more_in n a (Reenter p) q h ne i = more_put a.phase p phase.Inside q (λ x. tt) i
-more_in n a (Leave p) q h ne i = absurd (ne tt)
-more_in n a (Quit p) q h ne i =
-    more_put a.phase p phase.Out q (elim h.1 [ inl e ↦ out_of (a.phase p) phase.Door e (λ x. x) | inr e ↦ out_of (a.phase p) phase.Ready e (λ x. x) ]) i
-
 pub record Outcome (l : Layout) (a : Abstract) (w : Words) (m : Mailbox) (p : ℕ) (d : Option Outer) (ds : List Deed) (w' : Words) (spot : Spot) : Type 0 where
   pub mail : Mailbox
   pub leads : Leads (judge_of l a m) (outer_deeds d ++ ds) (judge_of l (done_by a d) mail)
@@ -168,8 +136,8 @@ module _ (l : Layout) (a : Abstract) (w : Words) (m : Mailbox) (p : ℕ) (layout
       let h = allows_from l.procs a d may in
       record {
         sole = sole_done l.procs a d may k.sole;
-        shape = λ q only. k.shape q (λ r lt i. only r lt (more_in l.procs a d r h ne i));
-        rest = λ none. k.rest (λ r lt i. none r lt (more_in l.procs a d r h ne i));
+        shape = λ q only. k.shape q (λ r lt i. only r lt (in_after l.procs a d r h ne i));
+        rest = λ none. k.rest (λ r lt i. none r lt (in_after l.procs a d r h ne i));
       }
 
   leaves : (q : ℕ) → AllHold (needs l.procs a (Leave q)) → (w 0 ≡ 0 → w 3 ≡ 0) → Kept l (done a (Leave q)) w m

@@ -43,7 +43,7 @@ outers l limit w (e ∷ es) = and_then (outer (w.spots (who e)) e) (outers l lim
 abbrev AllHeld : Scene → Type 0
 AllHeld w = (p : ℕ) → Held (w.spots p).errand (w.spots p).lock
 
-entry_inside : (s t : Place) → is_entry s t ≡ true → t ≡ Inside
+pub entry_inside : (s t : Place) → is_entry s t ≡ true → t ≡ Inside
 entry_inside s Inside e = refl
 entry_inside s Rest e = absurd (cc)
 entry_inside s Dead e = absurd (cc)

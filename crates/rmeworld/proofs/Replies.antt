@@ -43,7 +43,7 @@ use Rattle.rmeworld.proofs.Projection.{outers, only_some, some_of}
 use Rattle.rmeworld.proofs.Reaching.{all_after-append}
 use Rattle.rmeworld.proofs.StoryGrows.{deeds_more}
 
-deeds-append : (l : Layout) (limit : ℕ) (w : Scene) (xs ys : List Happening) → deeds l limit w (xs ++ ys) ≡ deeds l limit w xs ++ deeds l limit (last_scene l limit w xs) ys
+pub deeds-append : (l : Layout) (limit : ℕ) (w : Scene) (xs ys : List Happening) → deeds l limit w (xs ++ ys) ≡ deeds l limit w xs ++ deeds l limit (last_scene l limit w xs) ys
 deeds-append l limit w [] ys = refl
 deeds-append l limit w (x ∷ xs) ys =
     ap (λ (ds : List Deed). event_deeds l w x ++ ds) (deeds-append l limit (onward l limit w x) xs ys) ∙ sym (append_assoc (event_deeds l w x) (deeds l limit (onward l limit w x) xs) (deeds l limit (last_scene l limit (onward l limit w x) xs) ys))
@@ -88,7 +88,7 @@ reply_tells l p seq value m old OutOfOrder w now mine h =
 reply_tells l p seq value m old _ w now mine h = tt
 
 -- what is left of a script that answers so
-answers : (t : Task) (b : Bool) (left : Script Reply) (reply : Reply) → by_script (Working t) b left ≡ Some (Mail reply) → left ≡ Done reply
+pub answers : (t : Task) (b : Bool) (left : Script Reply) (reply : Reply) → by_script (Working t) b left ≡ Some (Mail reply) → left ≡ Done reply
 answers t b (Done a) reply e = let is : a ≡ reply = cc in ap Done is
 answers t b (Asks i rest) reply e = absurd (cc)
 answers t b (Writes i v rest) reply e = absurd (cc)

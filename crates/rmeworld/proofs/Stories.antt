@@ -171,7 +171,7 @@ module _ (l : Layout) (limit : ℕ) (layout : IsLayout l) where
   first_posts q lt = tt
 
   -- a scene of words that outlive a crash of everything
-  in_numbers : (c x i : ℕ) → IsIn (dead_phase c x i) → (0 < x) × (0 < i)
+  pub in_numbers : (c x i : ℕ) → IsIn (dead_phase c x i) → (0 < x) × (0 < i)
   in_numbers zero zero i h = absurd (h)
   in_numbers (suc c) zero i h = absurd (h)
   in_numbers zero (suc x) zero h = absurd (h)

@@ -1,5 +1,5 @@
 -- A step in memory is a happening of the definition.
-use Rattle.std.proofs.Common.{◌≡◌, ◌≢◌, ℕ, ◌<◌, ◌≤◌, Bool, true, false, ◌==◌, nat_lt, if◌then◌else◌, List, ◌++◌, length, slice_index_or, slice_set, Some, IsSome, unwrap_or, refl, sym, ap, ◌∙◌, subst, inl, inr, arith, eq-eqb, ne_eqb, append-nil}
+use Rattle.std.proofs.Common.{◌≡◌, ℕ, ◌<◌, ◌≤◌, Bool, true, false, ◌==◌, nat_lt, if◌then◌else◌, List, ◌++◌, length, slice_index_or, slice_set, Some, IsSome, unwrap_or, refl, sym, ap, ◌∙◌, subst, inl, inr, arith, append-nil}
 use Rattle.std.proofs.lemmas.Bool.{cases_Bool, cases_eq, cases_lt, lt-ltb, ltb-true}
 use Rattle.std.proofs.lemmas.List.{get_or-set_same, get_or-set_other, length-set, set_past}
 use Rattle.rmecore.specs.Needs.{put}
@@ -12,6 +12,7 @@ use Rattle.rmecore.specs.declared.own.Own.{Own}
 use Rattle.rmecore.specs.declared.word.Word.{Word}
 use Rattle.rmecore.specs.declared.word.Word.TheVariants.{Choosing as ChoosingOf, Number as NumberOf, Inside as InsideOf, Data as DataAt}
 use Rattle.rmecore.specs.declared.tally.Tally.{Tally}
+use Rattle.rmecore.proofs.Invariant.{put_same, put_other}
 use Rattle.redomail.specs.declared.deed.Deed.{Deed}
 use Rattle.redomail.specs.declared.reply.Reply.{Reply}
 use Rattle.redomail.specs.Script.{Script, Get as Asks, Put as Writes, Done}
@@ -28,12 +29,6 @@ use Rattle.rmeworld.specs.Spot.{Happening, Begins, Falls, Moves, who, next_spot}
 use Rattle.rmeworld.specs.Stand.{Stand, stepped_by, job_left, started as stand_started, crashed as stand_crashed, spot_of, next_access, spot_after, stepped as stand_stepped, IsAllowed, InWords, IsOwnWord, StoresOwn}
 use Rattle.rmeworld.specs.World.{reading, Reads, event_deeds, words_after, cells_after}
 use Rattle.rmeworld.specs.WorldState.{WorldState, absent, stand_at, spot_at, scene_of, HasSeat, IsSeated, Takes}
-
-pub put_same : {A : Type 0} (f : ℕ → A) (p : ℕ) (x : A) → put f p x p ≡ x
-put_same f p x = let own : (p == p) ≡ true = eq-eqb p p refl in rw own refl
-
-pub put_other : {A : Type 0} (f : ℕ → A) (p : ℕ) (x : A) (q : ℕ) → q ≢ p → put f p x q ≡ f q
-put_other f p x q ne = let other : (q == p) ≡ false = ne_eqb q p ne in rw other refl
 
 -- a list with one item changed, read as a function
 pub at-set : {A : Type 0} (xs : List A) (d : A) (p : ℕ) (x : A) → p < length xs → (q : ℕ) → slice_index_or (slice_set xs p x) q d ≡ put (λ i. slice_index_or xs i d) p x q

@@ -61,12 +61,12 @@ ended_not Ruining a h = h
 ended_not Mending a h = h
 ended_not (Working t) a h = h
 
-settled_not : (m c : Bool) (why : Why) (left : Script Reply) → IsRereading (settled m c why left).lock → ⊥
+pub settled_not : (m c : Bool) (why : Why) (left : Script Reply) → IsRereading (settled m c why left).lock → ⊥
 settled_not m c why (Asks i rest) h = h
 settled_not m c why (Writes i v rest) h = h
 settled_not m c why (Done a) h = ended_not why a h
 
-at_lock_some : (l : Layout) (p : ℕ) (s : Place) (m c : Bool) (o : Option Place) → IsSome (at_lock l p s m c o) → IsSome o
+pub at_lock_some : (l : Layout) (p : ℕ) (s : Place) (m c : Bool) (o : Option Place) → IsSome (at_lock l p s m c o) → IsSome o
 at_lock_some l p s m c None some = absurd (cc)
 at_lock_some l p s m c (Some t) some = refl
 

@@ -1,8 +1,7 @@
 -- What a world in memory keeps, at every call.
-use Rattle.std.proofs.Common.{◌≡◌, ℕ, zero, suc, ◌+◌, ◌<◌, ◌≤◌, ◌^◌, ◌++◌, [], ◌∷◌, List, take, Option, Some, None, IfSome, nat_lt, length, replicate, slice_index_or, slice_set, refl, sym, ap, ◌∙◌, subst, inl, inr, arith}
+use Rattle.std.proofs.Common.{◌≡◌, ℕ, zero, suc, ◌+◌, ◌<◌, ◌≤◌, ◌^◌, ◌++◌, [], ◌∷◌, List, Option, Some, None, IfSome, nat_lt, length, replicate, slice_index_or, slice_set, refl, sym, ap, ◌∙◌, subst, inl, inr, arith}
 use Rattle.std.proofs.lemmas.Bool.{cases_lt, cases_Bool}
 use Rattle.std.proofs.lemmas.List.{get_or-replicate, get_or_past, get_or_default, length-replicate, length-set}
-use Rattle.std.proofs.Math.Seq.{take-append_seam}
 use Rattle.rmecore.specs.Machine.{access, kind_of, word_of, carried}
 use Rattle.rmecore.specs.Place.{Place, Rest, Dead, Reread, Opening, Door, Shutting, Wait, Inside, Leaving, Withdrawing, Unmarking}
 use Rattle.rmecore.specs.World.{step_deed}
@@ -125,9 +124,6 @@ world_step s p a world step =
       reached = reached_by s _ (advanced_by s p a) (step_takes s p a step) world.reached;
       tallied = tallied_step s p a step world.tallied;
     }
-
-pub refill : {A : Type 0} (len : ℕ) (ws rest : List A) → length ws ≡ len → take len (ws ++ rest) ≡ ws
-refill len ws rest e = rw (← e) (take-append_seam ws rest)
 
 -- what an index of the processes gives, and one of the tallies
 pub found : (s : WorldState) (p : ℕ) (t : Stand) → IsWorld s → p < s.layout.procs → t ≡ slice_index_or s.processes p t → stand_at s.processes p ≡ t

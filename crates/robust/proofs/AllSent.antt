@@ -13,7 +13,7 @@ use Rattle.judge.proofs.Halves.{state_led}
 use Rattle.rmeworld.specs.declared.call.Call.{Call}
 use Rattle.rmeworld.specs.declared.call.Call.TheVariants.{Append}
 use Rattle.rmeworld.specs.declared.image.Image.{Image}
-use Rattle.rmeworld.specs.ImageRules.{layout_of, IsLawfulImage}
+use Rattle.rmeworld.specs.ImageRules.{layout_of}
 use Rattle.rmeworld.specs.Sent.{EveryMessageWasSent, IsSent}
 use Rattle.rmeworld.specs.Spot.{Happening, Begins, Falls}
 use Rattle.runs.specs.declared.entry.Entry.{Entry}
@@ -78,21 +78,6 @@ module _ (P : Call → Type 0) (p : ℕ) where
 pub begins_it : (P : Call → Type 0) (p : ℕ) (call : Call) → OfBegins P p (Begins p call) → P call
 unfolding OfBegins
 begins_it P p call h = h refl
-
--- the words of a lawful image
-pub lawful_content : (i : Image) → IsLawfulImage i → IsContent (layout_of i) i.cells
-lawful_content i k = record {
-  heads = k.heads (omega arith);
-  entries = record { listed = k.listed (omega arith); recorded = recorded };
-}
-  where
-    recorded : slice_index i.cells 3 ≡ 1 → (q : ℕ) × (q < length i.lock) × RecordRule (layout_of i) q (words_of i.cells)
-    recorded armed =
-        let r = k.recorded (omega arith) in
-        elim (cases_eq (slice_index i.cells 0) 0) [
-          | inl zero_is ↦ (let c = r.clean armed zero_is in (c.0, c.1.0, c.2))
-          | inr other ↦ r.ruined armed (let bit = (k.heads (omega arith)).ruined in omega (arith, bit, other))
-        ]
 
 pub content_numbered : (l : Layout) (xs : List ℕ) → IsContent l xs → IsNumbered l (words_of xs) (slice_index xs 2)
 content_numbered l xs c =

@@ -14,6 +14,7 @@ use Rattle.rmeworld.specs.ImageRules.{layout_of, IsLawfulImage}
 use Rattle.rmeworld.specs.Sent.{ReplyTells, EveryMessageWasSent, EveryCloseWasAsked}
 use Rattle.rmeworld.specs.Spot.{Happening, Begins, who}
 use Rattle.rmeworld.specs.World.{at_first}
+use Rattle.rmeworld.proofs.ImageStarts.{lawful_content}
 use Rattle.redomail.specs.declared.layout.Layout.{Layout}
 use Rattle.runs.specs.declared.entry.Entry.{Entry}
 use Rattle.runs.specs.declared.setup.Setup.{Setup}
@@ -34,7 +35,7 @@ use Rattle.runs.specs.Running.{Seated}
 use Rattle.runs.specs.Runs.{own, spelled, IsRun, end_of}
 use Rattle.robust.specs.Sending.{OfStart, IsSending, AreSending}
 use Rattle.robust.specs.Worked.{sizes_of, HasWorked}
-use Rattle.robust.proofs.AllSent.{OfBegins, begins_all, begins_it, lawful_content, content_numbered, shown_entries, gathered_layout, at_most, sending_more}
+use Rattle.robust.proofs.AllSent.{OfBegins, begins_all, begins_it, content_numbered, shown_entries, gathered_layout, at_most, sending_more}
 use Rattle.robust.proofs.Appended.{all_at}
 use Rattle.runs.proofs.Gathered.{all_left}
 use Rattle.runs.proofs.LawfulEnd.{cells_counted}

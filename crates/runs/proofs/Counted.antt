@@ -142,7 +142,7 @@ few_now x z call most h = let low = many_at_most h.0 in let few = h.1 in let is 
 pub few_begun : (x u z : Seated) (call : Call) → u ≡ began x call → CountsAtMost (most_steps u.pass.setup.layout call) u z → z.steps ≤ most_steps x.pass.setup.layout call
 few_begun x u z call is h = few_now x z call (most_steps x.pass.setup.layout call) (subst (λ (w : Seated). CountsAtMost (most_steps w.pass.setup.layout call) w z) is h)
 
-ready_setup : (b : Bool) (x : Seated) → (if b then x else fell x).pass.setup ≡ x.pass.setup
+pub ready_setup : (b : Bool) (x : Seated) → (if b then x else fell x).pass.setup ≡ x.pass.setup
 ready_setup true x = refl
 ready_setup false x = refl
 

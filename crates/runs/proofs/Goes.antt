@@ -23,6 +23,7 @@ use Rattle.rmeworld.specs.Refused.{is_idle}
 use Rattle.rmeworld.specs.Spot.{Errand, Free, Doing, Spot, Moves, next_spot, at_lock, only_spot, settled, mended_entered}
 use Rattle.runs.specs.Lasting.{Within, lock_left, IsFair, exit_of, Lasts}
 use Rattle.rmeworld.specs.declared.answer.Answer.TheVariants.{Mail}
+use Rattle.rmeworld.proofs.Projection.{entry_inside}
 use Rattle.runs.specs.Under.{under_place, Replies, Mends, IsWord, UnderScript, IsUnder, Fits, Leaves}
 use Rattle.runs.proofs.Lasting.{Burns, burns}
 use Rattle.runs.proofs.Under.{LockTo, lock_to}
@@ -44,19 +45,6 @@ not_itself Inside = refl
 not_itself Leaving = refl
 not_itself Withdrawing = refl
 not_itself (Unmarking call) = refl
-
-entry_inside : (s t : Place) → is_entry s t ≡ true → t ≡ Inside
-entry_inside s Inside e = refl
-entry_inside s Rest e = absurd (cc)
-entry_inside s Dead e = absurd (cc)
-entry_inside s (Reread call seen) e = absurd (cc)
-entry_inside s Opening e = absurd (cc)
-entry_inside s (Door unread m) e = absurd (cc)
-entry_inside s (Shutting call k) e = absurd (cc)
-entry_inside s (Wait k unpassed looked) e = absurd (cc)
-entry_inside s Leaving e = absurd (cc)
-entry_inside s Withdrawing e = absurd (cc)
-entry_inside s (Unmarking call) e = absurd (cc)
 
 module _ (l : Layout) (p k : ℕ) where
   abbrev lock_spot : Place → Bool → Bool → Place → Errand → Spot

@@ -6,19 +6,18 @@ use Rattle.redomail.specs.declared.layout.Layout.{Layout}
 use Rattle.redomail.specs.declared.message.Message.{Message}
 use Rattle.redomail.specs.declared.reply.Reply.{Reply}
 use Rattle.redomail.specs.declared.reply.Reply.TheVariants.{Stored, Already}
-use Rattle.redomail.specs.declared.task.Task.{Task}
 use Rattle.redomail.specs.declared.task.Task.TheVariants as task
 use Rattle.judge.specs.Halves.{all_after}
 use Rattle.judge.specs.Table.{State, empty}
 use Rattle.judge.proofs.Halves.{state_led}
-use Rattle.rmeworld.specs.declared.answer.Answer.TheVariants.{Mail}
 use Rattle.rmeworld.specs.declared.call.Call.{Call}
 use Rattle.rmeworld.specs.declared.why.Why.TheVariants.{Working}
-use Rattle.rmeworld.specs.Answered.{by_script, answer_by}
+use Rattle.rmeworld.specs.Answered.{answer_by}
 use Rattle.rmeworld.specs.Law.{AppendTells, ErrandTells, Tells, Sound, Sits}
 use Rattle.rmeworld.specs.Spot.{Spot, Errand, Doing, Happening, Moves}
 use Rattle.rmeworld.specs.World.{Scene, at_first, onward, last_scene, event_deeds, deeds, own_happenings}
 use Rattle.rmeworld.proofs.Reaching.{all_after-append, sound_ends}
+use Rattle.rmeworld.proofs.Replies.{answers}
 use Rattle.runs.specs.declared.setup.Setup.{Setup}
 use Rattle.runs.specs.declared.entry.Entry.{Entry}
 use Rattle.runs.specs.Runs.{before, taken, spelled, end_of, gone}
@@ -58,11 +57,6 @@ spot_is s es e =
 pub spelled_to : (s : Setup) (es : List Entry) (e : Entry) → spelled (es ++ e ∷ []) ≡ (spelled es ++ before e.step.crashed e.step.start e.by) ++ taken e.by e.step.kind e.step.word e.value ∷ []
 spelled_to s es e = spelled_snoc es e ∙ sym (append_assoc (spelled es) (before e.step.crashed e.step.start e.by) (taken e.by e.step.kind e.step.word e.value ∷ []))
 
--- a script that answers so has come to its end
-ended : (t : Task) (b : Bool) (left : Script Reply) (reply : Reply) → by_script (Working t) b left ≡ Some (Mail reply) → left ≡ Done reply
-ended t b (Done r) reply e = let same : r ≡ reply = cc in ap Done same
-ended t b _ reply e = absurd (cc)
-
 append_shown : (p seq : ℕ) (reply : Reply) (shown : List Message) → AppendTells p seq (Done reply) shown → (reply ≡ Stored) ⊎ (reply ≡ Already) → IsAmong p seq shown
 append_shown p seq reply shown tells (inl e) = subst (λ (r : Reply). AppendTells p seq (Done r) shown) e tells
 append_shown p seq reply shown tells (inr e) = subst (λ (r : Reply). AppendTells p seq (Done r) shown) e tells
@@ -82,7 +76,7 @@ answered s es sound front e back seq reply split ends stored =
     let at_errand : ErrandTells e.by (Doing (Working (task.Append seq ends.value)) ends.left) e.value shown = subst (λ (x : Errand). ErrandTells e.by x e.value shown) (ap (λ (q : Spot). q.errand) (spot_is s front e) ∙ ends.append) moved in
     let spot = spot_at s front e in
     let done : tail ends.left e.value ≡ Done reply =
-    ended (task.Append seq ends.value) spot.mended (tail ends.left e.value) reply (ap (λ (x : Errand). answer_by spot.lock spot.mended spot.barred x e.step.kind e.value) (sym ends.append) ∙ ends.answer) in
+    answers (task.Append seq ends.value) spot.mended (tail ends.left e.value) reply (ap (λ (x : Errand). answer_by spot.lock spot.mended spot.barred x e.step.kind e.value) (sym ends.append) ∙ ends.answer) in
     append_shown e.by seq reply shown (subst (λ (r : Script Reply). AppendTells e.by seq r shown) done at_errand) stored
 
 pub words_sit : (s : Setup) (es : List Entry) → Sound s.layout s.limit at_first (empty s.layout.procs s.layout.cap) (spelled es) → Sits s.layout (end_of s es).cells (judged_by s es)

@@ -14,22 +14,17 @@ use Rattle.judge.specs.Halves.{all_after}
 use Rattle.judge.specs.Legal.{Leads, judged_all}
 use Rattle.judge.specs.Table.{State, empty, after}
 use Rattle.judge.proofs.Halves.{state_led}
-use Rattle.rmeworld.specs.Spot.{Happening}
-use Rattle.rmeworld.specs.World.{Scene, at_first, onward, last_scene, event_deeds, deeds}
+use Rattle.rmeworld.specs.World.{at_first, deeds}
 use Rattle.rmeworld.proofs.LawfulNow.{Someone, Nobody, find_in}
 use Rattle.rmeworld.proofs.Reaching.{Arrived, reached_arrives, all_after-append}
 use Rattle.rmeworld.proofs.Stories.{before_is, goes_on}
+use Rattle.rmeworld.proofs.Replies.{deeds-append}
 use Rattle.runs.specs.declared.setup.Setup.{Setup}
 use Rattle.runs.specs.declared.entry.Entry.{Entry}
 use Rattle.runs.specs.Runs.{spelled, IsRun, end_of}
 use Rattle.runs.specs.Headline.{deeds_of, shown_by}
 use Rattle.runs.specs.Reading.{cells_of, AreShown, RunsShow, EntriesStandInRuns}
 use Rattle.runs.proofs.Runs.{spelled-append, legal_front}
-
-deeds-append : (l : Layout) (limit : ℕ) (w : Scene) (xs ys : List Happening) → deeds l limit w (xs ++ ys) ≡ deeds l limit w xs ++ deeds l limit (last_scene l limit w xs) ys
-deeds-append l limit w [] ys = refl
-deeds-append l limit w (x ∷ xs) ys =
-    ap (λ ds. event_deeds l w x ++ ds) (deeds-append l limit (onward l limit w x) xs ys) ∙ sym (append_assoc (event_deeds l w x) (deeds l limit (onward l limit w x) xs) _)
 
 -- deeds take no message away that is shown
 one_more_shown : (s : State) (d : Deed) → (more : List Message) × ((after s d).mail.shown ≡ s.mail.shown ++ more)

@@ -46,7 +46,7 @@ pub takes_snoc : (x y z : Pass) (mine : List Entry) (kind : Kind) (word : Word) 
 takes_snoc x y z [] kind word v h a move = subst (λ (p : Pass). Takes p (next_entry y kind word v ∷ []) z) h (z, refl, a, refl, move)
 takes_snoc x y z (e ∷ es) kind word v h a move = (h.0, h.1, h.2, takes_snoc h.0 y z es kind word v h.3 a move, h.4)
 
-and_append : (o : Option Answer) (xs ys : List Answer) → and_answer o (xs ++ ys) ≡ and_answer o xs ++ ys
+pub and_append : (o : Option Answer) (xs ys : List Answer) → and_answer o (xs ++ ys) ≡ and_answer o xs ++ ys
 and_append None xs ys = refl
 and_append (Some a) xs ys = refl
 

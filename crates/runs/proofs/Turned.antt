@@ -12,16 +12,12 @@ use Rattle.runs.specs.Pass.{Pass, IsPass}
 use Rattle.runs.specs.Running.{Seated, many_more, fell}
 use Rattle.runs.specs.Calls.{spot_before, and_answer, answers_from, is_blocked_at, blocked_from, answers_of, blocked_of, Takes, blocks, Ran, CutOff, Turning, Served}
 use Rattle.runs.proofs.Leads.{gone-append}
-use Rattle.runs.proofs.Taken.{takes_sizes, takes_spot}
+use Rattle.runs.proofs.Taken.{takes_sizes, takes_spot, and_append}
 use Rattle.runs.proofs.Called.{served_of}
 
 takes-append : (x y z : Pass) (a b : List Entry) → Takes x a y → Takes y b z → Takes x (a ++ b) z
 takes-append x y z [] b h k = subst (λ (p : Pass). Takes p b z) h k
 takes-append x y z (e ∷ es) b h k = (h.0, h.1, h.2, takes-append h.0 y z es b h.3 k, h.4)
-
-pub and_append : (o : Option Answer) (xs ys : List Answer) → and_answer o (xs ++ ys) ≡ and_answer o xs ++ ys
-and_append None xs ys = refl
-and_append (Some a) xs ys = refl
 
 pub answers-append : (s : Setup) (q : Spot) (a b : List Entry) → answers_from s q (a ++ b) ≡ answers_from s q a ++ answers_from s (gone s q (spelled a)) b
 answers-append s q [] b = refl

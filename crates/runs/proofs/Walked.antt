@@ -17,17 +17,16 @@ use Rattle.rmecore.proofs.Accesses.{passed}
 use Rattle.rmecore.proofs.Invariant.{put_same, put_other}
 use Rattle.rmecore.proofs.Tallies.{rereads_on, reads_begun}
 use Rattle.rmecore.proofs.Turns.{not_data}
-use Rattle.redomail.specs.Script.{Script, Get as Asks, Put as Writes, Done}
+use Rattle.redomail.specs.Script.{Script, Get as Asks, Put as Writes}
 use Rattle.redomail.specs.declared.layout.Layout.{Layout}
 use Rattle.redomail.specs.declared.reply.Reply.{Reply}
-use Rattle.redomail.specs.declared.reply.Reply.TheVariants.{Ruined}
 use Rattle.rmeworld.specs.CallWalk.{next_or_same, Walks}
-use Rattle.rmeworld.specs.Spot.{Errand, Free, Doing, Spot, Happening, Begins, Falls, Moves, Glances, who, dead, next_spot, settled, end_place, only_spot, at_lock, errand_entered, moved_by, inside_only, begun_from}
+use Rattle.rmeworld.specs.Spot.{Errand, Free, Doing, Spot, Happening, Begins, Falls, Moves, Glances, who, dead, next_spot, settled, only_spot, at_lock, errand_entered, moved_by, inside_only, begun_from}
 use Rattle.rmeworld.specs.World.{Scene, Can, onward, Story, reading_of, own_happenings}
 use Rattle.rmeworld.specs.declared.call.Call.{Call}
 use Rattle.rmeworld.specs.declared.call.Call.TheVariants.{Lock, Unlock, Consistent, Recover, Append, Close, Get, Put, Withdraw}
 use Rattle.rmeworld.specs.declared.why.Why.{Why}
-use Rattle.rmeworld.specs.declared.why.Why.TheVariants.{Checking, Ruining, Mending, Working}
+use Rattle.rmeworld.proofs.WorldTallies.{at_lock_some, settled_not}
 
 -- nobody else's step stores into the lock words of p
 apart : (p q r : ℕ) (b : Bool) (t : Place) → p ≢ q → IsSome (only ((r == q) && b) t) → p ≢ r
@@ -51,28 +50,11 @@ stored_apart n limit p q (Wait k unpassed (Some i)) Weighs (NumberOf j) v words 
 stored_apart n limit p q s Glancing word v words ne some e = absurd (cc)
 stored_apart _ _ _ _ _ _ _ _ words ne some e = absurd (cc)
 
-some_place : (l : Layout) (p : ℕ) (s : Place) (b c : Bool) (o : Option Place) → IsSome (at_lock l p s b c o) → IsSome o
-some_place l p s b c None some = absurd (cc)
-some_place l p s b c (Some t) some = refl
-
 moved_apart : (l : Layout) (limit p q : ℕ) (s : Place) (b c : Bool) (e : Errand) (kind : Kind) (word : Word) (v : ℕ) (words : ℕ → Own) → p ≢ q → IsSome (moved_by l limit q s b c e kind word v) → is_store kind ≡ true → write words word v p ≡ words p
-moved_apart l limit p q s b c Free kind word v words ne some store = stored_apart l.procs limit p q s kind word v words ne (some_place l q s b c (next l.procs limit q s kind word v) some) store
+moved_apart l limit p q s b c Free kind word v words ne some store = stored_apart l.procs limit p q s kind word v words ne (at_lock_some l q s b c (next l.procs limit q s kind word v) some) store
 moved_apart l limit p q s b c (Doing why (Asks j rest)) Gets (DataAt i) v words ne some store = absurd (cc)
 moved_apart l limit p q s b c (Doing why (Writes j x rest)) Puts (DataAt i) v words ne some store = refl
 moved_apart l limit p q s b c (Doing why left) _ _ v words ne some store = absurd (cc)
-
--- a process that rereads after a step has read an own word in it, and has nothing to do with the data words
-ended_not : (why : Why) (a : Reply) → IsRereading (end_place why a) → ⊥
-ended_not Checking (Ruined true) h = h
-ended_not Checking _ h = h
-ended_not Ruining a h = h
-ended_not Mending a h = h
-ended_not (Working t) a h = h
-
-settled_not : (b c : Bool) (why : Why) (left : Script Reply) → IsRereading (settled b c why left).lock → ⊥
-settled_not b c why (Asks i rest) h = h
-settled_not b c why (Writes i v rest) h = h
-settled_not b c why (Done a) h = ended_not why a h
 
 only_settled : (fits b c : Bool) (why : Why) (left : Script Reply) (d : Spot) → IsSome (only_spot fits (settled b c why left)) → IsRereading (unwrap_or (only_spot fits (settled b c why left)) d).lock → ⊥
 only_settled true b c why left d some h = settled_not b c why left h
@@ -106,7 +88,7 @@ Still s kind t = IsRereading t.lock → IsRereading s × (is_store kind ≡ fals
 still : (l : Layout) (limit p : ℕ) (s : Place) (b c : Bool) (e : Errand) (kind : Kind) (word : Word) (v : ℕ) (d : Spot) → IsSome (moved_by l limit p s b c e kind word v) → is_glance kind ≡ false → Still s kind (unwrap_or (moved_by l limit p s b c e kind word v) d)
 still l limit p s b c Free kind word v d some moves = λ h.
     let o = next l.procs limit p s kind word v in
-    let was = rereads_on l.procs limit p s kind word v (some_place l p s b c o some) moves (locked_was l p s b c o d some h) in
+    let was = rereads_on l.procs limit p s kind word v (at_lock_some l p s b c o some) moves (locked_was l p s b c o d some h) in
     (was.0, was.1, locked_free l p s b c o d some h)
 still l limit p s b c (Doing why (Asks j rest)) Gets (DataAt i) v d some moves = λ h. absurd (only_settled (i == j) b c why (rest v) d some h)
 still l limit p s b c (Doing why (Writes j x rest)) Puts (DataAt i) v d some moves = λ h. absurd (only_settled ((i == j) && (v == x)) b c why rest d some h)
@@ -206,7 +188,7 @@ module _ (l : Layout) (limit p : ℕ) where
   reads : (w : Scene) (began : Own) (e : Errand) (s : Place) (b c : Bool) (kind : Kind) (word : Word) (v : ℕ) → IsSome (moved_by l limit p s b c e kind word v) → (is_store kind ≡ false → reading_of w.words w.cells word ≡ v) → is_glance kind ≡ false
       → (IsRereading s → (e ≡ Free) × (began ≡ w.words p)) → ReadsBegun began.choosing began.number began.inside s v
   reads w began Free s b c kind word v some told moves fresh =
-      let may = some_place l p s b c (next l.procs limit p s kind word v) some in
+      let may = at_lock_some l p s b c (next l.procs limit p s kind word v) some in
       reads_begun l.procs limit (record { words = w.words; places = λ q. s }) p began s kind word v may moves (core_reads w s kind word v may told) (λ h. (fresh h).1)
   reads w began (Doing why left) s b c kind word v some told moves fresh = any_reads s began v (λ h. let no = (fresh h).0 in cc)
 

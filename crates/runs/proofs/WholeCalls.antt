@@ -1,5 +1,5 @@
 -- A whole mailbox call from its parts.
-use Rattle.std.proofs.Common.{◌≡◌, ℕ, ◌+◌, ◌≤◌, ◌⊎◌, Bool, true, false, if◌then◌else◌, List, [], ◌∷◌, Result, Ok, Err, Option, Some, None, IfOk, IfErr, refl, sym, ap, ◌∙◌, subst, inl, inr, arith, append-nil}
+use Rattle.std.proofs.Common.{◌≡◌, ℕ, ◌+◌, ◌≤◌, ◌⊎◌, Bool, true, List, [], ◌∷◌, Result, Ok, Err, Option, Some, None, IfOk, IfErr, refl, sym, ap, ◌∙◌, subst, inl, inr, arith, append-nil}
 use Rattle.rmecore.specs.Simulated.{one_more}
 use Rattle.redomail.specs.declared.reply.Reply.{Reply}
 use Rattle.redomail.specs.declared.reply.Reply.TheVariants as reply
@@ -23,6 +23,7 @@ use Rattle.runs.specs.WholeSteps.{mended_by, SumCounts, InsideCounts}
 use Rattle.runs.specs.Whole.{IsTask, IsFront, IsInner, IsWithin, Inner, Comes, WholeBy, WholeEnds, WholeGoes, WholeFails, calls_inside}
 use Rattle.runs.proofs.WholeSteps.{whole_counts}
 use Rattle.runs.proofs.Chained.{asked_behind, cut_asked, answered-append, cut_after, ran_behind, cut_behind, lock_setup}
+use Rattle.runs.proofs.Counted.{ready_setup}
 
 pub unlocked_is : (a : Answer) → Fits call.Unlock a → a ≡ answer.Unlocked
 unlocked_is answer.Unlocked f = refl
@@ -178,14 +179,10 @@ module _ (x w y : Seated) (turns : ℕ) (task : Call) (a0 a1 f0 f1 : ℕ) (e : w
   pub cut_fails : refusal_now (ready x) call.Lock ≡ None → (why : LockFault) → why ≡ fault.Crashed → CutIn w call.Lock y a0 a1 f0 f1 → WholeFails x turns task y a0 a1 f0 f1 why
   cut_fails may why is h = lock_fails x y turns task a0 a1 f0 f1 may why is (subst (λ (u : Seated). CutIn u call.Lock y a0 a1 f0 f1) e h)
 
-either_setup : (b : Bool) (x : Seated) → (if b then x else fell x).pass.setup ≡ x.pass.setup
-either_setup true x = refl
-either_setup false x = refl
-
 -- the task fits as it did before
 pub task_fits : (x w y : Seated) (turns : ℕ) (o : Option Answer) (task : Call) (a0 a1 f0 f1 : ℕ) → w ≡ began (ready x) call.Lock → LockBy 0 w turns o y a0 a1 f0 f1 → IsTask x.pass.setup.layout task → IsTask y.pass.setup.layout task
 task_fits x w y turns o task a0 a1 f0 f1 e h fits =
-    let same : y.pass.setup ≡ x.pass.setup = lock_setup w y turns o a0 a1 f0 f1 h ∙ ap (λ (u : Seated). u.pass.setup) e ∙ either_setup (is_idle (spot_now x.pass)) x in
+    let same : y.pass.setup ≡ x.pass.setup = lock_setup w y turns o a0 a1 f0 f1 h ∙ ap (λ (u : Seated). u.pass.setup) e ∙ ready_setup (is_idle (spot_now x.pass)) x in
     subst (λ (s : Setup). IsTask s.layout task) (sym same) fits
 
 -- a fact of an answer, with the number of turns that it stands for

@@ -2,6 +2,7 @@ use Rattle.std.proofs.Common.{◌≡◌, ◌++◌, length, take, drop, slice_ind
 use Rattle.rmecore.specs.Machine.{kind_of, word_of, carried}
 use Rattle.rmecore.specs.Simulated.{counted, tally_at}
 use Rattle.rmecore.specs.declared.access.Access.{Access}
+use Rattle.rmecore.proofs.CoreSteps.{refill}
 use Rattle.redomail.specs.Layout.{words_of}
 use Rattle.rmeworld.specs.Replayed.{happening, words_by, cells_by, list_of, the_deed, or_else, mail_by, prospect_of}
 use Rattle.rmeworld.specs.Reached.{IsWorld}
@@ -9,7 +10,7 @@ use Rattle.rmeworld.specs.Stand.{spot_of, outcome, next_access, spot_after, step
 use Rattle.rmeworld.specs.World.{reading, event_deeds}
 use Rattle.rmeworld.specs.WorldState.{WorldState, stand_at, scene_of}
 use Rattle.rmeworld.proofs.Advancing.{advances}
-use Rattle.rmeworld.proofs.Worlds.{refill, found, tally_found, Made, made_is, deeds_are, the_one, world_step}
+use Rattle.rmeworld.proofs.Worlds.{found, tally_found, Made, made_is, deeds_are, the_one, world_step}
 use Rattle.rmeworld.proofs.WorldSteps.{IsStep}
 use Rattle.rmeworld.proofs.world.World.step_on.Goals as goal
 

@@ -3,8 +3,9 @@ use Rattle.redomail.specs.declared.layout.Layout.{Layout}
 use Rattle.redomail.specs.Content.{IsContent}
 use Rattle.redomail.specs.Layout.{words_of}
 use Rattle.redomail.specs.Shape.{IsNumbered}
+use Rattle.rmeworld.proofs.ImageStarts.{lawful_content}
 use Rattle.robust.specs.Worked.{sizes_of}
-use Rattle.robust.proofs.AllSent.{lawful_content, content_numbered}
+use Rattle.robust.proofs.AllSent.{content_numbered}
 use Rattle.robust.proofs.lab.running.shown.Goals as goal
 
 pub unreachable-requires : goal.unreachable-requires

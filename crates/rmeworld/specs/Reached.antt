@@ -1,17 +1,20 @@
--- Worlds that some story comes to.
+-- Worlds that some story comes to, and the images that stories leave.
 use Rattle.std.specs.Prelude.{◌≡◌, ℕ, ◌≤◌, ◌^◌, ◌⊎◌, nat_lt, if◌then◌else◌, List, length}
+use Rattle.rmecore.specs.Simulated.{own_at}
 use Rattle.rmecore.specs.declared.own.Own.{Own}
 use Rattle.redomail.specs.declared.deed.Deed.{Deed}
 use Rattle.redomail.specs.declared.layout.Layout.{Layout}
-use Rattle.redomail.specs.Layout.{Words, size}
+use Rattle.redomail.specs.Layout.{Words, words_of, size}
 use Rattle.judge.specs.Legal.{Leads}
 use Rattle.judge.specs.Table.{State, empty}
+use Rattle.rmeworld.specs.ImageRules.{layout_of, IsLawfulImage}
 use Rattle.rmeworld.specs.Law.{IsLater}
 use Rattle.rmeworld.specs.Spot.{Happening, at_rest, dead}
 use Rattle.rmeworld.specs.Stand.{IsSize}
 use Rattle.rmeworld.specs.Tallied.{AllTallied}
 use Rattle.rmeworld.specs.World.{Scene, at_first, Story, last_scene, deeds}
 use Rattle.rmeworld.specs.WorldState.{WorldState, IsSeated, scene_of}
+use Rattle.rmeworld.specs.declared.image.Image.{Image}
 
 -- these words, and each of the n processes crashed
 abbrev pub crashed_scene : ℕ → (ℕ → Own) → Words → Scene
@@ -22,6 +25,21 @@ crashed_scene n words cells = record { words = words; cells = cells; spots = λ 
 abbrev pub IsOrigin : Layout → ℕ → Scene → State → Type 0
 IsOrigin l limit w s =
     ((w ≡ at_first) × (s ≡ empty l.procs l.cap)) ⊎ ((w ≡ crashed_scene l.procs w.words w.cells) × IsLater l limit w.words w.cells s)
+
+-- The image holds the words of all processes and the data words of this scene, with its sizes.
+pub record IsImageOf (l : Layout) (limit : ℕ) (w : Scene) (i : Image) : Type 0 where
+  pub version : i.version ≡ 2
+  pub layout : layout_of i ≡ l
+  pub limit : i.limit ≡ limit
+  pub filled : length i.cells ≡ size l
+  pub words : own_at i.lock ≡ w.words
+  pub cells : words_of i.cells ≡ w.cells
+
+-- Wherever a story comes to, the words of all processes with the data words keep the nine rules of images.
+abbrev pub EveryStoryLeavesAnImage : Type 0
+EveryStoryLeavesAnImage =
+    (l : Layout) (limit : ℕ) (w : Scene) (s : State) (story : List Happening) (i : Image) → IsSize l → (1 ≤ limit) × (limit ≤ 2 ^ 62)
+    → IsOrigin l limit w s → Story l limit w story → IsImageOf l limit (last_scene l limit w story) i → IsLawfulImage i
 
 -- The scene is the last of some story, and the history is the story's deeds.
 pub record IsReached (l : Layout) (limit : ℕ) (w : Scene) (history : List Deed) : Type 0 where

@@ -10,7 +10,7 @@ ghost use Rattle.rmeworld.specs.ImageStart.{IsStartOf};
 ghost use Rattle.rmeworld.specs.CallWalk.{CallsTakeTheirSteps, NoCallTakesMore};
 ghost use Rattle.rmeworld.specs.Holders.{OnlyHoldersPut};
 ghost use Rattle.rmeworld.specs.Law.{IsLater, EveryStoryIsSound, EveryStoryIsLegal, EveryLaterStoryIsSound, EveryStoryEndsLawful};
-ghost use Rattle.rmeworld.specs.Reached.{crashed_scene};
+ghost use Rattle.rmeworld.specs.Reached.{crashed_scene, EveryStoryLeavesAnImage};
 ghost use Rattle.rmeworld.specs.Sent.{EveryDeedWasAsked, EveryMessageWasSent, EveryCloseWasAsked, EveryRuinWasAsked, RepliesTell, StoredIsShown};
 ghost use Rattle.rmeworld.specs.Spot.{Happening};
 ghost use Rattle.rmeworld.specs.World.{Scene, at_first, Can, onward, Story, last_scene, event_deeds, deeds, own_happenings, spot_after};
@@ -22,12 +22,14 @@ use redomail::Layout;
 
 /// The lock theorem. The deeds of every story are allowed by the judge, one after another, and so the whole list is legal;
 /// the data words keep their shape; an append that is answered Stored or Already has its number among the messages shown;
-/// and the lock words stay lawful. The same from any lawful words with every process crashed.
+/// and the lock words stay lawful. The same from any lawful words with every process crashed. From either origin, the words
+/// of all processes with the data words make a lawful image (`image`).
 pub fn every_story_is_sound()
     ensures sound { EveryStoryIsSound }
     ensures legal { EveryStoryIsLegal }
     ensures lawful { EveryStoryEndsLawful }
     ensures later { EveryLaterStoryIsSound }
+    ensures image { EveryStoryLeavesAnImage }
 {
     redomail::laws::new_words();
     rmecore::laws::every_run_is_legal();

@@ -5,6 +5,7 @@ use Rattle.redomail.specs.Mailbox.{nothing_shown}
 use Rattle.judge.specs.Table.{empty}
 use Rattle.rmeworld.specs.Law.{Sound, EveryStoryIsSound}
 use Rattle.rmeworld.specs.World.{at_first, all_dead}
+use Rattle.rmeworld.proofs.LawfulNow.{every_story_leaves_an_image}
 use Rattle.rmeworld.proofs.Projection.{projected}
 use Rattle.rmeworld.proofs.Stories.{sound, legal_by, first, first_posts, state_is, later, later_posts}
 use Rattle.rmeworld.proofs.laws.every_story_is_sound.Goals as goal
@@ -33,3 +34,6 @@ pub returns-clause-lawful : goal.returns-clause-lawful
 returns-clause-lawful c = λ l limit story h.
     let r = projected l limit at_first story (λ p. tt) h in
     subst (IsLawful l.procs limit) r.ends (c.every_run_ends_lawful.ensures l.procs limit r.events r.run)
+
+pub returns-clause-image : goal.returns-clause-image
+returns-clause-image c = every_story_leaves_an_image

@@ -26,10 +26,11 @@ use Rattle.rmeworld.specs.declared.why.Why.TheVariants.{Checking, Ruining, Mendi
 use Rattle.rmeworld.specs.Answered.{by_lock, by_reply, by_script, answer_by, answer_at}
 use Rattle.rmeworld.specs.Entered.{is_entry}
 use Rattle.rmeworld.specs.Spot.{Errand, Free, Doing, Spot, at_lock, settled, only_spot, moved_by, inside_only, begun_from}
+use Rattle.rmeworld.specs.CallWalk.{and_answer}
 use Rattle.runs.specs.declared.setup.Setup.{Setup}
 use Rattle.runs.specs.declared.entry.Entry.{Entry}
 use Rattle.runs.specs.Runs.{before, taken, happenings, spelled, gone}
-use Rattle.runs.specs.Calls.{spot_before, and_answer, answers_from, and_call, starts}
+use Rattle.runs.specs.Calls.{spot_before, answers_from, and_call, starts}
 use Rattle.runs.specs.Under.{Replies, Mends}
 use Rattle.robust.specs.Sending.{OfStart}
 use Rattle.runs.proofs.Begun.{mends_consistent}

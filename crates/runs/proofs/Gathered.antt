@@ -1,6 +1,7 @@
 -- What the seat knows into which the other members' seats are joined, and what its glances tell once it answers for all.
 use Rattle.std.proofs.Common.{◌≡◌, ◌⊎◌, ℕ, suc, ◌+◌, ◌<◌, ◌==◌, ◌||◌, Bool, true, false, true≢false, List, [], ◌∷◌, ◌++◌, length, map, get_or, All, refl, sym, ap, ◌∙◌, subst, inl, inr, ⊎_elim, arith, append-nil, append_assoc, length-append, eq-eqb, eqb-true, remove}
 use Rattle.std.specs.Prelude.{slice_index}
+use Rattle.std.proofs.lemmas.Bool.{or_cases}
 use Rattle.std.proofs.lemmas.List.Elements.{All-nil, All-cons, All-head, All-tail, All-append}
 use Rattle.rmecore.specs.declared.own.Own.{Own}
 use Rattle.rmecore.specs.declared.word.Word.{Word}
@@ -49,10 +50,6 @@ answers_has_first first (x ∷ xs) = has-append_left first.pass.by (answers_of f
 pub knows_some : (first : Seated) (xs : List Seated) (n : ℕ) (k : Known) → Knows first xs n k → has (stepper k.view) k.view.answers ≡ true
 knows_some first xs n k h = subst (λ (ps : List ℕ). has (slice_index ps 0) ps ≡ true) (sym h.answers) (ap (λ (p : ℕ). has p (answers_of first xs)) (answers_first first xs) ∙ answers_has_first first xs)
 
-either_true : (b c : Bool) → (b || c) ≡ true → (b ≡ true) ⊎ (c ≡ true)
-either_true true c h = inl refl
-either_true false c h = inr h
-
 -- whoever was joined is answered for
 answers_has : (first : Seated) (xs : List Seated) (p : ℕ) → has_member p xs ≡ true → has p (answers_of first xs) ≡ true
 answers_has first [] p h = absurd (true≢false (sym h))
@@ -60,14 +57,14 @@ answers_has first (x ∷ xs) p h =
     ⊎_elim
     (λ (e : (x.pass.by == p) ≡ true). has-append_right p (answers_of first xs) (x.pass.by ∷ []) (rw e refl))
     (λ (e : has_member p xs ≡ true). has-append_left p (answers_of first xs) (x.pass.by ∷ []) (answers_has first xs p e))
-    (either_true (x.pass.by == p) (has_member p xs) h)
+    (or_cases (x.pass.by == p) (has_member p xs) h)
 
 answers_all : (first : Seated) (xs : List Seated) (p : ℕ) → has_member p (first ∷ xs) ≡ true → has p (answers_of first xs) ≡ true
 answers_all first xs p h =
     ⊎_elim
     (λ (e : (first.pass.by == p) ≡ true). let same : first.pass.by ≡ p = eqb-true first.pass.by p e in subst (λ (q : ℕ). has q (answers_of first xs) ≡ true) same (answers_has_first first xs))
     (λ (e : has_member p xs ≡ true). answers_has first xs p e)
-    (either_true (first.pass.by == p) (has_member p xs) h)
+    (or_cases (first.pass.by == p) (has_member p xs) h)
 
 answers_each : (first : Seated) (xs : List Seated) → All (λ (x : Seated). has x.pass.by (answers_of first xs) ≡ true) xs
 answers_each first [] = All-nil _

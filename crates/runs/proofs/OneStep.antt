@@ -28,12 +28,13 @@ use Rattle.rmeworld.specs.Answered.{answer_at}
 use Rattle.rmeworld.specs.Refused.{start_refusal}
 use Rattle.rmeworld.specs.Spot.{Errand, Free, Doing, Spot, at_rest, Happening, Begins, Moves, who, next_spot, at_lock, only_spot, working}
 use Rattle.rmeworld.specs.World.{Scene, at_first, Story, onward, reading, own_happenings}
+use Rattle.rmeworld.specs.CallWalk.{and_answer}
 use Rattle.runs.specs.declared.setup.Setup.{Setup}
 use Rattle.runs.specs.declared.entry.Entry.{Entry}
 use Rattle.runs.specs.Runs.{before, taken, happenings, spelled, own, IsRun, end_of, gone, spot_of, Goes, stores}
 use Rattle.runs.specs.Pass.{Pass, spot_now, Calls}
 use Rattle.runs.specs.Running.{Seated, began}
-use Rattle.runs.specs.Calls.{spot_before, and_answer, answers_of, FirstStart, FirstCrash, AreMoves, Served}
+use Rattle.runs.specs.Calls.{spot_before, answers_of, FirstStart, FirstCrash, AreMoves, Served}
 use Rattle.runs.specs.Faults.{refusal_now}
 use Rattle.runs.specs.Board.{is_data, puts, or_earlier, last_put, value_or}
 use Rattle.runs.proofs.Runs.{own-append, own_spelled, spelled-append, last_reads}

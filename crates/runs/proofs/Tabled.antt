@@ -3,7 +3,7 @@ use Rattle.std.proofs.Common.{◌≡◌, ℕ, suc, ◌+◌, ◌==◌, Bool, true
 use Rattle.std.proofs.lemmas.List.Elements.{All-nil, All-cons, All-head, All-tail}
 use Rattle.rmecore.specs.Paid.{is_glance}
 use Rattle.rmeworld.specs.Answered.{answer_at, blocked_by}
-use Rattle.rmeworld.specs.CallWalk.{next_or_same, blocked_in, and_answer as and_answer_in, answers_in, last_spot, Tells}
+use Rattle.rmeworld.specs.CallWalk.{next_or_same, blocked_in, and_answer, answers_in, last_spot, Tells}
 use Rattle.rmeworld.specs.Spot.{Spot, Happening, Begins, Moves}
 use Rattle.rmeworld.specs.World.{Scene, Story, own_happenings}
 use Rattle.rmeworld.specs.declared.answer.Answer.{Answer}
@@ -13,7 +13,7 @@ use Rattle.runs.specs.declared.setup.Setup.{Setup}
 use Rattle.runs.specs.declared.entry.Entry.{Entry}
 use Rattle.runs.specs.Runs.{before, crash_first, taken, happenings, spelled, own, IsRun, end_of, gone, spot_of}
 use Rattle.runs.specs.Pass.{Pass, Calls}
-use Rattle.runs.specs.Calls.{spot_before, and_answer, answers_from, blocked_from, answers_of, blocked_of, FirstStart, FirstCrash, AreMoves}
+use Rattle.runs.specs.Calls.{spot_before, answers_from, blocked_from, answers_of, blocked_of, FirstStart, FirstCrash, AreMoves}
 use Rattle.runs.specs.Tabled.{words_begun, spot_begun, KeepsTable, CallsKeepTheTable}
 use Rattle.runs.proofs.Runs.{own_spelled, spot_in_run, legal_back}
 use Rattle.runs.proofs.Leads.{gone-append}
@@ -67,10 +67,6 @@ spelled_plain p (e ∷ es) plain =
     let later = spelled_plain p es plain.1 in
     λ i. (before (plain.0.1 i) (plain.0.2 i) (plain.0.0 i) ++ here i ∷ []) ++ later i
 
-and_same : (o : Option Answer) (answers : List Answer) → and_answer o answers ≡ and_answer_in o answers
-and_same None answers = refl
-and_same (Some a) answers = refl
-
 module _ (s : Setup) (p : ℕ) where
   abbrev from : Spot → Entry → Spot
   from t e = next_or_same s.layout s.limit t (Moves p e.step.kind e.step.word e.value)
@@ -86,8 +82,7 @@ module _ (s : Setup) (p : ℕ) where
   pub answers_first : (q : Spot) (e : Entry) (es : List Entry) → e.by ≡ p → is_glance e.step.kind ≡ false → ((t : Spot) → answers_from s t es ≡ answers_in s.layout s.limit t (steps_of p es))
       → answers_from s q (e ∷ es) ≡ answers_in s.layout s.limit (spot_before s q e) (steps_of p (e ∷ es))
   answers_first q e es by moves later =
-      and_same (answer_at (spot_before s q e) e.step.kind e.value) (answers_from s (gone s q (happenings e)) es)
-      ∙ ap (and_answer_in (answer_at (spot_before s q e) e.step.kind e.value)) (ap (λ (t : Spot). answers_from s t es) (step_leads q e by moves) ∙ later (from (spot_before s q e) e))
+      ap (and_answer (answer_at (spot_before s q e) e.step.kind e.value)) (ap (λ (t : Spot). answers_from s t es) (step_leads q e by moves) ∙ later (from (spot_before s q e) e))
 
   pub answers_plain : (es : List Entry) → ArePlain p es → (q : Spot) → answers_from s q es ≡ answers_in s.layout s.limit q (steps_of p es)
   answers_plain [] plain q = refl

@@ -14,7 +14,7 @@ use Rattle.runs.specs.declared.entry.Entry.{Entry}
 use Rattle.runs.specs.Runs.{before, happenings, spelled, gone, spot_of}
 use Rattle.runs.specs.Pass.{Pass, spot_now, moved_spot, next_entry, Advances}
 use Rattle.runs.specs.Running.{Seated, many_more, TakesStep}
-use Rattle.runs.specs.Calls.{spot_before, and_answer, answers_from, is_blocked_at, blocked_from, answers_of, blocked_of, Takes, Ran, Going}
+use Rattle.runs.specs.Calls.{spot_before, answers_from, is_blocked_at, blocked_from, answers_of, blocked_of, Takes, Ran, Going}
 use Rattle.rmecore.specs.Place.{Place, Wait}
 use Rattle.rmecore.specs.Machine.{answer, is_blocked}
 use Rattle.rmecore.specs.Paid.{is_glance}
@@ -23,6 +23,7 @@ use Rattle.rmeworld.specs.declared.call.Call.TheVariants.{Lock}
 use Rattle.rmeworld.specs.Spot.{Errand, Free, Doing}
 use Rattle.rmeworld.specs.Answered.{by_lock}
 use Rattle.rmeworld.specs.Refused.{is_idle}
+use Rattle.rmeworld.specs.CallWalk.{and_answer}
 use Rattle.runs.specs.Lasting.{Lasts, LastsBy}
 use Rattle.runs.specs.Under.{UnderBy, IsUnder, Fits, Leaves}
 use Rattle.runs.specs.Calls.{Still}

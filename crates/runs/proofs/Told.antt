@@ -24,11 +24,12 @@ use Rattle.rmeworld.specs.declared.why.Why.TheVariants.{Checking, Ruining, Mendi
 use Rattle.rmeworld.specs.Answered.{by_lock, by_reply, by_script, answer_by, answer_at}
 use Rattle.rmeworld.specs.Refused.{is_idle}
 use Rattle.rmeworld.specs.Spot.{Errand, Free, Doing, Spot, Happening, Moves, at_rest, next_spot, moved_by, only_spot, settled}
+use Rattle.rmeworld.specs.CallWalk.{and_answer}
 use Rattle.runs.specs.declared.entry.Entry.{Entry}
 use Rattle.runs.specs.declared.lock_fault.LockFault.{LockFault}
 use Rattle.runs.specs.declared.lock_fault.LockFault.TheVariants.{NotYet, NumbersSpent, NotRecoverable}
 use Rattle.runs.specs.declared.setup.Setup.{Setup}
-use Rattle.runs.specs.Calls.{spot_before, and_answer, answers_from, AreMoves, ServedAll}
+use Rattle.runs.specs.Calls.{spot_before, answers_from, AreMoves, ServedAll}
 use Rattle.runs.specs.Faults.{ready}
 use Rattle.runs.specs.Pass.{spot_now, own_of}
 use Rattle.runs.specs.Ruins.{ReadsRuin, HasReadRuin, last_call, last_of, AreInOrder}

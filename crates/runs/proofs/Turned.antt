@@ -5,12 +5,13 @@ use Rattle.rmeworld.specs.declared.call.Call.{Call}
 use Rattle.rmeworld.specs.declared.answer.Answer.{Answer}
 use Rattle.rmeworld.specs.Answered.{answer_at}
 use Rattle.rmeworld.specs.Spot.{Spot}
+use Rattle.rmeworld.specs.CallWalk.{and_answer}
 use Rattle.runs.specs.declared.setup.Setup.{Setup}
 use Rattle.runs.specs.declared.entry.Entry.{Entry}
 use Rattle.runs.specs.Runs.{happenings, spelled, gone, spot_of}
 use Rattle.runs.specs.Pass.{Pass, IsPass}
 use Rattle.runs.specs.Running.{Seated, many_more, fell}
-use Rattle.runs.specs.Calls.{spot_before, and_answer, answers_from, is_blocked_at, blocked_from, answers_of, blocked_of, Takes, blocks, Ran, CutOff, Turning, Served}
+use Rattle.runs.specs.Calls.{spot_before, answers_from, is_blocked_at, blocked_from, answers_of, blocked_of, Takes, blocks, Ran, CutOff, Turning, Served}
 use Rattle.runs.proofs.Leads.{gone-append}
 use Rattle.runs.proofs.Taken.{takes_sizes, takes_spot, and_append}
 use Rattle.runs.proofs.Called.{served_of}

@@ -15,14 +15,11 @@ use Rattle.rmecore.specs.Simulated.{one_more}
 use Rattle.runs.specs.Lasting.{Lasts}
 use Rattle.runs.specs.Under.{IsUnder, Fits, Leaves}
 use Rattle.rmeworld.specs.declared.call.Call.TheVariants.{Lock}
+use Rattle.rmeworld.specs.CallWalk.{and_answer}
 
 -- the spot of a process right before the step of one of its entries
 abbrev pub spot_before : Setup → Spot → Entry → Spot
 spot_before s spot e = gone s spot (before e.step.crashed e.step.start e.by)
-
-abbrev pub and_answer : Option Answer → List Answer → List Answer
-and_answer None answers = answers
-and_answer (Some a) answers = a ∷ answers
 
 -- the answers of entries of one process, from its spot before them
 abbrev pub answers_from : Setup → Spot → List Entry → List Answer

@@ -144,9 +144,9 @@ pub image_ends : {l : Layout} {limit : ℕ} {w : Scene} {history : List Deed} (s
 image_ends {l = l} {limit = limit} {w = w} {history = history} state i sized limited is a =
     let there : w ≡ image_scene i w.spots = λ j. record { words = sym is.words j; cells = sym is.cells j; spots = w.spots } in
     let scene = subst (λ x. Arrived l limit state x history) there a in
-    let limits = subst (λ x. Arrived l x state (image_scene i w.spots) history) (sym is.limit) scene in
+    let limits = subst (λ x. Arrived l x state (image_scene i w.spots) history) (sym is.limited) scene in
     let arrived = subst (λ x. Arrived x i.limit state (image_scene i w.spots) history) (sym is.layout) limits in
-    lawful_now i w.spots history state arrived is.version (subst IsSize (sym is.layout) sized) (subst (λ x. (1 ≤ x) × (x ≤ 2 ^ 62)) (sym is.limit) limited)
+    lawful_now i w.spots history state arrived is.version (subst IsSize (sym is.layout) sized) (subst (λ x. (1 ≤ x) × (x ≤ 2 ^ 62)) (sym is.limited) limited)
       (is.filled ∙ ap size (sym is.layout))
 
 pub every_story_leaves_an_image : EveryStoryLeavesAnImage
@@ -158,7 +158,7 @@ image_is_lawful s world =
     let is : IsImageOf s.layout s.limit (scene_of s) (image_of s) = record {
       version = refl;
       layout = λ j. record { procs = world.seated.words_each j; cap = s.layout.cap; width = s.layout.width };
-      limit = refl;
+      limited = refl;
       filled = world.filled;
       words = refl;
       cells = refl;

@@ -70,6 +70,15 @@ goes_on s t (d ∷ ds) es e = go (judged s d) (λ u. goes_on u t ds es) e
     go (Ok u) again e = again u e
     go (Err f) again e = absurd (cc)
 
+-- who died inside had a number and was marked
+pub in_numbers : (c x i : ℕ) → IsIn (dead_phase c x i) → (0 < x) × (0 < i)
+in_numbers zero zero i h = absurd (h)
+in_numbers (suc c) zero i h = absurd (h)
+in_numbers zero (suc x) zero h = absurd (h)
+in_numbers (suc c) (suc x) zero h = absurd (h)
+in_numbers zero (suc x) (suc i) h = (omega arith, omega arith)
+in_numbers (suc c) (suc x) (suc i) h = (omega arith, omega arith)
+
 module _ (l : Layout) (limit : ℕ) (layout : IsLayout l) where
   -- what one happening leaves, and what its answer tells
   abbrev pub Left : Scene → Abstract → Mailbox → Happening → Spot → Type 0
@@ -170,16 +179,7 @@ module _ (l : Layout) (limit : ℕ) (layout : IsLayout l) where
   pub first_posts : AllPosts nobody at_first.cells nothing_shown at_first.spots
   first_posts q lt = tt
 
-  -- a scene of words that outlive a crash of everything
-  pub in_numbers : (c x i : ℕ) → IsIn (dead_phase c x i) → (0 < x) × (0 < i)
-  in_numbers zero zero i h = absurd (h)
-  in_numbers (suc c) zero i h = absurd (h)
-  in_numbers zero (suc x) zero h = absurd (h)
-  in_numbers (suc c) (suc x) zero h = absurd (h)
-  in_numbers zero (suc x) (suc i) h = (omega arith, omega arith)
-  in_numbers (suc c) (suc x) (suc i) h = (omega arith, omega arith)
-
-  -- the judge's state of such words
+  -- the judge's state of words that outlive a crash of everything
   pub state_is : (words : ℕ → Own) (cells : Words) (s : State) → IsLater l limit words cells s → s ≡ judge_of l (start_of words) s.mail
   state_is words cells s h = λ i. record { procs = h.procs i; cap = h.cap i; lock = h.lock i; mail = s.mail }
 

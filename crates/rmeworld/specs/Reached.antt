@@ -30,7 +30,7 @@ IsOrigin l limit w s =
 pub record IsImageOf (l : Layout) (limit : ℕ) (w : Scene) (i : Image) : Type 0 where
   pub version : i.version ≡ 2
   pub layout : layout_of i ≡ l
-  pub limit : i.limit ≡ limit
+  pub limited : i.limit ≡ limit
   pub filled : length i.cells ≡ size l
   pub words : own_at i.lock ≡ w.words
   pub cells : words_of i.cells ≡ w.cells

@@ -75,7 +75,7 @@ lawful_end s es run sized limited =
     let is : IsImageOf l s.limit w (image_at s w) = record {
       version = refl;
       layout = λ i. record { procs = length-counted w.words l.procs i; cap = l.cap; width = l.width };
-      limit = refl;
+      limited = refl;
       filled = length-counted w.cells (size l);
       words = own_counted s es run;
       cells = cells_counted s es run;

@@ -1,6 +1,7 @@
 -- A process that doesn't look: its looks are passed over, and it weighs the first that it has not passed.
 use Rattle.std.proofs.Common.{◌≡◌, ℕ, zero, suc, ◌+◌, Bool, true, false, ◌&&◌, ◌||◌, ◌==◌, nat_lt, nat_le, if◌then◌else◌, List, [], ◌∷◌, Option, Some, None, IfSome, unwrap_or, refl, sym, ap, ◌∙◌, subst, inl, inr}
 use Rattle.std.proofs.lemmas.Bool.{cases_Bool, cond_both}
+use Rattle.std.proofs.lemmas.Option.{IfSome_then}
 use Rattle.rmecore.specs.Place.{Place, Rest, Dead, Reread, Opening, Door, Shutting, Wait, Inside, Leaving, Withdrawing, Unmarking, has, without, is_before, only, restart, shut, unmarked, next}
 use Rattle.rmecore.specs.World.{step_deed}
 use Rattle.rmecore.specs.Machine.{Standing, first, access, after_access, kind_of, word_of, carried, answer}
@@ -33,7 +34,7 @@ use Rattle.crashlab.specs.VariantSpots.{beside, at_variant, variant_moved, varia
 use Rattle.crashlab.specs.VariantStands.{variant_spot_of, unlooked, is_of, past_look}
 use Rattle.crashlab.proofs.Starts.{free_stand}
 use Rattle.crashlab.proofs.Steady.{FitsChore, Steady, step_goes, step_steady}
-use Rattle.crashlab.proofs.Rows.{IsRow, process_of, Follows, mapped, nothing_changed, never_of}
+use Rattle.crashlab.proofs.Rows.{IsRow, process_of, Follows, nothing_changed, never_of}
 
 -- who waits weighs the first of its list, or has nobody left
 abbrev pub FitsLook : Place → Type 0
@@ -248,7 +249,7 @@ seen_settled true b c why (Done reply) = λ i. Some (record { lock = unlooked_en
 looks_by : (l : Layout) (limit p : ℕ) (s : Place) (b c : Bool) (e : Errand) (v : ℕ) → FitsLook s
     → IfSome (access_by limit p s e) (λ a. (variant_moved NoLook l limit p (unlooked NoLook s) b c e Straight (kind_of a) (word_of a) (carried a v) ≡ beside Straight (seen (moved_by l limit p s b c e (kind_of a) (word_of a) (carried a v))))
     × (variant_outer_by NoLook p (unlooked NoLook s) e Straight (kind_of a) (carried a v) ≡ outer_by p s e (kind_of a) (carried a v)) × (variant_answer_by NoLook (unlooked NoLook s) b c e Straight (kind_of a) (carried a v) ≡ answer_by s b c e (kind_of a) (carried a v)))
-looks_by l limit p s b c Free v h = mapped (access limit p s) _ _ (looks_at l limit p s b c v h) (λ a k. (k.0, k.1, ap (by_lock c) k.2))
+looks_by l limit p s b c Free v h = IfSome_then (access limit p s) (looks_at l limit p s b c v h) (λ a k. (k.0, k.1, ap (by_lock c) k.2))
 looks_by l limit p s b c (Doing why (Asks i rest)) v h = (ap (beside Straight) (sym (seen_settled _ b c why (rest v))), refl, refl)
 looks_by l limit p s b c (Doing why (Writes i x rest)) v h = (ap (beside Straight) (sym (seen_settled _ b c why rest)), refl, refl)
 looks_by l limit p s b c (Doing why (Done reply)) v h = tt

@@ -1,6 +1,7 @@
 -- A step of a variant's process where its definition has the lock's row.
 use Rattle.std.proofs.Common.{◌≡◌, ℕ, Bool, true, false, ◌&&◌, ◌||◌, ◌==◌, nat_lt, if◌then◌else◌, List, [], ◌∷◌, Option, Some, None, IfSome, unwrap_or, refl, sym, ap, ◌∙◌, subst, inl, inr}
 use Rattle.std.proofs.lemmas.Bool.{cases_Bool}
+use Rattle.std.proofs.lemmas.Option.{IfSome_then}
 use Rattle.rmecore.specs.Place.{Place, Rest, Dead, Reread, Opening, Door, Shutting, Wait, Inside, Leaving, Withdrawing, Unmarking, without, is_before, only, next}
 use Rattle.rmecore.specs.World.{step_deed}
 use Rattle.rmecore.specs.Named.{own_number}
@@ -47,10 +48,6 @@ pub all : {A : Type 0} (o : Option A) (P : A → Type 0) → ((a : A) → P a) �
 all None P h = tt
 all (Some a) P h = h a
 
-pub mapped : {A : Type 0} (o : Option A) (P Q : A → Type 0) → IfSome o P → ((a : A) → P a → Q a) → IfSome o Q
-mapped None P Q h f = tt
-mapped (Some a) P Q h f = f a h
-
 -- At its place the variant does with v what the lock does with w.
 abbrev pub Agrees : Variant → ℕ → ℕ → ℕ → Place → ℕ → ℕ → Access → Type 0
 Agrees variant n limit p place v w a =
@@ -65,7 +62,7 @@ after_next l p s b c (Some t) = refl
 agreed : (variant : Variant) (l : Layout) (limit p : ℕ) (s : Place) (b c : Bool) (e : Errand) (v w : ℕ) → (e ≡ Free → IfSome (access limit p s) (Agrees variant l.procs limit p s v w)) → ((why : Why) (left : Script Reply) → e ≡ Doing why left → w ≡ v)
     → IfSome (access_by limit p s e) (λ a. (variant_moved variant l limit p s b c e Straight (kind_of a) (word_of a) (carried a v) ≡ beside Straight (moved_by l limit p s b c e (kind_of a) (word_of a) (carried a w)))
     × (variant_outer_by variant p s e Straight (kind_of a) (carried a v) ≡ outer_by p s e (kind_of a) (carried a w)) × (variant_answer_by variant s b c e Straight (kind_of a) (carried a v) ≡ answer_by s b c e (kind_of a) (carried a w)))
-agreed variant l limit p s b c Free v w agree same = mapped (access limit p s) _ _ (agree refl) (λ a h. (ap (at_variant l p s b c Straight) h.0 ∙ after_next l p s b c _, h.1, ap (by_lock c) h.2))
+agreed variant l limit p s b c Free v w agree same = IfSome_then (access limit p s) (agree refl) (λ a h. (ap (at_variant l p s b c Straight) h.0 ∙ after_next l p s b c _, h.1, ap (by_lock c) h.2))
 agreed variant l limit p s b c (Doing why left) v w agree same =
     let e = sym (same why left refl) in
     all (access_by limit p s (Doing why left)) _ (λ a. (ap (λ u. beside Straight (moved_by l limit p s b c (Doing why left) (kind_of a) (word_of a) (carried a u))) e, refl, ap (λ u. by_script why b (tail left (carried a u))) e))

@@ -3,14 +3,12 @@ use Rattle.std.proofs.Common.{◌≡◌, ◌≢◌, ℕ, ◌<◌, ◌==◌, ◌�
 use Rattle.std.proofs.lemmas.Bool.{cases_eq, cond_both}
 use Rattle.std.proofs.lemmas.List.{get_or-set_same, get_or-set_other, get_or_default, length-set}
 use Rattle.rmecore.specs.declared.access.Access.{Access}
-use Rattle.rmecore.specs.declared.access.Access.TheVariants.{Load, Store}
 use Rattle.rmecore.specs.declared.kind.Kind.TheVariants.{Take as Takes, Shut as Shuts, Look as Looks}
 use Rattle.rmecore.specs.declared.own.Own.{Own}
 use Rattle.rmecore.specs.declared.refusal.Refusal.{Refusal}
 use Rattle.rmecore.specs.Machine.{word_of}
 use Rattle.rmecore.specs.Named.{own_call}
 use Rattle.rmecore.specs.declared.word.Word.{Word}
-use Rattle.rmecore.specs.declared.word.Word.TheVariants.{Choosing as ChoosingOf, Number as NumberOf, Inside as InsideOf, Data as DataAt}
 use Rattle.redomail.specs.declared.layout.Layout.{Layout}
 use Rattle.redomail.specs.declared.reply.Reply.{Reply}
 use Rattle.redomail.specs.Left.{Pending, left, fed}
@@ -21,7 +19,6 @@ use Rattle.rmeworld.specs.declared.errand.Errand.{Errand as Chore}
 use Rattle.rmeworld.specs.declared.errand.Errand.TheVariants.{Free as IsFree, Asking, Doing as Does}
 use Rattle.rmeworld.specs.declared.why.Why.{Why}
 use Rattle.rmeworld.specs.declared.why.Why.TheVariants.{Mending}
-use Rattle.rmeworld.specs.Replayed.{words_by, cells_by}
 use Rattle.rmeworld.specs.Stand.{Stand, crashed, next_access, stepped, stepped_by, job_left, started, InWords}
 use Rattle.crashlab.specs.declared.change.Change.{Change}
 use Rattle.crashlab.specs.declared.change.Change.TheVariants.{Nothing, LeavesOut, Counts, Counted}
@@ -53,22 +50,6 @@ seated s words cells p t h words_stay cells_stay below seat =
       processes_each = length-set s.processes p t ∙ h.processes_each;
       seats = set_each (HasSeat s.variant s.layout s.limit) s p t h.processes_each seat below h.seats;
     }
-
--- the words stay as many
-
-pub words_stay : (words : List Own) (a : Access) → length (words_by words a) ≡ length words
-words_stay words (Load kind word) = refl
-words_stay words (Store kind (ChoosingOf p) v) = length-set words p _
-words_stay words (Store kind (NumberOf p) v) = length-set words p _
-words_stay words (Store kind (InsideOf p) v) = length-set words p _
-words_stay words (Store kind (DataAt i) v) = refl
-
-pub cells_stay : (cells : List ℕ) (a : Access) → length (cells_by cells a) ≡ length cells
-cells_stay cells (Load kind word) = refl
-cells_stay cells (Store kind (ChoosingOf p) v) = refl
-cells_stay cells (Store kind (NumberOf p) v) = refl
-cells_stay cells (Store kind (InsideOf p) v) = refl
-cells_stay cells (Store kind (DataAt i) v) = length-set cells i v
 
 -- a process keeps its seat
 

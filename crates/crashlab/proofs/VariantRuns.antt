@@ -27,7 +27,8 @@ use Rattle.crashlab.specs.VariantSpots.{beside, variant_begun, variant_spot, var
 use Rattle.crashlab.specs.VariantStands.{VariantStand, variant_resting, variant_crashed, variant_spot_of, unlooked, changed_errand, variant_next_access, variant_stepped, variant_outcome, change_of, variant_started}
 use Rattle.crashlab.specs.VariantWorlds.{VariantState, stand_at, HasSeat, IsSeated, new_world, start_refusal, started, access_at, unless_step, found_by, stepped, stepped_if, advanced_if, advanced, crashed}
 use Rattle.crashlab.specs.VariantRuns.{Act, Starts, Steps, Falls as Crashes, unless, acted, run_of, IsRun, spot_at, move}
-use Rattle.crashlab.proofs.Seats.{seated, set_each, words_stay, cells_stay, variant_step_stays, variant_start_stays, seat_stays, with_seat, same_by}
+use Rattle.rmeworld.proofs.WorldSteps.{words_by_length, cells_by_length}
+use Rattle.crashlab.proofs.Seats.{seated, set_each, variant_step_stays, variant_start_stays, seat_stays, with_seat, same_by}
 use Rattle.crashlab.proofs.Rests.{rest_at, seated_new}
 use Rattle.crashlab.proofs.Steady.{Steady}
 use Rattle.crashlab.proofs.Starts.{unlooked_same, changed_spot, start_free, start_steady, start_goes}
@@ -206,7 +207,7 @@ step_fit s p true e (Some a) h =
     let u : VariantStand = variant_stepped t (found_by s a) in
     let fit = h.each p below in
     record {
-      seated = seated s _ _ p u h.seated (words_stay s.words a) (cells_stay s.cells a) below (seat_stays t u (variant_step_stays t (found_by s a)) (h.seated.seats p below));
+      seated = seated s _ _ p u h.seated (words_by_length s.words a) (cells_by_length s.cells a) below (seat_stays t u (variant_step_stays t (found_by s a)) (h.seated.seats p below));
       each = set_each (λ _. Fits) s p u h.seated.processes_each (stays t.variant t.detour t.change t.stand (found_by s a) fit.0 fit.1) below h.each;
     }
 

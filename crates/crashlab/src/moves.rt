@@ -5,8 +5,11 @@ use rmeworld::{Answer, Call};
 /// A move of a hunt.
 #[derive(Clone, Copy, Debug, PartialEq, Eq)]
 pub enum Move {
+    /// A process starts a call.
     Start(u64, Call),
+    /// A process takes a step.
     Step(u64),
+    /// A process crashes.
     Crash(u64),
 }
 

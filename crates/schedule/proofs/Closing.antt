@@ -4,6 +4,7 @@ use Rattle.std.proofs.lemmas.List.{append-nil}
 use Rattle.rmecore.specs.declared.refusal.Refusal.{Refusal}
 use Rattle.redomail.specs.declared.layout.Layout.{Layout}
 use Rattle.rmeworld.specs.declared.image.Image.{Image}
+use Rattle.rmeworld.specs.ImageRules.{layout_of}
 use Rattle.judge.specs.Table.{State}
 use Rattle.judge.specs.Stands.{Keeps}
 use Rattle.judge.specs.Kept.{Kept}
@@ -14,7 +15,7 @@ use Rattle.schedule.specs.declared.replay_fault.ReplayFault.{ReplayFault}
 use Rattle.schedule.specs.declared.replay_fault.ReplayFault.TheVariants.{Refused, Write, OutOfMemory, Text, Read}
 use Rattle.schedule.specs.Runs.{Part, deeds_of}
 use Rattle.schedule.specs.Verdicts.{verdict_on}
-use Rattle.schedule.specs.Reports.{told_text, owns_text, verdict_line, layout_of, IsMailText, IsEnd}
+use Rattle.schedule.specs.Reports.{told_text, owns_text, verdict_line, IsMailText, IsEnd}
 use Rattle.schedule.specs.Hearings.{opened, bench, with_more, heard_with, Hears}
 use Rattle.schedule.specs.Plays.{Tape, Writes, Begins, Ends, IsRefused}
 use Rattle.schedule.specs.Replays.{IsAll, Reported, CutShort, Closes}
@@ -86,10 +87,6 @@ module _ {S : Type 0} (start : State) (image_of : S → Image) (run : Part S (�
       → CutShort before now start image_of run result
   settled before mid now fault result ends same (inl kept) = rw kept.0 (cut_lines before mid now fault ends same kept.1)
   settled before mid now fault result ends same (inr failed) = rw failed.0 (cut_flush before mid now fault ends failed.2 same failed.1)
-
-  -- there is no memory for the last words
-  pub cut_image : (before now : Tape) → Writes before now (told_text run.told) → CutShort before now start image_of run OutOfMemory
-  cut_image before now writes = (all_begins before.taken now.taken (all_written before now writes), writes.fine)
 
   pub cut_end : (before mid now : Tape) (image : Image) (verdict : Verdict) (fault : ReplayFault) → Writes before mid (told_text run.told) → run.refused ≡ None
       → image ≡ image_of run.left → verdict ≡ verdict_on start (deeds_of run.told) → Closes {A = Unit {0}} mid now image verdict (Err fault)

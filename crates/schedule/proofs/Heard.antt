@@ -9,7 +9,8 @@ use Rattle.judge.specs.Stands.{Keeps}
 use Rattle.schedule.specs.declared.hearing.Hearing.{Hearing}
 use Rattle.schedule.specs.declared.verdict.Verdict.{Verdict}
 use Rattle.schedule.specs.declared.verdict.Verdict.TheVariants.{Fine, Against}
-use Rattle.schedule.specs.Verdicts.{next, ruled, verdict_from}
+use Rattle.rmecore.specs.Simulated.{one_more}
+use Rattle.schedule.specs.Verdicts.{ruled, verdict_from}
 use Rattle.schedule.specs.Hearings.{opened, Bench, bench, with_more, if_allowed, heard, heard_with, Hears}
 
 pub no_more : (v : Verdict) (k : ℕ) (s : State) → with_more v k s [] ≡ v
@@ -25,10 +26,10 @@ hears_none b s sits = rw (none_heard b.hearing.verdict s) (λ keeps. keeps, λ m
 
 heard_on : (k : ℕ) (s : State) (ds es : List Deed) → heard s (ds ++ es) ≡ heard_with (verdict_from k s ds) (heard s ds) es
 heard_on k s [] es = refl
-heard_on k s (d ∷ ds) es = by (judged s d) (λ t. heard_on (next k) t ds es)
+heard_on k s (d ∷ ds) es = by (judged s d) (λ t. heard_on (one_more k) t ds es)
   where
-    by : (r : Result State Fault) → ((t : State) → heard t (ds ++ es) ≡ heard_with (verdict_from (next k) t ds) (heard t ds) es)
-        → if_allowed r (λ t. heard t (ds ++ es)) s ≡ heard_with (ruled k r (λ t. verdict_from (next k) t ds)) (if_allowed r (λ t. heard t ds) s) es
+    by : (r : Result State Fault) → ((t : State) → heard t (ds ++ es) ≡ heard_with (verdict_from (one_more k) t ds) (heard t ds) es)
+        → if_allowed r (λ t. heard t (ds ++ es)) s ≡ heard_with (ruled k r (λ t. verdict_from (one_more k) t ds)) (if_allowed r (λ t. heard t ds) s) es
     by (Ok t) later = later t
     by (Err fault) later = refl
 
@@ -55,7 +56,7 @@ hears_both a b c ds es first second s sits =
     rw end (λ keeps. two.0 (one.0 keeps), λ more. ap (with_more v k s) (append_assoc ds es more) ∙ one.1 (es ++ more) ∙ two.1 more)
 
 -- a judge that was asked allows the deed
-pub hears_allowed : (judge now : Kept) (a b : Hearing) (d : Deed) → a.verdict ≡ Fine → b.verdict ≡ Fine → b.number ≡ next a.number
+pub hears_allowed : (judge now : Kept) (a b : Hearing) (d : Deed) → a.verdict ≡ Fine → b.verdict ≡ Fine → b.number ≡ one_more a.number
     → ((s : State) → Keeps judge s → (judged s d ≡ Ok (after s d)) × Keeps now (after s d))
     → Hears (bench judge a) (d ∷ []) (bench now b)
 hears_allowed judge now a b d before fine number fed s sits =

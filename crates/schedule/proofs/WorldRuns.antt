@@ -26,16 +26,17 @@ use Rattle.schedule.specs.declared.verdict.Verdict.TheVariants.{Fine}
 use Rattle.schedule.specs.Plays.{Tape}
 use Rattle.schedule.specs.Replays.{Replays}
 use Rattle.schedule.specs.Runs.{Part, deeds_of, run_on}
-use Rattle.schedule.specs.Verdicts.{next, ruled, verdict_from, verdict_on}
+use Rattle.rmecore.specs.Simulated.{one_more}
+use Rattle.schedule.specs.Verdicts.{ruled, verdict_from, verdict_on}
 use Rattle.schedule.specs.Wholes.{world_behaviour}
 use Rattle.schedule.proofs.Kept.{IsKept, run_keeps}
 
 -- what is legal has no deed that the judge refuses
 pub legal_is_fine : (k : ℕ) (s t : State) (deeds : List Deed) → Leads s deeds t → verdict_from k s deeds ≡ Fine
 legal_is_fine k s t [] leads = refl
-legal_is_fine k s t (d ∷ ds) leads = by (judged s d) leads (λ u. legal_is_fine (next k) u t ds)
+legal_is_fine k s t (d ∷ ds) leads = by (judged s d) leads (λ u. legal_is_fine (one_more k) u t ds)
   where
-    by : (r : Result State Fault) → and_then r (λ u. judged_all u ds) ≡ Ok t → ((u : State) → Leads u ds t → verdict_from (next k) u ds ≡ Fine) → ruled k r (λ u. verdict_from (next k) u ds) ≡ Fine
+    by : (r : Result State Fault) → and_then r (λ u. judged_all u ds) ≡ Ok t → ((u : State) → Leads u ds t → verdict_from (one_more k) u ds ≡ Fine) → ruled k r (λ u. verdict_from (one_more k) u ds) ≡ Fine
     by (Ok u) rest later = later u rest
     by (Err fault) rest later = cc
 

@@ -5,6 +5,7 @@ use Rattle.std.specs.Fmt.{decimal}
 use Rattle.schedule.specs.declared.fault.LineFault.{LineFault}
 use Rattle.rmecore.specs.declared.outer.Outer.TheVariants as outers
 use Rattle.rmecore.specs.declared.outer.Outer.{Outer}
+use Rattle.rmecore.specs.AbstractLock.{doer}
 use Rattle.redomail.specs.declared.deed.Deed.{Deed}
 use Rattle.redomail.specs.declared.deed.Deed.TheVariants as deeds
 use Rattle.schedule.specs.declared.deed.DeedWord.{DeedWord}
@@ -33,17 +34,8 @@ words_of_deed (deeds.Ruin p) = codes "ruin" ∷ decimal p ∷ []
 abbrev pub IsValue : ℕ → List ℕ → Type 0
 IsValue width value = (length value ≡ width) × AllByRecursion (λ v. v < 2 ^ 64) value
 
-abbrev pub process_of : Outer → ℕ
-process_of (outers.Begin p) = p
-process_of (outers.Ready p) = p
-process_of (outers.Enter p) = p
-process_of (outers.Crash p) = p
-process_of (outers.Reenter p) = p
-process_of (outers.Leave p) = p
-process_of (outers.Quit p) = p
-
 abbrev pub IsDeed : ℕ → Deed → Type 0
-IsDeed width (deeds.Outer outer) = process_of outer < 2 ^ 64
+IsDeed width (deeds.Outer outer) = doer outer < 2 ^ 64
 IsDeed width (deeds.Commit p seq value) = (p < 2 ^ 64) × (seq < 2 ^ 64) × IsValue width value
 IsDeed width (deeds.Show p at seq value) = (p < 2 ^ 64) × (at < 2 ^ 64) × (seq < 2 ^ 64) × IsValue width value
 IsDeed width (deeds.Close p) = p < 2 ^ 64

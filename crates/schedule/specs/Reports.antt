@@ -1,5 +1,5 @@
 -- The report of a run: the lines of what it tells, the last words, the mailbox, and the verdict.
-use Rattle.std.specs.Prelude.{◌≡◌, ℕ, ◌+◌, List, [], ◌∷◌, ◌++◌, length, map, slice_index, ◌⊎◌, codes}
+use Rattle.std.specs.Prelude.{◌≡◌, ℕ, ◌+◌, List, [], ◌∷◌, ◌++◌, map, slice_index, ◌⊎◌, codes}
 use Rattle.std.specs.List.{flat_map}
 use Rattle.std.specs.Fmt.{decimal}
 use Rattle.rmecore.specs.declared.own.Own.{Own}
@@ -11,6 +11,7 @@ use Rattle.redomail.specs.Layout.{words_of}
 use Rattle.redomail.specs.Shape.{entries}
 use Rattle.redomail.specs.Content.{IsContent}
 use Rattle.rmeworld.specs.declared.image.Image.{Image}
+use Rattle.rmeworld.specs.ImageRules.{layout_of}
 use Rattle.judge.specs.Table.{State}
 use Rattle.schedule.specs.declared.verdict.Verdict.{Verdict}
 use Rattle.schedule.specs.declared.verdict.Verdict.TheVariants.{Fine, Against}
@@ -81,9 +82,6 @@ abbrev pub verdict_line : Verdict → List ℕ
 verdict_line verdict = line_of (words_of_verdict verdict)
 
 -- ---- the whole
-
-abbrev pub layout_of : Image → Layout
-layout_of image = record { procs = length image.lock; cap = image.cap; width = image.width }
 
 -- the lines at the end
 abbrev pub IsEnd : Image → Verdict → List ℕ → Type 0

@@ -1,9 +1,10 @@
 -- The verdict on a list of deeds: the first that is not allowed, with its number.
-use Rattle.std.specs.Prelude.{ℕ, ◌+◌, ◌-◌, ◌^◌, min, List, [], ◌∷◌, Result, Ok, Err}
+use Rattle.std.specs.Prelude.{ℕ, List, [], ◌∷◌, Result, Ok, Err}
 use Rattle.rmecore.specs.declared.fault.Fault.{Fault}
 use Rattle.rmecore.specs.declared.fault.Fault.TheVariants.{OutOfPlace, TwoInside, NotReentered, Overtaken, NotInside, MailOrder, AfterClose}
 use Rattle.redomail.specs.declared.deed.Deed.{Deed}
 use Rattle.judge.specs.Table.{State, judged}
+use Rattle.rmecore.specs.Simulated.{one_more}
 use Rattle.schedule.specs.declared.verdict.Verdict.{Verdict}
 use Rattle.schedule.specs.declared.verdict.Verdict.TheVariants.{Fine, Against}
 
@@ -16,18 +17,15 @@ number_of_fault NotInside = 5
 number_of_fault MailOrder = 6
 number_of_fault AfterClose = 7
 
--- the next number of a count that is held at the greatest of 64 bits
-abbrev pub next : ℕ → ℕ
-next k = min (k + 1) (2 ^ 64 - 1)
-
 abbrev pub ruled : ℕ → Result State Fault → (State → Verdict) → Verdict
 ruled k (Ok s) rest = rest s
 ruled k (Err fault) rest = Against k fault
 
--- the verdict on deeds of which the first has number k, from a state of the judge table on
+-- the verdict on deeds of which the first has number k, from a state of the judge table on. The numbers are held at the
+-- greatest u64
 abbrev pub verdict_from : ℕ → State → List Deed → Verdict
 verdict_from k s [] = Fine
-verdict_from k s (d ∷ ds) = ruled k (judged s d) (λ t. verdict_from (next k) t ds)
+verdict_from k s (d ∷ ds) = ruled k (judged s d) (λ t. verdict_from (one_more k) t ds)
 
 -- the verdict on all deeds of a run
 abbrev pub verdict_on : State → List Deed → Verdict

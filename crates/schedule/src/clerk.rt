@@ -41,6 +41,7 @@ impl Model for Clerk {
 }
 
 impl Clerk {
+    /// Nothing is heard or written yet.
     pub fn new(alloc: Global) -> Clerk
         ensures { result ≡ opened }
     {
@@ -50,6 +51,7 @@ impl Clerk {
         }
     }
 
+    /// The verdict so far.
     pub fn verdict(&self) -> Verdict
         ensures { result ≡ self.now.verdict }
     {

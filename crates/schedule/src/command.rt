@@ -4,6 +4,7 @@ ghost use Rattle.std.specs.Prelude.{◌≡◌};
 ghost use Rattle.schedule.specs.Words.{named};
 ghost use Rattle.schedule.specs.Commands.{commands_by_name};
 
+/// The first word of a line: the call that a process starts, or its step or crash.
 #[derive(Clone, Copy, Debug, PartialEq, Eq)]
 pub enum Command {
     Lock,
@@ -19,6 +20,7 @@ pub enum Command {
     Crash,
 }
 
+/// The command that a word names.
 pub fn command_at(word: &[u8]) -> Option<Command>
     ensures { result ≡ named commands_by_name word.now }
 {

@@ -2,7 +2,8 @@
 
 ghost use Rattle.std.specs.Prelude.{◌≡◌, ◌≤◌, ◌<◌, ◌^◌, ◌==◌, true, length, IsTrue};
 ghost use Rattle.schedule.specs.Words.{Reads, words_of, named, item_after};
-ghost use Rattle.schedule.specs.Deeds.{deeds_by_name, places, deed_with, deed_at, fits, process_of, IsDeed, IsValue};
+ghost use Rattle.schedule.specs.Deeds.{deeds_by_name, places, deed_with, deed_at, fits, IsDeed, IsValue};
+ghost use Rattle.rmecore.specs.AbstractLock.{doer};
 
 use crate::fault::LineFault;
 use crate::item::Item;
@@ -124,7 +125,7 @@ impl Item for Deed {
 
 fn outer_fits(outer: Outer) -> bool
     ensures all { result ≡ true }
-    ensures outer { process_of outer < 2 ^ 64 }
+    ensures outer { doer outer < 2 ^ 64 }
 {
     match outer {
         Outer::Begin(p) | Outer::Ready(p) | Outer::Enter(p) | Outer::Crash(p) => fits_word(p),

@@ -51,6 +51,7 @@ pub trait Sink {
         ensures failed { OnErr result (failures self.new ≡ min (failures self.old + 1) (2 ^ 64 - 1)) }
         ensures kept { OnErr result (taken self.new ≡ taken self.old) };
 
+    /// Hands on what it holds back; no bytes are taken.
     fn flush(&mut self) -> Result<(), Failed>
         ensures taken { taken self.new ≡ taken self.old }
         ensures fine { OnOk result (failures self.new ≡ failures self.old) }
@@ -70,6 +71,7 @@ pub struct Text<'a> {
 }
 
 impl<'a> Text<'a> {
+    /// These bytes, of which none is given yet. A length of 0 counts as 1.
     pub fn new(all: &'a [u8], piece: usize) -> Text<'a>
         ensures all { result.all.now ≡ all.now }
         ensures at { result.at ≡ 0 }
@@ -113,6 +115,7 @@ pub struct Page {
 }
 
 impl Page {
+    /// An empty page.
     pub fn new(alloc: Global) -> Page
         ensures bytes { result.bytes.items ≡ [] }
         ensures failures { result.failures ≡ 0 }
@@ -123,6 +126,7 @@ impl Page {
         }
     }
 
+    /// The bytes that it has taken.
     pub fn as_slice(&self) -> &[u8]
         ensures { result.now ≡ self.now.bytes.items }
     {

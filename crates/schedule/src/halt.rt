@@ -14,7 +14,9 @@ use std::alloc::AllocError;
 pub enum Halt {
     /// The machine refuses it; the number is that of the refusal.
     Refused(u64),
+    /// The sink failed.
     Write,
+    /// There was no memory.
     OutOfMemory,
 }
 

@@ -21,10 +21,12 @@ pub trait Item: Drop {
     /// a value that it holds has the width
     ghost fits: { ℕ → Self → Bool };
 
+    /// Reads it from a line, under a width.
     fn read(width: u64, line: &[u8]) -> Result<Self, LineFault>
         requires { (1 ≤ width) × (width ≤ 8) }
         ensures { Reads (λ item. item) result (item_at width (words_of line.now)) };
 
+    /// Has each value that it holds this width?
     fn fits(&self, width: u64) -> bool
         ensures fits { result ≡ fits width self.now }
         ensures item { IsTrue result → is_item width self.now };
@@ -90,10 +92,12 @@ pub trait Heading: Drop {
     /// how many words a value has
     ghost width_of: { Self → ℕ };
 
+    /// Reads it from the first line.
     fn read(line: &[u8]) -> Result<Self, LineFault>
         ensures head { Reads (λ head. head) result (head_at (words_of line.now)) }
         ensures width { IfOk result (λ head. (1 ≤ width_of head) × (width_of head ≤ 8)) };
 
+    /// How many words a value of the other lines has.
     fn width(&self) -> u64
         ensures { result ≡ width_of self.now };
 }

@@ -2,7 +2,8 @@
 
 ghost use Rattle.std.specs.Prelude.{◌≡◌, ◌++◌, ◌∷◌, [], ◌+◌, ◌^◌, ◌<◌, OnOk, IfErr, codes, length, slice_index, List, ℕ};
 ghost use Rattle.std.specs.Fmt.{decimal};
-ghost use Rattle.schedule.specs.Reports.{own_line, owns_text, message_line, messages_text, count_line, content_text, broken_text, verdict_line, words_of_verdict, IsMailText, IsEnd, layout_of};
+ghost use Rattle.schedule.specs.Reports.{own_line, owns_text, message_line, messages_text, count_line, content_text, broken_text, verdict_line, words_of_verdict, IsMailText, IsEnd};
+ghost use Rattle.rmeworld.specs.ImageRules.{layout_of};
 ghost use Rattle.schedule.specs.Texts.{line_of};
 
 use crate::verdict::{Verdict, fault_number};

@@ -13,6 +13,7 @@ pub trait TakeLine {
     /// what it is after these lines
     ghost after: { Self → List (List ℕ) → Type 0 };
 
+    /// Takes the next line, without its LF.
     fn take_line(&mut self, line: &[u8]) -> Result<(), AllocError>
         ensures { (lines : List (List ℕ)) → after self.old lines → OnOk result (after self.new (lines ++ line.now ∷ [])) };
 }

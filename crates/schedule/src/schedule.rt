@@ -75,6 +75,7 @@ impl Schedule {
         add(&mut self.lines, self.width, line)
     }
 
+    /// The sizes.
     pub fn head(&self) -> Head
         ensures { result ≡ head_of self.now }
     {
@@ -86,6 +87,7 @@ impl Schedule {
         }
     }
 
+    /// The lines.
     pub fn lines(&self) -> &[Line]
         ensures { result.now ≡ self.now.lines }
     {

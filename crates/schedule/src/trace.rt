@@ -101,6 +101,7 @@ impl Trace {
         add(&mut self.deeds, self.width, deed)
     }
 
+    /// The sizes.
     pub fn head(&self) -> TraceHead
         ensures { result ≡ trace_head_of self.now }
     {
@@ -111,6 +112,7 @@ impl Trace {
         }
     }
 
+    /// The deeds.
     pub fn deeds(&self) -> &[Deed]
         ensures { result.now ≡ self.now.deeds }
     {

@@ -121,6 +121,7 @@ pub fn put_line(out: &mut Vec<u8>, line: &Line) -> Result<(), AllocError>
     Ok(())
 }
 
+/// Writes a name and a number, with a space before each.
 pub fn put_named(out: &mut Vec<u8>, name: &[u8], number: u64) -> Result<(), AllocError>
     ensures { OnOk result (out.new.items ≡ out.old.items ++ 32 ∷ (name.now ++ 32 ∷ decimal number)) }
 {

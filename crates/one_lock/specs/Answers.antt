@@ -43,11 +43,26 @@ RefusesToOpen p o s e =
 abbrev pub Refuses : ℕ → Opening → WorldState → Refusal → Type 0
 Refuses p o s e = RefusesToOpen p o s e ⊎ (advance_refusal (opened o p s) p ≡ Some e)
 
--- Some run from all words 0 ends in a world in which a step of p, opened so, gives this answer.
+-- why a crash, or a call, that comes before a step of p is refused; none where there is none
+abbrev pub refusal_of_crash : Bool → ℕ → WorldState → Option Refusal
+refusal_of_crash true p s = crash_refusal s p
+refusal_of_crash false p s = None
+
+abbrev pub refusal_of_start : Option Call → ℕ → WorldState → Option Refusal
+refusal_of_start None p s = None
+refusal_of_start (Some call) p s = start_refusal s p call
+
+-- nothing that comes before a step of p is refused: not its crash, and not its call
+abbrev pub Opens : ℕ → Opening → WorldState → Type 0
+Opens p o s = (refusal_of_crash o.crash p s ≡ None) × (refusal_of_start o.call p (crash_by o.crash p s) ≡ None)
+
+-- Some run from all words 0 ends in a world in which a step of p, opened so, is refused nothing and gives this answer.
 pub record Gives (p : ℕ) (o : Opening) (answer : Option Answer) : Type 0 where
   pub world : WorldState
   pub steps : ℕ
   pub told : IsTold world steps
+  pub opens : Opens p o world
+  pub accepted : advance_refusal (opened o p world) p ≡ None
   pub given : (stepped (opened o p world) p).answer ≡ answer
 
 -- what comes before a call's first step, and before its later ones
@@ -94,8 +109,8 @@ abbrev pub reply_by : Option Answer → Reply
 reply_by (Some (Mail reply)) = reply
 reply_by _ = Done
 
--- A task of a process that is in and has mended was answered so.
+-- A task of a process that is in and has mended was given an answer, and answers so.
 pub record IsReply (p : ℕ) (call : Call) (reply : Reply) : Type 0 where
-  pub answer : Option Answer
-  pub answered : IsAnswered p Mended call answer
-  pub is : reply ≡ reply_by answer
+  pub answer : Answer
+  pub answered : IsAnswered p Mended call (Some answer)
+  pub is : reply ≡ reply_by (Some answer)

@@ -20,7 +20,8 @@ pub struct Arena;
 impl Arena {
     /// One member for each process, over a new world. The blank is of the ledger that counts the steps, with one part for
     /// each process.
-    pub fn new<L: Ledger>(
+    pub fn new<L: Ledger, R>(
+        _rt: &R,
         alloc: Global,
         procs: u64,
         limit: u64,

@@ -431,6 +431,7 @@ impl<L: Ledger> Member<L> {
 
     /// What a call of the mailbox does once it is in, up to the asking before its answer. A lock that can't be mended is left
     /// as it is.
+    #[tactic(auto, using(crate::proofs::Answered::replied_by))]
     fn work<R: Wait, P: CrashPlan>(
         &mut self,
         rt: &R,

@@ -1,11 +1,11 @@
 //! What lies under the lock.
 
-ghost use Rattle.std.specs.Prelude.{◌≡◌, ◌≢◌, ◌<◌, ◌+◌, ◌⊎◌, ◌↔◌, Some, IfOk, IfErr, OnOk, OnErr, IsTrue};
+ghost use Rattle.std.specs.Prelude.{◌≡◌, ◌≢◌, ◌<◌, ◌+◌, ◌⊎◌, ◌↔◌, Some, None, IfOk, IfErr, OnOk, OnErr, IsTrue};
 ghost use Rattle.rmecore.specs.Simulated.{tally_at};
 ghost use Rattle.rmeworld.specs.Replayed.{advanced, stepped, started, crashed, start_refusal, advance_refusal, crash_refusal, image_of};
 ghost use Rattle.rmeworld.specs.ImageRules.{IsLawfulImage};
 ghost use Rattle.rmeworld.specs.WorldState.{new_world};
-ghost use Rattle.one_lock.specs.Answers.{opened, Gives, Refuses, RefusesToOpen};
+ghost use Rattle.one_lock.specs.Answers.{opened, Opens, Gives, Refuses, RefusesToOpen};
 
 use crate::opening::Opening;
 use rmecore::Refusal;
@@ -76,6 +76,7 @@ impl<L: Ledger> Shared<L> {
     /// What comes before a step.
     fn open(&mut self, p: u64, opening: Opening) -> Result<(), Refusal>
         ensures ok { OnOk result (self.new.world ≡ opened opening p self.old.world) }
+        ensures opens { OnOk result (Opens p opening self.old.world) }
         ensures refused { IfErr result (RefusesToOpen p opening self.old.world) }
         ensures book { self.new.total ≡ self.old.total }
     {
@@ -91,6 +92,7 @@ impl<L: Ledger> Shared<L> {
     /// One step of the world, counted.
     fn advance(&mut self, share: &mut Share<L>, p: u64) -> Result<Turn, Refusal>
         requires { 0 < share.old.parts }
+        ensures accepted { OnOk result (advance_refusal self.old.world p ≡ None) }
         ensures world { OnOk result (self.new.world ≡ advanced self.old.world p) }
         ensures answer { IfOk result (λ turn. turn.answer ≡ (stepped self.old.world p).answer) }
         ensures blocked { IfOk result (λ turn. IsTrue turn.blocked ↔ ((tally_at self.new.world.tallies p).blocked ≢ (tally_at self.old.world.tallies p).blocked)) }
@@ -115,6 +117,7 @@ impl<L: Ledger> Shared<L> {
 
     /// A process loses its private memory.
     fn crash(&mut self, p: u64) -> Result<(), Refusal>
+        ensures accepted { OnOk result (crash_refusal self.old.world p ≡ None) }
         ensures ok { OnOk result (self.new.world ≡ crashed self.old.world p) }
         ensures refused { IfErr result (λ e. (e ≡ Refusal.OutOfMemory) ⊎ (crash_refusal self.old.world p ≡ Some e)) }
         ensures err { OnErr result (self.new.world ≡ self.old.world) }
@@ -126,6 +129,7 @@ impl<L: Ledger> Shared<L> {
 
     /// A process starts a call.
     fn start(&mut self, p: u64, call: Call) -> Result<(), Refusal>
+        ensures accepted { OnOk result (start_refusal self.old.world p call ≡ None) }
         ensures ok { OnOk result (self.new.world ≡ started self.old.world p call) }
         ensures refused { IfErr result (λ e. start_refusal self.old.world p call ≡ Some e) }
         ensures err { OnErr result (self.new.world ≡ self.old.world) }

@@ -30,7 +30,7 @@ fn two<L: Ledger>(
     ensures first { result.0.layout.procs ≡ L.parts }
     ensures second { result.1.layout.procs ≡ L.parts }
 {
-    let Ok(mut all) = Arena::new::<L>(alloc, 2, limit, cap, 1, blank) else {
+    let Ok(mut all) = Arena::new::<L, _>(rt, alloc, 2, limit, cap, 1, blank) else {
         panic!(rt; "no members")
     };
     let (Some(second), Some(first)) = (all.pop(), all.pop()) else {

@@ -53,8 +53,9 @@ fn run<L: Ledger + Send + Sync, G: Gate + Send + Drop, R: Threads + Wait + Sync>
     ensures ends { IfErr result (MayEndLab spec.procs) }
     ensures shown { IfOk result (λ lab. AreShown (record { procs = spec.procs; cap = spec.cap; width = spec.width }) lab.messages.items) }
 {
-    let Ok(members) = Arena::new::<L>(alloc, spec.procs, spec.limit, spec.cap, spec.width, blank)
-    else {
+    let Ok(members) = Arena::new::<L, R>(
+        rt, alloc, spec.procs, spec.limit, spec.cap, spec.width, blank,
+    ) else {
         return Err(LabFault::OutOfMemory);
     };
     let Ok(ended) = work_all(rt, alloc, spec, members, gates) else {

@@ -75,7 +75,7 @@ fn crashes<L: Ledger, R: Abort + Wait>(rt: &R, alloc: Global, blank: Blank) -> R
     requires parts { blank.parts ≡ L.parts }
     requires one { blank.parts ≡ 1 }
 {
-    let mut one = Arena::new::<L>(alloc, 1, 10, 1, 1, blank)?
+    let mut one = Arena::new::<L, R>(rt, alloc, 1, 10, 1, 1, blank)?
         .pop()
         .ok_or("a member")?;
     let mut plan = never();

@@ -171,6 +171,6 @@ fn both_append<L: Ledger + Send + Sync, R: Abort + Threads + Wait + Sync>(
 }
 
 #[test]
-fn freshness(rt: HostRuntime) -> Result<(), Fail> {
+fn answers_of_freshness(rt: HostRuntime) -> Result<(), Fail> {
     both_append::<Brand, _>(&rt, rt.alloc(), Blank::new(2))
 }

@@ -1,4 +1,4 @@
-use Rattle.rows.proofs.plain.gates.freshness.Given as goal
+use Rattle.rows.proofs.plain.gates.answers_of_freshness.Given as goal
 
 -- the ledger of the blank that was just made
 abbrev pub ghosts-both_append : goal.ghosts-both_append

@@ -1,5 +1,6 @@
 //! The worked rows that name the program, on its two functions.
 
+mod everything;
 mod images;
 mod lab_runs;
 mod lock_memory;

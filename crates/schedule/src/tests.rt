@@ -1,3 +1,4 @@
+mod cuts;
 mod devices;
 mod everything;
 mod lock;

@@ -23,6 +23,17 @@ const MENDED: (&str, &str) = (
     "reenter 0\nanswer 0 owner-died\nshow 0 0 1 77\nanswer 0 mended\nwords 0 0 1 1\nmail 1 closed 0 ruined 0\nmessage 0 0 1 77\nverdict fine\n",
 );
 
+const WIDE_TORN: &str =
+    "rme 2 procs 1 limit 10 cap 1 width 3\nlock 0\nstep 0 8\nappend 0 1 7 8 9\nstep 0 9\ncrash 0\n";
+
+const WIDE_TORN_IMAGE: &str =
+    "{\"cap\":1,\"data\":[0,0,0,1,0,1,7,8,9,0,0,0,0,0,0,0,0,0,0],\"limit\":10,\"lock\":[[0,1,1]],\"version\":2,\"width\":3}\n";
+
+const WIDE_MENDED: (&str, &str) = (
+    "rme 2 procs 1 limit 10 cap 1 width 3\nlock 0\nstep 0 4\nconsistent 0\nstep 0 15\n",
+    "reenter 0\nanswer 0 owner-died\nshow 0 0 1 7 8 9\nanswer 0 mended\nwords 0 0 1 1\nmail 1 closed 0 ruined 0\nmessage 0 0 1 7 8 9\nverdict fine\n",
+);
+
 /// Replays a schedule from an image, and compares what it prints.
 fn goes_on(
     rt: &(impl Abort + Threads + Wait + Sync),
@@ -59,7 +70,8 @@ fn saves(
 #[test]
 fn images_saved(rt: HostRuntime) -> Result<(), Fail> {
     saves(&rt, rt.alloc(), SMALLEST, SMALLEST_IMAGE)?;
-    saves(&rt, rt.alloc(), TORN, TORN_IMAGE)
+    saves(&rt, rt.alloc(), TORN, TORN_IMAGE)?;
+    saves(&rt, rt.alloc(), WIDE_TORN, WIDE_TORN_IMAGE)
 }
 
 #[test]
@@ -73,6 +85,12 @@ fn nothing_saved(rt: HostRuntime) -> Result<(), Fail> {
 fn torn_image(rt: HostRuntime) -> Result<(), Fail> {
     let (schedule, report) = MENDED;
     goes_on(&rt, rt.alloc(), TORN_IMAGE, schedule, report, "")
+}
+
+#[test]
+fn wide_torn(rt: HostRuntime) -> Result<(), Fail> {
+    let (schedule, report) = WIDE_MENDED;
+    goes_on(&rt, rt.alloc(), WIDE_TORN_IMAGE, schedule, report, "")
 }
 
 /// The header has to name the image's sizes, a wider width makes the image wider, and a broken image is named by its rule.

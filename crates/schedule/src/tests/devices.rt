@@ -12,7 +12,7 @@ use std::io;
 use std::io::{ErrorKind, Read, Write};
 use std::test::Fail;
 
-const TORN: &[u8] = b"rme 1 procs 1 limit 10 cap 2
+pub const TORN: &[u8] = b"rme 1 procs 1 limit 10 cap 2
 lock 0
 step 0 8
 append 0 1 77
@@ -26,7 +26,7 @@ append 0 1 77
 step 0 3
 ";
 
-const REPORT: &[u8] = b"begin 0
+pub const REPORT: &[u8] = b"begin 0
 ready 0
 enter 0
 answer 0 clean
@@ -175,7 +175,7 @@ fn fails_at(
 }
 
 /// Every write of a report fails once, until a run meets none.
-fn writes_fail(rt: &HostRuntime, row: (&[u8], &[u8])) -> Result<(), Fail> {
+pub fn writes_fail(rt: &HostRuntime, row: (&[u8], &[u8])) -> Result<(), Fail> {
     for at in 1..10_000u64 {
         let failed = fails_at(rt, row, at, false)?;
         check(fails_at(rt, row, at, true)? == failed, "both kinds")?;

@@ -3,9 +3,12 @@
 use super::check;
 use crate::device::Text;
 use crate::replay_fault::ReplayFault;
+use crate::trace::{TraceHead, read_trace};
 use crate::trial::judge_trace;
 use crate::verdict::Verdict;
-use rmecore::Fault;
+use judge::Judge;
+use redomail::Deed;
+use rmecore::{Body, Fault, Outer};
 use std::test::Fail;
 
 const OVERTAKEN: &[u8] = b"trace 1 procs 2 cap 1
@@ -22,6 +25,10 @@ ready 0
 begin 1
 ready 1
 enter 0
+";
+
+const COMMITTED: &[u8] = b"trace 1 procs 1 cap 1
+commit 0 1 5
 ";
 
 const WITHDRAWN: &[u8] = b"trace 1 procs 2 cap 1
@@ -50,7 +57,7 @@ fn trace(rt: HostRuntime) -> Result<(), Fail> {
     judges(&rt, WITHDRAWN, Ok(Verdict::Fine))?;
     judges(
         &rt,
-        b"trace 1 procs 1 cap 1\ncommit 0 1 5\n",
+        COMMITTED,
         Ok(Verdict::Against {
             at: 1,
             fault: Fault::NotInside,
@@ -107,4 +114,83 @@ fn beginnings(rt: HostRuntime) -> Result<(), Fail> {
         }
     }
     Ok(())
+}
+
+/// Feeds a new judge with room for one message, and answers the first deed that it refuses, counted from 1.
+fn fed(rt: &HostRuntime, procs: u64, deeds: &[Deed]) -> Result<Verdict, Fail> {
+    let mut judge = Judge::new(rt.alloc(), procs, 1)?;
+    let mut at = 0u64;
+    for deed in deeds {
+        at = at.saturating_add(1);
+        if let Err(fault) = judge.feed(*deed) {
+            return Ok(Verdict::Against { at, fault });
+        }
+    }
+    Ok(Verdict::Fine)
+}
+
+/// The text is read as these deeds of so many processes, and a judge that is fed them answers so.
+fn reads(
+    rt: &HostRuntime,
+    text: &[u8],
+    procs: u64,
+    deeds: &[Deed],
+    verdict: Verdict,
+) -> Result<(), Fail> {
+    let trace = read_trace(rt.alloc(), text).ok().ok_or("a trace")?;
+    let head = TraceHead {
+        procs,
+        cap: 1,
+        width: 1,
+    };
+    check(trace.head() == head, "the sizes")?;
+    check(trace.deeds() == deeds, "the deeds")?;
+    check(fed(rt, procs, trace.deeds())? == verdict, "the judge")
+}
+
+const BOTH_WAIT: [Deed; 4] = [
+    Deed::Outer(Outer::Begin(0)),
+    Deed::Outer(Outer::Ready(0)),
+    Deed::Outer(Outer::Begin(1)),
+    Deed::Outer(Outer::Ready(1)),
+];
+
+/// Both wait, and then these deeds come.
+fn both_wait_and(rt: &HostRuntime, more: &[Outer]) -> Result<Vec<Deed>, Fail> {
+    let mut deeds = Vec::from_slice(rt.alloc(), &BOTH_WAIT)?;
+    for outer in more {
+        deeds.push(Deed::Outer(*outer))?;
+    }
+    Ok(deeds)
+}
+
+/// The traces of the worked rows, as deeds.
+#[test]
+fn traces_as_deeds(rt: HostRuntime) -> Result<(), Fail> {
+    let overtaken = both_wait_and(&rt, &[Outer::Enter(1)])?;
+    let fault = Fault::Overtaken { by: 1, of: 0 };
+    reads(
+        &rt,
+        OVERTAKEN,
+        2,
+        &overtaken,
+        Verdict::Against { at: 5, fault },
+    )?;
+    let in_order = both_wait_and(&rt, &[Outer::Enter(0)])?;
+    reads(&rt, IN_ORDER, 2, &in_order, Verdict::Fine)?;
+    let withdrawn = both_wait_and(&rt, &[Outer::Quit(0), Outer::Enter(1)])?;
+    reads(&rt, WITHDRAWN, 2, &withdrawn, Verdict::Fine)?;
+    let committed = [Deed::Commit {
+        p: 0,
+        seq: 1,
+        v: Body::new(&[5])?,
+    }];
+    let fault = Fault::NotInside;
+    reads(
+        &rt,
+        COMMITTED,
+        1,
+        &committed,
+        Verdict::Against { at: 1, fault },
+    )
 }

@@ -1,7 +1,7 @@
 //! A lock that may be blocked, and calls that set out from anywhere outside the section.
 ghost use Rattle.std.specs.Prelude.{◌≡◌, ◌⊎◌, ℕ, ◌≤◌, ◌+◌, List, length, Some, None, true, false, IfOk, IfErr, IfSome, OnOk, OnErr};
 ghost use Rattle.rmecore.specs.declared.refusal.Refusal.{Refusal as RefusalOf};
-ghost use Rattle.rmeworld.specs.declared.call.Call.TheVariants.{Lock, Recover};
+ghost use Rattle.rmeworld.specs.declared.call.Call.TheVariants.{Lock, Recover, Withdraw};
 ghost use Rattle.rmeworld.specs.OwnSteps.{most_steps};
 ghost use Rattle.rmeworld.specs.Refused.{is_idle};
 ghost use Rattle.runs.specs.Pass.{IsPass, spot_now};
@@ -43,7 +43,8 @@ impl Runner {
     }
 
     /// Takes the steps of a lock up to its answer, or until it has been blocked once more than it was given turns. Between
-    /// two blocked readings it rests. The asking before the answer is left to the caller.
+    /// two blocked readings it rests. With no answer the process still waits in the line. The asking before the answer is left
+    /// to the caller.
     pub fn take_turns<C: CrashPlan>(
         &mut self,
         plan: &mut C,
@@ -55,6 +56,7 @@ impl Runner {
         ensures ends { IfOk result (λ o. LockBy 0 self.old turns o self.new (C.asked plan.old) (C.asked plan.new) (C.fallen plan.old) (C.fallen plan.new)) }
         ensures fits { IfOk result (λ o. IfSome o (λ a. Fits Lock a × Leaves Lock a (spot_now self.new.pass))) }
         ensures waits { IfOk result (λ o. o ≡ None → is_idle (spot_now self.new.pass) ≡ false) }
+        ensures waiting { IfOk result (λ o. o ≡ None → refusal_now self.new Withdraw ≡ None) }
         ensures crashed { IfErr result (λ e. e ≡ LockFault.Crashed) }
         ensures cut { OnErr result (CutIn self.old Lock self.new (C.asked plan.old) (C.asked plan.new) (C.fallen plan.old) (C.fallen plan.new)) }
         ensures few { CountsAtMost (most_steps self.old.pass.setup.layout Lock + turns) self.old self.new }
@@ -109,6 +111,7 @@ impl Runner {
         requires start { self.old.pass.start ≡ Some Lock }
         ensures ends { IfOk result (λ o. LockEnds self.old turns o self.new (C.asked plan.old) (C.asked plan.new) (C.fallen plan.old) (C.fallen plan.new)) }
         ensures fits { IfOk result (λ o. IfSome o (Fits Lock)) }
+        ensures waiting { IfOk result (λ o. o ≡ None → refusal_now self.new Withdraw ≡ None) }
         ensures crashed { IfErr result (λ e. e ≡ LockFault.Crashed) }
         ensures cut { OnErr result (CutIn self.old Lock self.new (C.asked plan.old) (C.asked plan.new) (C.fallen plan.old) (C.fallen plan.new)) }
         ensures idle { self.new.pass.start ≡ None }

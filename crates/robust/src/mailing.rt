@@ -41,6 +41,7 @@ impl Member {
         ensures tells { IfOk result (λ reply. ToldIn self.old seq reply self.new) }
         ensures shown { IfOk result (λ reply. (reply ≡ Reply.Stored) ⊎ (reply ≡ Reply.Already) → IsAmong self.old.pass.by seq (shown_by self.new.pass.setup self.new.pass.seen)) }
         ensures out { result ≢ Err LockFault.AlreadyIn → result ≢ Err LockFault.BadWidth → refusal_now (ready self.new) Call.Lock ≡ None }
+        ensures waits { result ≡ Err LockFault.NotYet → refusal_now self.new Call.Withdraw ≡ None }
         ensures seat { seat_of self.new ≡ seat_of self.old }
     {
         laws::every_run_is_sound();
@@ -65,6 +66,7 @@ impl Member {
         ensures few { OnOk result (self.new.steps ≤ most_whole self.old.pass.setup.layout Call.Close + turns) }
         ensures few_out { IfErr result (λ e. e ≢ LockFault.AlreadyIn → self.new.steps ≤ most_whole self.old.pass.setup.layout Call.Close + turns) }
         ensures out { result ≢ Err LockFault.AlreadyIn → refusal_now (ready self.new) Call.Lock ≡ None }
+        ensures waits { result ≡ Err LockFault.NotYet → refusal_now self.new Call.Withdraw ≡ None }
         ensures seat { seat_of self.new ≡ seat_of self.old }
     {
         self.runner.mail_within(plan, &Call::Close, turns)

@@ -1,5 +1,5 @@
 //! A process of the running lock.
-ghost use Rattle.std.specs.Prelude.{◌≡◌, ◌≢◌, ℕ, ◌+◌, ◌*◌, ◌≤◌, ◌⊎◌, List, [], ◌∷◌, length, Some, None, IfOk, IfErr, OnOk, OnErr};
+ghost use Rattle.std.specs.Prelude.{◌≡◌, ◌≢◌, ℕ, ◌+◌, ◌*◌, ◌≤◌, ◌⊎◌, List, [], ◌∷◌, length, Some, None, Err, IfOk, IfErr, OnOk, OnErr};
 ghost use Rattle.redomail.specs.declared.reply.Reply.{Reply as ReplyOf};
 ghost use Rattle.runs.specs.declared.entry.Entry.{Entry as EntryOf};
 ghost use Rattle.rmeworld.specs.OwnSteps.{most_steps};
@@ -197,7 +197,8 @@ impl Member {
         }
     }
 
-    /// Enters the section, also after a crash, unless it is blocked once more than it was given turns.
+    /// Enters the section, also after a crash, unless it is blocked once more than it was given turns. Then it still waits, with
+    /// its place kept: a later lock waits on, and `withdraw` gives the place up.
     pub fn lock_within<C: CrashPlan>(
         &mut self,
         plan: &mut C,
@@ -206,6 +207,7 @@ impl Member {
         ensures accepted { OnOk result (refusal_now (ready self.old) Call.Lock ≡ None) }
         ensures entered { IfOk result (λ entry. LockEnds (began (ready self.old) Call.Lock) turns (Some (answer_of entry)) self.new (C.asked plan.old) (C.asked plan.new) (C.fallen plan.old) (C.fallen plan.new)) }
         ensures fails { IfErr result (LockFails self.old turns self.new (C.asked plan.old) (C.asked plan.new) (C.fallen plan.old) (C.fallen plan.new)) }
+        ensures waits { result ≡ Err LockFault.NotYet → refusal_now self.new Call.Withdraw ≡ None }
         ensures seat { seat_of self.new ≡ seat_of self.old }
         ensures counts { IfOk result (λ entry. LockCounts (began (ready self.old) Call.Lock) (Some (answer_of entry)) self.new) }
         ensures counts_out { IfErr result (LockCountsOut (began (ready self.old) Call.Lock) self.new) }

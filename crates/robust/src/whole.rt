@@ -2,7 +2,7 @@
 ghost use Rattle.std.specs.Prelude.{◌≡◌, ◌≢◌, ℕ, ◌+◌, ◌≤◌, List, [], ◌∷◌, Ok, Err, Some, None, true, false, IfOk, IfErr, IfSome, OnOk, OnErr};
 ghost use Rattle.redomail.specs.declared.reply.Reply.{Reply as ReplyOf};
 ghost use Rattle.rmeworld.specs.declared.call.Call.{Call as CallOf};
-ghost use Rattle.rmeworld.specs.declared.call.Call.TheVariants.{Lock, Unlock};
+ghost use Rattle.rmeworld.specs.declared.call.Call.TheVariants.{Lock, Unlock, Withdraw};
 ghost use Rattle.rmeworld.specs.declared.answer.Answer.{Answer as AnswerOf};
 ghost use Rattle.rmeworld.specs.declared.answer.Answer.TheVariants.{Mail, Unlocked};
 ghost use Rattle.rmeworld.specs.OwnSteps.{most_steps};
@@ -107,6 +107,7 @@ impl Runner {
         ensures out { (answer ≡ None → refusal_now (ready self.old) Lock ≡ None) → refusal_now (ready self.new) Lock ≡ None }
         ensures comes { IfOk result (λ r. (x : Seated) (turns asked fallen : ℕ) → LockBy 0 x turns answer self.old asked (C.asked plan.old) fallen (C.fallen plan.old) → WholeBy 0 x turns task.now r self.new asked (C.asked plan.new) fallen (C.fallen plan.new)) }
         ensures patient { IfOk result (λ r. r ≡ Err LockFault.NotYet → answer ≡ None) }
+        ensures stays { OnOk result (answer ≡ None → self.new ≡ self.old) }
         ensures crashed { IfErr result (λ e. e ≡ LockFault.Crashed) }
         ensures cut { OnErr result ((x : Seated) (turns asked fallen : ℕ) → LockBy 0 x turns answer self.old asked (C.asked plan.old) fallen (C.fallen plan.old) → CutBy x (IsWithin task.now) self.new asked (C.asked plan.new) fallen (C.fallen plan.new)) }
         ensures few { CountsAtMost (most_inside self.old.pass.setup.layout task.now) self.old self.new }
@@ -142,6 +143,7 @@ impl Runner {
         ensures out { (answer ≡ None → refusal_now (ready self.old) Lock ≡ None) → refusal_now (ready self.new) Lock ≡ None }
         ensures goes { (x : Seated) (turns asked fallen : ℕ) → LockBy 0 x turns answer self.old asked (C.asked plan.old) fallen (C.fallen plan.old) → WholeGoes x turns task.now result self.new asked (C.asked plan.new) fallen (C.fallen plan.new) }
         ensures patient { result ≡ Err LockFault.NotYet → answer ≡ None }
+        ensures stays { result ≡ Err LockFault.NotYet → self.new ≡ self.old }
         ensures few { CountsAtMost (most_inside self.old.pass.setup.layout task.now) self.old self.new }
     {
         let reply = self.come(plan, answer, task)?;
@@ -164,6 +166,7 @@ impl Runner {
         ensures accepted { OnOk result (refusal_now (ready self.old) Lock ≡ None) }
         ensures fits { IfOk result (λ reply. Fits task.now (Mail reply)) }
         ensures out { result ≢ Err LockFault.AlreadyIn → refusal_now (ready self.new) Lock ≡ None }
+        ensures waits { result ≡ Err LockFault.NotYet → refusal_now self.new Withdraw ≡ None }
         ensures replied { IfOk result (λ reply. WholeEnds (began (ready self.old) Lock) turns task.now (Ok reply) self.new (C.asked plan.old) (C.asked plan.new) (C.fallen plan.old) (C.fallen plan.new)) }
         ensures fails { IfErr result (WholeFails self.old turns task.now self.new (C.asked plan.old) (C.asked plan.new) (C.fallen plan.old) (C.fallen plan.new)) }
         ensures idle { self.new.pass.start ≡ None }

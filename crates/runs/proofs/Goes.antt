@@ -1,13 +1,13 @@
 -- What a step leads to, from a spot of a call.
-use Rattle.std.proofs.Common.{◌≡◌, ℕ, zero, suc, ◌+◌, ◌<◌, ◌≤◌, Bool, true, false, ◌==◌, if◌then◌else◌, Option, Some, None, IsSome, unwrap_or, refl, sym, ap, ◌∙◌, subst, inl, inr, arith}
-use Rattle.rmecore.specs.Place.{Place, Rest, Dead, Reread, Opening, Door, Shutting, Wait, Inside, Leaving, Withdrawing, Unmarking, next}
+use Rattle.std.proofs.Common.{◌≡◌, ℕ, zero, suc, ◌+◌, ◌<◌, ◌≤◌, Bool, true, false, ◌||◌, ◌==◌, if◌then◌else◌, Option, Some, None, IsSome, unwrap_or, refl, sym, ap, ◌∙◌, subst, inl, inr, arith}
+use Rattle.std.proofs.lemmas.Bool.{cases_Bool}
+use Rattle.rmecore.specs.Place.{Place, Rest, Dead, Reread, Opening, Door, Shutting, Wait, Inside, Leaving, Withdrawing, Unmarking, has, is_before, next}
 use Rattle.rmecore.specs.Machine.{answer, is_blocked}
 use Rattle.rmecore.specs.Paid.{is_glance}
-use Rattle.rmecore.specs.declared.core_call.CoreCall.TheVariants as core
 use Rattle.rmecore.specs.declared.kind.Kind.{Kind}
-use Rattle.rmecore.specs.declared.kind.Kind.TheVariants.{Get as Gets, Put as Puts}
+use Rattle.rmecore.specs.declared.kind.Kind.TheVariants.{Get as Gets, Put as Puts, Look as Looks, Weigh as Weighs}
 use Rattle.rmecore.specs.declared.word.Word.{Word}
-use Rattle.rmecore.specs.declared.word.Word.TheVariants.{Data as DataAt}
+use Rattle.rmecore.specs.declared.word.Word.TheVariants.{Choosing as ChoosingOf, Number as NumberOf, Data as DataAt}
 use Rattle.redomail.specs.declared.layout.Layout.{Layout}
 use Rattle.redomail.specs.declared.reply.Reply.{Reply}
 use Rattle.redomail.specs.declared.reply.Reply.TheVariants as reply
@@ -19,7 +19,7 @@ use Rattle.rmeworld.specs.declared.why.Why.{Why}
 use Rattle.rmeworld.specs.declared.why.Why.TheVariants.{Checking, Ruining, Mending, Working}
 use Rattle.rmeworld.specs.Entered.{is_entry}
 use Rattle.rmeworld.specs.Answered.{by_lock, by_reply, by_script, answer_at, blocked_by}
-use Rattle.rmeworld.specs.Refused.{is_idle}
+use Rattle.rmeworld.specs.Refused.{is_idle, is_waiting}
 use Rattle.rmeworld.specs.Spot.{Errand, Free, Doing, Spot, Moves, next_spot, at_lock, only_spot, settled, mended_entered}
 use Rattle.runs.specs.Lasting.{Within, lock_left, IsFair, exit_of, Lasts}
 use Rattle.rmeworld.specs.declared.answer.Answer.TheVariants.{Mail}
@@ -180,3 +180,21 @@ module _ (l : Layout) (p k : ℕ) where
       some_place None h = absurd (cc)
       some_place (Some t) h = refl
   spot_step call limit s b c (Doing why left) kind word v some moves u lasts = script_step call s b c limit why left kind word v some u lasts.0 lasts.1 lasts.2
+
+  -- a blocked reading leaves the process in the line
+  blocked_stays : (limit : ℕ) (s : Place) (kind : Kind) (word : Word) (v : ℕ) → is_blocked p s kind v ≡ true → is_waiting (unwrap_or (next l.procs limit p s kind word v) s) ≡ true
+  blocked_stays limit (Wait n unpassed None) Looks (ChoosingOf j) v h = elim (cases_Bool (has unpassed j)) [ inl there ↦ rw there (elim (cases_Bool (v == 0)) [ inl z ↦ rw z refl | inr z ↦ rw z refl ]) | inr not ↦ rw not refl ]
+  blocked_stays limit (Wait n unpassed (Some i)) Weighs (NumberOf j) v h =
+      elim (cases_Bool (j == i)) [ inl same ↦ rw same (elim (cases_Bool ((v == 0) || is_before n p v j)) [ inl z ↦ rw z refl | inr z ↦ rw z refl ]) | inr not ↦ rw not refl ]
+  blocked_stays limit (Wait n unpassed None) Looks word v h = refl
+  blocked_stays limit (Wait n unpassed (Some i)) Weighs word v h = refl
+  blocked_stays limit s kind word v h = absurd (cc)
+
+  waits_at : (s : Place) (b c : Bool) (o : Option Place) → is_waiting (unwrap_or o s) ≡ true → is_waiting (unwrap_or (at_lock l p s b c o) (record { lock = s; mended = b; barred = c; errand = Free })).lock ≡ true
+  waits_at s b c None h = h
+  waits_at s b c (Some t) h = h
+
+  pub blocked_waits : (limit : ℕ) (s : Place) (b c : Bool) (e : Errand) (kind : Kind) (word : Word) (v : ℕ) → blocked_by p s e kind v ≡ true
+      → is_waiting (unwrap_or (next_spot l limit (record { lock = s; mended = b; barred = c; errand = e }) (Moves p kind word v)) (record { lock = s; mended = b; barred = c; errand = e })).lock ≡ true
+  blocked_waits limit s b c Free kind word v h = waits_at s b c (next l.procs limit p s kind word v) (blocked_stays limit s kind word v h)
+  blocked_waits limit s b c (Doing why left) kind word v h = absurd (cc)

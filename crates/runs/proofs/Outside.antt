@@ -4,8 +4,8 @@ use Rattle.rmecore.specs.Place.{Rest, Dead}
 use Rattle.rmeworld.specs.declared.answer.Answer.{Answer}
 use Rattle.rmeworld.specs.declared.answer.Answer.TheVariants.{Clean, OwnerDied, NumbersSpent, NotRecoverable}
 use Rattle.rmeworld.specs.declared.call.Call.{Call}
-use Rattle.rmeworld.specs.declared.call.Call.TheVariants.{Lock}
-use Rattle.rmeworld.specs.Refused.{is_idle, is_inside}
+use Rattle.rmeworld.specs.declared.call.Call.TheVariants.{Lock, Withdraw}
+use Rattle.rmeworld.specs.Refused.{is_idle, is_inside, is_waiting}
 use Rattle.runs.specs.Faults.{refusal_now, ready, CutBy}
 use Rattle.runs.specs.Pass.{spot_now}
 use Rattle.runs.specs.Running.{Seated, fell}
@@ -22,6 +22,10 @@ away_out x away = either_out (is_idle (spot_now x.pass)) x refl (λ e. away)
 -- one whose lock still waits
 pub busy_out : (x : Seated) → is_idle (spot_now x.pass) ≡ false → refusal_now (ready x) Lock ≡ None
 busy_out x busy = either_out (is_idle (spot_now x.pass)) x refl (λ idle. absurd (let no : false ≡ true = sym busy ∙ idle in cc))
+
+-- one that waits in the line may withdraw
+pub waiting_out : (x : Seated) → is_waiting (spot_now x.pass).lock ≡ true → refusal_now x Withdraw ≡ None
+waiting_out x waits = rw waits refl
 
 pub rest_out : (x : Seated) → (spot_now x.pass).lock ≡ Rest → refusal_now (ready x) Lock ≡ None
 rest_out x rest = away_out x (ap is_inside rest)

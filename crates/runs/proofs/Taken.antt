@@ -22,7 +22,7 @@ use Rattle.rmecore.specs.declared.kind.Kind.TheVariants.{Look, Weigh}
 use Rattle.rmeworld.specs.declared.call.Call.TheVariants.{Lock}
 use Rattle.rmeworld.specs.Spot.{Errand, Free, Doing}
 use Rattle.rmeworld.specs.Answered.{by_lock}
-use Rattle.rmeworld.specs.Refused.{is_idle}
+use Rattle.rmeworld.specs.Refused.{is_idle, is_waiting}
 use Rattle.rmeworld.specs.CallWalk.{and_answer}
 use Rattle.runs.specs.Lasting.{Lasts, LastsBy}
 use Rattle.runs.specs.Under.{UnderBy, IsUnder, Fits, Leaves}
@@ -30,7 +30,7 @@ use Rattle.runs.specs.Calls.{Still}
 use Rattle.runs.proofs.Under.{blocked_lock}
 use Rattle.runs.proofs.Leads.{gone-append, spot_after, spot_moves}
 use Rattle.runs.proofs.Running.{taken_moves, next_moves}
-use Rattle.runs.proofs.Goes.{SpotTo, spot_step}
+use Rattle.runs.proofs.Goes.{SpotTo, spot_step, blocked_waits}
 
 pub takes_sizes : (x y : Pass) (mine : List Entry) → Takes x mine y → (y.setup ≡ x.setup) × (y.by ≡ x.by)
 takes_sizes x y [] h = (ap (λ (p : Pass). p.setup) h, ap (λ (p : Pass). p.by) h)
@@ -113,6 +113,20 @@ step_to call y z o k s u lasts =
     let there = spot_step l y.pass.by k call y.pass.setup.limit q.lock q.mended q.barred q.errand kind word v some moves u lasts in
     let now : spot_now z.pass ≡ unwrap_or (next_spot l y.pass.setup.limit q (Moves y.pass.by kind word v)) q = spot_moves y.pass z.pass kind word v s.advances ∙ ap (λ (t : Option Spot). unwrap_or t q) is in
     subst (λ (t : Outcome × Spot). SpotTo call l.procs k t.0.answer t.0.progress.blocked t.1) (λ i. (sym s.told i, sym now i)) there
+
+-- a step that is blocked leaves the process in the line
+step_waits : (y z : Seated) (o : Outcome) → TakesStep y o z → o.progress.blocked ≡ true → is_waiting (spot_now z.pass).lock ≡ true
+step_waits y z o s h =
+    let q = spot_now y.pass in
+    let l = y.pass.setup.layout in
+    let kind = kind_of s.access in
+    let word = word_of s.access in
+    let v = carried s.access s.value in
+    let moves = next_moves y.pass s.access s.next in
+    let is : moved_spot y.pass kind word v ≡ next_spot l y.pass.setup.limit q (Moves y.pass.by kind word v) = ap (next_spot l y.pass.setup.limit q) (taken_moves y.pass.by kind word v moves) in
+    let now : spot_now z.pass ≡ unwrap_or (next_spot l y.pass.setup.limit q (Moves y.pass.by kind word v)) q = spot_moves y.pass z.pass kind word v s.advances ∙ ap (λ (t : Option Spot). unwrap_or t q) is in
+    let b : blocked_by y.pass.by q.lock q.errand kind v ≡ true = ap (λ (u : Outcome). u.progress.blocked) (sym s.told) ∙ h in
+    subst (λ (t : Spot). is_waiting t.lock ≡ true) (sym now) (blocked_waits l y.pass.by 0 y.pass.setup.limit q.lock q.mended q.barred q.errand kind word v b)
 
 lasts_more : (n k m : ℕ) (s : Place) (e : Errand) → k ≤ m → LastsBy n k s e → LastsBy n m s e
 lasts_more n k m s Free h l = (l.0, (let few = l.1 in omega arith))
@@ -198,7 +212,7 @@ still_blocked call y z o k few s u lasts e h =
     let r = spot_now z.pass in
     let t = goes_with call y z o k true s u lasts e h in
     let b : blocked_by y.pass.by q.lock q.errand (kind_of s.access) (carried s.access s.value) ≡ true = ap (λ (u : Outcome). u.progress.blocked) (sym s.told) ∙ h in
-    (blocked_is_lock 0 0 y.pass.by call q.lock q.barred q.errand (kind_of s.access) (carried s.access s.value) u b, t.0, t.1, lasts_more z.pass.setup.layout.procs (suc k) 256 r.lock r.errand few t.2)
+    (blocked_is_lock 0 0 y.pass.by call q.lock q.barred q.errand (kind_of s.access) (carried s.access s.value) u b, t.0, t.1, lasts_more z.pass.setup.layout.procs (suc k) 256 r.lock r.errand few t.2, step_waits y z o s h)
 
 pub none_of : {A : Type 0} (o : Option A) → ((a : A) → o ≡ Some a → ⊥) → o ≡ None
 none_of None h = refl

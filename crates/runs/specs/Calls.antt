@@ -5,7 +5,7 @@ use Rattle.rmeworld.specs.declared.answer.Answer.{Answer}
 use Rattle.rmecore.specs.Paid.{is_glance}
 use Rattle.rmeworld.specs.Spot.{Spot}
 use Rattle.rmeworld.specs.Answered.{answer_at, blocked_by}
-use Rattle.rmeworld.specs.Refused.{is_idle}
+use Rattle.rmeworld.specs.Refused.{is_idle, is_waiting}
 use Rattle.runs.specs.declared.setup.Setup.{Setup}
 use Rattle.runs.specs.declared.entry.Entry.{Entry}
 use Rattle.runs.specs.Runs.{before, happenings, gone, spot_of}
@@ -106,10 +106,11 @@ pub record CutOff (x : Seated) (mine : List Entry) (y : Seated) : Type 0 where
   pub steps : last.steps ≡ many_more (length mine) x.steps
   pub crash : y ≡ fell last
 
--- what stands behind some steps of a call: an answer that fits it and the spot that it leaves, or a lock that goes on
+-- what stands behind some steps of a call: an answer that fits it and the spot that it leaves, or a lock that goes on and
+-- waits in the line
 abbrev pub Still : Call → Seated → Option Answer → Type 0
 Still call y (Some a) = Fits call a × Leaves call a (spot_now y.pass)
-Still call y None = (call ≡ Lock) × IsUnder call (spot_now y.pass) × (is_idle (spot_now y.pass) ≡ false) × Lasts y.pass.setup.layout.procs 256 (spot_now y.pass)
+Still call y None = (call ≡ Lock) × IsUnder call (spot_now y.pass) × (is_idle (spot_now y.pass) ≡ false) × Lasts y.pass.setup.layout.procs 256 (spot_now y.pass) × (is_waiting (spot_now y.pass).lock ≡ true)
 
 -- Calls one after another. Their own entries are those of `calls`: the run so far begins with all that the caller had seen,
 -- ends with the last call, and has just these of the caller. The first carries the crash that was owed, the first of each call

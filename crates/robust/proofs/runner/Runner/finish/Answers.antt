@@ -1,4 +1,4 @@
-use Rattle.std.proofs.Common.{ap, inl, inr, Err}
+use Rattle.std.proofs.Common.{ap, ◌∙◌, inl, inr, Err}
 use Rattle.runs.proofs.WholeCalls.{whole_asked, whole_cut}
 use Rattle.robust.proofs.runner.Runner.finish.Goals as goal
 
@@ -11,3 +11,6 @@ pub returns-in-Err-clause-goes : goal.returns-in-Err-clause-goes
 returns-in-Err-clause-goes g c =
     let f = c.in-Err.ensures in
     λ x turns asked fallen h. inr (ap (λ e. Err e) f.crashed, whole_cut x c.come.new.self c.ask.new.self asked _ _ fallen _ _ turns c.args.task.now _ (c.in_ok-reply.ensures.comes x turns asked fallen h) f.falls.0 f.asked f.falls.1)
+
+pub returns-in-Ok-clause-stays : goal.returns-in-Ok-clause-stays
+returns-in-Ok-clause-stays g c = λ late. c.in-Ok.ensures.goes_on.0 ∙ c.in_ok-reply.ensures.stays (c.in_ok-reply.ensures.patient late)

@@ -1,4 +1,7 @@
-use Rattle.std.proofs.Common.{◌≢◌}
+use Rattle.std.proofs.Common.{◌≡◌, ◌≢◌, None, sym, subst}
+use Rattle.rmeworld.specs.declared.call.Call.TheVariants.{Withdraw}
+use Rattle.runs.specs.Faults.{refusal_now}
+use Rattle.runs.specs.Running.{Seated}
 use Rattle.runs.specs.declared.lock_fault.LockFault.TheVariants.{AlreadyIn}
 use Rattle.runs.proofs.Chained.{lock_setup}
 use Rattle.runs.proofs.Counted.{err_any, ok_any}
@@ -35,3 +38,7 @@ returns-in-Err-clause-out g c = λ alive. cut_out c.set_out.new.self c.take_turn
 
 pub returns-in-Ok-clause-out : goal.returns-in-Ok-clause-out
 returns-in-Ok-clause-out g c = λ alive. c.finish.ensures.out (λ none. busy_out c.take_turns.new.self (c.in-Ok.ensures.waits none))
+
+pub returns-in-Ok-clause-waits : goal.returns-in-Ok-clause-waits
+returns-in-Ok-clause-waits g c =
+    λ late. subst (λ (u : Seated). refusal_now u Withdraw ≡ None) (sym (c.finish.ensures.stays late)) (c.in-Ok.ensures.waiting (c.finish.ensures.patient late))

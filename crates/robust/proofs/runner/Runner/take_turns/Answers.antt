@@ -5,6 +5,7 @@ use Rattle.runs.specs.Running.{many_more}
 use Rattle.runs.specs.Calls.{Served, Still}
 use Rattle.runs.proofs.Taken.{none_of}
 use Rattle.runs.proofs.Called.{on_err, crashes_of}
+use Rattle.runs.proofs.Outside.{waiting_out}
 use Rattle.runs.proofs.Turned.{many_append, many_fell, turned, turned_served, turned_cut, turned_out, turning_first}
 use Rattle.runs.proofs.Chained.{none_more}
 use Rattle.runs.proofs.Counted.{turned_few, turned_few_cut, turned_few_out}
@@ -43,6 +44,12 @@ returns-then-left-eq0-clause-ends g c =
     let t = turned c.args.self.now c.loop-answer.self c.run.new.self s.0 r.0 s.1 s.3 none r.1 in
     let served = turned_out c.args.self.now c.run.new.self (s.0 ++ r.0) s.1 Lock c.requires.pass c.requires.start t in
     (s.0 ++ r.0, subst (λ (u : ℕ). Served c.args.self.now Lock [] (u + 1) c.run.new.self (s.0 ++ r.0)) k served, (r.2.0 ∙ ap (many_more (length r.0)) s.4 ∙ many_append s.0 r.0 _ ∙ none_more (s.0 ++ r.0) _, r.2.1 ∙ i.fallen))
+
+pub returns-then-left-eq0-clause-waiting : goal.returns-then-left-eq0-clause-waiting
+returns-then-left-eq0-clause-waiting g c =
+    let none = none_of _ c.in_default.not-Some in
+    let still = subst (Still Lock c.run.new.self) none c.in_ok-answer.ensures.still in
+    λ out. waiting_out c.run.new.self still.4
 
 pub loop-answer-preserved : goal.loop-answer-preserved
 loop-answer-preserved g c =

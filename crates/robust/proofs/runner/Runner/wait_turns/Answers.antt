@@ -1,4 +1,6 @@
-use Rattle.std.proofs.Common.{ap, ◌∙◌}
+use Rattle.std.proofs.Common.{◌≡◌, None, sym, ap, ◌∙◌, subst}
+use Rattle.rmeworld.specs.declared.call.Call.TheVariants.{Withdraw}
+use Rattle.runs.specs.Faults.{refusal_now}
 use Rattle.runs.specs.Running.{Seated}
 use Rattle.runs.proofs.Called.{on_err}
 use Rattle.runs.proofs.Chained.{lock_asked, lock_cut, lock_idle}
@@ -14,6 +16,10 @@ pub returns-clause-ends : goal.returns-clause-ends
 returns-clause-ends g c =
     let w = c.in_ok-ask.ensures in
     lock_asked c.args.self.now c.take_turns.new.self c.ask.new.self c.args.turns _ _ _ _ _ _ _ c.in_ok-answer.ensures.ends w.goes_on.0 w.asked w.goes_on.1
+
+pub returns-clause-waiting : goal.returns-clause-waiting
+returns-clause-waiting g c =
+    λ none. subst (λ (u : Seated). refusal_now u Withdraw ≡ None) (sym c.in_ok-ask.ensures.goes_on.0) (c.in_ok-answer.ensures.waiting none)
 
 pub returns-clause-idle : goal.returns-clause-idle
 returns-clause-idle g c =

@@ -147,7 +147,7 @@ image_ends {l = l} {limit = limit} {w = w} {history = history} state i sized lim
     let limits = subst (λ x. Arrived l x state (image_scene i w.spots) history) (sym is.limited) scene in
     let arrived = subst (λ x. Arrived x i.limit state (image_scene i w.spots) history) (sym is.layout) limits in
     lawful_now i w.spots history state arrived is.version (subst IsSize (sym is.layout) sized) (subst (λ x. (1 ≤ x) × (x ≤ 2 ^ 62)) (sym is.limited) limited)
-      (is.filled ∙ ap size (sym is.layout))
+    (is.filled ∙ ap size (sym is.layout))
 
 pub every_story_leaves_an_image : EveryStoryLeavesAnImage
 every_story_leaves_an_image l limit w s story i sized limited start told is =

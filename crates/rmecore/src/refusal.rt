@@ -4,49 +4,34 @@ ghost use Rattle.std.specs.Prelude.{◌≡◌};
 ghost use Rattle.rmecore.specs.declared.refusal.Refusal.TheVariants.{OutOfMemory};
 
 use std::alloc::{AllocError, AllocFailed};
-use thiserror::Error;
+use std::error::Error;
+use std::fmt;
 
 /// Why a call was refused. A refused call changes nothing. A call with several causes names the first of them in the
 /// order of its own refusals; want of memory comes after them.
-#[derive(Clone, Copy, Debug, PartialEq, Eq, Error)]
+#[derive(Clone, Copy, Debug, PartialEq, Eq)]
 pub enum Refusal {
-    #[error("the number of processes is not 1 to 64")]
     BadProcs,
-    #[error("the limit of numbers is not 1 to 2^62")]
     BadLimit,
-    #[error("there is no such process")]
     NoSuchProcess,
     /// The caller has to take the steps of that call first, or to crash the process.
-    #[error("a call of the process is under way")]
     CallUnderWay,
     /// POSIX answers EPERM here.
-    #[error("the process is not in the section")]
     NotOwner,
-    #[error("the process is in the section already")]
     AlreadyIn,
-    #[error("no call of the process is under way")]
     NothingToDo,
-    #[error("the capacity of the mailbox is not 1 to 65536")]
     BadCap,
-    #[error("the image breaks rule {rule}")]
     BadImage { rule: u64 },
     /// The holder came in by the line, or has mended already. POSIX answers EINVAL here.
-    #[error("the process holds nothing that has to be mended")]
     NotInconsistent,
-    #[error("the words are not those of a mailbox")]
     BadShape,
     /// The holder was told that the owner died, and has to mend first.
-    #[error("the process has not mended what it found")]
     Unmended,
-    #[error("there is no word with this index")]
     BadIndex,
     /// Only a lock that waits can be withdrawn: in the doorway, at rest and inside there is nothing to give up.
-    #[error("the process does not wait for the lock")]
     NotWaiting,
-    #[error("the number of words is not one that is allowed here")]
     BadWidth,
     /// A growth was refused. The call may be made again.
-    #[error("out of memory")]
     OutOfMemory,
 }
 
@@ -93,3 +78,29 @@ impl<T: Drop> From<AllocFailed<T>> for Refusal {
         Refusal::OutOfMemory
     }
 }
+
+impl fmt::Display for Refusal {
+    fn fmt<W: fmt::Write>(&self, f: &mut fmt::Formatter<W>) -> fmt::Result {
+        let text = match self {
+            Refusal::BadProcs => "the number of processes is not 1 to 64",
+            Refusal::BadLimit => "the limit of numbers is not 1 to 2^62",
+            Refusal::NoSuchProcess => "there is no such process",
+            Refusal::CallUnderWay => "a call of the process is under way",
+            Refusal::NotOwner => "the process is not in the section",
+            Refusal::AlreadyIn => "the process is in the section already",
+            Refusal::NothingToDo => "no call of the process is under way",
+            Refusal::BadCap => "the capacity of the mailbox is not 1 to 65536",
+            Refusal::BadImage { rule } => return write!(f, "the image breaks rule {rule}"),
+            Refusal::NotInconsistent => "the process holds nothing that has to be mended",
+            Refusal::BadShape => "the words are not those of a mailbox",
+            Refusal::Unmended => "the process has not mended what it found",
+            Refusal::BadIndex => "there is no word with this index",
+            Refusal::NotWaiting => "the process does not wait for the lock",
+            Refusal::BadWidth => "the number of words is not one that is allowed here",
+            Refusal::OutOfMemory => "out of memory",
+        };
+        f.write_str(text)
+    }
+}
+
+impl Error for Refusal {}

@@ -9,8 +9,6 @@ pub mod laws;
 mod moves;
 mod round;
 mod sights;
-#[cfg(test)]
-mod tests;
 pub mod variant;
 pub mod variant_process;
 pub mod variant_world;

@@ -19,5 +19,3 @@ pub use redomail::{Deed, Message};
 pub use rmecore::{Fault, Outer, Phase, Refusal};
 pub use start::Start;
 
-#[cfg(test)]
-mod tests;

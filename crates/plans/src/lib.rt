@@ -14,5 +14,3 @@ pub use crash_plan::CrashPlan;
 pub use never::Never;
 pub use seeded::Seeded;
 
-#[cfg(test)]
-mod tests;

@@ -25,5 +25,3 @@ pub use next::Next;
 pub use reply::Reply;
 pub use task::Task;
 
-#[cfg(test)]
-mod tests;

@@ -44,5 +44,3 @@ pub use simulated::Core;
 pub use tally::Tally;
 pub use word::Word;
 
-#[cfg(test)]
-mod tests;

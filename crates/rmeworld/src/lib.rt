@@ -34,5 +34,3 @@ pub use process::Process;
 pub use stepped::Stepped;
 pub use world::World;
 
-#[cfg(test)]
-mod tests;

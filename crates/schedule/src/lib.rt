@@ -27,8 +27,6 @@ pub mod replay_text;
 pub mod replaying;
 pub mod schedule;
 pub mod stage;
-#[cfg(test)]
-mod tests;
 pub mod trace;
 pub mod trial;
 pub mod verdict;

@@ -1,4 +1,0 @@
-//! What no contract says, by example.
-
-mod hunts;
-mod rows;

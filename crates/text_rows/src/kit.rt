@@ -1,0 +1,38 @@
+//! What the tests share: a text that replays to a report, or is refused.
+
+use schedule::{Page, ReplayFault, Text, put_verdict, replay};
+use std::test::Fail;
+
+/// It holds, or the test has failed.
+pub fn check(holds: bool, what: &'static str) -> Result<(), Fail> {
+    if !holds {
+        return Err(Fail::from(what));
+    }
+    Ok(())
+}
+
+/// The text gives just this report, and the verdict in its last line.
+pub fn replays(rt: &HostRuntime, text: &[u8], report: &[u8]) -> Result<(), Fail> {
+    let mut page = Page::new(rt.alloc());
+    let verdict = replay(rt.alloc(), &mut Text::new(text, 7), &mut page)
+        .ok()
+        .ok_or("a verdict")?;
+    check(page.as_slice() == report, "the report")?;
+    let mut line = Vec::new(rt.alloc());
+    put_verdict(&mut line, verdict)?;
+    check(report.ends_with(&line), "the verdict")
+}
+
+/// The text is refused at this line with this number, after this was written.
+pub fn refuses(
+    rt: &HostRuntime,
+    text: &[u8],
+    written: &[u8],
+    (line, number): (u64, u64),
+) -> Result<(), Fail> {
+    let mut page = Page::new(rt.alloc());
+    let answer = replay(rt.alloc(), &mut Text::new(text, 1000), &mut page);
+    let fault = ReplayFault::Refused { line, number };
+    check(answer == Err(fault), "the refusal")?;
+    check(page.as_slice() == written, "what was written")
+}

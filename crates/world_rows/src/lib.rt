@@ -1,0 +1,14 @@
+//! The worked rows of the lock in simulation: cores, mailboxes, judges, whole worlds with their images, and the askings of
+//! crash plans. Tests alone: each names public functions of `rmecore`, `redomail`, `judge`, `rmeworld` and `plans`.
+#![tactic(auto)]
+
+#[cfg(test)]
+mod askings;
+#[cfg(test)]
+mod cores;
+#[cfg(test)]
+mod judges;
+#[cfg(test)]
+mod mailboxes;
+#[cfg(test)]
+mod worlds;

@@ -1,7 +1,7 @@
 //! What one process of a variant does, as a machine over its private memory alone: the world's process, with what the
 //! variant changes.
 
-ghost use Rattle.std.specs.Prelude.{◌≡◌, ◌<◌, ◌⊎◌, if◌then◌else◌, OnOk, OnErr, IfErr, IfSome, Some, None};
+ghost use Rattle.std.specs.Prelude.{◌≡◌, ◌<◌, ◌⊎◌, if◌then◌else◌, OnOk, OnErr, IfErr, IsErrOf, IfSome, Some, None};
 ghost use Rattle.crashlab.specs.VariantScripts.{raised as raised_to};
 ghost use Rattle.crashlab.specs.VariantStands.{change_of, is_put, shutting as shutting_of, reread_as};
 
@@ -96,6 +96,7 @@ impl VariantProcess {
     pub fn start(&mut self, call: Call) -> Result<(), Refusal>
         ensures accepted { OnOk result (start_refusal self.old.stand.layout (spot_of self.old.stand) call ≡ None) }
         ensures refused { IfErr result (λ e. start_refusal self.old.stand.layout (spot_of self.old.stand) call ≡ Some e) }
+        ensures memory { IsErrOf result Refusal.OutOfMemory → ⊥ }
         ensures ok { OnOk result (self.new ≡ variant_started self.old call) }
         ensures spot { OnOk result (next_spot self.old.stand.layout self.old.stand.limit (spot_of self.old.stand) (Begins self.old.stand.index call) ≡ Some (spot_of self.new.stand)) }
         ensures err { OnErr result (self.new ≡ self.old) }

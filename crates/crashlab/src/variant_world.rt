@@ -1,6 +1,6 @@
 //! A whole world of a variant in memory, each step taken on request.
 
-ghost use Rattle.std.specs.Prelude.{◌≡◌, ◌<◌, ◌⊎◌, ℕ, IfOk, IfErr, OnOk, OnErr, Some, None, vec_len};
+ghost use Rattle.std.specs.Prelude.{◌≡◌, ◌<◌, ◌⊎◌, ℕ, IfOk, IfErr, OnOk, OnErr, IsErrOf, Some, None, vec_len};
 ghost use Rattle.rmecore.specs.Machine.{carried};
 ghost use Rattle.rmecore.specs.Simulated.{cause};
 ghost use Rattle.rmeworld.specs.Stand.{IsSize};
@@ -120,6 +120,7 @@ impl VariantWorld {
     pub(crate) fn take_start(&mut self, p: u64, call: Call) -> Result<(), Refusal>
         ensures accepted { OnOk result (start_refusal self.old p call ≡ None) }
         ensures refused { IfErr result (λ e. start_refusal self.old p call ≡ Some e) }
+        ensures memory { IsErrOf result Refusal.OutOfMemory → ⊥ }
         ensures ok { OnOk result (self.new ≡ started self.old p call) }
         ensures err { OnErr result (self.new ≡ self.old) }
         ensures lock { OnOk result ((history : List DeedOf) → IsLockWorld self.old history → IsLockWorld self.new history) }
@@ -134,6 +135,7 @@ impl VariantWorld {
     pub(crate) fn take_step(&mut self, p: u64) -> Result<Stepped, Refusal>
         ensures accepted { OnOk result (advance_refusal self.old p ≡ None) }
         ensures refused { IfErr result (λ e. advance_refusal self.old p ≡ Some e) }
+        ensures memory { IsErrOf result Refusal.OutOfMemory → ⊥ }
         ensures told { IfOk result (λ s. s ≡ stepped self.old p) }
         ensures ok { OnOk result (self.new ≡ advanced self.old p) }
         ensures err { OnErr result (self.new ≡ self.old) }
@@ -166,6 +168,7 @@ impl VariantWorld {
     pub(crate) fn take_crash(&mut self, p: u64) -> Result<Deed, Refusal>
         ensures accepted { OnOk result (crash_refusal self.old p ≡ None) }
         ensures refused { IfErr result (λ e. crash_refusal self.old p ≡ Some e) }
+        ensures memory { IsErrOf result Refusal.OutOfMemory → ⊥ }
         ensures told { IfOk result (λ d. d ≡ crash_deed p) }
         ensures ok { OnOk result (self.new ≡ crashed self.old p) }
         ensures err { OnErr result (self.new ≡ self.old) }

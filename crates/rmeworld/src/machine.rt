@@ -1,6 +1,6 @@
 //! What a schedule is replayed on.
 
-ghost use Rattle.std.specs.Prelude.{◌≡◌, ℕ, Option, Some, None, OnOk, OnErr, IfOk, IfErr, ◌⊎◌};
+ghost use Rattle.std.specs.Prelude.{◌≡◌, ℕ, Option, Some, None, is_some, true, OnOk, OnErr, IfOk, IfErr, IsErrOf, ◌⊎◌};
 ghost use Rattle.rmecore.specs.declared.refusal.Refusal.{Refusal as RefusalOf};
 ghost use Rattle.rmecore.specs.declared.refusal.Refusal.TheVariants.{OutOfMemory};
 ghost use Rattle.redomail.specs.declared.deed.Deed.{Deed as DeedOf};
@@ -39,13 +39,16 @@ pub trait Machine {
     fn start(&mut self, p: u64, call: Call) -> Result<(), Refusal>
         ensures accepted { OnOk result (start_refusal self.old p call ≡ None) }
         ensures refused { IfErr result (λ e. start_refusal self.old p call ≡ Some e) }
+        ensures memory { IsErrOf result OutOfMemory → ⊥ }
         ensures ok { OnOk result (self.new ≡ started self.old p call) }
         ensures err { OnErr result (self.new ≡ self.old) };
 
-    /// Takes the next step of process p. Refused for want of memory it has changed nothing, and can be taken again.
+    /// Takes the next step of process p. Refused for want of memory it has changed nothing, and can be taken again. Only a
+    /// deed wants memory.
     fn advance(&mut self, p: u64) -> Result<Stepped, Refusal>
         ensures accepted { OnOk result (advance_refusal self.old p ≡ None) }
         ensures refused { IfErr result (λ e. (e ≡ OutOfMemory) ⊎ (advance_refusal self.old p ≡ Some e)) }
+        ensures memory { IsErrOf result OutOfMemory → (advance_refusal self.old p ≡ None) × (is_some (stepped self.old p).deed ≡ true) }
         ensures told { IfOk result (λ s. s ≡ stepped self.old p) }
         ensures ok { OnOk result (self.new ≡ advanced self.old p) }
         ensures err { OnErr result (self.new ≡ self.old) };
@@ -54,6 +57,7 @@ pub trait Machine {
     fn crash(&mut self, p: u64) -> Result<Deed, Refusal>
         ensures accepted { OnOk result (crash_refusal self.old p ≡ None) }
         ensures refused { IfErr result (λ e. (e ≡ OutOfMemory) ⊎ (crash_refusal self.old p ≡ Some e)) }
+        ensures memory { IsErrOf result OutOfMemory → crash_refusal self.old p ≡ None }
         ensures told { IfOk result (λ d. d ≡ crash_deed self.old p) }
         ensures ok { OnOk result (self.new ≡ crashed self.old p) }
         ensures err { OnErr result (self.new ≡ self.old) };

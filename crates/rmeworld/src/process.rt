@@ -2,7 +2,7 @@
 //! words while it is inside. It knows no shared word: it says which one it loads or stores next, and is fed with what was
 //! read. The world and the running lock run this machine over their words.
 
-ghost use Rattle.std.specs.Prelude.{◌≡◌, ◌==◌, true, false, not, if◌then◌else◌, [], ◌∷◌, Some, None, IfSome, OnOk, OnErr, IfErr, is_none};
+ghost use Rattle.std.specs.Prelude.{◌≡◌, ◌==◌, true, false, not, if◌then◌else◌, [], ◌∷◌, Some, None, IfSome, OnOk, OnErr, IfErr, IsErrOf, is_none};
 ghost use Rattle.rmecore.specs.Place.{Inside, Leaving, started as lock_started};
 ghost use Rattle.rmecore.specs.Refused.{start_refusal as lock_refusal};
 ghost use Rattle.rmecore.specs.Machine.{after_access, at_scan, progress, next_access as lock_access, IsAllowed as IsLockAllowed};
@@ -282,6 +282,7 @@ impl Process {
     pub fn start(&mut self, call: Call) -> Result<(), Refusal>
         ensures accepted { OnOk result (start_refusal self.old.layout (spot_of self.old) call ≡ None) }
         ensures refused { IfErr result (λ e. start_refusal self.old.layout (spot_of self.old) call ≡ Some e) }
+        ensures memory { IsErrOf result Refusal.OutOfMemory → ⊥ }
         ensures exact { OnOk result (self.new ≡ started self.old call) }
         ensures spot { OnOk result (next_spot self.old.layout self.old.limit (spot_of self.old) (Begins self.old.index call) ≡ Some (spot_of self.new)) }
         ensures not_allowed { OnErr result (next_spot self.old.layout self.old.limit (spot_of self.old) (Begins self.old.index call) ≡ None) }

@@ -324,6 +324,7 @@ impl World {
     pub fn start(&mut self, p: u64, call: Call) -> Result<(), Refusal>
         ensures accepted { OnOk result (start_refusal self.old p call ≡ None) }
         ensures refused { IfErr result (λ e. start_refusal self.old p call ≡ Some e) }
+        ensures memory { IsErrOf result Refusal.OutOfMemory → ⊥ }
         ensures start { OnOk result (Takes self.old (Begins p call) self.new) }
         ensures ok { OnOk result (self.new ≡ started self.old p call) }
         ensures err { OnErr result (self.new ≡ self.old) }

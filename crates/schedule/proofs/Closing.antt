@@ -15,12 +15,12 @@ use Rattle.schedule.specs.declared.replay_fault.ReplayFault.{ReplayFault}
 use Rattle.schedule.specs.declared.replay_fault.ReplayFault.TheVariants.{Refused, Write, OutOfMemory, Text, Read}
 use Rattle.schedule.specs.Runs.{Part, deeds_of}
 use Rattle.schedule.specs.Verdicts.{verdict_on}
-use Rattle.schedule.specs.Reports.{told_text, owns_text, verdict_line, IsMailText, IsEnd}
+use Rattle.schedule.specs.Reports.{told_text, owns_text, words_of_verdict, verdict_line, IsMailText, IsEnd}
 use Rattle.schedule.specs.Hearings.{opened, bench, with_more, heard_with, Hears}
-use Rattle.schedule.specs.Plays.{Tape, Writes, Begins, Ends, IsRefused}
+use Rattle.schedule.specs.Plays.{Tape, Writes, Begins, BreaksOff, Ends, IsRefused}
 use Rattle.schedule.specs.Replays.{IsAll, Reported, CutShort, Closes}
 use Rattle.schedule.proofs.Heard.{no_more}
-use Rattle.schedule.proofs.Playing.{begins_further, begins_wider, begins_nothing}
+use Rattle.schedule.proofs.Playing.{begins_further, begins_wider, breaks_further, breaks_wider, breaks_nothing, none_behind, line_some}
 
 -- the mailbox's part of a report is one text
 mail_once : (layout : Layout) (cells one other : List ℕ) → IsMailText layout cells one → IsMailText layout cells other → one ≡ other
@@ -43,9 +43,14 @@ closes before now image verdict end (Ok x) is written failed = (end, is, written
 closes before now image verdict end (Err fault) is written failed =
     rw failed.0 (λ other also. rw (end_once image verdict other end also is) failed.1, failed.2)
 
+-- it ends with a line
+end_some : (image : Image) (verdict : Verdict) (end : List ℕ) → IsEnd image verdict end → end ≡ [] → ⊥
+end_some image verdict end is none =
+    line_some (words_of_verdict verdict) (none_behind (owns_text 0 image.lock ++ is.0) (verdict_line verdict) (sym is.2 ∙ none))
+
 -- there is no memory for the page
-pub closes_nothing : (t : Tape) (image : Image) (verdict : Verdict) → ((end : List ℕ) → IsEnd image verdict end → Begins t.taken t.taken end) × (t.failures ≡ t.failures)
-closes_nothing t image verdict = (λ end is. begins_nothing t.taken end, refl)
+pub closes_nothing : (t : Tape) (image : Image) (verdict : Verdict) → ((end : List ℕ) → IsEnd image verdict end → BreaksOff t.taken t.taken end) × (t.failures ≡ t.failures)
+closes_nothing t image verdict = (λ end is. breaks_nothing t.taken end (end_some image verdict end is), refl)
 
 -- ---- the whole
 
@@ -59,6 +64,11 @@ module _ {S : Type 0} (start : State) (image_of : S → Image) (run : Part S (�
       let a = all_text run.refused text all in
       rw a.1 (begins_wider old new (told_text run.told) a.0 begins)
 
+  all_breaks : (old new : List ℕ) → BreaksOff old new (told_text run.told) → (text : List ℕ) → IsAll start image_of run run.refused text → BreaksOff old new text
+  all_breaks old new breaks text all =
+      let a = all_text run.refused text all in
+      rw a.1 (breaks_wider old new (told_text run.told) a.0 breaks)
+
   all_written : (before now : Tape) → Writes before now (told_text run.told) → Begins before.taken now.taken (told_text run.told)
   all_written before now writes = ([], record { front = told_text run.told; written = writes.taken; left = sym (append-nil (told_text run.told)) })
 
@@ -70,7 +80,7 @@ module _ {S : Type 0} (start : State) (image_of : S → Image) (run : Part S (�
       (record { taken = same ∙ ends.0.taken; fine = fine ∙ ends.0.fine }, ends.1)
   cut_lines before mid now Read ends same fine = ends
   cut_lines before mid now Write ends same fine = (rw same (all_begins before.taken mid.taken ends.0), fine ∙ ends.1)
-  cut_lines before mid now OutOfMemory ends same fine = (rw same (all_begins before.taken mid.taken ends.0), fine ∙ ends.1)
+  cut_lines before mid now OutOfMemory ends same fine = (rw same (all_breaks before.taken mid.taken ends.0), fine ∙ ends.1)
 
   -- and the sink failed when it was flushed
   pub cut_flush : (before mid now : Tape) (fault : ReplayFault) → Ends before mid run fault → IsRefused fault → now.taken ≡ mid.taken → now.failures ≡ min (mid.failures + 1) (2 ^ 64 - 1)
@@ -99,7 +109,7 @@ module _ {S : Type 0} (start : State) (image_of : S → Image) (run : Part S (�
     rw (← writes.fine) h.1,
   )
   cut_end before mid now image verdict OutOfMemory writes accepted is ruled h = (
-    rw accepted (λ text all. rw all.2 (begins_further before.taken mid.taken now.taken (told_text run.told) all.0 writes.taken (h.0 all.0 (rw (is, ruled) all.1)))),
+    rw accepted (λ text all. rw all.2 (breaks_further before.taken mid.taken now.taken (told_text run.told) all.0 writes.taken (h.0 all.0 (rw (is, ruled) all.1)))),
     rw (← writes.fine) h.1,
   )
 

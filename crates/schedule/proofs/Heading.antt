@@ -10,14 +10,13 @@ use Rattle.schedule.specs.Schedules.{Scheduled}
 use Rattle.schedule.specs.Plays.{Tape}
 use Rattle.schedule.specs.Wholes.{Silent, header_fault, layout_of, OfSchedule, OfText}
 use Rattle.rmeworld.specs.WorldState.{new_refusal}
-use Rattle.schedule.proofs.Playing.{begins_nothing}
 
 pub silent : (t : Tape) → Silent t t
 silent t = record { taken = refl; fine = refl }
 
 -- there was no memory, and nothing was written
 pub no_memory : (t : Tape) (schedule : Scheduled) (o : Option Refusal) → OfSchedule t t schedule o (Err OutOfMemory)
-no_memory t schedule None = (λ text all. begins_nothing t.taken text, refl)
+no_memory t schedule None = inr (silent t, refl)
 no_memory t schedule (Some refusal) = (silent t, inr refl)
 
 pub no_memory_at_all : (t : Tape) (r : Result Scheduled (ℕ × LineFault)) → OfText t t r (Err OutOfMemory)

@@ -1,6 +1,9 @@
 -- Parts of a run that are played one after another.
-use Rattle.std.proofs.Common.{◌≡◌, ℕ, suc, true, false, is_some, if◌then◌else◌, ◌+◌, List, [], ◌∷◌, ◌++◌, Option, Some, None, Result, Ok, Err, OnOk, IfErr, refl, sym, ap, ◌∙◌, append_assoc, ◌⊎◌, inl, inr}
-use Rattle.std.proofs.lemmas.List.{append-nil}
+use Rattle.std.proofs.Common.{◌≡◌, ℕ, suc, true, false, is_some, if◌then◌else◌, ◌+◌, List, [], ◌∷◌, ◌++◌, length, Option, Some, None, Result, Ok, Err, OnOk, IfErr, refl, sym, ap, ◌∙◌, append_assoc, ◌⊎◌, inl, inr, arith}
+use Rattle.std.proofs.lemmas.List.{append-nil, length-append}
+use Rattle.std.specs.Prelude.{codes}
+use Rattle.std.specs.List.{join_with_byte}
+use Rattle.std.specs.Fmt.{decimal}
 use Rattle.std.proofs.lemmas.List.Concat.{flat_map-append}
 use Rattle.rmecore.specs.declared.refusal.Refusal.{Refusal}
 use Rattle.rmecore.specs.declared.refusal.Refusal.TheVariants as refusals
@@ -15,9 +18,12 @@ use Rattle.schedule.specs.declared.line.Line.{Line}
 use Rattle.schedule.specs.declared.line.Line.TheVariants.{Start, Step, Crash}
 use Rattle.schedule.specs.Runs.{Told, Did, Answered, did, answered, told_of, deeds_of, Behaviour, Part, steps, unless, followed, line_on, run_on}
 use Rattle.schedule.specs.Reports.{told_line, told_text}
+use Rattle.schedule.specs.Texts.{line_of}
+use Rattle.schedule.specs.Deeds.{words_of_deed}
+use Rattle.schedule.specs.Answers.{words_of_answer}
 use Rattle.schedule.specs.Hearings.{Bench, Hears}
 use Rattle.schedule.proofs.Heard.{hears_none, hears_both}
-use Rattle.schedule.specs.Plays.{Tape, Writes, Begins, halted, halt_of, Halts, Tells, Stops, IsRefusal, IsRefused, Plays, Ends, fault_at}
+use Rattle.schedule.specs.Plays.{Tape, Writes, Begins, BreaksOff, halted, halt_of, Halts, Tells, Stops, IsRefusal, IsRefused, Plays, Ends, fault_at}
 
 answer_is_no_deed : (p : ℕ) (answer : Option Answer) → deeds_of (answered p answer) ≡ []
 answer_is_no_deed p None = refl
@@ -35,7 +41,7 @@ tells before now bench heard told (Err halt) written halted hears = halted
 
 -- ---- one part after another
 
-told_append : (a b : List Told) → told_text (a ++ b) ≡ told_text a ++ told_text b
+pub told_append : (a b : List Told) → told_text (a ++ b) ≡ told_text a ++ told_text b
 told_append a b = flat_map-append told_line a b
 
 pub deeds_append : (a b : List Told) → deeds_of (a ++ b) ≡ deeds_of a ++ deeds_of b
@@ -88,6 +94,44 @@ begins_wider old new text more begins =
 pub begins_nothing : (old text : List ℕ) → Begins old old text
 begins_nothing old text = (text, record { front = []; written = sym (append-nil old); left = refl })
 
+pub breaks_further : (old mid new text more : List ℕ) → mid ≡ old ++ text → BreaksOff mid new more → BreaksOff old new (text ++ more)
+unfolding begins_further
+breaks_further old mid new text more e breaks =
+    let w = begins_further old mid new text more e (breaks.0, breaks.1) in (w.0, w.1, breaks.2)
+
+pub append_none : (xs ys : List ℕ) → xs ++ ys ≡ [] → xs ≡ []
+append_none [] ys e = refl
+append_none (x ∷ xs) ys e = absurd cc
+
+pub none_behind : (xs ys : List ℕ) → xs ++ ys ≡ [] → ys ≡ []
+none_behind [] ys e = e
+none_behind (x ∷ xs) ys e = absurd cc
+
+pub breaks_wider : (old new text more : List ℕ) → BreaksOff old new text → BreaksOff old new (text ++ more)
+unfolding begins_wider
+breaks_wider old new text more breaks =
+    let w = begins_wider old new text more (breaks.0, breaks.1) in (w.0, w.1, λ none. breaks.2 (append_none breaks.0 more none))
+
+pub breaks_nothing : (old text : List ℕ) → (text ≡ [] → ⊥) → BreaksOff old old text
+unfolding begins_nothing
+breaks_nothing old text some = let w = begins_nothing old text in (w.0, w.1, some)
+
+pub line_some : (words : List (List ℕ)) → line_of words ≡ [] → ⊥
+line_some words e = absurd (omega (arith, length-append (join_with_byte 32 words) (10 ∷ []), ap length e))
+
+line_told : (t : Told) → told_line t ≡ [] → ⊥
+line_told (Did deed) = line_some (words_of_deed deed)
+line_told (Answered p answer) = line_some (codes "answer" ∷ decimal p ∷ words_of_answer answer)
+
+-- whoever tells something writes something
+pub told_some : (t : Told) (told : List Told) → told_text (t ∷ told) ≡ [] → ⊥
+told_some t told e = line_told t (append_none (told_line t) (told_text told) e)
+
+-- and so does a step that is a deed
+pub deed_some : (p : ℕ) (deed : Option Deed) (answer : Option Answer) → is_some deed ≡ true → told_text (told_of p deed answer) ≡ [] → ⊥
+deed_some p None answer is = absurd cc
+deed_some p (Some deed) answer is = told_some (Did deed) (answered p answer)
+
 -- a part halts after what was told, within what is told next
 pub halts_further : (t u v : Tape) (a b : Bench) (told next after all : List Told) (refused : Option Refusal) (halt : Halt) → Played t u a b told → all ≡ told ++ (next ++ after)
     → Halts u v (told_text next) None halt → Halts t v (told_text all) refused halt
@@ -97,7 +141,7 @@ halts_further t u v a b told next after all refused Write so_far e h =
     (rw text (begins_further t.taken u.taken v.taken (told_text told) (told_text next ++ told_text after) so_far.writes.taken (begins_wider u.taken v.taken (told_text next) (told_text after) h.0)), rw (← so_far.writes.fine) h.1)
 halts_further t u v a b told next after all refused OutOfMemory so_far e h =
     let text : told_text all ≡ told_text told ++ (told_text next ++ told_text after) = ap told_text e ∙ told_append told (next ++ after) ∙ ap (λ (xs : List ℕ). told_text told ++ xs) (told_append next after) in
-    (rw text (begins_further t.taken u.taken v.taken (told_text told) (told_text next ++ told_text after) so_far.writes.taken (begins_wider u.taken v.taken (told_text next) (told_text after) h.0)), rw (← so_far.writes.fine) h.1)
+    (rw text (breaks_further t.taken u.taken v.taken (told_text told) (told_text next ++ told_text after) so_far.writes.taken (breaks_wider u.taken v.taken (told_text next) (told_text after) h.0)), rw (← so_far.writes.fine) h.1)
 
 -- what is not refused does not end by a refusal
 pub never_stops : {S : Type 0} (t u : Tape) (text : List ℕ) (halt : Halt) (a b : Bench) (told : List Told) (left s : S) → Halts t u text None halt → IsRefusal halt → Stops a b told left s
@@ -105,11 +149,14 @@ never_stops t u text (Refused number) a b told left s h is = absurd (let no : No
 never_stops t u text Write a b told left s h is = absurd is
 never_stops t u text OutOfMemory a b told left s h is = absurd is
 
--- there is no memory for the next step
-pub halts_here : (t u : Tape) (a b : Bench) (told after all : List Told) (refused : Option Refusal) → Played t u a b told → all ≡ told ++ after → Halts t u (told_text all) refused OutOfMemory
-halts_here t u a b told after all refused so_far e =
-    let text : told_text all ≡ told_text told ++ told_text after = ap told_text e ∙ told_append told after in
-    (rw text (begins_further t.taken u.taken u.taken (told_text told) (told_text after) so_far.writes.taken (begins_nothing u.taken (told_text after))), so_far.writes.fine)
+-- there is no memory for the next step, which tells its deed
+pub halts_here : (t u : Tape) (a b : Bench) (told after all : List Told) (p : ℕ) (step : Stepped) (refused : Option Refusal) → Played t u a b told
+    → all ≡ told ++ (told_of p step.deed step.answer ++ after) → is_some step.deed ≡ true → Halts t u (told_text all) refused OutOfMemory
+halts_here t u a b told after all p step refused so_far e deed =
+    let next : List Told = told_of p step.deed step.answer in
+    let text : told_text all ≡ told_text told ++ told_text (next ++ after) = ap told_text e ∙ told_append told (next ++ after) in
+    let some : told_text (next ++ after) ≡ [] → ⊥ = λ none. deed_some p step.deed step.answer deed (append_none (told_text next) (told_text after) (sym (told_append next after) ∙ none)) in
+    (rw text (breaks_further t.taken u.taken u.taken (told_text told) (told_text (next ++ after)) so_far.writes.taken (breaks_nothing u.taken (told_text (next ++ after)) some)), so_far.writes.fine)
 
 -- ---- the steps of one process
 
@@ -184,12 +231,31 @@ pub plays_told : {S A : Type 0} (t u : Tape) (a b : Bench) (told all : List Told
 plays_told t u a b told all left refused s (Ok x) h e is accepted = rw e (h.0, h.1, accepted, is)
 plays_told t u a b told all left refused s (Err halt) h e is accepted = (rw (e, accepted) h, never_stops t u (told_text told) halt a b all left s h)
 
--- a refusal, or no memory, before anything is told
-numbered_halts : (t : Tape) (text : List ℕ) (o : Option Refusal) (e : Refusal) (n : Option ℕ) → number_of e ≡ n → (e ≡ refusals.OutOfMemory) ⊎ (o ≡ Some e) → (o ≡ Some e → text ≡ [])
-    → Halts t t text o (halted n)
-numbered_halts t text o e None is why silent = (begins_nothing t.taken text, refl)
-numbered_halts t text o e (Some number) is (inl memory) silent = absurd (let no : number_of refusals.OutOfMemory ≡ Some number = ap number_of (sym memory) ∙ is in cc)
-numbered_halts t text o e (Some number) is (inr refused) silent =
+-- a refusal without a number is want of memory
+pub unnumbered : (e : Refusal) → number_of e ≡ None → e ≡ refusals.OutOfMemory
+unnumbered refusals.OutOfMemory is = refl
+unnumbered refusals.BadProcs is = absurd cc
+unnumbered refusals.BadLimit is = absurd cc
+unnumbered refusals.NoSuchProcess is = absurd cc
+unnumbered refusals.CallUnderWay is = absurd cc
+unnumbered refusals.NotOwner is = absurd cc
+unnumbered refusals.AlreadyIn is = absurd cc
+unnumbered refusals.NothingToDo is = absurd cc
+unnumbered refusals.BadCap is = absurd cc
+unnumbered (refusals.BadImage rule) is = absurd cc
+unnumbered refusals.NotInconsistent is = absurd cc
+unnumbered refusals.BadShape is = absurd cc
+unnumbered refusals.Unmended is = absurd cc
+unnumbered refusals.BadIndex is = absurd cc
+unnumbered refusals.NotWaiting is = absurd cc
+unnumbered refusals.BadWidth is = absurd cc
+
+-- a refusal before anything is told, or no memory for what would be told
+numbered_halts : (t : Tape) (text : List ℕ) (o : Option Refusal) (e : Refusal) (n : Option ℕ) → number_of e ≡ n → (e ≡ refusals.OutOfMemory) ⊎ (o ≡ Some e) → (e ≡ refusals.OutOfMemory → text ≡ [] → ⊥)
+    → (o ≡ Some e → text ≡ []) → Halts t t text o (halted n)
+numbered_halts t text o e None is why memory silent = (breaks_nothing t.taken text (memory (unnumbered e is)), refl)
+numbered_halts t text o e (Some number) is (inl none) memory silent = absurd (let no : number_of refusals.OutOfMemory ≡ Some number = ap number_of (sym none) ∙ is in cc)
+numbered_halts t text o e (Some number) is (inr refused) memory silent =
     (record { taken = rw (silent refused) (sym (append-nil t.taken)); fine = refl }, (e, refused, is))
 
 numbered_stops : {S : Type 0} (a : Bench) (told : List Told) (left s : S) (o : Option Refusal) (e : Refusal) (n : Option ℕ) → number_of e ≡ n → (e ≡ refusals.OutOfMemory) ⊎ (o ≡ Some e) → (o ≡ Some e → (told ≡ []) × (s ≡ left))
@@ -199,10 +265,10 @@ numbered_stops a told left s o e (Some number) is (inl memory) silent stopped = 
 numbered_stops a told left s o e (Some number) is (inr refused) silent stopped =
     let still = silent refused in record { hears = rw still.0 (hears_none a); stands = still.1 }
 
-pub refusal_halts : {S : Type 0} (t : Tape) (a : Bench) (told : List Told) (left s : S) (o : Option Refusal) (e : Refusal) → (e ≡ refusals.OutOfMemory) ⊎ (o ≡ Some e) → (o ≡ Some e → (told ≡ []) × (s ≡ left))
-    → Halts t t (told_text told) o (halt_of e) × (IsRefusal (halt_of e) → Stops a a told left s)
-refusal_halts t a told left s o e why silent =
-    (numbered_halts t (told_text told) o e (number_of e) refl why (λ refused. ap told_text (silent refused).0), numbered_stops a told left s o e (number_of e) refl why silent)
+pub refusal_halts : {S : Type 0} (t : Tape) (a : Bench) (told : List Told) (left s : S) (o : Option Refusal) (e : Refusal) → (e ≡ refusals.OutOfMemory) ⊎ (o ≡ Some e)
+    → (e ≡ refusals.OutOfMemory → told_text told ≡ [] → ⊥) → (o ≡ Some e → (told ≡ []) × (s ≡ left)) → Halts t t (told_text told) o (halt_of e) × (IsRefusal (halt_of e) → Stops a a told left s)
+refusal_halts t a told left s o e why memory silent =
+    (numbered_halts t (told_text told) o e (number_of e) refl why memory (λ refused. ap told_text (silent refused).0), numbered_stops a told left s o e (number_of e) refl why silent)
 
 -- ---- one line after another
 
@@ -217,10 +283,12 @@ unless_refused : {S : Type 0} (o : Option Refusal) (s : S) (told : List Told) (l
 unless_refused None s told left = refl
 unless_refused (Some e) s told left = refl
 
-pub unless_halts : {S : Type 0} (t : Tape) (a : Bench) (o : Option Refusal) (s : S) (told : List Told) (left now : S) (e : Refusal) → (e ≡ refusals.OutOfMemory) ⊎ (o ≡ Some e) → now ≡ s
+pub unless_halts : {S : Type 0} (t : Tape) (a : Bench) (o : Option Refusal) (s : S) (told : List Told) (left now : S) (e : Refusal) → (e ≡ refusals.OutOfMemory) ⊎ (o ≡ Some e)
+    → (e ≡ refusals.OutOfMemory → (o ≡ None) × (told_text told ≡ [] → ⊥)) → now ≡ s
     → Halts t t (told_text (unless o s told left).told) (unless o s told left).refused (halt_of e) × (IsRefusal (halt_of e) → Stops a a (unless o s told left).told (unless o s told left).left now)
-unless_halts t a o s told left now e why same =
-    rw (unless_refused o s told left) (refusal_halts t a (unless o s told left).told (unless o s told left).left now o e why (λ refused. rw refused (refl, same)))
+unless_halts t a o s told left now e why memory same =
+    rw (unless_refused o s told left) (
+      refusal_halts t a (unless o s told left).told (unless o s told left).left now o e why (λ is. rw (memory is).0 (memory is).1) (λ refused. rw refused (refl, same)))
 
 module _ {S : Type 0} (b : Behaviour S) where
   -- where lines are still to be played after what was told

@@ -1,5 +1,5 @@
 -- What the functions that play a part of a run do.
-use Rattle.std.specs.Prelude.{◌≡◌, ℕ, ◌+◌, ◌-◌, ◌^◌, min, List, ◌++◌, Option, Some, None, Result, Ok, Err}
+use Rattle.std.specs.Prelude.{◌≡◌, ℕ, ◌+◌, ◌-◌, ◌^◌, min, List, [], ◌++◌, Option, Some, None, Result, Ok, Err}
 use Rattle.rmecore.specs.declared.refusal.Refusal.{Refusal}
 use Rattle.rmecore.specs.Refused.{number_of}
 use Rattle.schedule.specs.declared.replay_fault.ReplayFault.{ReplayFault}
@@ -28,11 +28,15 @@ pub record Writes (before now : Tape) (text : List ℕ) : Type 0 where
 abbrev pub Begins : List ℕ → List ℕ → List ℕ → Type 0
 Begins old new text = (rest : List ℕ) × WritesFront old new text rest
 
--- why a part is not played to its end
+-- a beginning of the text was written, and not all of it
+abbrev pub BreaksOff : List ℕ → List ℕ → List ℕ → Type 0
+BreaksOff old new text = (rest : List ℕ) × WritesFront old new text rest × (rest ≡ [] → ⊥)
+
+-- why a part is not played to its end. Memory is wanted only for what is still to be told, so never in place of a refusal
 abbrev pub Halts : Tape → Tape → List ℕ → Option Refusal → Halt → Type 0
 Halts before now text refused (Refused number) = Writes before now text × ((refusal : Refusal) × (refused ≡ Some refusal) × (number_of refusal ≡ Some number))
 Halts before now text refused Write = Begins before.taken now.taken text × (now.failures ≡ min (before.failures + 1) (2 ^ 64 - 1))
-Halts before now text refused OutOfMemory = Begins before.taken now.taken text × (now.failures ≡ before.failures)
+Halts before now text refused OutOfMemory = BreaksOff before.taken now.taken text × (now.failures ≡ before.failures)
 
 -- a refusal for want of memory has no number
 abbrev pub halted : Option ℕ → Halt
@@ -74,7 +78,7 @@ abbrev pub Ends : {S : Type 0} → Tape → Tape → Part S (ℕ × Refusal) →
 Ends before now run (faults.Refused line number) =
     Writes before now (told_text run.told) × ((refusal : Refusal) × (run.refused ≡ Some (line, refusal)) × (number_of refusal ≡ Some number))
 Ends before now run faults.Write = Begins before.taken now.taken (told_text run.told) × (now.failures ≡ min (before.failures + 1) (2 ^ 64 - 1))
-Ends before now run faults.OutOfMemory = Begins before.taken now.taken (told_text run.told) × (now.failures ≡ before.failures)
+Ends before now run faults.OutOfMemory = BreaksOff before.taken now.taken (told_text run.told) × (now.failures ≡ before.failures)
 Ends before now run fault = ⊥
 
 -- a line is refused

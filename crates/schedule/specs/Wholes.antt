@@ -37,10 +37,12 @@ abbrev pub header_fault : Option ℕ → ReplayFault
 header_fault None = OutOfMemory
 header_fault (Some number) = Refused 1 number
 
--- a header that no world has is refused at line 1; else the report is that of the schedule's run, and its verdict is fine
+-- a header that no world has is refused at line 1; else the report is that of the schedule's run, and its verdict is fine.
+-- Memory may be wanted before anything is played
 abbrev pub OfSchedule : Tape → Tape → Scheduled → Option Refusal → Result Verdict ReplayFault → Type 0
 OfSchedule before now schedule (Some refusal) answer = Silent before now × ((answer ≡ Err (header_fault (number_of refusal))) ⊎ (answer ≡ Err OutOfMemory))
-OfSchedule before now schedule None answer = Replays before now (empty schedule.procs schedule.cap) world.image_of (world_run schedule) answer
+OfSchedule before now schedule None answer =
+    Replays before now (empty schedule.procs schedule.cap) world.image_of (world_run schedule) answer ⊎ (Silent before now × (answer ≡ Err OutOfMemory))
 
 -- a text that is no schedule has a fault, and nothing is written
 abbrev pub OfText : Tape → Tape → Result Scheduled (ℕ × LineFault) → Result Verdict ReplayFault → Type 0

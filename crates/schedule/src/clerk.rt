@@ -1,6 +1,6 @@
 //! Who writes down what a run tells, and hears the judge on it.
 
-ghost use Rattle.std.specs.Prelude.{◌≡◌, ◌++◌, ◌∷◌, [], None, IfErr, OnOk};
+ghost use Rattle.std.specs.Prelude.{◌≡◌, ◌++◌, ◌∷◌, [], None, IfErr, OnOk, OnErr};
 ghost use Rattle.schedule.specs.Hearings.{opened, bench, Hears};
 ghost use Rattle.schedule.specs.Plays.{tape, Tells, Writes, Halts};
 ghost use Rattle.schedule.specs.Reports.{told_text};
@@ -95,7 +95,8 @@ impl Clerk {
 }
 
 fn put_told(page: &mut Vec<u8>, tidings: &Tidings) -> Result<(), AllocError>
-    ensures { OnOk result (page.new.items ≡ page.old.items ++ told_text (told_by tidings.now)) }
+    ensures written { OnOk result (page.new.items ≡ page.old.items ++ told_text (told_by tidings.now)) }
+    ensures wanted { OnErr result (told_text (told_by tidings.now) ≡ [] → ⊥) }
 {
     if let Some(deed) = &tidings.deed {
         put_deed(page, deed)?;

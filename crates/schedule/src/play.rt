@@ -27,9 +27,9 @@ fn more_steps<M: Machine, W: Sink>(
     for _ in 0..n {
         let stepped = match machine.advance(p) {
             Ok(stepped) => stepped,
-            Err(refusal) => match Halt::from(refusal) {
-                Halt::Refused(_) => return Ok(()),
-                _ => return Err(Halt::OutOfMemory),
+            Err(refusal) => match refusal.number() {
+                Some(_) => return Ok(()),
+                None => return Err(Halt::OutOfMemory),
             },
         };
         let tidings = Tidings {

@@ -1,8 +1,9 @@
-use Rattle.std.proofs.Common.{◌≡◌, suc, ◌+◌, ◌-◌, ◌++◌, None, [], refl, sym, ap, ◌∙◌, arith}
+use Rattle.std.proofs.Common.{◌≡◌, suc, ◌+◌, ◌-◌, ◌++◌, None, [], Err, refl, sym, ap, ◌∙◌, arith}
 use Rattle.std.proofs.lemmas.List.{append-nil}
 use Rattle.std.proofs.lemmas.Result.{err_from_is_err_and}
+use Rattle.schedule.specs.Plays.{halted}
 use Rattle.schedule.specs.Runs.{told_of}
-use Rattle.schedule.proofs.Playing.{played_none, played_more, halts_here, halts_further, told_is, step_more, step_last, step_begun, step_refused, steps_none, is_refused, never_stops, plays_all}
+use Rattle.schedule.proofs.Playing.{unnumbered, played_none, played_more, halts_here, halts_further, told_is, step_more, step_last, step_begun, step_refused, steps_none, is_refused, never_stops, plays_all}
 use Rattle.schedule.proofs.play.more_steps.Goals as goal
 
 pub loop-init : goal.loop-init
@@ -10,14 +11,17 @@ loop-init g c =
     let all : c.args.n - 0 ≡ c.args.n = omega arith in
     ([], played_none _ _, rw all refl)
 
-pub returns-in_default : goal.returns-in_default
-returns-in_default g c =
-    (halts_here _ _ _ _ c.loop.invariant.0 _ _ None c.loop.invariant.1 (told_is _ _ c.loop.invariant.2), λ no. absurd no)
-
-pub returns-in-Refused : goal.returns-in-Refused
-returns-in-Refused g c =
+pub returns-in-None : goal.returns-in-None
+returns-in-None g c =
     let count : c.args.n - c.loop.counter ≡ suc (c.args.n - (c.loop.counter + 1)) = omega (arith, c.loop-test.true) in
-    let refused = is_refused c.in-Err.refusal c.in-Refused.field-0 _ c.in-Err.ensures.refused (sym c.from.ensures ∙ c.in-Refused.is) in
+    let wants = c.in-Err.ensures.memory (ap (λ e. Err e) (unnumbered c.in-Err.refusal (sym c.number.ensures ∙ c.in-None.is))) in
+    let begun = step_begun _ c.args.p _ c.loop.invariant.0 _ _ c.loop.machine (g.M.Machine.stepped c.loop.machine c.args.p) c.loop.invariant.2 count wants.0 refl in
+    (halts_here _ _ _ _ c.loop.invariant.0 begun.0 _ c.args.p (g.M.Machine.stepped c.loop.machine c.args.p) None c.loop.invariant.1 begun.1 wants.1, λ no. absurd no)
+
+pub returns-in-Some : goal.returns-in-Some
+returns-in-Some g c =
+    let count : c.args.n - c.loop.counter ≡ suc (c.args.n - (c.loop.counter + 1)) = omega (arith, c.loop-test.true) in
+    let refused = is_refused c.in-Err.refusal c.in-Some.field-0 _ c.in-Err.ensures.refused (ap halted (sym c.number.ensures ∙ c.in-Some.is)) in
     plays_all _ _ _ _ _ c.loop.invariant.0 None c.advance.new.self c.loop.invariant.1
     (rw c.in-Err.ensures.err (step_refused _ c.args.p _ c.loop.invariant.0 _ _ c.loop.machine _ c.loop.invariant.2 count refused)) refl
 

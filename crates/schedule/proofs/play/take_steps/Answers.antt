@@ -1,8 +1,9 @@
-use Rattle.std.proofs.Common.{◌≡◌, suc, ◌-◌, [], refl, sym, ◌∙◌, arith}
+use Rattle.std.proofs.Common.{◌≡◌, suc, ◌-◌, [], Err, refl, sym, ap, ◌∙◌, arith}
 use Rattle.std.proofs.lemmas.Result.{err_from_is_err_and}
 use Rattle.schedule.specs.Hearings.{bench}
+use Rattle.schedule.specs.Reports.{told_text}
 use Rattle.schedule.specs.Runs.{told_of}
-use Rattle.schedule.proofs.Playing.{played_none, played_more, refusal_halts, halts_further, never_stops, told_is, left_is, step_more, step_last, step_begun, step_refused, plays_all, plays_then}
+use Rattle.schedule.proofs.Playing.{played_none, played_more, append_none, told_append, deed_some, refusal_halts, halts_further, never_stops, told_is, left_is, step_more, step_last, step_begun, step_refused, plays_all, plays_then}
 use Rattle.schedule.proofs.play.take_steps.Goals as goal
 
 pub returns-in_err-stepped : goal.returns-in_err-stepped
@@ -10,6 +11,9 @@ returns-in_err-stepped g c =
     let count : c.args.n ≡ suc (c.args.n - 1) = omega (arith, c.requires) in
     let p = err_from_is_err_and c.from_residual.result c.from_residual.ensures.1 in
     rw (p.1, p.2) (refusal_halts _ _ _ _ c.advance.new.self _ c.in_err-stepped.field-0.0 c.in_err-stepped.ensures.refused
+    (λ is none. let wants = c.in_err-stepped.ensures.memory (ap (λ e. Err e) is) in
+    let begun = step_begun _ c.args.p _ [] _ _ c.args.machine.now _ refl count wants.0 refl in
+    deed_some c.args.p _ _ wants.1 (append_none _ _ (sym (told_append _ begun.0) ∙ ap told_text (sym begun.1) ∙ none)))
     (λ refused. let none = step_refused _ c.args.p _ [] _ _ c.args.machine.now _ refl count refused in (told_is _ _ none, c.in_err-stepped.ensures.err ∙ sym (left_is _ _ none))))
 
 pub returns-in_err-tell : goal.returns-in_err-tell

@@ -1,6 +1,8 @@
 //! What the tests share: a text that replays to a report, or is refused.
 
-use schedule::{Page, ReplayFault, Text, put_verdict, replay};
+use crashlab::{Variant, VariantWorld};
+use judge::Judge;
+use schedule::{Page, ReplayFault, Text, put_verdict, read_schedule, replay, replay_on};
 use std::test::Fail;
 
 /// It holds, or the test has failed.
@@ -32,6 +34,24 @@ pub fn refuses(
 ) -> Result<(), Fail> {
     let mut page = Page::new(rt.alloc());
     let answer = replay(rt.alloc(), &mut Text::new(text, 1000), &mut page);
+    let fault = ReplayFault::Refused { line, number };
+    check(answer == Err(fault), "the refusal")?;
+    check(page.as_slice() == written, "what was written")
+}
+
+/// On two processes of a variant the text is refused at this line with this number, after this was written.
+pub fn refuses_on(
+    rt: &HostRuntime,
+    variant: Variant,
+    text: &[u8],
+    written: &[u8],
+    (line, number): (u64, u64),
+) -> Result<(), Fail> {
+    let schedule = read_schedule(rt.alloc(), text).ok().ok_or("a schedule")?;
+    let mut world = VariantWorld::new(rt.alloc(), variant, 2, 10, 1, 1)?;
+    let mut judge = Judge::new(rt.alloc(), 2, 1)?;
+    let mut page = Page::new(rt.alloc());
+    let answer = replay_on(rt.alloc(), &mut world, &mut judge, &schedule, &mut page);
     let fault = ReplayFault::Refused { line, number };
     check(answer == Err(fault), "the refusal")?;
     check(page.as_slice() == written, "what was written")

@@ -1,7 +1,48 @@
 //! Worked rows that a world refuses: the line, the number, and what was written before.
 
-use crate::kit::refuses;
+use crate::kit::{refuses, refuses_on};
+use crashlab::Variant;
 use std::test::Fail;
+
+/// A lock of one that is inside.
+const ALREADY_IN: &[u8] = b"rme 1 procs 2 limit 10 cap 1\nlock 0\nstep 0 11\nlock 0\n";
+
+/// What an entry tells.
+const ENTRY: &[u8] = b"begin 0\nready 0\nenter 0\nanswer 0 clean\n";
+
+/// A lock of one that is about to lock.
+const CALL_UNDER_WAY: &[u8] = b"rme 1 procs 2 limit 10 cap 1\nlock 0\nlock 0\n";
+
+/// A step of one that has no call.
+const NOTHING_TO_DO: &[u8] = b"rme 1 procs 2 limit 10 cap 1\nstep 0\n";
+
+/// A crash of a process that there is not.
+const NO_SUCH_PROCESS: &[u8] = b"rme 1 procs 2 limit 10 cap 1\ncrash 5\n";
+
+const VARIANTS: [Variant; 7] = [
+    Variant::Right,
+    Variant::NoLook,
+    Variant::NoTies,
+    Variant::Renumber,
+    Variant::ExitOnCrash,
+    Variant::CountUp,
+    Variant::LastSkipped,
+];
+
+#[test]
+fn refusals_of_each_kind_of_line(rt: HostRuntime) -> Result<(), Fail> {
+    refuses(&rt, ALREADY_IN, ENTRY, (4, 6))?;
+    refuses(&rt, CALL_UNDER_WAY, b"", (3, 4))?;
+    refuses(&rt, NOTHING_TO_DO, b"", (2, 7))?;
+    refuses(&rt, NO_SUCH_PROCESS, b"", (2, 3))?;
+    for variant in VARIANTS {
+        refuses_on(&rt, variant, ALREADY_IN, ENTRY, (4, 6))?;
+        refuses_on(&rt, variant, CALL_UNDER_WAY, b"", (3, 4))?;
+        refuses_on(&rt, variant, NOTHING_TO_DO, b"", (2, 7))?;
+        refuses_on(&rt, variant, NO_SUCH_PROCESS, b"", (2, 3))?;
+    }
+    Ok(())
+}
 
 #[test]
 fn sizes(rt: HostRuntime) -> Result<(), Fail> {

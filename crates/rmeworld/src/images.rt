@@ -5,7 +5,5 @@ mod form;
 pub mod laws;
 pub mod reading;
 pub mod rules;
-#[cfg(test)]
-mod tests;
 pub mod widening;
 pub mod writing;

@@ -33,4 +33,3 @@ pub use owns::Owns;
 pub use process::Process;
 pub use stepped::Stepped;
 pub use world::World;
-

@@ -7,6 +7,8 @@ mod askings;
 #[cfg(test)]
 mod cores;
 #[cfg(test)]
+mod images;
+#[cfg(test)]
 mod judges;
 #[cfg(test)]
 mod mailboxes;

@@ -1,16 +1,9 @@
 //! Texts of images: worked ones, broken ones, and spellings.
 
-use crate::cells::Cells;
-use crate::image::Image;
-use crate::images::beginning::start_of;
-use crate::images::reading::read_image;
-use crate::images::rules::first_rule;
-use crate::images::widening::widen;
-use crate::images::writing::write_image;
-use crate::owns::Owns;
 use judge::{Judge, Start};
 use redomail::Message;
 use rmecore::{Body, Own, Phase, Refusal};
+use rmeworld::{Cells, Image, Owns, first_rule, read_image, start_of, widen, write_image};
 use std::alloc::Global;
 use std::test::Fail;
 

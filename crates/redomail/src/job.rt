@@ -11,15 +11,22 @@ use crate::next::Next;
 use crate::stage::Stage;
 use crate::task::Task;
 use rmecore::Refusal;
+use std::fmt;
 use std::marker::Model;
 
 /// A task of a process, which wants one data word after another. It holds no memory. Contracts see it as the script that is
 /// left.
-#[derive(Clone, Copy, PartialEq, Eq, Debug)]
+#[derive(Clone, Copy)]
 pub struct Job {
     layout: Layout,
     sender: u64,
     stage: Stage,
+}
+
+impl fmt::Debug for Job {
+    fn fmt<W: fmt::Write>(&self, f: &mut fmt::Formatter<W>) -> fmt::Result {
+        f.write_str("Job")
+    }
 }
 
 impl Model for Job {

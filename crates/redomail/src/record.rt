@@ -8,7 +8,7 @@ use crate::layout::{ARMED, COUNT, Layout, RECORD};
 use rmecore::Body;
 
 /// The redo record: where the message goes, its number and its value.
-#[derive(Clone, Copy, PartialEq, Eq, Debug)]
+#[derive(Clone, Copy)]
 pub(crate) struct Record {
     pub at: u64,
     pub seq: u64,

@@ -16,7 +16,7 @@ use crate::task::Task;
 use rmecore::Body;
 
 /// How far a job has come: what it does next, with what it knows.
-#[derive(Clone, Copy, PartialEq, Eq, Debug)]
+#[derive(Clone, Copy)]
 pub(crate) enum Stage {
     /// An append asks whether the mailbox is closed, with its number and its value.
     AskClosed(u64, Body),

@@ -28,7 +28,10 @@ impl fmt::Display for Fault {
             Fault::OutOfPlace => "the deed is out of place",
             Fault::TwoInside => "another process is inside",
             Fault::NotReentered => "one that crashed inside has not entered again",
-            Fault::Overtaken { by, of } => return write!(f, "process {by} goes before process {of}"),
+            Fault::Overtaken { by, of } => return write!(
+                f,
+                "process {by} goes before process {of}"
+            ),
             Fault::NotInside => "the process is not inside",
             Fault::MailOrder => "the mailbox is not in a state for this deed",
             Fault::AfterClose => "the mailbox is closed",

@@ -15,15 +15,22 @@ use crate::restart::{after_shut, after_unmark, restarted};
 use crate::scan::Scan;
 use crate::stage::Stage;
 use crate::word::Word;
+use std::fmt;
 use std::marker::Model;
 
 /// One process of `procs`, with its private memory.
-#[derive(Debug, Drop)]
+#[derive(Drop)]
 pub struct LockProcess {
     procs: u64,
     limit: u64,
     index: u64,
     stage: Stage,
+}
+
+impl fmt::Debug for LockProcess {
+    fn fmt<W: fmt::Write>(&self, f: &mut fmt::Formatter<W>) -> fmt::Result {
+        f.write_str("LockProcess")
+    }
 }
 
 impl Model for LockProcess {

@@ -16,6 +16,7 @@ use crate::process::LockProcess;
 use crate::refusal::Refusal;
 use crate::tally::Tally;
 use std::alloc::Global;
+use std::fmt;
 use std::marker::Model;
 
 /// The greatest number of processes of one lock.
@@ -38,13 +39,19 @@ const UNSTARTED: Tally = Tally {
 
 /// All processes, with the words that they share. A call is started, and then stepped until a step answers it; a crash
 /// may fall before any step. Processes are numbered from 0. No call after `new` takes memory.
-#[derive(Debug, Drop)]
+#[derive(Drop)]
 pub struct Core {
     procs: u64,
     limit: u64,
     words: Vec<Own>,
     processes: Vec<LockProcess>,
     tallies: Vec<Tally>,
+}
+
+impl fmt::Debug for Core {
+    fn fmt<W: fmt::Write>(&self, f: &mut fmt::Formatter<W>) -> fmt::Result {
+        f.write_str("Core")
+    }
 }
 
 impl Model for Core {

@@ -2,12 +2,19 @@
 
 ghost use Rattle.std.specs.Prelude.{◌≡◌};
 
+use std::fmt;
 use std::marker::Model;
 
 /// The data words of a world, by rising index. Contracts see them as a list.
-#[derive(Debug, Drop)]
+#[derive(Drop)]
 pub struct Cells {
     words: Vec<u64>,
+}
+
+impl fmt::Debug for Cells {
+    fn fmt<W: fmt::Write>(&self, f: &mut fmt::Formatter<W>) -> fmt::Result {
+        f.write_str("Cells")
+    }
 }
 
 impl Model for Cells {

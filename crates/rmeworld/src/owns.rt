@@ -3,12 +3,19 @@
 ghost use Rattle.std.specs.Prelude.{◌≡◌};
 
 use rmecore::Own;
+use std::fmt;
 use std::marker::Model;
 
 /// The lock words of a world, a process after the other. Contracts see them as a list.
-#[derive(Debug, Drop)]
+#[derive(Drop)]
 pub struct Owns {
     owns: Vec<Own>,
+}
+
+impl fmt::Debug for Owns {
+    fn fmt<W: fmt::Write>(&self, f: &mut fmt::Formatter<W>) -> fmt::Result {
+        f.write_str("Owns")
+    }
 }
 
 impl Model for Owns {

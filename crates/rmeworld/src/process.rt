@@ -21,13 +21,14 @@ use redomail::{Job, Layout, Next, Reply, Task};
 use rmecore::{
     Access, CoreCall, CoreDone, Found, Kind, LockProcess, Progress, Refusal, Scan, Word,
 };
+use std::fmt;
 use std::marker::Model;
 
 /// The index of the data word that says whether the lock is ruined.
 const RUINED: u64 = 0;
 
 /// One process, with its whole private memory. It takes no memory.
-#[derive(Debug, Drop)]
+#[derive(Drop)]
 pub struct Process {
     lock: LockProcess,
     layout: Layout,
@@ -35,6 +36,12 @@ pub struct Process {
     mended: bool,
     barred: bool,
     errand: Errand,
+}
+
+impl fmt::Debug for Process {
+    fn fmt<W: fmt::Write>(&self, f: &mut fmt::Formatter<W>) -> fmt::Result {
+        f.write_str("Process")
+    }
 }
 
 impl Model for Process {

@@ -24,6 +24,7 @@ use redomail::{Deed, Layout};
 use rmecore::simulated::{MOST_LIMIT, MOST_PROCS};
 use rmecore::{Access, Happened, Outer, Own, Refusal, Scan, Tally};
 use std::alloc::Global;
+use std::fmt;
 use std::marker::Model;
 
 const ZEROS: Own = Own {
@@ -39,7 +40,7 @@ const UNSTARTED: Tally = Tally {
 };
 
 /// All processes with their private memories, over the words that they share, and the deeds that were done.
-#[derive(Debug, Drop)]
+#[derive(Drop)]
 pub struct World {
     layout: Layout,
     limit: u64,
@@ -48,6 +49,12 @@ pub struct World {
     processes: Vec<Process>,
     tallies: Vec<Tally>,
     history: Vec<Deed>,
+}
+
+impl fmt::Debug for World {
+    fn fmt<W: fmt::Write>(&self, f: &mut fmt::Formatter<W>) -> fmt::Result {
+        f.write_str("World")
+    }
 }
 
 impl Model for World {
@@ -62,7 +69,7 @@ impl Model for World {
 }
 
 /// A step before it is taken.
-#[derive(Clone, Copy, Debug)]
+#[derive(Clone, Copy)]
 struct Prospect {
     access: Access,
     /// What the word holds.

@@ -5,7 +5,7 @@ ghost use Rattle.schedule.specs.Words.{named};
 ghost use Rattle.schedule.specs.Commands.{commands_by_name};
 
 /// The first word of a line: the call that a process starts, or its step or crash.
-#[derive(Clone, Copy, Debug, PartialEq, Eq)]
+#[derive(Clone, Copy)]
 pub enum Command {
     Lock,
     Unlock,

@@ -13,7 +13,7 @@ use redomail::Deed;
 use rmecore::{Body, Outer};
 
 /// The first word of a deed's line.
-#[derive(Clone, Copy, Debug, PartialEq, Eq)]
+#[derive(Clone, Copy)]
 pub enum DeedWord {
     Begin,
     Ready,

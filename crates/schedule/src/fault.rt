@@ -4,28 +4,23 @@ ghost use Rattle.std.specs.Prelude.{◌≡◌};
 ghost use Rattle.schedule.specs.declared.fault.TextFault.TheVariants.{OutOfMemory as TextOutOfMemory};
 
 use std::alloc::{AllocError, AllocFailed};
+use std::fmt;
 use thiserror::Error;
 
 /// What is wrong with a line.
-#[derive(Clone, Copy, Debug, PartialEq, Eq, Error)]
+#[derive(Clone, Copy, Debug, PartialEq, Eq)]
 pub enum LineFault {
     /// There is no line, or a word of the first one is missing or another.
-    #[error("no header")]
     NoHeader,
     /// The first word is no command.
-    #[error("no command")]
     BadWord,
     /// There is no number in its place, or it is spelled otherwise, or too small.
-    #[error("no number")]
     BadNumber,
     /// The number is too great.
-    #[error("too great a number")]
     TooBig,
     /// The line is not ended.
-    #[error("no newline")]
     NoNewline,
     /// The line goes on behind its last word.
-    #[error("trailing text")]
     TrailingText,
 }
 
@@ -46,6 +41,22 @@ impl LineFault {
         }
     }
 }
+
+impl fmt::Display for LineFault {
+    fn fmt<W: fmt::Write>(&self, f: &mut fmt::Formatter<W>) -> fmt::Result {
+        let text = match self {
+            LineFault::NoHeader => "no header",
+            LineFault::BadWord => "no command",
+            LineFault::BadNumber => "no number",
+            LineFault::TooBig => "too great a number",
+            LineFault::NoNewline => "no newline",
+            LineFault::TrailingText => "trailing text",
+        };
+        f.write_str(text)
+    }
+}
+
+impl std::error::Error for LineFault {}
 
 /// Why a text could not be read.
 #[derive(Clone, Copy, Debug, PartialEq, Eq, Error)]

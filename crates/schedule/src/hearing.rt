@@ -8,7 +8,7 @@ use judge::Judge;
 use redomail::Deed;
 
 /// The number of the next deed, and the verdict so far. After the first deed that the judge refuses no further one is judged.
-#[derive(Clone, Copy, Debug)]
+#[derive(Clone, Copy)]
 pub struct Hearing {
     number: u64,
     verdict: Verdict,

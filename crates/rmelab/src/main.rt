@@ -1,24 +1,14 @@
 //! `rmelab`: a laboratory of recoverable first-come first-served locks.
 #![tactic(auto)]
 
-mod command;
-mod ending;
-mod fault;
-mod json;
-mod order;
-mod parser;
-mod replaying;
-mod running;
-mod tally;
 #[cfg(test)]
 mod tests;
-mod words;
 
-use crate::command::command;
-use crate::ending::Ending;
-use crate::fault::Fault;
-use crate::order::Command;
-use crate::words::{WordsFault, read_words};
+use laboratory::command::command;
+use laboratory::ending::Ending;
+use laboratory::fault::Fault;
+use laboratory::order::Command;
+use laboratory::words::{WordsFault, read_words};
 use schedule::{FromReader, Page, Sink, ToWriter};
 use std::alloc::Global;
 use std::io::{BufReader, BufWriter};
@@ -55,15 +45,6 @@ fn told_words<R: Print + Eprint>(rt: &R, fault: WordsFault) -> ExitCode {
     }
 }
 
-/// The file that a command reads.
-fn input_of(words: &Command) -> Option<&str> {
-    match words {
-        Command::Replay(order) => order.file.as_deref(),
-        Command::Judge(file) => file.as_deref(),
-        _ => None,
-    }
-}
-
 /// Runs a command over the file that it names, or over standard input.
 fn run<R: Files + Eprint + Input + Threads + Wait + Sync, W: Sink>(
     rt: &R,
@@ -73,7 +54,7 @@ fn run<R: Files + Eprint + Input + Threads + Wait + Sync, W: Sink>(
     out: &mut W,
 ) -> io::Result<Ending> {
     let mut err = Page::new(alloc);
-    let ending = match input_of(words) {
+    let ending = match words.input_file() {
         Some(path) => {
             let mut input = FromReader::new(BufReader::new(alloc, fs::open(rt, path)?)?);
             command(rt, alloc, words, image, &mut input, out, &mut err)
@@ -91,23 +72,18 @@ fn run<R: Files + Eprint + Input + Threads + Wait + Sync, W: Sink>(
 
 /// The text of the image's file, where the command names one.
 fn image_text<R: Files + AllocGlobal>(rt: &R, words: &Command) -> io::Result<Option<Vec<u8>>> {
-    match words {
-        Command::Replay(order) => match &order.image {
-            Some(path) => Ok(Some(fs::read(rt, path)?)),
-            None => Ok(None),
-        },
-        _ => Ok(None),
+    match words.image_file() {
+        Some(path) => Ok(Some(fs::read(rt, path)?)),
+        None => Ok(None),
     }
 }
 
 /// Writes the saved image, where the command names a file for it.
 fn save<R: Files>(rt: &R, words: &Command, ending: &Ending) -> io::Result<()> {
-    if let (Command::Replay(order), Some(text)) = (words, &ending.save) {
-        if let Some(path) = &order.save {
-            fs::write(rt, path, text)?;
-        }
+    match (words.save_file(), &ending.save) {
+        (Some(path), Some(text)) => fs::write(rt, path, text),
+        _ => Ok(()),
     }
-    Ok(())
 }
 
 fn main(rt: HostRuntime) -> ExitCode {

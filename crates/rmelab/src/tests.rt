@@ -11,8 +11,8 @@ mod texts;
 mod variants;
 mod words;
 
-use crate::command::command;
-use crate::words::read_words;
+use laboratory::command::command;
+use laboratory::words::read_words;
 use schedule::{Page, Text};
 use std::alloc::{AllocError, Global};
 use std::process::Abort;

@@ -1,9 +1,9 @@
 //! Senders on threads.
 
 use super::prints;
-use crate::order::RunOrder;
-use crate::running::{gates_of, lines_of, status_of_tallies};
-use crate::tally::tallied;
+use laboratory::order::RunOrder;
+use laboratory::running::{gates_of, lines_of, status_of_tallies};
+use laboratory::tally::tallied;
 use crashlab::{CrashPlan, Seeded};
 use redomail::Message;
 use rmecore::Body;

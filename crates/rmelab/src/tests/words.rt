@@ -1,9 +1,9 @@
 //! The words of the command line.
 
 use super::words_of;
-use crate::fault::Fault;
-use crate::order::{Command, HuntOrder, ReplayOrder, RunOrder};
-use crate::words::{WordsFault, read_words};
+use laboratory::fault::Fault;
+use laboratory::order::{Command, HuntOrder, ReplayOrder, RunOrder};
+use laboratory::words::{WordsFault, read_words};
 use crashlab::Variant;
 use std::test::Fail;
 

@@ -1,9 +1,9 @@
 -- The ranges of the numbers that the program is asked for.
 use Rattle.std.specs.Prelude.{◌≤◌}
-use Rattle.rmelab.specs.declared.order.Command.{Command}
-use Rattle.rmelab.specs.declared.order.Command.TheVariants.{Replay, Run, Hunt, Judge}
-use Rattle.rmelab.specs.declared.order.HuntOrder.{HuntOrder}
-use Rattle.rmelab.specs.declared.order.RunOrder.{RunOrder}
+use Rattle.laboratory.specs.declared.order.Command.{Command}
+use Rattle.laboratory.specs.declared.order.Command.TheVariants.{Replay, Run, Hunt, Judge}
+use Rattle.laboratory.specs.declared.order.HuntOrder.{HuntOrder}
+use Rattle.laboratory.specs.declared.order.RunOrder.{RunOrder}
 
 abbrev pub HuntFits : HuntOrder → Type 0
 HuntFits order = ((1 ≤ order.rounds) × (order.rounds ≤ 10000)) × (1 ≤ order.steps) × (order.steps ≤ 10000)

@@ -11,9 +11,9 @@ use Rattle.schedule.specs.declared.replay_fault.ReplayFault.TheVariants as of_re
 use Rattle.schedule.specs.declared.verdict.Verdict.{Verdict}
 use Rattle.schedule.specs.declared.verdict.Verdict.TheVariants.{Fine, Against}
 use Rattle.schedule.specs.Numbers.{number_of as number_of_line}
-use Rattle.rmelab.specs.declared.ending.Ending.{Ending}
-use Rattle.rmelab.specs.declared.fault.Fault.{Fault}
-use Rattle.rmelab.specs.declared.fault.Fault.TheVariants.{Text, Refused, BadSize, Read, Write, OutOfMemory, Member}
+use Rattle.laboratory.specs.declared.ending.Ending.{Ending}
+use Rattle.laboratory.specs.declared.fault.Fault.{Fault}
+use Rattle.laboratory.specs.declared.fault.Fault.TheVariants.{Text, Refused, BadSize, Read, Write, OutOfMemory, Member}
 
 -- 3 for a fault of a device, of memory or of a member, 2 for one of the input
 abbrev pub status_of : Fault → ℕ

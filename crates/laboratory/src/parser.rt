@@ -54,46 +54,68 @@ fn variant<'a>(alloc: Global) -> Arg<'a> {
     )
 }
 
-fn replay<'a>(alloc: Global) -> Result<Parser<'a>, AllocError> {
+/// A command with an option that takes a number and can't be left out.
+fn with_number<'a>(
+    alloc: Global,
+    command: Parser<'a>,
+    name: &'a str,
+    value: &'a str,
+    help: &'a str,
+) -> Result<Parser<'a>, AllocError> {
+    command.arg(number(alloc, name, value, help).required(true))
+}
+
+fn json<'a>(alloc: Global) -> Arg<'a> {
+    Arg::new(alloc, "json")
+        .long("json")
+        .help("Print one JSON object of the report's lines")
+        .action(ArgAction::SetTrue)
+}
+
+fn image<'a>(alloc: Global) -> Arg<'a> {
+    let help = "Begin with the words of this image, every process crashed";
+    option(alloc, "image", "FILE", help)
+}
+
+fn replay_head<'a>(alloc: Global) -> Parser<'a> {
     Parser::new(alloc, "replay")
         .about("Runs a schedule of steps and crashes, and prints its report")
         .after_help(REPLAY_HELP)
-        .arg(
-            Arg::new(alloc, "json")
-                .long("json")
-                .help("Print one JSON object of the report's lines")
-                .action(ArgAction::SetTrue),
-        )?
-        .arg(variant(alloc))?
-        .arg(option(
-            alloc,
-            "image",
-            "FILE",
-            "Begin with the words of this image, every process crashed",
-        ))?
-        .arg(option(alloc, "save", "FILE", "Write the last image to this file"))?
-        .arg(file(alloc, "The schedule; without it, standard input is read"))
 }
 
-fn run<'a>(alloc: Global) -> Result<Parser<'a>, AllocError> {
+fn replay<'a>(alloc: Global) -> Result<Parser<'a>, AllocError> {
+    let command = replay_head(alloc).arg(json(alloc))?;
+    let command = command.arg(variant(alloc))?;
+    let command = command.arg(image(alloc))?;
+    let command = command.arg(option(alloc, "save", "FILE", "Write the last image to this file"))?;
+    command.arg(file(alloc, "The schedule; without it, standard input is read"))
+}
+
+fn run_head<'a>(alloc: Global) -> Parser<'a> {
     Parser::new(alloc, "run")
         .about("Runs senders on threads, with drawn crashes, and counts what came through")
         .after_help(RUN_HELP)
-        .arg(number(alloc, "procs", "N", "1 to 16 senders").required(true))?
-        .arg(number(alloc, "messages", "M", "1 to 4096 messages of each").required(true))?
-        .arg(number(alloc, "crash", "C", "0 to 50 crashes in 1000 askings").required(true))?
-        .arg(number(alloc, "seed", "S", "The seed of the crashes").required(true))?
-        .arg(number(alloc, "width", "W", "1 to 8 words a message; 1 without it"))
 }
 
-fn hunt<'a>(alloc: Global) -> Result<Parser<'a>, AllocError> {
+fn run<'a>(alloc: Global) -> Result<Parser<'a>, AllocError> {
+    let command = with_number(alloc, run_head(alloc), "procs", "N", "1 to 16 senders")?;
+    let command = with_number(alloc, command, "messages", "M", "1 to 4096 messages of each")?;
+    let command = with_number(alloc, command, "crash", "C", "0 to 50 crashes in 1000 askings")?;
+    let command = with_number(alloc, command, "seed", "S", "The seed of the crashes")?;
+    command.arg(number(alloc, "width", "W", "1 to 8 words a message; 1 without it"))
+}
+
+fn hunt_head<'a>(alloc: Global) -> Parser<'a> {
     Parser::new(alloc, "hunt")
         .about("Draws schedules until a variant of the lock goes wrong")
         .after_help(HUNT_HELP)
-        .arg(variant(alloc).required(true))?
-        .arg(number(alloc, "seed", "S", "The seed of the moves").required(true))?
-        .arg(number(alloc, "rounds", "R", "1 to 10000 rounds").required(true))?
-        .arg(number(alloc, "steps", "K", "1 to 10000 moves a round").required(true))
+}
+
+fn hunt<'a>(alloc: Global) -> Result<Parser<'a>, AllocError> {
+    let command = hunt_head(alloc).arg(variant(alloc).required(true))?;
+    let command = with_number(alloc, command, "seed", "S", "The seed of the moves")?;
+    let command = with_number(alloc, command, "rounds", "R", "1 to 10000 rounds")?;
+    with_number(alloc, command, "steps", "K", "1 to 10000 moves a round")
 }
 
 fn judge<'a>(alloc: Global) -> Result<Parser<'a>, AllocError> {
@@ -103,14 +125,25 @@ fn judge<'a>(alloc: Global) -> Result<Parser<'a>, AllocError> {
         .arg(file(alloc, "The trace; without it, standard input is read"))
 }
 
-/// The whole command line.
-pub fn parser<'a>(alloc: Global) -> Result<Parser<'a>, AllocError> {
+fn head<'a>(alloc: Global) -> Parser<'a> {
     Parser::new(alloc, "rmelab")
         .about("A laboratory of recoverable first-come first-served locks")
         .after_help(STATUSES)
         .subcommand_required(true)
-        .subcommand(replay(alloc)?)?
-        .subcommand(run(alloc)?)?
-        .subcommand(hunt(alloc)?)?
-        .subcommand(judge(alloc)?)
+}
+
+/// A parser with one command more.
+fn with<'a>(
+    whole: Parser<'a>,
+    part: Result<Parser<'a>, AllocError>,
+) -> Result<Parser<'a>, AllocError> {
+    whole.subcommand(part?)
+}
+
+/// The whole command line.
+pub fn parser<'a>(alloc: Global) -> Result<Parser<'a>, AllocError> {
+    let whole = with(head(alloc), replay(alloc))?;
+    let whole = with(whole, run(alloc))?;
+    let whole = with(whole, hunt(alloc))?;
+    with(whole, judge(alloc))
 }

@@ -1,23 +1,24 @@
 //! The command `replay`.
 
 ghost use Rattle.std.specs.Prelude.{◌≡◌, [], IfOk, IfSome, None, is_some, true, false};
-ghost use Rattle.judge.specs.Stands.{Keeps};
-ghost use Rattle.judge.specs.Stands.{StandsAfter};
+ghost use Rattle.judge.specs.Stands.{Keeps, StandsAfter};
+ghost use Rattle.judge.specs.Starts.{IsStart};
 ghost use Rattle.judge.specs.Table.{empty, State};
 ghost use Rattle.rmeworld.specs.ImageRules.{IsLawfulImage};
+ghost use Rattle.rmeworld.specs.ImageStart.{IsStartOf};
 ghost use Rattle.schedule.specs.Plays.{tape};
 ghost use Rattle.schedule.specs.Runs.{behaviour, deeds_of, run_on};
 ghost use Rattle.schedule.specs.Verdicts.{verdict_on};
 ghost use Rattle.schedule.specs.Wholes.{reading};
-ghost use Rattle.rmelab.specs.Commands.{IsFitting, ReplayEnds};
-ghost use Rattle.rmelab.specs.Statuses.{status_after, status_ended};
+ghost use Rattle.laboratory.specs.Commands.{IsFitting, ReplayEnds};
+ghost use Rattle.laboratory.specs.Statuses.{status_after, status_ended};
 
 use crate::ending::{Ending, status_after_verdict};
 use crate::fault::Fault;
 use crate::json::json_report;
 use crate::order::ReplayOrder;
 use crashlab::{Variant, VariantWorld};
-use judge::Judge;
+use judge::{Judge, Start};
 use rmecore::Refusal;
 use rmeworld::{Image, Machine, World, read_image, start_of, widen, write_image};
 use schedule::device::write_all;
@@ -167,17 +168,35 @@ fn replay_image<W: Sink>(
     ensures saved { is_some order.now.save ≡ true → IfOk result (λ ending. is_some ending.save ≡ true) }
     ensures unsaved { is_some order.now.save ≡ false → IfOk result (λ ending. ending.save ≡ None) }
 {
-    worlds_are_never_found_out();
     let image = fitting(alloc, image, schedule)?;
-    let mut world = match World::from_image(alloc, &image) {
+    match start_of(alloc, &image) {
+        Ok(start) => replay_started(alloc, &image, &start, schedule, order, w),
+        Err(refusal) => Err(refused_header(refusal)),
+    }
+}
+
+/// The schedule on the world of an image, before a judge that begins where the image stands.
+fn replay_started<W: Sink>(
+    alloc: Global,
+    image: &Image,
+    start: &Start,
+    schedule: &Schedule,
+    order: &ReplayOrder,
+    w: &mut W,
+) -> Result<Ending, Fault>
+    requires lawful { IsLawfulImage image.now }
+    requires begins { IsStartOf image.now start.now }
+    requires judged { IsStart start.now }
+    ensures fine { IfOk result (λ ending. ending.status ≡ 0) }
+    ensures saved { is_some order.now.save ≡ true → IfOk result (λ ending. is_some ending.save ≡ true) }
+    ensures unsaved { is_some order.now.save ≡ false → IfOk result (λ ending. ending.save ≡ None) }
+{
+    worlds_are_never_found_out();
+    let mut world = match World::from_image(alloc, image) {
         Ok(world) => world,
         Err(refusal) => return Err(refused_header(refusal)),
     };
-    let start = match start_of(alloc, &image) {
-        Ok(start) => start,
-        Err(refusal) => return Err(refused_header(refusal)),
-    };
-    let mut judge = Judge::from_start(alloc, &start).map_err(refused_header)?;
+    let mut judge = Judge::from_start(alloc, start).map_err(refused_header)?;
     replay_machine(alloc, &mut world, &mut judge, schedule, order, w)
 }
 
@@ -233,6 +252,32 @@ fn image_read(alloc: Global, text: Option<&[u8]>) -> Result<Option<Image>, Fault
     }
 }
 
+/// The schedule that the reader gives.
+fn schedule_read<R: Source>(alloc: Global, r: &mut R) -> Result<Schedule, Fault> {
+    let text = read_text(alloc, r)?;
+    Ok(read_schedule(alloc, &text)?)
+}
+
+/// The schedule on the machine that is asked for.
+fn replay_schedule<W: Sink>(
+    alloc: Global,
+    order: &ReplayOrder,
+    image: Option<Image>,
+    schedule: &Schedule,
+    w: &mut W,
+) -> Result<Ending, Fault>
+    requires { IfSome image IsLawfulImage }
+    ensures fine { order.now.variant ≡ Variant.Right → IfOk result (λ ending. ending.status ≡ 0) }
+    ensures saved { is_some order.now.save ≡ true → IfOk result (λ ending. is_some ending.save ≡ true) }
+    ensures unsaved { is_some order.now.save ≡ false → IfOk result (λ ending. ending.save ≡ None) }
+{
+    match (image, order.variant) {
+        (Some(image), _) => replay_image(alloc, image, schedule, order, w),
+        (None, Variant::Right) => replay_new(alloc, schedule, order, w),
+        (None, _) => replay_variant(alloc, schedule, order, w),
+    }
+}
+
 /// Runs `replay`: the image is read first, then the schedule; then it is played to its verdict.
 pub fn replay_order<R: Source, W: Sink>(
     alloc: Global,
@@ -254,11 +299,6 @@ pub fn replay_order<R: Source, W: Sink>(
         });
     }
     let image = image_read(alloc, image)?;
-    let text = read_text(alloc, r)?;
-    let schedule = read_schedule(alloc, &text)?;
-    match (image, order.variant) {
-        (Some(image), _) => replay_image(alloc, image, &schedule, order, w),
-        (None, Variant::Right) => replay_new(alloc, &schedule, order, w),
-        (None, _) => replay_variant(alloc, &schedule, order, w),
-    }
+    let schedule = schedule_read(alloc, r)?;
+    replay_schedule(alloc, order, image, &schedule, w)
 }

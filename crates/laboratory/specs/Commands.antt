@@ -13,13 +13,13 @@ use Rattle.schedule.specs.Schedules.{Scheduled, spelling}
 use Rattle.schedule.specs.Texts.{line_of, parts_of}
 use Rattle.schedule.specs.Trials.{trace_answer}
 use Rattle.schedule.specs.Wholes.{Reading, WasRead, ReplaysSource}
-use Rattle.rmelab.specs.declared.order.Command.{Command}
-use Rattle.rmelab.specs.declared.order.Command.TheVariants.{Replay, Run, Hunt, Judge}
-use Rattle.rmelab.specs.declared.order.HuntOrder.{HuntOrder}
-use Rattle.rmelab.specs.declared.order.ReplayOrder.{ReplayOrder}
-use Rattle.rmelab.specs.declared.order.RunOrder.{RunOrder}
-use Rattle.rmelab.specs.Sizes.{HuntFits, RunFits}
-use Rattle.rmelab.specs.Statuses.{status_told}
+use Rattle.laboratory.specs.declared.order.Command.{Command}
+use Rattle.laboratory.specs.declared.order.Command.TheVariants.{Replay, Run, Hunt, Judge}
+use Rattle.laboratory.specs.declared.order.HuntOrder.{HuntOrder}
+use Rattle.laboratory.specs.declared.order.ReplayOrder.{ReplayOrder}
+use Rattle.laboratory.specs.declared.order.RunOrder.{RunOrder}
+use Rattle.laboratory.specs.Sizes.{HuntFits, RunFits}
+use Rattle.laboratory.specs.Statuses.{status_told}
 
 -- what is printed of a trace: the line of its verdict, or nothing after a fault
 abbrev pub line_told : Result Verdict ReplayFault → List ℕ

@@ -1,7 +1,7 @@
 -- How a tally grows by a message, and when it is fine.
 use Rattle.std.specs.Prelude.{◌≡◌, ℕ, Bool, true, false, leb}
 use Rattle.rmecore.specs.Simulated.{one_more}
-use Rattle.rmelab.specs.declared.tally.Tally.{Tally}
+use Rattle.laboratory.specs.declared.tally.Tally.{Tally}
 
 -- one more where the number came before
 abbrev pub and_again : Bool → ℕ → ℕ

@@ -2,7 +2,7 @@
 
 ghost use Rattle.std.specs.Prelude.{◌≡◌, ◌↔◌, true};
 ghost use Rattle.rmecore.specs.Simulated.{one_more};
-ghost use Rattle.rmelab.specs.Tallies.{and_again, in_step, IsFine};
+ghost use Rattle.laboratory.specs.Tallies.{and_again, in_step, IsFine};
 
 use indexmap::{IndexMap, IndexSet};
 use redomail::Message;
@@ -59,22 +59,38 @@ impl Tally {
     }
 }
 
+/// The tallies of senders that have sent nothing.
+fn no_tallies(alloc: Global, procs: u64) -> Result<IndexMap<u64, Tally>, AllocError> {
+    let mut tallies = IndexMap::new(alloc);
+    for sender in 0..procs {
+        tallies.insert(sender, Tally::new())?;
+    }
+    Ok(tallies)
+}
+
+/// Counts one message, where its sender has a tally.
+fn count(
+    tallies: &mut IndexMap<u64, Tally>,
+    met: &mut IndexSet<(u64, u64)>,
+    message: &Message,
+) -> Result<(), AllocError> {
+    let again = !met.insert((message.sender, message.seq))?;
+    if let Some(tally) = tallies.get_mut(&message.sender) {
+        *tally = tally.with(message.seq, again);
+    }
+    Ok(())
+}
+
 /// The tallies of all senders, by rising number.
 pub fn tallied(
     alloc: Global,
     procs: u64,
     messages: &[Message],
 ) -> Result<IndexMap<u64, Tally>, AllocError> {
-    let mut tallies = IndexMap::new(alloc);
-    for sender in 0..procs {
-        tallies.insert(sender, Tally::new())?;
-    }
+    let mut tallies = no_tallies(alloc, procs)?;
     let mut met = IndexSet::new(alloc);
     for message in messages {
-        let again = !met.insert((message.sender, message.seq))?;
-        if let Some(tally) = tallies.get_mut(&message.sender) {
-            *tally = tally.with(message.seq, again);
-        }
+        count(&mut tallies, &mut met, message)?;
     }
     Ok(tallies)
 }

@@ -12,12 +12,22 @@ fn lines_of(alloc: Global, report: &str) -> Result<Vec<Value>, AllocError> {
     Ok(lines)
 }
 
+/// The object with the one member `report`.
+fn object_of(alloc: Global, lines: Vec<Value>) -> Result<Value, AllocError> {
+    let name = String::from_str(alloc, "report")?;
+    let mut members = Map::new(alloc);
+    members.insert(name, Value::Array(lines))?;
+    Ok(Value::Object(members))
+}
+
+fn spelled(alloc: Global, report: &str) -> Result<Vec<u8>, AllocError> {
+    let object = object_of(alloc, lines_of(alloc, report)?)?;
+    object.to_vec(alloc)
+}
+
 /// One object with the one member `report`, the list of the report's lines, and LF.
 pub fn json_report(alloc: Global, report: &str) -> Result<Vec<u8>, AllocError> {
-    let mut members = Map::new(alloc);
-    let lines = Value::Array(lines_of(alloc, report)?);
-    members.insert(String::from_str(alloc, "report")?, lines)?;
-    let mut text = Value::Object(members).to_vec(alloc)?;
+    let mut text = spelled(alloc, report)?;
     text.push(b'\n')?;
     Ok(text)
 }

@@ -1,9 +1,9 @@
 //! The command `run`.
 
-ghost use Rattle.std.specs.Prelude.{◌≡◌, ◌⊎◌, ◌↔◌, All, None, IfOk, vec_len};
-ghost use Rattle.rmelab.specs.Commands.{lab_for, RunEnds};
-ghost use Rattle.rmelab.specs.Statuses.{status_ended};
-ghost use Rattle.rmelab.specs.Tallies.{IsFine};
+ghost use Rattle.std.specs.Prelude.{◌≡◌, ◌⊎◌, ◌↔◌, All, None, IfErr, IfOk, vec_len};
+ghost use Rattle.laboratory.specs.Commands.{lab_for, RunEnds};
+ghost use Rattle.laboratory.specs.Statuses.{status_ended, status_of};
+ghost use Rattle.laboratory.specs.Tallies.{IsFine};
 
 use crate::ending::Ending;
 use crate::fault::Fault;
@@ -76,8 +76,36 @@ pub fn status_of_tallies(tallies: &IndexMap<u64, Tally>) -> u8
     0
 }
 
-/// Runs `run`: the senders send all they have, each on a thread of its own, and what stands in the mailbox is counted.
+/// The senders send all they have, each on a thread of its own, and what stands in the mailbox is counted.
 #[tactic(auto, using(crate::proofs::Runs::fits_lab))]
+fn counted<T: Threads + Wait + Sync>(
+    rt: &T,
+    alloc: Global,
+    order: &RunOrder,
+) -> Result<IndexMap<u64, Tally>, Fault>
+    ensures { IfErr result (λ fault. RunEnds order.now (status_of fault)) }
+{
+    let gates = gates_of(alloc, order)?;
+    let result = run_lab(rt, alloc, spec_of(order), gates)?;
+    Ok(tallied(alloc, order.procs, &result.messages)?)
+}
+
+/// Writes the lines of the tallies.
+fn write_lines<W: Sink>(
+    alloc: Global,
+    tallies: &IndexMap<u64, Tally>,
+    w: &mut W,
+) -> Result<(), Fault>
+    ensures { IfErr result (λ fault. status_of fault ≡ 3) }
+{
+    let text = lines_of(alloc, tallies)?;
+    if write_all(w, text.as_bytes()).is_err() {
+        return Err(Fault::Write);
+    }
+    Ok(())
+}
+
+/// Runs `run`: what came through is counted and told.
 pub fn run_order<T: Threads + Wait + Sync, W: Sink>(
     rt: &T,
     alloc: Global,
@@ -87,13 +115,8 @@ pub fn run_order<T: Threads + Wait + Sync, W: Sink>(
     ensures ends { RunEnds order.now (status_ended result) }
     ensures unsaved { IfOk result (λ ending. ending.save ≡ None) }
 {
-    let gates = gates_of(alloc, order)?;
-    let result = run_lab(rt, alloc, spec_of(order), gates)?;
-    let tallies = tallied(alloc, order.procs, &result.messages)?;
-    let text = lines_of(alloc, &tallies)?;
-    if write_all(w, text.as_bytes()).is_err() {
-        return Err(Fault::Write);
-    }
+    let tallies = counted(rt, alloc, order)?;
+    write_lines(alloc, &tallies, w)?;
     Ok(Ending {
         status: status_of_tallies(&tallies),
         save: None,

@@ -2,8 +2,8 @@ use Rattle.std.proofs.Common.{All, refl, subst}
 use Rattle.std.specs.Map.Iter.{deref_pair}
 use Rattle.std.proofs.lemmas.Iterator.Consumers.{YieldsList-from_rest, YieldsList-end}
 use Rattle.std.proofs.lemmas.List.Elements.{All-map}
-use Rattle.rmelab.specs.Tallies.{IsFine}
-use Rattle.rmelab.proofs.running.status_of_tallies.Goals as goal
+use Rattle.laboratory.specs.Tallies.{IsFine}
+use Rattle.laboratory.proofs.running.status_of_tallies.Goals as goal
 
 -- the loop has seen just the entries
 pub returns-clause-fine : goal.returns-clause-fine

@@ -1,10 +1,11 @@
 //! The commands, over a reader and two writers.
 
-ghost use Rattle.std.specs.Prelude.{◌≡◌, None, IfOk, is_some, false};
-ghost use Rattle.schedule.specs.Plays.{tape};
+ghost use Rattle.std.specs.Prelude.{◌≡◌, None, IfErr, IfOk, OnOk, is_some, false};
+ghost use Rattle.schedule.specs.Plays.{tape, Writes};
+ghost use Rattle.schedule.specs.Schedules.{spelling};
 ghost use Rattle.schedule.specs.Wholes.{reading};
-ghost use Rattle.rmelab.specs.Commands.{asks_to_save, CommandEnds, HuntEnds, JudgeEnds};
-ghost use Rattle.rmelab.specs.Statuses.{status_ended};
+ghost use Rattle.laboratory.specs.Commands.{asks_to_save, CommandEnds, HuntEnds, JudgeEnds};
+ghost use Rattle.laboratory.specs.Statuses.{status_ended, status_of};
 
 use crate::ending::{Ending, status_after_verdict};
 use crate::fault::Fault;
@@ -13,7 +14,7 @@ use crate::replaying::replay_order;
 use crate::running::run_order;
 use crashlab::hunt::hunt;
 use schedule::device::write_all;
-use schedule::{Sink, Source, judge_trace, put_verdict, write_schedule};
+use schedule::{Schedule, Sink, Source, judge_trace, put_verdict, write_schedule};
 use std::alloc::Global;
 use std::sync::Wait;
 use std::thread::Threads;
@@ -35,21 +36,37 @@ fn judge_order<R: Source, W: Sink>(alloc: Global, r: &mut R, w: &mut W) -> Resul
     })
 }
 
+/// Writes the schedule that a hunt has found.
+fn write_found<W: Sink>(alloc: Global, schedule: &Schedule, w: &mut W) -> Result<(), Fault>
+    ensures written { OnOk result (Writes (tape (W.taken w.old) (W.failures w.old)) (tape (W.taken w.new) (W.failures w.new)) (spelling schedule.now)) }
+    ensures failed { IfErr result (λ fault. status_of fault ≡ 3) }
+{
+    let text = write_schedule(alloc, schedule)?;
+    if write_all(w, &text).is_err() {
+        return Err(Fault::Write);
+    }
+    Ok(())
+}
+
 /// The schedule that a hunt finds, or that it finds none.
 fn hunt_order<W: Sink>(alloc: Global, order: &HuntOrder, w: &mut W) -> Result<Ending, Fault>
     ensures ends { HuntEnds order.now (tape (W.taken w.old) (W.failures w.old)) (tape (W.taken w.new) (W.failures w.new)) (status_ended result) }
     ensures unsaved { IfOk result (λ ending. ending.save ≡ None) }
 {
-    let found = hunt(alloc, order.variant, order.seed, order.rounds, order.steps)?;
-    let status = if found.is_some() { 1 } else { 0 };
-    let text = match &found {
-        Some(schedule) => write_schedule(alloc, schedule)?,
-        None => Vec::from_slice(alloc, b"nothing found\n")?,
-    };
-    if write_all(w, &text).is_err() {
-        return Err(Fault::Write);
+    match hunt(alloc, order.variant, order.seed, order.rounds, order.steps)? {
+        Some(schedule) => {
+            write_found(alloc, &schedule, w)?;
+            Ok(Ending {
+                status: 1,
+                save: None,
+            })
+        }
+        None if write_all(w, b"nothing found\n").is_err() => Err(Fault::Write),
+        None => Ok(Ending {
+            status: 0,
+            save: None,
+        }),
     }
-    Ok(Ending { status, save: None })
 }
 
 /// Writes the one line of a fault.

@@ -1,7 +1,7 @@
 //! The words of the command line, read.
 
 ghost use Rattle.std.specs.Prelude.{◌≡◌, ◌↔◌, IfOk, IsOk, OnErr, IsErrOf};
-ghost use Rattle.rmelab.specs.Sizes.{IsSized, HuntFits, RunFits};
+ghost use Rattle.laboratory.specs.Sizes.{IsSized, HuntFits, RunFits};
 
 use crate::order::{Command, HuntOrder, ReplayOrder, RunOrder};
 use crate::parser::parser;

@@ -50,3 +50,30 @@ pub enum Command {
     /// The verdict of a trace in a file, or on standard input.
     Judge(Option<String>),
 }
+
+impl Command {
+    /// The file that the command reads; none is standard input.
+    pub fn input_file(&self) -> Option<&str> {
+        match self {
+            Command::Replay(order) => order.file.as_deref(),
+            Command::Judge(file) => file.as_deref(),
+            _ => None,
+        }
+    }
+
+    /// The file of the image that the command begins with.
+    pub fn image_file(&self) -> Option<&str> {
+        match self {
+            Command::Replay(order) => order.image.as_deref(),
+            _ => None,
+        }
+    }
+
+    /// The file that the command saves an image to.
+    pub fn save_file(&self) -> Option<&str> {
+        match self {
+            Command::Replay(order) => order.save.as_deref(),
+            _ => None,
+        }
+    }
+}

@@ -1,46 +1,38 @@
 //! Why a command came to no verdict.
 
 ghost use Rattle.std.specs.Prelude.{◌≡◌};
-ghost use Rattle.rmelab.specs.declared.fault.Fault.TheVariants.{OutOfMemory};
-ghost use Rattle.rmelab.specs.Statuses.{fault_of_hunt, fault_of_lab, fault_of_replay, fault_of_text};
+ghost use Rattle.laboratory.specs.declared.fault.Fault.TheVariants.{OutOfMemory};
+ghost use Rattle.laboratory.specs.Statuses.{fault_of_hunt, fault_of_lab, fault_of_replay, fault_of_text};
 
 use crashlab::HuntFault;
 use robust::LabFault;
 use schedule::{OutOfMemory as NoMemory, ReplayFault, TextFault};
 use std::alloc::{AllocError, AllocFailed};
-use thiserror::Error;
+use std::error::Error;
+use std::fmt;
 
 /// Why a command came to no verdict. Its text is the one line on standard error.
-#[derive(Clone, Copy, Debug, PartialEq, Eq, Error)]
+#[derive(Clone, Copy, PartialEq, Eq)]
 pub enum Fault {
     /// The text has no reading; lines count from 1.
-    #[error("rmelab: line {line}: fault {number}")]
     Text { line: u64, number: u64 },
     /// The world refuses the line, for the cause with this number.
-    #[error("rmelab: line {line}: refused {number}")]
     Refused { line: u64, number: u64 },
     /// The image breaks this rule.
-    #[error("rmelab: image: rule {rule}")]
     Image { rule: u64 },
     /// No such variant, or one other than `right` together with an image.
-    #[error("rmelab: bad variant")]
     BadVariant,
     /// A number outside its range.
-    #[error("rmelab: bad size")]
     BadSize,
-    #[error("rmelab: read failed")]
     Read,
-    #[error("rmelab: write failed")]
     Write,
-    #[error("rmelab: out of memory")]
     OutOfMemory,
     /// This sender of a run could not go on.
-    #[error("rmelab: member {p} failed")]
     Member { p: u64 },
 }
 
 impl Fault {
-    ghost use Rattle.rmelab.specs.Statuses.{status_of};
+    ghost use Rattle.laboratory.specs.Statuses.{status_of};
 
     /// The exit status: 2 for a fault of the input, 3 for one of a device, of memory or of a member.
     pub fn status(self) -> u8
@@ -131,3 +123,38 @@ impl From<NoMemory> for Fault {
         Fault::OutOfMemory
     }
 }
+
+/// What is told of a line of the text.
+fn tell_line<W: fmt::Write>(
+    f: &mut fmt::Formatter<W>,
+    line: u64,
+    cause: &str,
+    number: u64,
+) -> fmt::Result {
+    write!(f, "rmelab: line {line}: {cause} {number}")
+}
+
+impl fmt::Display for Fault {
+    fn fmt<W: fmt::Write>(&self, f: &mut fmt::Formatter<W>) -> fmt::Result {
+        let text = match self {
+            Fault::Text { line, number } => return tell_line(f, *line, "fault", *number),
+            Fault::Refused { line, number } => return tell_line(f, *line, "refused", *number),
+            Fault::Image { rule } => return write!(f, "rmelab: image: rule {rule}"),
+            Fault::Member { p } => return write!(f, "rmelab: member {p} failed"),
+            Fault::BadVariant => "rmelab: bad variant",
+            Fault::BadSize => "rmelab: bad size",
+            Fault::Read => "rmelab: read failed",
+            Fault::Write => "rmelab: write failed",
+            Fault::OutOfMemory => "rmelab: out of memory",
+        };
+        f.write_str(text)
+    }
+}
+
+impl fmt::Debug for Fault {
+    fn fmt<W: fmt::Write>(&self, f: &mut fmt::Formatter<W>) -> fmt::Result {
+        fmt::Display::fmt(self, f)
+    }
+}
+
+impl Error for Fault {}

@@ -18,4 +18,3 @@ pub use phases::Phases;
 pub use redomail::{Deed, Message};
 pub use rmecore::{Fault, Outer, Phase, Refusal};
 pub use start::Start;
-

@@ -99,8 +99,20 @@ fn run_head<'a>(alloc: Global) -> Parser<'a> {
 
 fn run<'a>(alloc: Global) -> Result<Parser<'a>, AllocError> {
     let command = with_number(alloc, run_head(alloc), "procs", "N", "1 to 16 senders")?;
-    let command = with_number(alloc, command, "messages", "M", "1 to 4096 messages of each")?;
-    let command = with_number(alloc, command, "crash", "C", "0 to 50 crashes in 1000 askings")?;
+    let command = with_number(
+        alloc,
+        command,
+        "messages",
+        "M",
+        "1 to 4096 messages of each",
+    )?;
+    let command = with_number(
+        alloc,
+        command,
+        "crash",
+        "C",
+        "0 to 50 crashes in 1000 askings",
+    )?;
     let command = with_number(alloc, command, "seed", "S", "The seed of the crashes")?;
     command.arg(number(alloc, "width", "W", "1 to 8 words a message; 1 without it"))
 }

@@ -24,4 +24,3 @@ pub use message::Message;
 pub use next::Next;
 pub use reply::Reply;
 pub use task::Task;
-

@@ -43,4 +43,3 @@ pub use scan::Scan;
 pub use simulated::Core;
 pub use tally::Tally;
 pub use word::Word;
-

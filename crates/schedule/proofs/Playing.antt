@@ -288,7 +288,7 @@ pub unless_halts : {S : Type 0} (t : Tape) (a : Bench) (o : Option Refusal) (s :
     → Halts t t (told_text (unless o s told left).told) (unless o s told left).refused (halt_of e) × (IsRefusal (halt_of e) → Stops a a (unless o s told left).told (unless o s told left).left now)
 unless_halts t a o s told left now e why memory same =
     rw (unless_refused o s told left) (
-      refusal_halts t a (unless o s told left).told (unless o s told left).left now o e why (λ is. rw (memory is).0 (memory is).1) (λ refused. rw refused (refl, same)))
+    refusal_halts t a (unless o s told left).told (unless o s told left).left now o e why (λ is. rw (memory is).0 (memory is).1) (λ refused. rw refused (refl, same)))
 
 module _ {S : Type 0} (b : Behaviour S) where
   -- where lines are still to be played after what was told

@@ -1,10 +1,10 @@
 //! Senders on threads.
 
 use super::prints;
+use crashlab::{CrashPlan, Seeded};
 use laboratory::order::RunOrder;
 use laboratory::running::{gates_of, lines_of, status_of_tallies};
 use laboratory::tally::tallied;
-use crashlab::{CrashPlan, Seeded};
 use redomail::Message;
 use rmecore::Body;
 use std::test::Fail;

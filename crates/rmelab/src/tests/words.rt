@@ -1,10 +1,10 @@
 //! The words of the command line.
 
 use super::words_of;
+use crashlab::Variant;
 use laboratory::fault::Fault;
 use laboratory::order::{Command, HuntOrder, ReplayOrder, RunOrder};
 use laboratory::words::{WordsFault, read_words};
-use crashlab::Variant;
 use std::test::Fail;
 
 #[test]

@@ -5,7 +5,6 @@ use redomail::Message;
 use rmecore::{Body, Own, Phase, Refusal};
 use rmeworld::{Cells, Image, Owns, first_rule, read_image, start_of, widen, write_image};
 use std::alloc::Global;
-use std::test::Fail;
 
 /// One process that is in, and nothing in the mailbox.
 const SMALLEST: &str =
@@ -60,8 +59,16 @@ fn is_text(written: Result<Vec<u8>, Refusal>, text: &str) -> bool {
     }
 }
 
+/// Any order and any white space; the older version; a member that is written twice; an escaped name.
+const SPELLINGS: [&str; 4] = [
+    " { \"width\" : 1 , \"version\":2,\"lock\":[ [0,1,1] ],\"limit\":10,\"data\":[0,0,0,0,0,0,0,0,0,0,0,0,0,0,0],\"cap\":1}\r\n",
+    "{\"cap\":1,\"data\":[0,0,0,0,0,0,0,0,0,0,0,0,0,0,0],\"limit\":10,\"lock\":[[0,1,1]],\"version\":1}",
+    "{\"cap\":7,\"cap\":1,\"data\":[0,0,0,0,0,0,0,0,0,0,0,0,0,0,0],\"limit\":10,\"lock\":[[0,1,1]],\"version\":2,\"width\":1}",
+    "{\"c\\u0061p\":1,\"data\":[0,0,0,0,0,0,0,0,0,0,0,0,0,0,0],\"limit\":10,\"lock\":[[0,1,1]],\"version\":2,\"width\":1}",
+];
+
 #[test]
-fn worked_texts_are_written_as_they_were_read(rt: HostRuntime) {
+fn texts_are_written_as_they_were_read(rt: HostRuntime) {
     for text in [
         SMALLEST,
         TORN,
@@ -72,6 +79,10 @@ fn worked_texts_are_written_as_they_were_read(rt: HostRuntime) {
     ] {
         let written = written_again(rt.alloc(), text.as_bytes());
         assert!(rt; is_text(written, text), "{text}");
+    }
+    for text in SPELLINGS {
+        let written = written_again(rt.alloc(), text.as_bytes());
+        assert!(rt; is_text(written, SMALLEST), "{text}");
     }
 }
 
@@ -102,8 +113,9 @@ fn first_other<'a>(alloc: Global, cases: &[(&'a str, u64)]) -> Option<&'a str> {
     None
 }
 
+/// Broken forms, broken locks and broken mailboxes.
 #[test]
-fn broken_forms(rt: HostRuntime) {
+fn broken_texts(rt: HostRuntime) {
     let cases = [
         ("[]", 1),
         (
@@ -122,13 +134,6 @@ fn broken_forms(rt: HostRuntime) {
             "{\"cap\":1,\"data\":[0,0,0,0,0,0,0,0,0,0,0,0,0,0],\"limit\":10,\"lock\":[[0,1,1]],\"version\":2,\"width\":1}",
             4,
         ),
-    ];
-    assert_eq!(rt; first_other(rt.alloc(), &cases), None);
-}
-
-#[test]
-fn broken_locks(rt: HostRuntime) {
-    let cases = [
         (
             "{\"cap\":1,\"data\":[0,0,0,0,0,0,0,0,0,0,0,0,0,0,0],\"limit\":10,\"lock\":[[1,0,1]],\"version\":2,\"width\":1}",
             5,
@@ -149,13 +154,6 @@ fn broken_locks(rt: HostRuntime) {
             "{\"cap\":1,\"data\":[0,0,0,0,0,0,0,0,0,0,0,0,0,0,0,0],\"limit\":10,\"lock\":[[0,1,1],[0,2,1]],\"version\":2,\"width\":1}",
             6,
         ),
-    ];
-    assert_eq!(rt; first_other(rt.alloc(), &cases), None);
-}
-
-#[test]
-fn broken_mailboxes(rt: HostRuntime) {
-    let cases = [
         (
             "{\"cap\":1,\"data\":[0,1,0,1,0,0,0,0,0,0,0,0,0,0,0],\"limit\":10,\"lock\":[[0,1,1]],\"version\":2,\"width\":1}",
             7,
@@ -176,61 +174,64 @@ fn broken_mailboxes(rt: HostRuntime) {
     assert_eq!(rt; first_other(rt.alloc(), &cases), None);
 }
 
-#[test]
-fn beginnings(rt: HostRuntime) -> Result<(), Fail> {
-    let alloc = rt.alloc();
-    let text = SMALLEST.as_bytes();
+/// The image of *smallest* with so many data words.
+fn with_data(alloc: Global, count: u64) -> Result<Vec<u8>, Refusal> {
+    let mut text = Vec::from_slice(alloc, b"{\"cap\":1,\"data\":[0")?;
+    for _ in 1..count {
+        text.extend_from_slice(b",0")?;
+    }
+    text.extend_from_slice(b"],\"limit\":10,\"lock\":[[0,1,1]],\"version\":2,\"width\":1}\n")?;
+    Ok(text)
+}
+
+/// The first beginning that does not break rule 1, though more than the line's end is left off.
+fn first_read_beginning(alloc: Global, text: &[u8]) -> Option<usize> {
     for end in 0..text.len() {
         let rule = if end + 1 == text.len() { None } else { Some(1) };
-        assert_eq!(rt; rule_of(alloc, &text[..end]), rule, "the first {end} bytes");
-    }
-    let deep = vec![in alloc; b'['; 1000]?;
-    assert_eq!(rt; rule_of(alloc, &deep), Some(1));
-    let mut long = Vec::new(alloc);
-    long.extend_from_slice(b"{\"cap\":1,\"data\":[0")?;
-    for _ in 1..200_000 {
-        long.extend_from_slice(b",0")?;
-    }
-    long.extend_from_slice(b"],\"limit\":10,\"lock\":[[0,1,1]],\"version\":2,\"width\":1}\n")?;
-    assert_eq!(rt; rule_of(alloc, &long), Some(4));
-    Ok(())
-}
-
-#[test]
-fn spellings(rt: HostRuntime) {
-    for text in [
-        // Any order and any white space; the older version; a member that is written twice; an escaped name.
-        " { \"width\" : 1 , \"version\":2,\"lock\":[ [0,1,1] ],\"limit\":10,\"data\":[0,0,0,0,0,0,0,0,0,0,0,0,0,0,0],\"cap\":1}\r\n",
-        "{\"cap\":1,\"data\":[0,0,0,0,0,0,0,0,0,0,0,0,0,0,0],\"limit\":10,\"lock\":[[0,1,1]],\"version\":1}",
-        "{\"cap\":7,\"cap\":1,\"data\":[0,0,0,0,0,0,0,0,0,0,0,0,0,0,0],\"limit\":10,\"lock\":[[0,1,1]],\"version\":2,\"width\":1}",
-        "{\"c\\u0061p\":1,\"data\":[0,0,0,0,0,0,0,0,0,0,0,0,0,0,0],\"limit\":10,\"lock\":[[0,1,1]],\"version\":2,\"width\":1}",
-    ] {
-        let written = written_again(rt.alloc(), text.as_bytes());
-        assert!(rt; is_text(written, SMALLEST), "{text}");
-    }
-}
-
-/// The first members that don't break just the rule beside them, or break one where there is none. Before them stand a
-/// capacity, data words and a limit that break none.
-fn first_unlike<'a>(
-    alloc: Global,
-    cases: &[(&'a str, Option<u64>)],
-) -> Result<Option<&'a str>, Fail> {
-    let head = b"{\"cap\":1,\"data\":[0,0,0,0,0,0,0,0,0,0,0,0,0,0,0],\"limit\":10,";
-    for case in cases {
-        let mut text = Vec::new(alloc);
-        text.extend_from_slice(head)?;
-        text.extend_from_slice(case.0.as_bytes())?;
-        if rule_of(alloc, &text) != case.1 {
-            return Ok(Some(case.0));
+        if rule_of(alloc, &text[..end]) != rule {
+            return Some(end);
         }
     }
-    Ok(None)
+    None
 }
 
-/// The width stands with version 2 alone.
 #[test]
-fn versions_and_widths(rt: HostRuntime) -> Result<(), Fail> {
+fn beginnings(rt: HostRuntime) {
+    let alloc = rt.alloc();
+    assert_eq!(rt; first_read_beginning(alloc, SMALLEST.as_bytes()), None);
+    assert!(rt; rule_of(alloc, &[b'['; 1000]) == Some(1));
+    let Ok(long) = with_data(alloc, 200_000) else {
+        panic!(rt; "no text")
+    };
+    assert!(rt; rule_of(alloc, &long) == Some(4));
+}
+
+/// A capacity, data words and a limit that break no rule, and then these members.
+fn with_members(alloc: Global, members: &str) -> Result<Vec<u8>, Refusal> {
+    let head = b"{\"cap\":1,\"data\":[0,0,0,0,0,0,0,0,0,0,0,0,0,0,0],\"limit\":10,";
+    let mut text = Vec::from_slice(alloc, head)?;
+    text.extend_from_slice(members.as_bytes())?;
+    Ok(text)
+}
+
+/// The first members that don't break just the rule beside them, or break one where there is none.
+fn first_unlike<'a>(alloc: Global, cases: &[(&'a str, Option<u64>)]) -> Option<&'a str> {
+    for (members, rule) in cases {
+        let is_so = match with_members(alloc, members) {
+            Ok(text) => rule_of(alloc, &text) == *rule,
+            Err(_) => false,
+        };
+        if !is_so {
+            return Some(members);
+        }
+    }
+    None
+}
+
+/// The width stands with version 2 alone. A number is whole, without sign, point or exponent, and fits 64 bits. The lock
+/// words of a process are three numbers. No member is missing, and none is unknown.
+#[test]
+fn members(rt: HostRuntime) {
     let cases = [
         ("\"lock\":[[0,1,1]],\"version\":2}", Some(2)),
         ("\"lock\":[[0,1,1]],\"version\":1,\"width\":1}", Some(2)),
@@ -239,15 +240,6 @@ fn versions_and_widths(rt: HostRuntime) -> Result<(), Fail> {
         ("\"lock\":[[0,1,1]],\"version\":2,\"width\":0}", Some(3)),
         ("\"lock\":[[0,1,1]],\"version\":2,\"width\":9}", Some(3)),
         ("\"lock\":[[0,1,1]],\"version\":2,\"width\":2}", Some(4)),
-    ];
-    assert_eq!(rt; first_unlike(rt.alloc(), &cases)?, None);
-    Ok(())
-}
-
-/// A number is whole, without sign, point or exponent, and fits 64 bits.
-#[test]
-fn numbers(rt: HostRuntime) -> Result<(), Fail> {
-    let cases = [
         ("\"lock\":[[0,1,1]],\"version\":2,\"width\":-0}", Some(1)),
         ("\"lock\":[[0,1,1]],\"version\":2,\"width\":1.0}", Some(1)),
         ("\"lock\":[[0,1,1]],\"version\":2,\"width\":1e0}", Some(1)),
@@ -262,29 +254,11 @@ fn numbers(rt: HostRuntime) -> Result<(), Fail> {
             Some(2),
         ),
         ("\"lock\":[[0,1,1]],\"version\":1e999,\"width\":1}", Some(1)),
-    ];
-    assert_eq!(rt; first_unlike(rt.alloc(), &cases)?, None);
-    Ok(())
-}
-
-/// The lock words of a process are three numbers.
-#[test]
-fn lock_words_of_three(rt: HostRuntime) -> Result<(), Fail> {
-    let cases = [
         ("\"lock\":[[0,1]],\"version\":2,\"width\":1}", Some(1)),
         ("\"lock\":[[0,1,1,0]],\"version\":2,\"width\":1}", Some(1)),
         ("\"lock\":[[0,1,true]],\"version\":2,\"width\":1}", Some(1)),
         ("\"lock\":[0,1,1],\"version\":2,\"width\":1}", Some(1)),
         ("\"lock\":{},\"version\":2,\"width\":1}", Some(1)),
-    ];
-    assert_eq!(rt; first_unlike(rt.alloc(), &cases)?, None);
-    Ok(())
-}
-
-/// No member is missing, and none is unknown.
-#[test]
-fn members(rt: HostRuntime) -> Result<(), Fail> {
-    let cases = [
         ("\"lock\":[[0,1,1]],\"width\":1}", Some(1)),
         ("\"lock\":[[0,1,1]]}", Some(1)),
         (
@@ -301,14 +275,40 @@ fn members(rt: HostRuntime) -> Result<(), Fail> {
         ),
         ("\"lock\":[[0,1,1]],\"version\":2,\"width\":1} 1", Some(1)),
     ];
-    assert_eq!(rt; first_unlike(rt.alloc(), &cases)?, None);
-    assert_eq!(rt; rule_of(rt.alloc(), b"{\"cap\xff\":1}"), Some(1));
-    Ok(())
+    assert_eq!(rt; first_unlike(rt.alloc(), &cases), None);
+    assert!(rt; rule_of(rt.alloc(), b"{\"cap\xff\":1}") == Some(1));
+}
+
+/// An image of a process that is in, with the words of width 1.
+fn by_hand(alloc: Global, version: u64, width: u64) -> Result<Image, Refusal> {
+    let inside = Own {
+        choosing: 0,
+        number: 1,
+        inside: 1,
+    };
+    let cells = vec![in alloc; 0; 15]?;
+    let lock = vec![in alloc; inside; 1]?;
+    Ok(Image {
+        cap: 1,
+        cells: Cells::new(cells),
+        limit: 10,
+        lock: Owns::new(lock),
+        version,
+        width,
+    })
+}
+
+/// Does it break this rule, also where it is widened?
+fn breaks(alloc: Global, image: &Image, rule: Option<u64>) -> bool {
+    let refused = match rule {
+        Some(rule) => Refusal::BadImage { rule },
+        None => Refusal::BadWidth,
+    };
+    first_rule(image) == rule && widen(alloc, image, 9).err() == Some(refused)
 }
 
 #[test]
-fn images_made_by_hand(rt: HostRuntime) -> Result<(), Fail> {
-    let alloc = rt.alloc();
+fn images_made_by_hand(rt: HostRuntime) {
     for (version, width, rule) in [
         (1, 1, None),
         (2, 1, None),
@@ -318,32 +318,12 @@ fn images_made_by_hand(rt: HostRuntime) -> Result<(), Fail> {
         (2, 9, Some(3)),
         (2, 0, Some(3)),
     ] {
-        let image = Image {
-            cap: 1,
-            cells: Cells::new(vec![in alloc; 0; 15]?),
-            limit: 10,
-            lock: Owns::new(vec![in alloc; Own {
-                choosing: 0,
-                number: 1,
-                inside: 1
-            }; 1]?),
-            version,
-            width,
+        let is_so = match by_hand(rt.alloc(), version, width) {
+            Ok(image) => breaks(rt.alloc(), &image, rule),
+            Err(_) => false,
         };
-        assert_eq!(rt;
-            first_rule(&image),
-            rule,
-            "version {version} and width {width}"
-        );
-        let refused = widen(alloc, &image, 9).err();
-        let expected = rule.map_or(Refusal::BadWidth, |rule| Refusal::BadImage { rule });
-        assert_eq!(rt;
-            refused,
-            Some(expected),
-            "version {version} and width {width}"
-        );
+        assert!(rt; is_so, "version {version} and width {width}");
     }
-    Ok(())
 }
 
 /// The start of an image that was read, if a judge takes it.
@@ -354,28 +334,44 @@ fn started(alloc: Global, text: &[u8]) -> Result<Start, Refusal> {
     Ok(start)
 }
 
+/// Is it the start of one that died inside, with so many messages shown, and this one pending?
+fn is_start(start: &Start, shown: usize, pending: Option<Message>) -> bool {
+    start.procs == 1
+        && start.phases.as_slice() == [Phase::DeadIn].as_slice()
+        && start.shown.as_slice().len() == shown
+        && start.pending == pending
+        && !start.closed
+        && !start.ruined
+}
+
 #[test]
 fn starts(rt: HostRuntime) {
+    let Ok(value) = Body::new(&[77]) else {
+        panic!(rt; "no body")
+    };
     let seventy_seven = Message {
         sender: 0,
         seq: 1,
-        value: Body::new(&[77]).expect(&rt, "a body of one word"),
+        value,
     };
     for (text, shown, pending) in [
         (SMALLEST, 0, None),
         (TORN, 0, Some(seventy_seven)),
         (SHOWN, 1, None),
     ] {
-        let start = started(rt.alloc(), text.as_bytes()).expect(&rt, "a start");
-        assert_eq!(rt; start.procs, 1, "{text}");
-        assert_eq!(rt;
-            start.phases.as_slice(),
-            [Phase::DeadIn].as_slice(),
-            "{text}"
-        );
-        assert_eq!(rt; start.shown.as_slice().len(), shown, "{text}");
-        assert_eq!(rt; start.pending, pending, "{text}");
-        assert!(rt; !start.closed && !start.ruined, "{text}");
+        let is_so = match started(rt.alloc(), text.as_bytes()) {
+            Ok(start) => is_start(&start, shown, pending),
+            Err(_) => false,
+        };
+        assert!(rt; is_so, "{text}");
+    }
+}
+
+/// Are these ahead of a process?
+fn are_ahead(start: &Start, p: usize, names: &[u64]) -> bool {
+    match start.ahead.as_slice().get(p) {
+        Some(set) => set.as_slice() == names,
+        None => false,
     }
 }
 
@@ -383,16 +379,13 @@ fn starts(rt: HostRuntime) {
 fn who_is_ahead_in_a_start(rt: HostRuntime) {
     let text =
         b"{\"cap\":1,\"data\":[1,1,0,0,0,0,0,0,0,0,0,0,0,0,0,0,0,0],\"limit\":10,\"lock\":[[1,0,0],[0,5,0],[1,3,0],[0,0,1]],\"version\":2,\"width\":1}";
-    let start = started(rt.alloc(), text).expect(&rt, "a start");
+    let Ok(start) = started(rt.alloc(), text) else {
+        panic!(rt; "no start")
+    };
     let phases = [Phase::Door, Phase::Ready, Phase::Ready, Phase::Out];
-    assert_eq!(rt; start.phases.as_slice(), phases.as_slice());
-    let ahead = start.ahead.as_slice();
-    assert_eq!(rt; ahead.len(), 4);
-    for (p, names) in [(0, [1, 2].as_slice()), (1, &[2]), (2, &[]), (3, &[])] {
-        assert!(rt;
-            ahead.get(p).is_some_and(|set| set.as_slice() == names),
-            "process {p}"
-        );
-    }
+    assert!(rt; start.phases.as_slice() == phases.as_slice());
+    assert!(rt; start.ahead.as_slice().len() == 4);
+    assert!(rt; are_ahead(&start, 0, &[1, 2]) && are_ahead(&start, 1, &[2]));
+    assert!(rt; are_ahead(&start, 2, &[]) && are_ahead(&start, 3, &[]));
     assert!(rt; start.closed && start.ruined);
 }

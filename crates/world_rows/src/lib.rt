@@ -13,4 +13,10 @@ mod judges;
 #[cfg(test)]
 mod mailboxes;
 #[cfg(test)]
+mod phrase;
+#[cfg(test)]
+mod played;
+#[cfg(test)]
+mod torn;
+#[cfg(test)]
 mod worlds;

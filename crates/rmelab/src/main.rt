@@ -1,9 +1,6 @@
 //! `rmelab`: a laboratory of recoverable first-come first-served locks.
 #![tactic(auto)]
 
-#[cfg(test)]
-mod tests;
-
 use laboratory::command::command;
 use laboratory::ending::Ending;
 use laboratory::fault::Fault;

@@ -13,4 +13,3 @@ pub use both::Both;
 pub use crash_plan::CrashPlan;
 pub use never::Never;
 pub use seeded::Seeded;
-

@@ -1,95 +1,352 @@
-//! Worked rows on a simulated core, and the table of own steps.
+//! The worked rows on a simulated core. A script is one as of a world, without data words; `step 0 7 in` is answered so.
 
-mod machine;
-mod refusals;
-mod rows;
-mod table;
-mod values;
-
-use rmecore::{Core, CoreDone, Outer, Own, Refusal};
+use super::phrase::{Phrase, cut, found_of, place};
+use super::played::are_words;
+use rmecore::{Core, CoreDone, Happened, Kind, Outer, Refusal, Word};
 use std::alloc::Global;
-use std::test::Fail;
 
-/// What is asked of a core, line by line.
-#[derive(Clone, Copy, Debug, PartialEq, Eq)]
-enum Move {
-    Lock(u64),
-    Recover(u64),
-    Unlock(u64),
-    Withdraw(u64),
-    /// So many steps of a process.
-    Step(u64, u64),
-    Crash(u64),
-}
-
-/// A core after some moves, with all deeds and answers on the way.
-#[derive(Drop)]
-struct Told {
-    core: Core,
-    deeds: Vec<Outer>,
-    answers: Vec<(u64, CoreDone)>,
-}
-
-fn own(choosing: u64, number: u64, inside: u64) -> Own {
-    Own {
-        choosing,
-        number,
-        inside,
+/// The answer of the core, by its name.
+fn done_of(name: &str) -> Option<CoreDone> {
+    match place("in|in-again|spent|out|withdrawn", name) {
+        Some(0) => Some(CoreDone::In),
+        Some(1) => Some(CoreDone::InAgain),
+        Some(2) => Some(CoreDone::Spent),
+        Some(3) => Some(CoreDone::Out),
+        Some(_) => Some(CoreDone::Withdrawn),
+        None => Some(CoreDone::Found(found_of(name)?)),
     }
 }
 
-impl Told {
-    fn new(alloc: Global, procs: u64, limit: u64) -> Result<Told, Fail> {
-        Ok(Told {
-            core: Core::new(alloc, procs, limit)?,
-            deeds: Vec::new(alloc),
-            answers: Vec::new(alloc),
-        })
-    }
-
-    fn step(&mut self, p: u64) -> Result<(), Fail> {
-        let happened = self.core.step(p)?;
-        if let Some(outer) = happened.outer {
-            self.deeds.push(outer)?;
-        }
-        if let Some(done) = happened.done {
-            self.answers.push((p, done))?;
-        }
-        Ok(())
-    }
-
-    fn take(&mut self, next: Move) -> Result<(), Fail> {
-        match next {
-            Move::Lock(p) => self.core.start_lock(p)?,
-            Move::Recover(p) => self.core.start_recover(p)?,
-            Move::Unlock(p) => self.core.start_unlock(p)?,
-            Move::Withdraw(p) => self.core.start_withdraw(p)?,
-            Move::Step(p, count) => {
-                for _ in 0..count {
-                    self.step(p)?;
-                }
-            }
-            Move::Crash(p) => self.deeds.push(self.core.crash(p)?)?,
-        }
-        Ok(())
+/// Is this the next of the deeds, where it is one?
+fn is_told(deeds: &mut &str, outer: Option<Outer>) -> bool {
+    match outer {
+        Some(outer) => Phrase::read(cut(deeds, "; ")).outer() == Some(outer),
+        None => true,
     }
 }
 
-/// A new core after these moves.
-fn after(alloc: Global, procs: u64, limit: u64, moves: &[Move]) -> Result<Told, Fail> {
-    let mut told = Told::new(alloc, procs, limit)?;
-    for next in moves {
-        told.take(*next)?;
-    }
-    Ok(told)
-}
-
-/// Steps until the call under way is answered.
-fn finish(core: &mut Core, p: u64) -> Result<CoreDone, Refusal> {
-    for _ in 0..1000 {
-        if let Some(done) = core.step(p)?.done {
-            return Ok(done);
+/// Takes steps. Is this what the last one is answered, and no other, and are these the next deeds?
+fn step(
+    core: &mut Core,
+    deeds: &mut &str,
+    (p, count): (u64, u64),
+    wanted: Option<CoreDone>,
+) -> bool {
+    for k in 0..count {
+        let Ok(happened) = core.step(p) else {
+            return false;
+        };
+        let is_last = k.saturating_add(1) == count;
+        if happened.done != if is_last { wanted } else { None } || !is_told(deeds, happened.outer) {
+            return false;
         }
     }
-    Err(Refusal::NothingToDo)
+    true
+}
+
+/// Starts a call. A word that is no call is refused with no number.
+fn start(core: &mut Core, phrase: &Phrase<'_>) -> Result<(), Refusal> {
+    let p = phrase.number(0);
+    match place("lock|recover|unlock|withdraw", phrase.word) {
+        Some(0) => core.start_lock(p),
+        Some(1) => core.start_recover(p),
+        Some(2) => core.start_unlock(p),
+        Some(_) => core.start_withdraw(p),
+        None => Err(Refusal::OutOfMemory),
+    }
+}
+
+/// Why what is asked is refused.
+fn refusal_of(core: &mut Core, phrase: &Phrase<'_>) -> Option<Refusal> {
+    let p = phrase.number(0);
+    match place("step|crash|words|steps|blocked|began", phrase.word) {
+        Some(0) => core.step(p).err(),
+        Some(1) => core.crash(p).err(),
+        Some(2) => core.words(p).err(),
+        Some(3) => core.steps(p).err(),
+        Some(4) => core.blocked(p).err(),
+        Some(_) => core.began(p).err(),
+        None => start(core, phrase).err(),
+    }
+}
+
+/// Is this refused, with this number?
+fn is_refused(core: &mut Core, asked: &str) -> bool {
+    let mut line = asked;
+    let number = cut(&mut line, " ").parse::<u64>().ok();
+    match refusal_of(core, &Phrase::read(line)) {
+        Some(refusal) => number.is_some() && refusal.number() == number,
+        None => false,
+    }
+}
+
+/// Is what is asked so, or is it a call that is accepted?
+fn is_so(core: &mut Core, phrase: &Phrase<'_>) -> bool {
+    let p = phrase.number(0);
+    match place("steps|blocked|words|began", phrase.word) {
+        Some(0) => core.steps(p) == Ok(phrase.number(1)),
+        Some(1) => core.blocked(p) == Ok(phrase.number(1)),
+        Some(2) => are_words(core.words(p).ok(), phrase),
+        Some(_) => are_words(core.began(p).ok(), phrase),
+        None => start(core, phrase).is_ok(),
+    }
+}
+
+/// Takes a line. Does it go as it says?
+fn line(core: &mut Core, text: &str, deeds: &mut &str) -> bool {
+    let phrase = Phrase::read(text);
+    let p = phrase.number(0);
+    match place("step|crash|refused", phrase.word) {
+        Some(0) => {
+            let wanted = done_of(phrase.rest);
+            wanted.is_some() != phrase.rest.is_empty()
+                && step(core, deeds, (p, phrase.number(1)), wanted)
+        }
+        Some(1) => is_told(deeds, core.crash(p).ok()),
+        Some(_) => is_refused(core, text.strip_prefix("refused ").unwrap_or("")),
+        None => is_so(core, &phrase),
+    }
+}
+
+/// The first line that does not go as it says, counted from 1, and 0 where not all deeds are told.
+fn first_wrong(core: &mut Core, script: &str, deeds: &str) -> Option<u64> {
+    let mut rest = script;
+    let mut untold = deeds;
+    let mut at = 0u64;
+    for _ in 0..script.len() {
+        if rest.is_empty() {
+            break;
+        }
+        at = at.saturating_add(1);
+        if !line(core, cut(&mut rest, "; "), &mut untold) {
+            return Some(at);
+        }
+    }
+    if untold.is_empty() { None } else { Some(0) }
+}
+
+/// The first row that does not come to its deeds, with the line that goes wrong. A row has its processes and its limit,
+/// its script and its deeds.
+fn first_other(alloc: Global, rows: &[((u64, u64), &str, &str)]) -> Option<(usize, u64)> {
+    for (row, ((procs, limit), script, deeds)) in rows.iter().enumerate() {
+        let line = match Core::new(alloc, *procs, *limit) {
+            Ok(mut core) => first_wrong(&mut core, script, deeds),
+            Err(_) => Some(0),
+        };
+        if let Some(line) = line {
+            return Some((row, line));
+        }
+    }
+    None
+}
+
+/// smallest, first-steps, tie, dead-in-the-doorway, between-two-words, re-entry.
+#[test]
+fn lock_rows(rt: HostRuntime) {
+    let rows = [
+        (
+            (1, 10),
+            "lock 0; step 0 7 in; words 0 0 1 1",
+            "begin 0; ready 0; enter 0",
+        ),
+        (
+            (1, 1),
+            "lock 0; step 0 1; step 0 3; words 0 1 0 0",
+            "begin 0",
+        ),
+        // both read 0 and take 1; the weigh of 1 is blocked by (1, 0)
+        (
+            (2, 10),
+            "lock 0; lock 1; step 0 5; step 1 5; step 0 2; step 1 2; step 1 3; step 0 3 in; words 0 0 1 1; words 1 0 1 0; blocked 1 2",
+            "begin 0; begin 1; ready 0; ready 1; enter 0",
+        ),
+        // the look of 0 is blocked until 1 restarts, takes 2 and shuts
+        (
+            (2, 10),
+            "lock 1; step 1 5; crash 1; lock 0; step 0 8; lock 1; step 1 6; step 0 3 in; words 1 0 2 0; blocked 0 1",
+            "begin 1; crash 1; begin 0; ready 0; ready 1; enter 0",
+        ),
+        // 0 restarts with a number beside choosing, shuts and enters; 1 stays blocked
+        (
+            (2, 10),
+            "lock 0; step 0 6; crash 0; lock 1; step 1 8; lock 0; step 0 7 in; step 1 4; words 0 0 1 1; words 1 0 2 0; began 0 1 1 0",
+            "begin 0; ready 0; crash 0; begin 1; ready 1; enter 0",
+        ),
+        (
+            (2, 10),
+            "lock 0; step 0 10 in; lock 1; step 1 7; crash 0; step 1 3; lock 0; step 0 3 in-again; words 1 0 2 0",
+            "begin 0; ready 0; enter 0; begin 1; ready 1; crash 0; reenter 0",
+        ),
+    ];
+    assert_eq!(rt; first_other(rt.alloc(), &rows), None);
+}
+
+/// half-an-exit, number-limit, withdraw-waiting, withdraw-and-return.
+#[test]
+fn ends_of_waiting(rt: HostRuntime) {
+    let rows = [
+        // the number is dropped, and so the line moves on; the mark is left to the recovery
+        (
+            (2, 10),
+            "lock 0; step 0 10 in; lock 1; step 1 8; unlock 0; step 0 1; crash 0; step 1 2 in; recover 0; step 0 4 found left; words 0 0 0 0; words 1 0 2 1",
+            "begin 0; ready 0; enter 0; begin 1; ready 1; leave 0; crash 0; enter 1",
+        ),
+        (
+            (2, 1),
+            "lock 0; step 0 10 in; lock 1; step 1 6 spent; unlock 0; step 0 2 out; lock 1; step 1 10 in; words 1 0 1 1",
+            "begin 0; ready 0; enter 0; begin 1; quit 1; leave 0; begin 1; ready 1; enter 1",
+        ),
+        (
+            (2, 10),
+            "lock 0; step 0 7; lock 1; step 1 9; withdraw 0; step 0 1 withdrawn; step 1 2 in; words 0 0 0 0; words 1 0 2 1",
+            "begin 0; ready 0; begin 1; ready 1; quit 0; enter 1",
+        ),
+        (
+            (2, 10),
+            "lock 0; step 0 10 in; lock 1; step 1 9; withdraw 1; step 1 1 withdrawn; lock 1; step 1 9; unlock 0; step 0 2 out; step 1 2 in; words 1 0 2 1; blocked 1 1; steps 1 11",
+            "begin 0; ready 0; enter 0; begin 1; ready 1; quit 1; begin 1; ready 1; leave 0; enter 1",
+        ),
+    ];
+    assert_eq!(rt; first_other(rt.alloc(), &rows), None);
+}
+
+fn core_after(alloc: Global, procs: u64, limit: u64, script: &str, deeds: &str) -> Option<Core> {
+    let mut core = Core::new(alloc, procs, limit).ok()?;
+    match first_wrong(&mut core, script, deeds) {
+        None => Some(core),
+        Some(_) => None,
+    }
+}
+
+fn is_reading(happened: Result<Happened, Refusal>, kind: Kind, word: Word, value: u64) -> bool {
+    match happened {
+        Ok(happened) => {
+            happened.kind == kind && happened.word == word && happened.value == value
+        }
+        Err(_) => false,
+    }
+}
+
+/// Are the next two steps of 1 a look that sees nobody and a weigh that sees the number 1?
+fn looks_and_weighs(core: &mut Core) -> bool {
+    is_reading(core.step(1), Kind::Look, Word::Choosing(0), 0)
+        && is_reading(core.step(1), Kind::Weigh, Word::Number(0), 1)
+}
+
+/// No weigh without a look: 1 waits for the one that is still in its doorway, and then the tie decides.
+#[test]
+fn looks_first(rt: HostRuntime) {
+    let script = "lock 0; lock 1; step 0 5; step 1 6; step 1 4; step 0 5 in; blocked 1 3";
+    let deeds = "begin 0; begin 1; ready 1; ready 0; enter 0";
+    let is_so = match core_after(rt.alloc(), 2, 10, script, deeds) {
+        Some(mut core) => looks_and_weighs(&mut core),
+        None => false,
+    };
+    assert!(rt; is_so);
+}
+
+/// Each process crashes, told so.
+fn all_crash(core: &mut Core) -> bool {
+    for p in 0..64 {
+        if core.crash(p) != Ok(Outer::Crash(p)) {
+            return false;
+        }
+    }
+    true
+}
+
+/// Do all crash, and is what stands gone on from?
+fn goes_on(core: &mut Core) -> bool {
+    let again =
+        "words 0 0 1 1; words 1 0 2 0; words 63 0 0 0; lock 1; step 1 5; lock 0; step 0 3 in-again; blocked 1 1";
+    all_crash(core) && first_wrong(core, again, "reenter 0").is_none()
+}
+
+#[test]
+fn crash_of_everything(rt: HostRuntime) {
+    let script = "lock 0; step 0 196 in; lock 1; step 1 69";
+    let deeds = "begin 0; ready 0; enter 0; begin 1; ready 1";
+    let is_so = match core_after(rt.alloc(), 64, 100, script, deeds) {
+        Some(mut core) => goes_on(&mut core),
+        None => false,
+    };
+    assert!(rt; is_so);
+}
+
+/// A process that is not there; one at rest, in the doorway, waiting, and inside; and any process may crash, also an idle
+/// or a dead one, and a call under way is gone.
+#[test]
+fn refused_calls(rt: HostRuntime) {
+    let rows = [
+        (
+            (2, 10),
+            "refused 3 lock 2; refused 3 recover 2; refused 3 unlock 2; refused 3 withdraw 2; refused 3 step 2; refused 3 crash 2; refused 3 words 2; refused 3 steps 2; refused 3 blocked 2; refused 3 began 2",
+            "",
+        ),
+        (
+            (2, 10),
+            "steps 0 0; blocked 0 0; began 0 0 0 0; refused 7 step 0; refused 5 unlock 0; refused 14 withdraw 0",
+            "",
+        ),
+        (
+            (2, 10),
+            "crash 1; crash 1; lock 0; step 0 10 in; unlock 0; crash 0; refused 7 step 0; refused 5 unlock 0; words 0 0 1 1",
+            "crash 1; crash 1; begin 0; ready 0; enter 0; crash 0",
+        ),
+    ];
+    assert_eq!(rt; first_other(rt.alloc(), &rows), None);
+}
+
+/// The first step of a lock at which no such call is refused, or the lock is not in at last.
+fn first_unrefused(core: &mut Core) -> Option<u64> {
+    let mut deeds = "begin 0; ready 0; enter 0";
+    for steps in 0..10u64 {
+        let under_way = "refused 4 lock 0; refused 4 recover 0; refused 4 unlock 0";
+        if first_wrong(core, under_way, "").is_some() {
+            return Some(steps);
+        }
+        if steps < 7 && !is_refused(core, "14 withdraw 0") {
+            return Some(steps);
+        }
+        let wanted = if steps == 9 { done_of("in") } else { None };
+        if !step(core, &mut deeds, (0, 1), wanted) {
+            return Some(steps);
+        }
+    }
+    None
+}
+
+/// The first step of a lock, and then the line inside, at which a call is not refused.
+fn first_in_place(core: &mut Core) -> Option<u64> {
+    let inside = "refused 6 lock 0; refused 6 recover 0; refused 14 withdraw 0; refused 7 step 0";
+    match first_unrefused(core) {
+        None => first_wrong(core, inside, ""),
+        steps => steps,
+    }
+}
+
+#[test]
+fn out_of_place(rt: HostRuntime) {
+    let wrong = match core_after(rt.alloc(), 2, 10, "lock 0", "") {
+        Some(mut core) => first_in_place(&mut core),
+        None => Some(0),
+    };
+    assert!(rt; wrong.is_none());
+}
+
+#[test]
+fn refused_sizes(rt: HostRuntime) {
+    for (procs, limit, number) in [
+        (0, 0, Some(1)),
+        (65, 10, Some(1)),
+        (64, 0, Some(2)),
+        (1, 4_611_686_018_427_387_905, Some(2)),
+        (64, 4_611_686_018_427_387_904, None),
+    ] {
+        let refused = match Core::new(rt.alloc(), procs, limit) {
+            Ok(_) => None,
+            Err(refusal) => refusal.number(),
+        };
+        assert!(rt; refused == number, "{procs} and {limit}");
+    }
 }

@@ -1,8 +1,9 @@
 //! Texts of images: worked ones, broken ones, and spellings.
 
+use super::phrase::{Phrase, cut};
 use judge::{Judge, Start};
 use redomail::Message;
-use rmecore::{Body, Own, Phase, Refusal};
+use rmecore::{Own, Phase, Refusal};
 use rmeworld::{Cells, Image, Owns, first_rule, read_image, start_of, widen, write_image};
 use std::alloc::Global;
 
@@ -29,12 +30,12 @@ const SHOWN: &str =
 const WIDENED_SHOWN: &str =
     "{\"cap\":1,\"data\":[0,0,1,1,0,1,77,0,0,5,6,7,8,1,0,1,77,0,0],\"limit\":10,\"lock\":[[0,1,1]],\"version\":2,\"width\":3}\n";
 
-/// The rule that a text breaks; 0 for want of memory.
+/// The rule that a text breaks; 98 for want of memory.
 fn rule_of(alloc: Global, text: &[u8]) -> Option<u64> {
     match read_image(alloc, text) {
         Ok(_) => None,
         Err(Refusal::BadImage { rule }) => Some(rule),
-        Err(_) => Some(0),
+        Err(_) => Some(98),
     }
 }
 
@@ -59,119 +60,121 @@ fn is_text(written: Result<Vec<u8>, Refusal>, text: &str) -> bool {
     }
 }
 
-/// Any order and any white space; the older version; a member that is written twice; an escaped name.
-const SPELLINGS: [&str; 4] = [
-    " { \"width\" : 1 , \"version\":2,\"lock\":[ [0,1,1] ],\"limit\":10,\"data\":[0,0,0,0,0,0,0,0,0,0,0,0,0,0,0],\"cap\":1}\r\n",
-    "{\"cap\":1,\"data\":[0,0,0,0,0,0,0,0,0,0,0,0,0,0,0],\"limit\":10,\"lock\":[[0,1,1]],\"version\":1}",
-    "{\"cap\":7,\"cap\":1,\"data\":[0,0,0,0,0,0,0,0,0,0,0,0,0,0,0],\"limit\":10,\"lock\":[[0,1,1]],\"version\":2,\"width\":1}",
-    "{\"c\\u0061p\":1,\"data\":[0,0,0,0,0,0,0,0,0,0,0,0,0,0,0],\"limit\":10,\"lock\":[[0,1,1]],\"version\":2,\"width\":1}",
-];
+/// Any order and any white space.
+const SPACED: &str =
+    " { \"width\" : 1 , \"version\":2,\"lock\":[ [0,1,1] ],\"limit\":10,\"data\":[0,0,0,0,0,0,0,0,0,0,0,0,0,0,0],\"cap\":1}\r\n";
 
-#[test]
-fn texts_are_written_as_they_were_read(rt: HostRuntime) {
-    for text in [
-        SMALLEST,
-        TORN,
-        WIDENED_TORN,
-        WIDE_TORN,
-        SHOWN,
-        WIDENED_SHOWN,
-    ] {
-        let written = written_again(rt.alloc(), text.as_bytes());
-        assert!(rt; is_text(written, text), "{text}");
-    }
-    for text in SPELLINGS {
-        let written = written_again(rt.alloc(), text.as_bytes());
-        assert!(rt; is_text(written, SMALLEST), "{text}");
-    }
-}
+/// The older version.
+const OLDER: &str =
+    "{\"cap\":1,\"data\":[0,0,0,0,0,0,0,0,0,0,0,0,0,0,0],\"limit\":10,\"lock\":[[0,1,1]],\"version\":1}";
 
-#[test]
-fn wider_images(rt: HostRuntime) {
-    for (text, width, wider) in [
-        (TORN, 1, TORN),
-        (TORN, 2, WIDENED_TORN),
-        (SHOWN, 3, WIDENED_SHOWN),
-        (WIDE_TORN, 3, WIDE_TORN),
-    ] {
-        let written = widened(rt.alloc(), text.as_bytes(), width);
-        assert!(rt; is_text(written, wider), "{text}");
-    }
-    for (text, width) in [(WIDE_TORN, 2), (TORN, 0), (TORN, 9)] {
-        let refused = widened(rt.alloc(), text.as_bytes(), width).err();
-        assert_eq!(rt; refused, Some(Refusal::BadWidth), "{text} to {width}");
-    }
-}
+/// A member that is written twice.
+const TWICE: &str =
+    "{\"cap\":7,\"cap\":1,\"data\":[0,0,0,0,0,0,0,0,0,0,0,0,0,0,0],\"limit\":10,\"lock\":[[0,1,1]],\"version\":2,\"width\":1}";
 
-/// The first text that doesn't break the rule beside it.
-fn first_other<'a>(alloc: Global, cases: &[(&'a str, u64)]) -> Option<&'a str> {
-    for case in cases {
-        if rule_of(alloc, case.0.as_bytes()) != Some(case.1) {
-            return Some(case.0);
+/// An escaped name.
+const ESCAPED: &str =
+    "{\"c\\u0061p\":1,\"data\":[0,0,0,0,0,0,0,0,0,0,0,0,0,0,0],\"limit\":10,\"lock\":[[0,1,1]],\"version\":2,\"width\":1}";
+
+/// The first text that is not written so.
+fn first_otherwise<'a>(alloc: Global, texts: &[(&'a str, &str)]) -> Option<&'a str> {
+    for (text, wanted) in texts {
+        if !is_text(written_again(alloc, text.as_bytes()), wanted) {
+            return Some(text);
         }
     }
     None
 }
 
-/// Broken forms, broken locks and broken mailboxes.
+#[test]
+fn texts_are_written_as_they_were_read(rt: HostRuntime) {
+    let texts = [
+        (SMALLEST, SMALLEST),
+        (TORN, TORN),
+        (WIDENED_TORN, WIDENED_TORN),
+        (WIDE_TORN, WIDE_TORN),
+        (SHOWN, SHOWN),
+        (WIDENED_SHOWN, WIDENED_SHOWN),
+        (SPACED, SMALLEST),
+        (OLDER, SMALLEST),
+        (TWICE, SMALLEST),
+        (ESCAPED, SMALLEST),
+    ];
+    assert_eq!(rt; first_otherwise(rt.alloc(), &texts), None);
+}
+
+/// Is it this text, widened?
+fn is_widened(alloc: Global, text: &str, width: u64, wider: &str) -> bool {
+    is_text(widened(alloc, text.as_bytes(), width), wider)
+}
+
+/// Is it not widened to this?
+fn is_too_wide(alloc: Global, text: &str, width: u64) -> bool {
+    widened(alloc, text.as_bytes(), width).err() == Some(Refusal::BadWidth)
+}
+
+#[test]
+fn wider_images(rt: HostRuntime) {
+    let alloc = rt.alloc();
+    assert!(rt; is_widened(alloc, TORN, 1, TORN));
+    assert!(rt; is_widened(alloc, TORN, 2, WIDENED_TORN));
+    assert!(rt; is_widened(alloc, SHOWN, 3, WIDENED_SHOWN));
+    assert!(rt; is_widened(alloc, WIDE_TORN, 3, WIDE_TORN));
+    assert!(rt; is_too_wide(alloc, WIDE_TORN, 2));
+    assert!(rt; is_too_wide(alloc, TORN, 0));
+    assert!(rt; is_too_wide(alloc, TORN, 9));
+}
+
+/// Broken forms, broken locks and broken mailboxes, a line each, behind the rule that each breaks.
+const BROKEN: &str = r#"1 []
+1 {"cap":-1,"data":[0,0,0,0,0,0,0,0,0,0,0,0,0,0,0],"limit":10,"lock":[[0,1,1]],"version":2,"width":1}
+2 {"cap":1,"data":[0,0,0,0,0,0,0,0,0,0,0,0,0,0,0],"limit":10,"lock":[[0,1,1]],"version":7,"width":1}
+3 {"cap":1,"data":[0,0,0,0,0,0,0,0,0,0,0,0,0,0,0],"limit":10,"lock":[],"version":2,"width":1}
+4 {"cap":1,"data":[0,0,0,0,0,0,0,0,0,0,0,0,0,0],"limit":10,"lock":[[0,1,1]],"version":2,"width":1}
+5 {"cap":1,"data":[0,0,0,0,0,0,0,0,0,0,0,0,0,0,0],"limit":10,"lock":[[1,0,1]],"version":2,"width":1}
+5 {"cap":1,"data":[0,0,0,0,0,0,0,0,0,0,0,0,0,0,0],"limit":10,"lock":[[0,11,0]],"version":2,"width":1}
+6 {"cap":1,"data":[0,0,0,0,0,0,0,0,0,0,0,0,0,0,0,0],"limit":10,"lock":[[0,2,1],[0,1,0]],"version":2,"width":1}
+6 {"cap":1,"data":[0,0,0,0,0,0,0,0,0,0,0,0,0,0,0,0],"limit":10,"lock":[[0,1,0],[0,1,1]],"version":2,"width":1}
+6 {"cap":1,"data":[0,0,0,0,0,0,0,0,0,0,0,0,0,0,0,0],"limit":10,"lock":[[0,1,1],[0,2,1]],"version":2,"width":1}
+7 {"cap":1,"data":[0,1,0,1,0,0,0,0,0,0,0,0,0,0,0],"limit":10,"lock":[[0,1,1]],"version":2,"width":1}
+8 {"cap":1,"data":[0,0,1,0,0,0,0,0,0,0,0,0,0,0,0],"limit":10,"lock":[[0,1,1]],"version":2,"width":1}
+9 {"cap":1,"data":[0,0,0,1,0,0,0,0,0,0,0,0,0,0,0],"limit":10,"lock":[[0,0,0]],"version":2,"width":1}
+9 {"cap":1,"data":[0,0,0,1,0,1,0,0,0,0,0,0,0,0,0],"limit":10,"lock":[[0,0,0]],"version":2,"width":1}"#;
+
+/// The first line whose text does not break just the rule before it, or breaks one where the rule is 0. Before each text
+/// stands this head.
+fn first_unlike<'a>(alloc: Global, head: &str, lines: &'a str) -> Option<&'a str> {
+    let mut rest = lines;
+    for _ in 0..lines.len() {
+        if rest.is_empty() {
+            break;
+        }
+        let line = cut(&mut rest, "\n");
+        if !breaks_rule(alloc, head, line) {
+            return Some(line);
+        }
+    }
+    None
+}
+
+fn breaks_rule(alloc: Global, head: &str, line: &str) -> bool {
+    let mut members = line;
+    let rule = cut(&mut members, " ").parse::<u64>();
+    match joined(alloc, head, members) {
+        Ok(text) => rule.is_ok() && rule_of(alloc, &text).unwrap_or(0) == rule.unwrap_or(99),
+        Err(_) => false,
+    }
+}
+
+fn joined(alloc: Global, head: &str, members: &str) -> Result<Vec<u8>, Refusal> {
+    let mut text = Vec::from_slice(alloc, head.as_bytes())?;
+    text.extend_from_slice(members.as_bytes())?;
+    Ok(text)
+}
+
 #[test]
 fn broken_texts(rt: HostRuntime) {
-    let cases = [
-        ("[]", 1),
-        (
-            "{\"cap\":-1,\"data\":[0,0,0,0,0,0,0,0,0,0,0,0,0,0,0],\"limit\":10,\"lock\":[[0,1,1]],\"version\":2,\"width\":1}",
-            1,
-        ),
-        (
-            "{\"cap\":1,\"data\":[0,0,0,0,0,0,0,0,0,0,0,0,0,0,0],\"limit\":10,\"lock\":[[0,1,1]],\"version\":7,\"width\":1}",
-            2,
-        ),
-        (
-            "{\"cap\":1,\"data\":[0,0,0,0,0,0,0,0,0,0,0,0,0,0,0],\"limit\":10,\"lock\":[],\"version\":2,\"width\":1}",
-            3,
-        ),
-        (
-            "{\"cap\":1,\"data\":[0,0,0,0,0,0,0,0,0,0,0,0,0,0],\"limit\":10,\"lock\":[[0,1,1]],\"version\":2,\"width\":1}",
-            4,
-        ),
-        (
-            "{\"cap\":1,\"data\":[0,0,0,0,0,0,0,0,0,0,0,0,0,0,0],\"limit\":10,\"lock\":[[1,0,1]],\"version\":2,\"width\":1}",
-            5,
-        ),
-        (
-            "{\"cap\":1,\"data\":[0,0,0,0,0,0,0,0,0,0,0,0,0,0,0],\"limit\":10,\"lock\":[[0,11,0]],\"version\":2,\"width\":1}",
-            5,
-        ),
-        (
-            "{\"cap\":1,\"data\":[0,0,0,0,0,0,0,0,0,0,0,0,0,0,0,0],\"limit\":10,\"lock\":[[0,2,1],[0,1,0]],\"version\":2,\"width\":1}",
-            6,
-        ),
-        (
-            "{\"cap\":1,\"data\":[0,0,0,0,0,0,0,0,0,0,0,0,0,0,0,0],\"limit\":10,\"lock\":[[0,1,0],[0,1,1]],\"version\":2,\"width\":1}",
-            6,
-        ),
-        (
-            "{\"cap\":1,\"data\":[0,0,0,0,0,0,0,0,0,0,0,0,0,0,0,0],\"limit\":10,\"lock\":[[0,1,1],[0,2,1]],\"version\":2,\"width\":1}",
-            6,
-        ),
-        (
-            "{\"cap\":1,\"data\":[0,1,0,1,0,0,0,0,0,0,0,0,0,0,0],\"limit\":10,\"lock\":[[0,1,1]],\"version\":2,\"width\":1}",
-            7,
-        ),
-        (
-            "{\"cap\":1,\"data\":[0,0,1,0,0,0,0,0,0,0,0,0,0,0,0],\"limit\":10,\"lock\":[[0,1,1]],\"version\":2,\"width\":1}",
-            8,
-        ),
-        (
-            "{\"cap\":1,\"data\":[0,0,0,1,0,0,0,0,0,0,0,0,0,0,0],\"limit\":10,\"lock\":[[0,0,0]],\"version\":2,\"width\":1}",
-            9,
-        ),
-        (
-            "{\"cap\":1,\"data\":[0,0,0,1,0,1,0,0,0,0,0,0,0,0,0],\"limit\":10,\"lock\":[[0,0,0]],\"version\":2,\"width\":1}",
-            9,
-        ),
-    ];
-    assert_eq!(rt; first_other(rt.alloc(), &cases), None);
+    assert_eq!(rt; first_unlike(rt.alloc(), "", BROKEN), None);
 }
 
 /// The image of *smallest* with so many data words.
@@ -206,76 +209,42 @@ fn beginnings(rt: HostRuntime) {
     assert!(rt; rule_of(alloc, &long) == Some(4));
 }
 
-/// A capacity, data words and a limit that break no rule, and then these members.
-fn with_members(alloc: Global, members: &str) -> Result<Vec<u8>, Refusal> {
-    let head = b"{\"cap\":1,\"data\":[0,0,0,0,0,0,0,0,0,0,0,0,0,0,0],\"limit\":10,";
-    let mut text = Vec::from_slice(alloc, head)?;
-    text.extend_from_slice(members.as_bytes())?;
-    Ok(text)
-}
+/// A capacity, data words and a limit that break no rule.
+const HEAD: &str = "{\"cap\":1,\"data\":[0,0,0,0,0,0,0,0,0,0,0,0,0,0,0],\"limit\":10,";
 
-/// The first members that don't break just the rule beside them, or break one where there is none.
-fn first_unlike<'a>(alloc: Global, cases: &[(&'a str, Option<u64>)]) -> Option<&'a str> {
-    for (members, rule) in cases {
-        let is_so = match with_members(alloc, members) {
-            Ok(text) => rule_of(alloc, &text) == *rule,
-            Err(_) => false,
-        };
-        if !is_so {
-            return Some(members);
-        }
-    }
-    None
-}
+/// The other members, and the rule that each breaks; 0 for none. The width stands with version 2 alone. A number is whole,
+/// without sign, point or exponent, and fits 64 bits. The lock words of a process are three numbers. No member is missing,
+/// and none is unknown.
+const MEMBERS: &str = r#"2 "lock":[[0,1,1]],"version":2}
+2 "lock":[[0,1,1]],"version":1,"width":1}
+2 "lock":[[0,1,1]],"version":0}
+0 "lock":[[0,1,1]],"version":1}
+3 "lock":[[0,1,1]],"version":2,"width":0}
+3 "lock":[[0,1,1]],"version":2,"width":9}
+4 "lock":[[0,1,1]],"version":2,"width":2}
+1 "lock":[[0,1,1]],"version":2,"width":-0}
+1 "lock":[[0,1,1]],"version":2,"width":1.0}
+1 "lock":[[0,1,1]],"version":2,"width":1e0}
+1 "lock":[[0,1,1]],"version":2,"width":"1"}
+1 "lock":[[0,1,1]],"version":2,"width":null}
+1 "lock":[[0,1,1]],"version":18446744073709551616,"width":1}
+2 "lock":[[0,1,1]],"version":18446744073709551615,"width":1}
+1 "lock":[[0,1,1]],"version":1e999,"width":1}
+1 "lock":[[0,1]],"version":2,"width":1}
+1 "lock":[[0,1,1,0]],"version":2,"width":1}
+1 "lock":[[0,1,true]],"version":2,"width":1}
+1 "lock":[0,1,1],"version":2,"width":1}
+1 "lock":{},"version":2,"width":1}
+1 "lock":[[0,1,1]],"width":1}
+1 "lock":[[0,1,1]]}
+1 "lock":[[0,1,1]],"version":2,"width":1,"wide":1}
+1 "lock":[[0,1,1]],"version":2,"width":1,"zone":1}
+1 "lock":[[0,1,1]],"version":2,"width":1,"\ud800":1}
+1 "lock":[[0,1,1]],"version":2,"width":1} 1"#;
 
-/// The width stands with version 2 alone. A number is whole, without sign, point or exponent, and fits 64 bits. The lock
-/// words of a process are three numbers. No member is missing, and none is unknown.
 #[test]
 fn members(rt: HostRuntime) {
-    let cases = [
-        ("\"lock\":[[0,1,1]],\"version\":2}", Some(2)),
-        ("\"lock\":[[0,1,1]],\"version\":1,\"width\":1}", Some(2)),
-        ("\"lock\":[[0,1,1]],\"version\":0}", Some(2)),
-        ("\"lock\":[[0,1,1]],\"version\":1}", None),
-        ("\"lock\":[[0,1,1]],\"version\":2,\"width\":0}", Some(3)),
-        ("\"lock\":[[0,1,1]],\"version\":2,\"width\":9}", Some(3)),
-        ("\"lock\":[[0,1,1]],\"version\":2,\"width\":2}", Some(4)),
-        ("\"lock\":[[0,1,1]],\"version\":2,\"width\":-0}", Some(1)),
-        ("\"lock\":[[0,1,1]],\"version\":2,\"width\":1.0}", Some(1)),
-        ("\"lock\":[[0,1,1]],\"version\":2,\"width\":1e0}", Some(1)),
-        ("\"lock\":[[0,1,1]],\"version\":2,\"width\":\"1\"}", Some(1)),
-        ("\"lock\":[[0,1,1]],\"version\":2,\"width\":null}", Some(1)),
-        (
-            "\"lock\":[[0,1,1]],\"version\":18446744073709551616,\"width\":1}",
-            Some(1),
-        ),
-        (
-            "\"lock\":[[0,1,1]],\"version\":18446744073709551615,\"width\":1}",
-            Some(2),
-        ),
-        ("\"lock\":[[0,1,1]],\"version\":1e999,\"width\":1}", Some(1)),
-        ("\"lock\":[[0,1]],\"version\":2,\"width\":1}", Some(1)),
-        ("\"lock\":[[0,1,1,0]],\"version\":2,\"width\":1}", Some(1)),
-        ("\"lock\":[[0,1,true]],\"version\":2,\"width\":1}", Some(1)),
-        ("\"lock\":[0,1,1],\"version\":2,\"width\":1}", Some(1)),
-        ("\"lock\":{},\"version\":2,\"width\":1}", Some(1)),
-        ("\"lock\":[[0,1,1]],\"width\":1}", Some(1)),
-        ("\"lock\":[[0,1,1]]}", Some(1)),
-        (
-            "\"lock\":[[0,1,1]],\"version\":2,\"width\":1,\"wide\":1}",
-            Some(1),
-        ),
-        (
-            "\"lock\":[[0,1,1]],\"version\":2,\"width\":1,\"zone\":1}",
-            Some(1),
-        ),
-        (
-            "\"lock\":[[0,1,1]],\"version\":2,\"width\":1,\"\\ud800\":1}",
-            Some(1),
-        ),
-        ("\"lock\":[[0,1,1]],\"version\":2,\"width\":1} 1", Some(1)),
-    ];
-    assert_eq!(rt; first_unlike(rt.alloc(), &cases), None);
+    assert_eq!(rt; first_unlike(rt.alloc(), HEAD, MEMBERS), None);
     assert!(rt; rule_of(rt.alloc(), b"{\"cap\xff\":1}") == Some(1));
 }
 
@@ -307,31 +276,32 @@ fn breaks(alloc: Global, image: &Image, rule: Option<u64>) -> bool {
     first_rule(image) == rule && widen(alloc, image, 9).err() == Some(refused)
 }
 
-#[test]
-fn images_made_by_hand(rt: HostRuntime) {
-    for (version, width, rule) in [
-        (1, 1, None),
-        (2, 1, None),
-        (1, 2, Some(2)),
-        (1, 9, Some(2)),
-        (3, 1, Some(2)),
-        (2, 9, Some(3)),
-        (2, 0, Some(3)),
-    ] {
-        let is_so = match by_hand(rt.alloc(), version, width) {
-            Ok(image) => breaks(rt.alloc(), &image, rule),
-            Err(_) => false,
-        };
-        assert!(rt; is_so, "version {version} and width {width}");
+/// Does an image of this version and this width break this rule?
+fn is_rule(alloc: Global, version: u64, width: u64, rule: Option<u64>) -> bool {
+    match by_hand(alloc, version, width) {
+        Ok(image) => breaks(alloc, &image, rule),
+        Err(_) => false,
     }
 }
 
-/// The start of an image that was read, if a judge takes it.
-fn started(alloc: Global, text: &[u8]) -> Result<Start, Refusal> {
-    let image = read_image(alloc, text)?;
-    let start = start_of(alloc, &image)?;
-    let _judge = Judge::from_start(alloc, &start)?;
-    Ok(start)
+#[test]
+fn images_made_by_hand(rt: HostRuntime) {
+    let alloc = rt.alloc();
+    assert!(rt; is_rule(alloc, 1, 1, None) && is_rule(alloc, 2, 1, None));
+    assert!(rt; is_rule(alloc, 1, 2, Some(2)) && is_rule(alloc, 1, 9, Some(2)));
+    assert!(rt; is_rule(alloc, 3, 1, Some(2)));
+    assert!(rt; is_rule(alloc, 2, 9, Some(3)) && is_rule(alloc, 2, 0, Some(3)));
+}
+
+/// The start of an image that is read.
+fn start_in(alloc: Global, text: &str) -> Result<Start, Refusal> {
+    let image = read_image(alloc, text.as_bytes())?;
+    start_of(alloc, &image)
+}
+
+/// Does a judge take it?
+fn is_taken(alloc: Global, start: &Start) -> bool {
+    Judge::from_start(alloc, start).is_ok()
 }
 
 /// Is it the start of one that died inside, with so many messages shown, and this one pending?
@@ -344,27 +314,21 @@ fn is_start(start: &Start, shown: usize, pending: Option<Message>) -> bool {
         && !start.ruined
 }
 
+/// Is that the start of the image of this text, and does a judge take it?
+fn starts_with(alloc: Global, text: &str, shown: usize, pending: Option<Message>) -> bool {
+    match start_in(alloc, text) {
+        Ok(start) => is_start(&start, shown, pending) && is_taken(alloc, &start),
+        Err(_) => false,
+    }
+}
+
 #[test]
 fn starts(rt: HostRuntime) {
-    let Ok(value) = Body::new(&[77]) else {
-        panic!(rt; "no body")
-    };
-    let seventy_seven = Message {
-        sender: 0,
-        seq: 1,
-        value,
-    };
-    for (text, shown, pending) in [
-        (SMALLEST, 0, None),
-        (TORN, 0, Some(seventy_seven)),
-        (SHOWN, 1, None),
-    ] {
-        let is_so = match started(rt.alloc(), text.as_bytes()) {
-            Ok(start) => is_start(&start, shown, pending),
-            Err(_) => false,
-        };
-        assert!(rt; is_so, "{text}");
-    }
+    let seventy_seven = Phrase::read("message 0 1 77").message();
+    assert!(rt; seventy_seven.is_some());
+    assert!(rt; starts_with(rt.alloc(), SMALLEST, 0, None));
+    assert!(rt; starts_with(rt.alloc(), TORN, 0, seventy_seven));
+    assert!(rt; starts_with(rt.alloc(), SHOWN, 1, None));
 }
 
 /// Are these ahead of a process?
@@ -375,17 +339,27 @@ fn are_ahead(start: &Start, p: usize, names: &[u64]) -> bool {
     }
 }
 
+/// Four processes: one in the doorway, two ready, and one out, of a closed and ruined mailbox.
+const FOUR: &str =
+    "{\"cap\":1,\"data\":[1,1,0,0,0,0,0,0,0,0,0,0,0,0,0,0,0,0],\"limit\":10,\"lock\":[[1,0,0],[0,5,0],[1,3,0],[0,0,1]],\"version\":2,\"width\":1}";
+
+fn is_start_of_four(start: &Start) -> bool {
+    let phases = [Phase::Door, Phase::Ready, Phase::Ready, Phase::Out];
+    start.phases.as_slice() == phases.as_slice()
+        && start.ahead.as_slice().len() == 4
+        && are_ahead(start, 0, &[1, 2])
+        && are_ahead(start, 1, &[2])
+        && are_ahead(start, 2, &[])
+        && are_ahead(start, 3, &[])
+        && start.closed
+        && start.ruined
+}
+
 #[test]
 fn who_is_ahead_in_a_start(rt: HostRuntime) {
-    let text =
-        b"{\"cap\":1,\"data\":[1,1,0,0,0,0,0,0,0,0,0,0,0,0,0,0,0,0],\"limit\":10,\"lock\":[[1,0,0],[0,5,0],[1,3,0],[0,0,1]],\"version\":2,\"width\":1}";
-    let Ok(start) = started(rt.alloc(), text) else {
-        panic!(rt; "no start")
+    let is_so = match start_in(rt.alloc(), FOUR) {
+        Ok(start) => is_start_of_four(&start) && is_taken(rt.alloc(), &start),
+        Err(_) => false,
     };
-    let phases = [Phase::Door, Phase::Ready, Phase::Ready, Phase::Out];
-    assert!(rt; start.phases.as_slice() == phases.as_slice());
-    assert!(rt; start.ahead.as_slice().len() == 4);
-    assert!(rt; are_ahead(&start, 0, &[1, 2]) && are_ahead(&start, 1, &[2]));
-    assert!(rt; are_ahead(&start, 2, &[]) && are_ahead(&start, 3, &[]));
-    assert!(rt; start.closed && start.ruined);
+    assert!(rt; is_so);
 }

@@ -11,11 +11,19 @@ mod images;
 #[cfg(test)]
 mod judges;
 #[cfg(test)]
+mod machines;
+#[cfg(test)]
 mod mailboxes;
+#[cfg(test)]
+mod memory;
+#[cfg(test)]
+mod own_steps;
 #[cfg(test)]
 mod phrase;
 #[cfg(test)]
 mod played;
+#[cfg(test)]
+mod redo;
 #[cfg(test)]
 mod torn;
 #[cfg(test)]

@@ -1,7 +1,257 @@
-//! Worked rows of the mailbox, over words in memory that stop once.
+//! The mailbox's tasks, layouts and content: every task and every reply, each cause of a refusal, words that keep the
+//! rules of the content, words that break one, and each request for memory refused.
 
-mod contents;
-mod memory;
-mod redo;
-mod refusals;
-mod tasks;
+use super::memory::{Memory, are_messages};
+use super::phrase::Phrase;
+use linked_list_allocator::LocalHeap;
+use redomail::{Job, Layout, Next, Reply, Task, content};
+use rmecore::{Body, Refusal};
+use std::alloc::{AllocError, Global};
+
+const ONE: Layout = Layout {
+    procs: 1,
+    cap: 1,
+    width: 1,
+};
+
+/// Each task with its process, its calls and its reply.
+const TASKS: &str =
+    "append 0 0 1 2: calls 3 out-of-order; append 0 2 1 2: calls 3 out-of-order; append 0 1 1 2: calls 15 stored; append 0 1 3 4: calls 3 already; append 1 1 3 4: calls 15 stored; put 1 3 9: calls 1 put; get 0 3: calls 1 word 9; get 0 2: calls 1 word 0; append 0 2 1 2: calls 3 full; close 0: calls 2 closed-now; close 1: calls 1 already-closed; append 0 2 1 2: calls 3 closed; append 0 1 1 2: calls 3 already; repair 1: calls 1 nothing-to-mend; check 1: calls 1 not-ruined; ruin 1: calls 1 put; check 0: calls 1 ruined";
+
+/// The first task that goes wrong, counted from 1, and 0 for the words or the messages at the end.
+fn first_wrong_task(alloc: Global, memory: &mut Memory) -> Option<u64> {
+    let words = [
+        1, 1, 2, 0, 1, 1, 3, 4, 0, 0, 0, 9, 1, 1, 0, 1, 1, 2, 1, 1, 3, 4,
+    ];
+    let wrong = memory.first_wrong(TASKS);
+    if wrong.is_some() {
+        return wrong;
+    }
+    let are_so = memory.words.as_slice() == words.as_slice()
+        && memory.shows(alloc, "message 0 1 1 2; message 1 1 3 4");
+    if are_so { None } else { Some(0) }
+}
+
+/// Two senders in a mailbox of two places with two words a value.
+#[test]
+fn every_reply(rt: HostRuntime) {
+    let layout = Layout {
+        procs: 2,
+        cap: 2,
+        width: 2,
+    };
+    let wrong = match Memory::new(rt.alloc(), layout, 22) {
+        Ok(mut memory) => first_wrong_task(rt.alloc(), &mut memory),
+        Err(_) => Some(0),
+    };
+    assert_eq!(rt; wrong, None);
+}
+
+/// Are count and armed these?
+fn are_heads(memory: &Memory, count: u64, armed: u64) -> bool {
+    memory.words.get(2) == Some(&count) && memory.words.get(3) == Some(&armed)
+}
+
+fn is_repaired(alloc: Global, memory: &mut Memory, value: Body) -> bool {
+    memory.is_stopped(0, Task::Append { seq: 1, value }, 13)
+        && are_heads(memory, 1, 1)
+        && memory.is_answered(0, Task::Repair, Reply::Mended(true), 10)
+        && are_heads(memory, 1, 0)
+        && memory.shows(alloc, "message 0 1 5")
+}
+
+/// A repair of a record that stands whole, at capacity 2: count stays. The last of the append's 13 calls would clear armed.
+#[test]
+fn repair_of_what_is_done(rt: HostRuntime) {
+    let layout = Layout {
+        procs: 1,
+        cap: 2,
+        width: 1,
+    };
+    let is_so = match (Memory::new(rt.alloc(), layout, 18), Body::new(&[5])) {
+        (Ok(mut memory), Ok(value)) => is_repaired(rt.alloc(), &mut memory, value),
+        _ => false,
+    };
+    assert!(rt; is_so);
+}
+
+/// The number of the refusal of a task, in a mailbox of these sizes; 0 where it is not refused, or no task.
+fn refusal_of(sizes: &str, task: &str) -> u64 {
+    let sizes = Phrase::read(sizes);
+    let layout = Layout {
+        procs: sizes.number(0),
+        cap: sizes.number(1),
+        width: sizes.number(2),
+    };
+    let phrase = Phrase::read(task);
+    let refusal = match phrase.task() {
+        Some(task) => Job::new(layout, phrase.number(0), task).err(),
+        None => Some(Refusal::OutOfMemory),
+    };
+    match refusal {
+        Some(refusal) => refusal.number().unwrap_or(99),
+        None => 0,
+    }
+}
+
+/// Each cause of a refusal, and which comes first.
+#[test]
+fn refusals_in_order(rt: HostRuntime) {
+    let rows = [
+        ("sizes 0 0 0", "get 9 4", 1),
+        ("sizes 65 1 1", "close 0", 1),
+        ("sizes 1 0 0", "get 9 4", 8),
+        ("sizes 1 65537 0", "get 9 4", 8),
+        ("sizes 1 1 0", "get 1 4", 3),
+        ("sizes 1 1 0", "put 0 4 1", 13),
+        ("sizes 1 1 0", "get 0 3", 15),
+        ("sizes 1 1 9", "repair 0", 15),
+        ("sizes 64 65536 1", "append 63 1 1 2", 15),
+        ("sizes 64 65536 3", "append 63 1 1 2", 15),
+        ("sizes 64 65536 2", "append 63 1 1 2", 0),
+        ("sizes 1 1 8", "put 0 3 5", 0),
+    ];
+    for (sizes, task, number) in rows {
+        assert!(rt; refusal_of(sizes, task) == number, "{task} in {sizes}");
+    }
+}
+
+/// What comes after the first word that a task reads.
+fn after(task: Task, word: u64) -> Option<Next> {
+    match Job::new(ONE, 0, task) {
+        Ok(mut job) => {
+            job.feed(word);
+            Some(job.next())
+        }
+        Err(_) => None,
+    }
+}
+
+/// Any armed word but 0 counts as 1, on words that no lawful image has; closed and ruined are asked for exactly 1. A job
+/// that is done goes on with nothing.
+#[test]
+fn odd_flags(rt: HostRuntime) {
+    assert!(rt; after(Task::Repair, 0) == Some(Next::Done(Reply::Mended(false))));
+    assert!(rt; after(Task::Repair, 1) == Some(Next::Get(4)));
+    assert!(rt; after(Task::Repair, 5) == Some(Next::Get(4)));
+    assert!(rt; after(Task::Close, 1) == Some(Next::Done(Reply::AlreadyClosed)));
+    assert!(rt; after(Task::Close, 5) == Some(Next::Put(1, 1)));
+    assert!(rt; after(Task::Check, 5) == Some(Next::Done(Reply::Ruined(false))));
+    let Ok(mut job) = Job::new(ONE, 0, Task::Check) else {
+        panic!(rt; "no job")
+    };
+    assert!(rt; job.next() == Next::Get(0));
+    job.feed(1);
+    assert!(rt; job.next() == Next::Done(Reply::Ruined(true)));
+    job.feed(0);
+    assert!(rt; job.next() == Next::Done(Reply::Ruined(true)));
+}
+
+/// Sums and products are held at the greatest u64: a place that no layout has.
+#[test]
+fn indexes_are_held(rt: HostRuntime) {
+    let layout = Layout {
+        procs: 2,
+        cap: 3,
+        width: 1,
+    };
+    assert!(rt; layout.board(0) == 7 && layout.last(1) == 12);
+    assert!(rt; layout.place(2, 1) == 20 && layout.words() == 22);
+    assert!(rt; layout.place(18446744073709551615, 0) == 18446744073709551615);
+    assert!(rt; layout.place(6148914691236517205, 2) == 18446744073709551615);
+}
+
+const SOUND: [u64; 15] = [0, 0, 1, 0, 0, 1, 77, 0, 0, 0, 0, 1, 0, 1, 77];
+
+/// Is this no content?
+fn is_misshapen(alloc: Global, layout: Layout, words: &[u64]) -> bool {
+    match content(alloc, layout, words) {
+        Ok(_) => false,
+        Err(refusal) => refusal == Refusal::BadShape,
+    }
+}
+
+/// The first of these changes of a word with which the words are content still.
+fn first_sound(alloc: Global, words: &[u64; 15], changes: &[(usize, u64)]) -> Option<usize> {
+    for (i, v) in changes {
+        let mut changed = *words;
+        if let Some(word) = changed.get_mut(*i) {
+            *word = *v;
+        }
+        if !is_misshapen(alloc, ONE, &changed) {
+            return Some(*i);
+        }
+    }
+    None
+}
+
+/// Are these words no content of one process's mailbox of these sizes?
+fn is_no_layout(alloc: Global, cap: u64, width: u64, words: &[u64]) -> bool {
+    let layout = Layout {
+        procs: 1,
+        cap,
+        width,
+    };
+    is_misshapen(alloc, layout, words)
+}
+
+fn is_sound(alloc: Global, words: &[u64]) -> bool {
+    content(alloc, ONE, words).is_ok()
+}
+
+/// Words of one process, one place and one word a value that break a rule, each.
+#[test]
+fn broken_words(rt: HostRuntime) {
+    let alloc = rt.alloc();
+    assert!(rt; is_sound(alloc, &SOUND));
+    let changes = [(0, 2), (1, 2), (2, 2), (3, 2), (11, 0), (12, 1), (13, 2)];
+    assert_eq!(rt; first_sound(alloc, &SOUND, &changes), None);
+    assert!(rt; is_no_layout(alloc, 1, 1, &SOUND[..14]) && is_no_layout(alloc, 1, 1, &[]));
+    assert!(rt; is_no_layout(alloc, 1, 9, &[0; 31]) && is_no_layout(alloc, 1, 0, &[0; 13]));
+    assert!(rt; is_no_layout(alloc, 18446744073709551615, 1, &SOUND));
+}
+
+/// Words with an armed record, at each point of its apply steps, and with one thing changed.
+#[test]
+fn torn_words(rt: HostRuntime) {
+    let alloc = rt.alloc();
+    // armed, nothing applied
+    let torn = [0, 0, 0, 1, 0, 1, 77, 0, 0, 0, 0, 0, 0, 0, 0];
+    // the entry and the last number stand
+    let whole = [0, 0, 0, 1, 0, 1, 77, 0, 0, 0, 0, 1, 0, 1, 77];
+    // count too
+    let shown = [0, 0, 1, 1, 0, 1, 77, 0, 0, 0, 0, 1, 0, 1, 77];
+    assert!(rt; is_sound(alloc, &torn) && is_sound(alloc, &whole) && is_sound(alloc, &shown));
+    let changes = [(1, 1), (4, 1), (5, 2), (11, 2)];
+    assert_eq!(rt; first_sound(alloc, &torn, &changes), None);
+    let changes = [(5, 2), (6, 78), (11, 2), (13, 2), (14, 78)];
+    assert_eq!(rt; first_sound(alloc, &whole, &changes), None);
+    assert_eq!(rt; first_sound(alloc, &shown, &changes), None);
+}
+
+/// What the content of sound words is, with so much memory: None where it is refused.
+fn content_within(alloc: Global, budget: usize) -> Result<Option<bool>, AllocError> {
+    let heap = LocalHeap::new(alloc, budget)?;
+    let answered = match content(&heap, ONE, &SOUND) {
+        Ok(messages) => Some(are_messages(&messages, "message 0 1 77")),
+        Err(Refusal::OutOfMemory) => None,
+        Err(_) => Some(false),
+    };
+    Ok(answered)
+}
+
+/// Each request for memory is refused in turn, by a budget that grows: nothing but want of memory is answered until the
+/// content is.
+#[test]
+fn refused_memory(rt: HostRuntime) {
+    let mut refused = 0u64;
+    let mut last = Ok(None);
+    for budget in 0..100usize {
+        last = content_within(rt.alloc(), budget.saturating_mul(16));
+        if last != Ok(None) {
+            break;
+        }
+        refused = refused.saturating_add(1);
+    }
+    assert!(rt; refused > 0 && last == Ok(Some(true)));
+}

@@ -1,6 +1,6 @@
 //! Phrases: a word, numbers, and what stands behind them, as `append 0 1 77` or `step 0 8 clean`.
 
-use redomail::{Deed, Reply};
+use redomail::{Deed, Message, Reply, Task};
 use rmecore::{Body, Found, Outer};
 use rmeworld::{Answer, Call};
 
@@ -19,6 +19,20 @@ pub fn cut<'a>(text: &mut &'a str, separator: &str) -> &'a str {
     let (part, rest) = text.split_once(separator).unwrap_or((text, ""));
     *text = rest;
     part
+}
+
+/// The place of a name among names that have strokes between them.
+pub fn place(names: &str, name: &str) -> Option<u64> {
+    let mut rest = names;
+    for at in 0..names.len() as u64 {
+        if rest.is_empty() {
+            break;
+        }
+        if cut(&mut rest, "|") == name {
+            return Some(at);
+        }
+    }
+    None
 }
 
 impl<'a> Phrase<'a> {
@@ -58,100 +72,103 @@ impl<'a> Phrase<'a> {
         Body::new(self.numbers(from)).ok()
     }
 
-    fn outer(&self) -> Option<Outer> {
+    /// The deed of the lock that it names, as a report does.
+    pub fn outer(&self) -> Option<Outer> {
         let p = self.number(0);
-        let outer = if self.word == "begin" {
-            Outer::Begin(p)
-        } else if self.word == "ready" {
-            Outer::Ready(p)
-        } else if self.word == "enter" {
-            Outer::Enter(p)
-        } else if self.word == "crash" {
-            Outer::Crash(p)
-        } else if self.word == "reenter" {
-            Outer::Reenter(p)
-        } else if self.word == "leave" {
-            Outer::Leave(p)
-        } else if self.word == "quit" {
-            Outer::Quit(p)
-        } else {
-            return None;
-        };
-        Some(outer)
+        match place("begin|ready|enter|crash|reenter|leave|quit", self.word)? {
+            0 => Some(Outer::Begin(p)),
+            1 => Some(Outer::Ready(p)),
+            2 => Some(Outer::Enter(p)),
+            3 => Some(Outer::Crash(p)),
+            4 => Some(Outer::Reenter(p)),
+            5 => Some(Outer::Leave(p)),
+            _ => Some(Outer::Quit(p)),
+        }
     }
 
-    /// The deed that it names, as a report does.
+    /// The deed that it names.
     pub fn deed(&self) -> Option<Deed> {
         let p = self.number(0);
-        if self.word == "commit" {
-            let seq = self.number(1);
-            return Some(Deed::Commit {
+        match place("commit|show|close|ruin", self.word) {
+            Some(0) => Some(Deed::Commit {
                 p,
-                seq,
+                seq: self.number(1),
                 v: self.body(2)?,
-            });
-        }
-        if self.word == "show" {
-            let at = self.number(1);
-            let seq = self.number(2);
-            return Some(Deed::Show {
+            }),
+            Some(1) => Some(Deed::Show {
                 p,
-                at,
-                seq,
+                at: self.number(1),
+                seq: self.number(2),
                 v: self.body(3)?,
-            });
+            }),
+            Some(2) => Some(Deed::Close { p }),
+            Some(3) => Some(Deed::Ruin { p }),
+            _ => Some(Deed::Outer(self.outer()?)),
         }
-        if self.word == "close" {
-            return Some(Deed::Close { p });
+    }
+
+    /// The message that its numbers tell: `message 0 1 77`.
+    pub fn message(&self) -> Option<Message> {
+        Some(Message {
+            sender: self.number(0),
+            seq: self.number(1),
+            value: self.body(2)?,
+        })
+    }
+
+    /// The task of the mailbox that it asks for.
+    pub fn task(&self) -> Option<Task> {
+        match place("repair|close|ruin|check|get|put|append", self.word)? {
+            0 => Some(Task::Repair),
+            1 => Some(Task::Close),
+            2 => Some(Task::Ruin),
+            3 => Some(Task::Check),
+            4 => Some(Task::BoardGet(self.number(1))),
+            5 => Some(Task::BoardPut(self.number(1), self.number(2))),
+            _ => Some(Task::Append {
+                seq: self.number(1),
+                value: self.body(2)?,
+            }),
         }
-        if self.word == "ruin" {
-            return Some(Deed::Ruin { p });
-        }
-        Some(Deed::Outer(self.outer()?))
     }
 
     /// The call that it asks for.
     pub fn call(&self) -> Option<Call> {
-        let call = if self.word == "lock" {
-            Call::Lock
-        } else if self.word == "unlock" {
-            Call::Unlock
-        } else if self.word == "consistent" {
-            Call::Consistent
-        } else if self.word == "recover" {
-            Call::Recover
-        } else if self.word == "withdraw" {
-            Call::Withdraw
-        } else if self.word == "close" {
-            Call::Close
-        } else if self.word == "get" {
-            Call::Get(self.number(1))
-        } else if self.word == "put" {
-            Call::Put(self.number(1), self.number(2))
-        } else if self.word == "append" {
-            Call::Append {
+        let names = "lock|unlock|consistent|recover|withdraw|close|get|put|append";
+        match place(names, self.word)? {
+            0 => Some(Call::Lock),
+            1 => Some(Call::Unlock),
+            2 => Some(Call::Consistent),
+            3 => Some(Call::Recover),
+            4 => Some(Call::Withdraw),
+            5 => Some(Call::Close),
+            6 => Some(Call::Get(self.number(1))),
+            7 => Some(Call::Put(self.number(1), self.number(2))),
+            _ => Some(Call::Append {
                 seq: self.number(1),
                 value: self.body(2)?,
-            }
-        } else {
-            return None;
-        };
-        Some(call)
+            }),
+        }
     }
 }
 
 /// What a recovering process finds, by its name.
 pub fn found_of(name: &str) -> Option<Found> {
-    if name == "found idle" {
-        Some(Found::Idle)
-    } else if name == "found left" {
-        Some(Found::Left)
-    } else if name == "found doorway" {
-        Some(Found::Doorway)
-    } else if name == "found waiting" {
-        Some(Found::Waiting)
-    } else if name == "found inside" {
-        Some(Found::Inside)
+    let names = "found idle|found left|found doorway|found waiting|found inside";
+    match place(names, name)? {
+        0 => Some(Found::Idle),
+        1 => Some(Found::Left),
+        2 => Some(Found::Doorway),
+        3 => Some(Found::Waiting),
+        _ => Some(Found::Inside),
+    }
+}
+
+/// The word of the board that is told: `word 9`.
+fn word_of(name: &str) -> Option<Reply> {
+    let phrase = Phrase::read(name);
+    if phrase.word == "word" {
+        Some(Reply::Word(phrase.number(0)))
     } else {
         None
     }
@@ -159,53 +176,42 @@ pub fn found_of(name: &str) -> Option<Found> {
 
 /// The reply of the mailbox, by its name.
 pub fn reply_of(name: &str) -> Option<Reply> {
-    if name == "stored" {
-        Some(Reply::Stored)
-    } else if name == "already" {
-        Some(Reply::Already)
-    } else if name == "out-of-order" {
-        Some(Reply::OutOfOrder)
-    } else if name == "full" {
-        Some(Reply::Full)
-    } else if name == "closed" {
-        Some(Reply::Closed)
-    } else if name == "closed-now" {
-        Some(Reply::ClosedNow)
-    } else if name == "already-closed" {
-        Some(Reply::AlreadyClosed)
-    } else if name == "mended" {
-        Some(Reply::Mended(true))
-    } else if name == "nothing-to-mend" {
-        Some(Reply::Mended(false))
-    } else if name == "put" {
-        Some(Reply::Done)
-    } else {
-        let phrase = Phrase::read(name);
-        if phrase.word == "word" {
-            Some(Reply::Word(phrase.number(0)))
-        } else {
-            None
-        }
+    let names =
+        "stored|already|out-of-order|full|closed|closed-now|already-closed|mended|nothing-to-mend|put|ruined|not-ruined";
+    match place(names, name) {
+        Some(0) => Some(Reply::Stored),
+        Some(1) => Some(Reply::Already),
+        Some(2) => Some(Reply::OutOfOrder),
+        Some(3) => Some(Reply::Full),
+        Some(4) => Some(Reply::Closed),
+        Some(5) => Some(Reply::ClosedNow),
+        Some(6) => Some(Reply::AlreadyClosed),
+        Some(7) => Some(Reply::Mended(true)),
+        Some(8) => Some(Reply::Mended(false)),
+        Some(9) => Some(Reply::Done),
+        Some(10) => Some(Reply::Ruined(true)),
+        Some(_) => Some(Reply::Ruined(false)),
+        None => word_of(name),
     }
 }
 
 /// The answer of a world, by its name in a report.
 pub fn answer_of(name: &str) -> Option<Answer> {
-    if name == "clean" {
-        Some(Answer::Clean)
-    } else if name == "owner-died" {
-        Some(Answer::OwnerDied)
-    } else if name == "numbers-spent" {
-        Some(Answer::NumbersSpent)
-    } else if name == "not-recoverable" {
-        Some(Answer::NotRecoverable)
-    } else if name == "unlocked" {
-        Some(Answer::Unlocked)
-    } else if name == "withdrawn" {
-        Some(Answer::Withdrawn)
-    } else if let Some(found) = found_of(name) {
-        Some(Answer::Found(found))
-    } else {
-        Some(Answer::Mail(reply_of(name)?))
+    let names = "clean|owner-died|numbers-spent|not-recoverable|unlocked|withdrawn";
+    match place(names, name) {
+        Some(0) => Some(Answer::Clean),
+        Some(1) => Some(Answer::OwnerDied),
+        Some(2) => Some(Answer::NumbersSpent),
+        Some(3) => Some(Answer::NotRecoverable),
+        Some(4) => Some(Answer::Unlocked),
+        Some(_) => Some(Answer::Withdrawn),
+        None => found_or_replied(name),
+    }
+}
+
+fn found_or_replied(name: &str) -> Option<Answer> {
+    match found_of(name) {
+        Some(found) => Some(Answer::Found(found)),
+        None => Some(Answer::Mail(reply_of(name)?)),
     }
 }

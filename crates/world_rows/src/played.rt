@@ -5,10 +5,10 @@
 //! lock words of process 0, `began` for those at the start of its call, `steps`, `blocked` and `deeds` for counts, `data`
 //! for a data word, and `image` for the text of the image.
 
-use super::phrase::{Phrase, answer_of, cut};
+use super::phrase::{Phrase, answer_of, cut, place};
 use redomail::Deed;
 use rmecore::{Own, Refusal};
-use rmeworld::{Answer, Image, World, write_image};
+use rmeworld::{Answer, World, write_image};
 use std::alloc::Global;
 
 /// Takes steps. Is this what the last one is answered, and no other?
@@ -25,25 +25,22 @@ pub fn step(world: &mut World, p: u64, count: u64, wanted: Option<Answer>) -> bo
     true
 }
 
+/// Why what is asked is refused.
+fn refusal_of(world: &mut World, phrase: &Phrase<'_>) -> Option<Refusal> {
+    let p = phrase.number(0);
+    match place("step|crash|steps", phrase.word) {
+        Some(0) => world.advance(p).err(),
+        Some(1) => world.crash(p).err(),
+        Some(_) => world.steps(p).err(),
+        None => world.start(p, phrase.call()?).err(),
+    }
+}
+
 /// Is this refused, with this number?
 fn is_refused(world: &mut World, asked: &str) -> bool {
     let mut line = asked;
     let number = cut(&mut line, " ").parse::<u64>().ok();
-    let phrase = Phrase::read(line);
-    let p = phrase.number(0);
-    let refusal = if phrase.word == "step" {
-        world.advance(p).err()
-    } else if phrase.word == "crash" {
-        world.crash(p).err()
-    } else if phrase.word == "steps" {
-        world.steps(p).err()
-    } else {
-        match phrase.call() {
-            Some(call) => world.start(p, call).err(),
-            None => None,
-        }
-    };
-    match refusal {
+    match refusal_of(world, &Phrase::read(line)) {
         Some(refusal) => number.is_some() && refusal.number() == number,
         None => false,
     }
@@ -69,32 +66,28 @@ fn is_written(alloc: Global, world: &World, text: &str) -> bool {
     }
 }
 
-fn shows(image: &Image, phrase: &Phrase<'_>) -> bool {
+/// Is this word of the image so?
+fn shows(world: &World, phrase: &Phrase<'_>) -> bool {
     let at = phrase.number(0) as usize;
-    if phrase.word == "data" {
-        return image.cells.as_slice().get(at).copied() == Some(phrase.number(1));
+    let Ok(image) = world.image() else {
+        return false;
+    };
+    match place("data|words", phrase.word) {
+        Some(0) => image.cells.as_slice().get(at).copied() == Some(phrase.number(1)),
+        Some(_) => are_words(image.lock.as_slice().get(at).copied(), phrase),
+        None => false,
     }
-    phrase.word == "words" && are_words(image.lock.as_slice().get(at).copied(), phrase)
 }
 
 /// Is what is asked so?
 fn is_so(world: &World, phrase: &Phrase<'_>) -> bool {
     let p = phrase.number(0);
-    if phrase.word == "steps" {
-        return world.steps(p) == Ok(phrase.number(1));
-    }
-    if phrase.word == "blocked" {
-        return world.blocked(p) == Ok(phrase.number(1));
-    }
-    if phrase.word == "deeds" {
-        return world.history().len() as u64 == p;
-    }
-    if phrase.word == "began" {
-        return are_words(world.began(p).ok(), phrase);
-    }
-    match world.image() {
-        Ok(image) => shows(&image, phrase),
-        Err(_) => false,
+    match place("steps|blocked|deeds|began", phrase.word) {
+        Some(0) => world.steps(p) == Ok(phrase.number(1)),
+        Some(1) => world.blocked(p) == Ok(phrase.number(1)),
+        Some(2) => world.history().len() as u64 == p,
+        Some(_) => are_words(world.began(p).ok(), phrase),
+        None => shows(world, phrase),
     }
 }
 
@@ -102,23 +95,23 @@ fn is_so(world: &World, phrase: &Phrase<'_>) -> bool {
 pub fn line(alloc: Global, world: &mut World, text: &str) -> bool {
     let phrase = Phrase::read(text);
     let p = phrase.number(0);
-    if phrase.word == "step" {
-        let wanted = answer_of(phrase.rest);
-        return wanted.is_some() != phrase.rest.is_empty()
-            && step(world, p, phrase.number(1), wanted);
+    match place("step|crash|refused|image", phrase.word) {
+        Some(0) => {
+            let wanted = answer_of(phrase.rest);
+            wanted.is_some() != phrase.rest.is_empty() && step(world, p, phrase.number(1), wanted)
+        }
+        Some(1) => world.crash(p).is_ok(),
+        Some(2) => is_refused(world, text.strip_prefix("refused ").unwrap_or("")),
+        Some(_) => is_written(alloc, world, phrase.rest),
+        None => starts(world, &phrase),
     }
-    if phrase.word == "crash" {
-        return world.crash(p).is_ok();
-    }
-    if phrase.word == "refused" {
-        return is_refused(world, text.strip_prefix("refused ").unwrap_or(""));
-    }
-    if phrase.word == "image" {
-        return is_written(alloc, world, phrase.rest);
-    }
+}
+
+/// Is it a call that is accepted, or is what is asked so?
+fn starts(world: &mut World, phrase: &Phrase<'_>) -> bool {
     match phrase.call() {
-        Some(call) => world.start(p, call).is_ok(),
-        None => is_so(world, &phrase),
+        Some(call) => world.start(phrase.number(0), call).is_ok(),
+        None => is_so(world, phrase),
     }
 }
 

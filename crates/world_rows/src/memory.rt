@@ -3,14 +3,13 @@
 ghost use Rattle.std.specs.Prelude.{◌≡◌, ◌+◌, true, false, if◌then◌else◌};
 ghost use Rattle.redomail.specs.Layout.{held};
 
+use super::phrase::{Phrase, cut, reply_of};
 use redomail::{Cells, Job, Layout, Message, Reply, Stop, Task, content, run_task};
-use rmecore::Body;
 use std::alloc::{AllocError, Global};
-use std::process::Abort;
 
 /// The words, the calls of the task under way, the call at which it stops (0: none), and the stops so far.
 #[derive(Drop)]
-pub(crate) struct Memory {
+pub struct Memory {
     pub words: Vec<u64>,
     pub layout: Layout,
     calls: u64,
@@ -20,7 +19,7 @@ pub(crate) struct Memory {
 
 impl Memory {
     /// New words, all 0.
-    pub(crate) fn new(alloc: Global, layout: Layout, words: usize) -> Result<Memory, AllocError> {
+    pub fn new(alloc: Global, layout: Layout, words: usize) -> Result<Memory, AllocError> {
         Ok(Memory {
             words: vec![in alloc; 0; words]?,
             layout,
@@ -44,7 +43,7 @@ impl Memory {
     }
 
     /// Runs a task of a process, which stops at this call, and tells how many calls it made. None where there is no such task.
-    pub(crate) fn run(
+    pub fn run(
         &mut self,
         sender: u64,
         task: Task,
@@ -59,13 +58,63 @@ impl Memory {
         Some((answer, self.calls))
     }
 
-    /// The content of the words is these messages.
-    pub(crate) fn shows(&self, rt: &impl Abort, alloc: Global, messages: &[Message]) {
-        let Ok(shown) = content(alloc, self.layout, &self.words) else {
-            panic!(rt; "no content");
-        };
-        assert_eq!(rt; shown[..], messages[..]);
+    /// Is a task stopped at this call?
+    pub fn is_stopped(&mut self, sender: u64, task: Task, at: u64) -> bool {
+        self.run(sender, task, at) == Some((Err(Stop), at))
     }
+
+    /// Is a task answered so, after so many calls, where it stops at none?
+    pub fn is_answered(&mut self, sender: u64, task: Task, reply: Reply, calls: u64) -> bool {
+        self.run(sender, task, 0) == Some((Ok(reply), calls))
+    }
+
+    /// Is a task answered as a line says: a task, the number of its calls, and its reply?
+    fn takes(&mut self, text: &str) -> bool {
+        let mut rest = text;
+        let asked = Phrase::read(cut(&mut rest, ": "));
+        let answer = Phrase::read(rest);
+        match (asked.task(), reply_of(answer.rest)) {
+            (Some(task), Some(reply)) => {
+                self.is_answered(asked.number(0), task, reply, answer.number(0))
+            }
+            _ => false,
+        }
+    }
+
+    /// The first line whose task is not answered as it says, counted from 1.
+    pub fn first_wrong(&mut self, script: &str) -> Option<u64> {
+        let mut rest = script;
+        let mut at = 0u64;
+        for _ in 0..script.len() {
+            if rest.is_empty() {
+                break;
+            }
+            at = at.saturating_add(1);
+            if !self.takes(cut(&mut rest, "; ")) {
+                return Some(at);
+            }
+        }
+        None
+    }
+
+    /// Is the content of the words these messages, each with its sender, its number and its value?
+    pub fn shows(&self, alloc: Global, messages: &str) -> bool {
+        match content(alloc, self.layout, &self.words) {
+            Ok(shown) => are_messages(&shown, messages),
+            Err(_) => false,
+        }
+    }
+}
+
+/// Are these the messages?
+pub fn are_messages(shown: &[Message], messages: &str) -> bool {
+    let mut rest = messages;
+    for message in shown {
+        if Phrase::read(cut(&mut rest, "; ")).message() != Some(*message) {
+            return false;
+        }
+    }
+    rest.is_empty()
 }
 
 impl Cells for Memory {
@@ -89,12 +138,4 @@ impl Cells for Memory {
         }
         Ok(())
     }
-}
-
-/// A value of these words.
-pub(crate) fn body(rt: &impl Abort, words: &[u64]) -> Body {
-    let Ok(body) = Body::new(words) else {
-        panic!(rt; "no body");
-    };
-    body
 }

@@ -1,0 +1,103 @@
+//! A lock process by itself, values, and the numbers and texts of refusals.
+
+use rmecore::{Access, Body, CoreCall, Kind, LockProcess, Outer, Refusal, Word};
+use std::alloc::{AllocError, Global};
+
+/// It reads nothing but zeros, up to its doorway.
+fn rereads(process: &mut LockProcess) -> bool {
+    for word in [Word::Choosing(1), Word::Number(1), Word::Inside(1)] {
+        if process.next() != Some(Access::Load(Kind::Reread, word)) {
+            return false;
+        }
+        process.feed(0);
+    }
+    true
+}
+
+/// Does it begin its doorway, and take the number behind the one that it sees?
+fn takes_five(process: &mut LockProcess) -> bool {
+    if process.outlook(0).outer != Some(Outer::Begin(1))
+        || process.feed(0).outer != Some(Outer::Begin(1))
+    {
+        return false;
+    }
+    process.feed(4);
+    if process.next() != Some(Access::Store(Kind::Take, Word::Number(1), 5)) {
+        return false;
+    }
+    process.feed(0);
+    process.number() == Some(5)
+}
+
+/// A process that is fed by hand.
+#[test]
+fn knows_no_word(rt: HostRuntime) {
+    let mut process = LockProcess::new(2, 10, 1);
+    assert!(rt; process.next().is_none());
+    assert!(rt; process.refusal(CoreCall::Unlock) == Some(Refusal::NotOwner));
+    assert!(rt; process.start(CoreCall::Lock).is_ok());
+    assert!(rt; process.call() == Some(CoreCall::Lock));
+    assert!(rt; rereads(&mut process) && takes_five(&mut process));
+    process.crash();
+    assert!(rt; process.next().is_none());
+    assert!(rt; process.refusal(CoreCall::Lock).is_none());
+}
+
+const WORDS: [u64; 9] = [7, 8, 9, 10, 11, 12, 13, 14, 15];
+
+/// Is it as wide, and is this its last word?
+fn is_body(body: &Body, width: u64) -> bool {
+    body.width() == width
+        && body.word(width.saturating_sub(1)) == Ok(width.saturating_add(6))
+        && body.word(width) == Err(Refusal::BadIndex)
+}
+
+#[test]
+fn bodies(rt: HostRuntime) {
+    assert!(rt; Body::new(&[]) == Err(Refusal::BadWidth));
+    assert!(rt; Body::new(&WORDS) == Err(Refusal::BadWidth));
+    for width in 1..9u64 {
+        let is_so = match Body::new(&WORDS[..width as usize]) {
+            Ok(body) => is_body(&body, width),
+            Err(_) => false,
+        };
+        assert!(rt; is_so, "{width} words");
+    }
+    let two = Body::new(&[7, 8]);
+    assert!(rt; two.is_ok() && Body::new(&[7, 8]) == two && Body::new(&[7]) != two);
+    assert!(rt; Body::new(&[7, 0]) != Body::new(&[7]));
+}
+
+fn is_shown(alloc: Global, refusal: Refusal, wanted: &str) -> Result<bool, AllocError> {
+    let text = format!(in alloc; "{refusal}")?;
+    Ok(text.as_str() == wanted)
+}
+
+#[test]
+fn numbers_of_refusals(rt: HostRuntime) {
+    let refusals = [
+        Refusal::BadProcs,
+        Refusal::BadLimit,
+        Refusal::NoSuchProcess,
+        Refusal::CallUnderWay,
+        Refusal::NotOwner,
+        Refusal::AlreadyIn,
+        Refusal::NothingToDo,
+        Refusal::BadCap,
+        Refusal::BadImage { rule: 2 },
+        Refusal::NotInconsistent,
+        Refusal::BadShape,
+        Refusal::Unmended,
+        Refusal::BadIndex,
+        Refusal::NotWaiting,
+        Refusal::BadWidth,
+    ];
+    let mut number = 0u64;
+    for refusal in refusals {
+        number = number.saturating_add(1);
+        assert!(rt; refusal.number() == Some(number), "{number}");
+    }
+    assert!(rt; Refusal::OutOfMemory.number().is_none());
+    let broken = Refusal::BadImage { rule: 2 };
+    assert!(rt; is_shown(rt.alloc(), broken, "the image breaks rule 2") == Ok(true));
+}

@@ -67,106 +67,109 @@ fn first_other(alloc: Global, rows: &[(u64, &str)]) -> Option<(usize, u64)> {
     None
 }
 
+/// Worked lists of deeds.
+const LISTS: [(u64, &str); 12] = [
+    // 0 is ready before 1 begins: 1 can't enter first
+    (
+        2,
+        "begin 0; ready 0; begin 1; ready 1; enter 1 overtaken 1 0",
+    ),
+    (2, "begin 0; ready 0; begin 1; ready 1; enter 0"),
+    // nobody is inside: nothing is committed
+    (1, "commit 0 1 5 not-inside"),
+    // once 0 has withdrawn, 1 waits for nobody
+    (2, "begin 0; ready 0; begin 1; ready 1; quit 0; enter 1"),
+    (2, "begin 0; quit 0; begin 1; ready 1; enter 1"),
+    // 0 is gone, by leaving or by quitting, before 1 enters
+    (
+        2,
+        "begin 0; ready 0; begin 1; ready 1; enter 0; leave 0; enter 1",
+    ),
+    // 0 is back in the doorway, and 1 goes first
+    (
+        2,
+        "begin 0; ready 0; begin 1; ready 1; quit 0; begin 0; ready 0; enter 0 overtaken 0 1",
+    ),
+    // a message is committed and shown, and nobody leaves while it is pending, but where the lock is ruined
+    (
+        1,
+        "begin 0; ready 0; enter 0; commit 0 1 7 8; show 0 0 1 7 8; leave 0",
+    ),
+    (
+        1,
+        "begin 0; ready 0; enter 0; commit 0 1 7 8; leave 0 mail-order",
+    ),
+    (
+        1,
+        "begin 0; ready 0; enter 0; commit 0 1 7 8; ruin 0; leave 0",
+    ),
+    // what is shown is what was committed, also in its width, and whoever died inside shows it later
+    (
+        1,
+        "begin 0; ready 0; enter 0; commit 0 1 7 8; show 0 0 1 7 mail-order",
+    ),
+    (
+        1,
+        "begin 0; ready 0; enter 0; commit 0 1 7; crash 0; reenter 0; show 0 0 1 7; close 0; leave 0",
+    ),
+];
+
 #[test]
 fn worked_lists(rt: HostRuntime) {
-    let rows = [
-        // 0 is ready before 1 begins: 1 can't enter first
-        (
-            2,
-            "begin 0; ready 0; begin 1; ready 1; enter 1 overtaken 1 0",
-        ),
-        (2, "begin 0; ready 0; begin 1; ready 1; enter 0"),
-        // nobody is inside: nothing is committed
-        (1, "commit 0 1 5 not-inside"),
-        // once 0 has withdrawn, 1 waits for nobody
-        (2, "begin 0; ready 0; begin 1; ready 1; quit 0; enter 1"),
-        (2, "begin 0; quit 0; begin 1; ready 1; enter 1"),
-        // 0 is gone, by leaving or by quitting, before 1 enters
-        (
-            2,
-            "begin 0; ready 0; begin 1; ready 1; enter 0; leave 0; enter 1",
-        ),
-        // 0 is back in the doorway, and 1 goes first
-        (
-            2,
-            "begin 0; ready 0; begin 1; ready 1; quit 0; begin 0; ready 0; enter 0 overtaken 0 1",
-        ),
-        // a message is committed and shown, and nobody leaves while it is pending, but where the lock is ruined
-        (
-            1,
-            "begin 0; ready 0; enter 0; commit 0 1 7 8; show 0 0 1 7 8; leave 0",
-        ),
-        (
-            1,
-            "begin 0; ready 0; enter 0; commit 0 1 7 8; leave 0 mail-order",
-        ),
-        (
-            1,
-            "begin 0; ready 0; enter 0; commit 0 1 7 8; ruin 0; leave 0",
-        ),
-        // what is shown is what was committed, also in its width, and whoever died inside shows it later
-        (
-            1,
-            "begin 0; ready 0; enter 0; commit 0 1 7 8; show 0 0 1 7 mail-order",
-        ),
-        (
-            1,
-            "begin 0; ready 0; enter 0; commit 0 1 7; crash 0; reenter 0; show 0 0 1 7; close 0; leave 0",
-        ),
-    ];
-    assert_eq!(rt; first_other(rt.alloc(), &rows), None);
+    assert_eq!(rt; first_other(rt.alloc(), &LISTS), None);
 }
 
 /// Each fault, met at the first and at the last process. One that isn't there does nothing, not even crash. Of two that
 /// are ahead, the lesser is named.
+const FAULTS: [(u64, &str); 16] = [
+    (64, "ready 0 out-of-place"),
+    (64, "ready 63 out-of-place"),
+    (
+        64,
+        "begin 0; ready 0; begin 63; ready 63; enter 0; leave 0; begin 0; ready 0; enter 63; enter 0 two-inside",
+    ),
+    (
+        64,
+        "begin 63; ready 63; begin 0; ready 0; enter 63; leave 63; begin 63; ready 63; enter 0; enter 63 two-inside",
+    ),
+    (
+        64,
+        "begin 63; ready 63; begin 0; ready 0; enter 63; crash 63; enter 0 not-reentered",
+    ),
+    (
+        64,
+        "begin 0; ready 0; begin 63; ready 63; enter 0; crash 0; enter 63 not-reentered",
+    ),
+    (
+        64,
+        "begin 63; ready 63; begin 0; ready 0; enter 0 overtaken 0 63",
+    ),
+    (
+        64,
+        "begin 0; ready 0; begin 63; ready 63; enter 63 overtaken 63 0",
+    ),
+    (64, "begin 0; ready 0; close 0 not-inside"),
+    (64, "begin 63; ready 63; close 63 not-inside"),
+    (64, "begin 0; ready 0; enter 0; commit 0 2 5 mail-order"),
+    (64, "begin 63; ready 63; enter 63; commit 63 2 5 mail-order"),
+    (
+        64,
+        "begin 0; ready 0; enter 0; close 0; commit 0 1 5 after-close",
+    ),
+    (
+        64,
+        "begin 63; ready 63; enter 63; close 63; commit 63 1 5 after-close",
+    ),
+    (64, "crash 64 out-of-place"),
+    (
+        64,
+        "begin 40; ready 40; begin 9; ready 9; begin 63; ready 63; enter 63 overtaken 63 9",
+    ),
+];
+
 #[test]
 fn each_fault(rt: HostRuntime) {
-    let rows = [
-        (64, "ready 0 out-of-place"),
-        (64, "ready 63 out-of-place"),
-        (
-            64,
-            "begin 0; ready 0; begin 63; ready 63; enter 0; leave 0; begin 0; ready 0; enter 63; enter 0 two-inside",
-        ),
-        (
-            64,
-            "begin 63; ready 63; begin 0; ready 0; enter 63; leave 63; begin 63; ready 63; enter 0; enter 63 two-inside",
-        ),
-        (
-            64,
-            "begin 63; ready 63; begin 0; ready 0; enter 63; crash 63; enter 0 not-reentered",
-        ),
-        (
-            64,
-            "begin 0; ready 0; begin 63; ready 63; enter 0; crash 0; enter 63 not-reentered",
-        ),
-        (
-            64,
-            "begin 63; ready 63; begin 0; ready 0; enter 0 overtaken 0 63",
-        ),
-        (
-            64,
-            "begin 0; ready 0; begin 63; ready 63; enter 63 overtaken 63 0",
-        ),
-        (64, "begin 0; ready 0; close 0 not-inside"),
-        (64, "begin 63; ready 63; close 63 not-inside"),
-        (64, "begin 0; ready 0; enter 0; commit 0 2 5 mail-order"),
-        (64, "begin 63; ready 63; enter 63; commit 63 2 5 mail-order"),
-        (
-            64,
-            "begin 0; ready 0; enter 0; close 0; commit 0 1 5 after-close",
-        ),
-        (
-            64,
-            "begin 63; ready 63; enter 63; close 63; commit 63 1 5 after-close",
-        ),
-        (64, "crash 64 out-of-place"),
-        (
-            64,
-            "begin 40; ready 40; begin 9; ready 9; begin 63; ready 63; enter 63 overtaken 63 9",
-        ),
-    ];
-    assert_eq!(rt; first_other(rt.alloc(), &rows), None);
+    assert_eq!(rt; first_other(rt.alloc(), &FAULTS), None);
 }
 
 #[test]

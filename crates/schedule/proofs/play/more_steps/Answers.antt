@@ -3,7 +3,7 @@ use Rattle.std.proofs.lemmas.List.{append-nil}
 use Rattle.std.proofs.lemmas.Result.{err_from_is_err_and}
 use Rattle.schedule.specs.Plays.{halted}
 use Rattle.schedule.specs.Runs.{told_of}
-use Rattle.schedule.proofs.Playing.{unnumbered, played_none, played_more, halts_here, halts_further, told_is, step_more, step_last, step_begun, step_refused, steps_none, is_refused, never_stops, plays_all}
+use Rattle.schedule.proofs.Playing.{unnumbered, played_none, played_more, halts_here, halts_further, step_more, step_last, step_begun, step_refused, steps_none, is_refused, never_stops, plays_all}
 use Rattle.schedule.proofs.play.more_steps.Goals as goal
 
 pub loop-init : goal.loop-init

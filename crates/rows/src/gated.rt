@@ -15,6 +15,8 @@ const MOST_LOOKS: u64 = 10_000_000;
 pub struct Progress {
     askings: AtomicU64,
     answer: AtomicU64,
+    /// How many askings there were when the answer was told.
+    answered_at: AtomicU64,
     gave_up: AtomicU64,
 }
 
@@ -23,6 +25,7 @@ impl Progress {
         let progress = Progress {
             askings: AtomicU64::new(0),
             answer: AtomicU64::new(0),
+            answered_at: AtomicU64::new(0),
             gave_up: AtomicU64::new(0),
         };
         Ok(Arc::new(alloc, progress)?)
@@ -30,6 +33,15 @@ impl Progress {
 
     pub fn has_given_up(&self) -> bool {
         self.gave_up.load(Ordering::SeqCst) > 0
+    }
+
+    /// The worker asked at least so often, and told of this answer behind its last asking; of none where it is 0.
+    pub fn has_told(&self, answer: u64, least_askings: u64) -> bool {
+        let askings = self.askings.load(Ordering::SeqCst);
+        let last = if answer == 0 { 0 } else { askings };
+        askings >= least_askings
+            && self.answer.load(Ordering::SeqCst) == answer
+            && self.answered_at.load(Ordering::SeqCst) == last
     }
 }
 
@@ -104,6 +116,7 @@ impl CrashPlan for Gated {
 
 impl Gate for Gated {
     fn answered(&mut self, call: u64) {
+        self.mine.answered_at.store(self.askings, Ordering::SeqCst);
         self.mine.answer.store(call, Ordering::SeqCst);
     }
 }

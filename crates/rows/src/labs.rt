@@ -27,6 +27,7 @@ fn both_at_once(rt: HostRuntime) -> Result<(), Fail> {
     gates.push(second)?;
     let lab = run_lab(&rt, rt.alloc(), TWO, gates)?;
     assert!(rt; !zero.has_given_up() && !one.has_given_up());
+    assert!(rt; zero.has_told(1, 12) && one.has_told(1, 20));
     assert!(rt;
         are(
             &rt,
@@ -47,6 +48,7 @@ fn numbers_spent(rt: HostRuntime) -> Result<(), Fail> {
     spec.limit = 1;
     let fault = run_lab(&rt, rt.alloc(), spec, gates).err();
     assert!(rt; !zero.has_given_up() && !one.has_given_up());
+    assert!(rt; zero.has_told(1, 12) && one.has_told(0, 7));
     let spent = LockFault::NumbersSpent;
     assert!(rt; fault == Some(LabFault::Member { p: 1, fault: spent }));
     Ok(())
@@ -67,6 +69,7 @@ fn waits_for_the_other<R: Abort + Threads + Wait + Sync>(
     let lab = run_lab(rt, alloc, TWO, gates)?;
     assert_eq!(rt; lab.messages.len(), 2);
     assert!(rt; !zero.has_given_up() && !one.has_given_up(), "worker {p}");
+    assert!(rt; zero.has_told(1, 12) && one.has_told(1, 12), "worker {p}");
     Ok(())
 }
 

@@ -35,6 +35,7 @@ fn both_at_once(rt: HostRuntime) -> Result<(), Fail> {
     gates.push(second)?;
     let lab = run_lab(&rt, rt.alloc(), TWO, gates)?;
     assert!(rt; !zero.has_given_up() && !one.has_given_up());
+    assert!(rt; zero.has_told(1, 12) && one.has_told(1, 20));
     let messages = [message(0, 1)?, message(1, 1_000_001)?];
     assert!(rt; lab.messages.as_slice() == messages.as_slice());
     Ok(())
@@ -59,6 +60,7 @@ fn numbers_spent(rt: HostRuntime) -> Result<(), Fail> {
     spec.limit = 1;
     let fault = run_lab(&rt, rt.alloc(), spec, gates).err();
     assert!(rt; !zero.has_given_up() && !one.has_given_up());
+    assert!(rt; zero.has_told(1, 12) && one.has_told(0, 7));
     let spent = LockFault::NumbersSpent;
     assert!(rt; fault == Some(LabFault::Member { p: 1, fault: spent }));
     Ok(())
@@ -79,6 +81,7 @@ fn waits_for_the_other<R: Abort + Threads + Wait + Sync>(
     let lab = run_lab(rt, alloc, TWO, gates)?;
     assert_eq!(rt; lab.messages.len(), 2);
     assert!(rt; !zero.has_given_up() && !one.has_given_up(), "worker {p}");
+    assert!(rt; zero.has_told(1, 12) && one.has_told(1, 12), "worker {p}");
     Ok(())
 }
 

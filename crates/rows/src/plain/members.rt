@@ -27,6 +27,8 @@ fn keeps_its_place<L: Ledger, R: Abort + Wait>(rt: &R, alloc: Global, blank: Bla
     assert!(rt; one.steps() == 11 && plan.taken() == 12);
     assert!(rt; other.lock_within(rt, &mut plan, 0) == Err(LockFault::NotYet));
     assert!(rt; other.steps() == 9 && plan.taken() == 10);
+    assert!(rt; other.lock_within(rt, &mut plan, 3) == Err(LockFault::NotYet));
+    assert!(rt; other.steps() == 8 && plan.taken() == 9);
     assert!(rt; one.unlock(rt, &mut plan) == Ok(()));
     assert!(rt; one.steps() == 2 && plan.taken() == 3);
     assert!(rt; other.lock_within(rt, &mut plan, 0) == Ok(Entry::Clean));

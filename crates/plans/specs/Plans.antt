@@ -1,5 +1,6 @@
 -- What contracts see of a plan of crashes.
-use Rattle.std.specs.Prelude.{ℕ, ◌+◌, ◌-◌, ◌^◌, nat_lt, if◌then◌else◌, Option, Some, None}
+use Rattle.std.specs.Prelude.{ℕ, zero, suc, ◌+◌, ◌-◌, ◌^◌, nat_lt, if◌then◌else◌, Option, Some, None}
+use Rattle.rmecore.specs.Simulated.{one_more}
 use Rattle.rand_pcg.specs.Lcg.{Lcg}
 
 -- how often a plan was asked, and how often it fell, each held at 2 ^ 64 - 1
@@ -31,3 +32,8 @@ pub record Drawing : Type 0 where
   pub generator : Lcg
   pub per_mille : ℕ
   pub count : Count
+
+-- k more, held at the greatest u64
+abbrev pub so_many_more : ℕ → ℕ → ℕ
+so_many_more zero count = count
+so_many_more (suc k) count = one_more (so_many_more k count)

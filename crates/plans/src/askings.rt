@@ -21,7 +21,7 @@ impl Model for Askings {
 }
 
 impl Askings {
-    ghost use Rattle.plans.specs.Plans.{next_asking, unasked};
+    ghost use Rattle.plans.specs.Plans.{next_asking, unasked, so_many_more};
 
     /// Before the first asking.
     pub fn new() -> Askings
@@ -38,6 +38,13 @@ impl Askings {
         ensures { result ≡ next_asking self.now }
     {
         self.asked.checked_add(1)
+    }
+
+    /// So many more askings, at none of which the plan falls.
+    pub fn count_calm(&mut self, askings: u64)
+        ensures { self.new ≡ record self.old { asked = so_many_more askings self.old.asked } }
+    {
+        self.asked = self.asked.saturating_add(askings);
     }
 
     /// One more asking, at which the plan falls or not.

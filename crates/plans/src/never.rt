@@ -1,6 +1,6 @@
 //! No crash.
 
-ghost use Rattle.std.specs.Prelude.{◌≡◌, if◌then◌else◌, false};
+ghost use Rattle.std.specs.Prelude.{◌≡◌, if◌then◌else◌, true, false};
 ghost use Rattle.rmecore.specs.Simulated.{one_more};
 
 use crate::askings::Askings;
@@ -37,6 +37,16 @@ impl CrashPlan for Never {
     ghost asked = { λ n. n.asked };
 
     ghost fallen = { λ n. n.fallen };
+
+    ghost calm = { λ _. true };
+
+    fn is_calm(&self) -> bool {
+        true
+    }
+
+    fn count_askings(&mut self, askings: u64) {
+        self.askings.count_calm(askings);
+    }
 
     fn falls(&mut self) -> bool
         ensures asked { self.new.asked ≡ one_more self.old.asked }

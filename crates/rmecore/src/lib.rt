@@ -21,7 +21,7 @@ pub mod refusal;
 mod restart;
 pub mod scan;
 pub mod simulated;
-mod stage;
+pub mod stage;
 pub mod tally;
 pub mod word;
 
@@ -41,5 +41,6 @@ pub use progress::Progress;
 pub use refusal::Refusal;
 pub use scan::Scan;
 pub use simulated::Core;
+pub use stage::Stage;
 pub use tally::Tally;
 pub use word::Word;

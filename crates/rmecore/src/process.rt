@@ -329,6 +329,22 @@ impl LockProcess {
         self.after(value).1
     }
 
+    /// Where it stands, in the machine's own terms.
+    pub fn stage(&self) -> Stage
+        ensures { place_of self.now.procs self.now.index result ≡ self.now.place }
+    {
+        self.stage
+    }
+
+    /// A seam of this workspace, for who takes steps of the machine at the words alone, as the running lock's fast path: the
+    /// machine is told where those steps have led. It takes any place, also one that no step leads to.
+    pub fn seam_stand(&mut self, to: Stage)
+        ensures { self.new ≡ record self.old { place = place_of self.old.procs self.old.index to } }
+    {
+        let here = &mut self.stage;
+        *here = to;
+    }
+
     /// Why a call can't be started now, if it can't.
     pub fn refusal(&self, call: CoreCall) -> Option<Refusal>
         ensures { result ≡ start_refusal self.now.place call }

@@ -7,7 +7,7 @@ use Rattle.rmecore.specs.declared.access.Access.{Access}
 use Rattle.rmecore.specs.declared.access.Access.TheVariants.{Load, Store}
 use Rattle.rmecore.specs.declared.outer.Outer.{Outer}
 use Rattle.rmecore.specs.declared.refusal.Refusal.{Refusal}
-use Rattle.rmecore.specs.declared.refusal.Refusal.TheVariants.{NoSuchProcess}
+use Rattle.rmecore.specs.declared.refusal.Refusal.TheVariants.{NoSuchProcess, NothingToDo}
 use Rattle.rmecore.specs.declared.word.Word.{Word}
 use Rattle.rmecore.specs.declared.word.Word.TheVariants.{Choosing as ChoosingOf, Number as NumberOf, Inside as InsideOf, Data as DataAt}
 use Rattle.redomail.specs.declared.deed.Deed.{Deed}
@@ -16,13 +16,13 @@ use Rattle.redomail.specs.Layout.{IsLayout, Words, words_of}
 use Rattle.redomail.specs.Deeds.{deeds_of_put}
 use Rattle.rmeworld.specs.declared.call.Call.{Call}
 use Rattle.rmeworld.specs.Reached.{IsWorld}
-use Rattle.rmeworld.specs.Refused.{start_refusal as spot_refusal}
+use Rattle.rmeworld.specs.Refused.{is_idle, start_refusal as spot_refusal}
 use Rattle.rmeworld.specs.Replayed.{start_refusal, started, advance_refusal, stepped, advanced, crash_refusal, crash_deed, crashed, happening, list_of, the_deed, or_else, mail_by, stepped_if, advanced_if, advanced_by}
-use Rattle.rmeworld.specs.Spot.{Happening}
-use Rattle.rmeworld.specs.Stand.{Stand, spot_of, next_access, IsAllowed, StoresOwn, outcome, started as stand_started, stepped as stand_stepped, crashed as stand_crashed}
+use Rattle.rmeworld.specs.Spot.{Happening, Begins, next_spot}
+use Rattle.rmeworld.specs.Stand.{Stand, spot_of, next_access, IsAllowed, IsLeast, StoresOwn, outcome, started as stand_started, stepped as stand_stepped, crashed as stand_crashed}
 use Rattle.rmeworld.specs.World.{Scene, Can, put_deeds, event_deeds, reading, onward}
-use Rattle.rmeworld.specs.WorldState.{WorldState, absent, stand_at, scene_of, Takes}
-use Rattle.rmeworld.proofs.Ordered.{IsOrdered, ordered_crashed, ordered_stepped, goes, allowed, owns, begins}
+use Rattle.rmeworld.specs.WorldState.{WorldState, absent, stand_at, spot_at, scene_of, Takes}
+use Rattle.rmeworld.proofs.Ordered.{IsOrdered, ordered_crashed, ordered_stepped, goes, allowed, owns, least, has_step, begins}
 use Rattle.rmeworld.proofs.StoryGrows.{Comes, comes_more}
 use Rattle.rmeworld.proofs.WorldSteps.{IsStep, step_takes, start_takes, crash_takes}
 use Rattle.rmeworld.proofs.Worlds.{world_start, world_step, world_crash, deeds_are}
@@ -47,7 +47,7 @@ comes_by {s = s} {new = new} {e = e} l limit first history layout limited takes 
     let scene : scene_of new ≡ onward l limit (scene_of s) e = takes.scene ∙ (λ i. onward (layout i) (limited i) (scene_of s) e) in
     subst (λ w. Comes l limit first w (history ++ event_deeds l (scene_of s) e)) (sym scene) (comes_more l limit first (scene_of s) history e comes can)
 
-below_if : (p n : ℕ) (o : Option Refusal) → (if nat_lt p n then o else Some NoSuchProcess) ≡ None → (p < n) × (o ≡ None)
+pub below_if : (p n : ℕ) (o : Option Refusal) → (if nat_lt p n then o else Some NoSuchProcess) ≡ None → (p < n) × (o ≡ None)
 below_if p n o h = elim (cases_Bool (nat_lt p n)) [
   | inl e ↦ (ltb-true p n e, rw e at h)
   | inr e ↦ let is : Some NoSuchProcess ≡ None = rw e at h in absurd (apart is)
@@ -56,18 +56,25 @@ below_if p n o h = elim (cases_Bool (nat_lt p n)) [
     apart : Some NoSuchProcess ≡ None → ⊥
     apart is = cc
 
-pub follows_started : {first : Scene} {history : List Deed} (s : WorldState) (p : ℕ) (call : Call) → Follows first s history → start_refusal s p call ≡ None → Follows first (started s p call) history
-follows_started {first = first} {history = history} s p call h may =
+-- a start that is not refused is the definition's
+pub start_is : {first : Scene} {history : List Deed} (s : WorldState) (p : ℕ) (call : Call) → Follows first s history → start_refusal s p call ≡ None
+    → (p < s.layout.procs) × (next_spot (stand_at s.processes p).layout (stand_at s.processes p).limit (spot_at s.processes p) (Begins (stand_at s.processes p).index call) ≡ Some (spot_of (stand_started (stand_at s.processes p) call)))
+    × IsOrdered (stand_started (stand_at s.processes p) call) × Takes s (Begins p call) (started s p call)
+start_is s p call h may =
     let has = below_if p s.layout.procs _ may in
     let t : Stand = stand_at s.processes p in
     let seat = h.world.seated.seats p has.0 in
     let lawful = subst IsLayout (sym seat.0) h.world.sized.layout in
     let begun = begins t call lawful (h.ordered p has.0) (subst (λ l. spot_refusal l (spot_of t) call ≡ None) (sym seat.0) has.1) in
-    let takes = start_takes s p call (stand_started t call) (started s p call).tallies h.world.seated has.0 begun.0 in
+    (has.0, begun.0, begun.1, start_takes s p call (stand_started t call) (started s p call).tallies h.world.seated has.0 begun.0)
+
+pub follows_started : {first : Scene} {history : List Deed} (s : WorldState) (p : ℕ) (call : Call) → Follows first s history → start_refusal s p call ≡ None → Follows first (started s p call) history
+follows_started {first = first} {history = history} s p call h may =
+    let is = start_is s p call h may in
     record {
-      world = world_start s p call h.world has.0 begun.0;
-      ordered = ordered_set s p (stand_started t call) h.world.seated.processes_each has.0 begun.1 h.ordered;
-      comes = subst (Comes s.layout s.limit first (scene_of (started s p call))) (append-nil history) (comes_by s.layout s.limit first history refl refl takes h.comes);
+      world = world_start s p call h.world is.0 is.1;
+      ordered = ordered_set s p (stand_started (stand_at s.processes p) call) h.world.seated.processes_each is.0 is.2 h.ordered;
+      comes = subst (Comes s.layout s.limit first (scene_of (started s p call))) (append-nil history) (comes_by s.layout s.limit first history refl refl is.3 h.comes);
     }
 
 pub follows_crashed : {first : Scene} {history : List Deed} (s : WorldState) (p : ℕ) → Follows first s history → crash_refusal s p ≡ None → Follows first (crashed s p) (history ++ crash_deed p ∷ [])
@@ -107,36 +114,58 @@ single_or : (o : Option Outer) (ds : List Deed) → Single ds → Single (or_els
 single_or None ds h = h
 single_or (Some d) ds h = refl
 
-pub follows_advanced : {first : Scene} {history : List Deed} (s : WorldState) (p : ℕ) → Follows first s history → advance_refusal s p ≡ None → Follows first (advanced s p) (history ++ list_of (stepped s p).deed)
-follows_advanced {first = first} {history = history} s p h may = by (next_access t) refl
+-- a step that is not refused is the definition's
+pub record Stepping (s : WorldState) (p : ℕ) : Type 0 where
+  pub access : Access
+  pub step : IsStep s p access
+  pub least : IsLeast (stand_at s.processes p) access
+  pub ordered : IsOrdered (stand_stepped (stand_at s.processes p) (reading (scene_of s) (word_of access)))
+  pub one : list_of (the_deed (event_deeds s.layout (scene_of s) (happening s p access))) ≡ event_deeds s.layout (scene_of s) (happening s p access)
+
+busy : (b : Bool) → (if b then Some NothingToDo else None) ≡ None → b ≡ false
+busy true h = cc
+busy false h = refl
+
+pub step_is : {first : Scene} {history : List Deed} (s : WorldState) (p : ℕ) → Follows first s history → advance_refusal s p ≡ None → Stepping s p
+step_is s p h may = by (next_access t) refl
   where
     t : Stand
     t = stand_at s.processes p
 
-    below : p < s.layout.procs
-    below = (below_if p s.layout.procs _ may).0
+    has : (p < s.layout.procs) × ((if is_idle (spot_of t) then Some NothingToDo else None) ≡ None)
+    has = below_if p s.layout.procs _ may
 
-    by : (o : Option Access) → next_access t ≡ o → Follows first (advanced_if s p o) (history ++ list_of (stepped_if s p o).deed)
-    by None is = subst (Follows first s) (sym (append-nil history)) h
+    by : (o : Option Access) → next_access t ≡ o → Stepping s p
+    by None is = absurd (has_step t (h.ordered p has.0) (busy _ has.1) is)
     by (Some a) is =
-        let seat = h.world.seated.seats p below in
+        let seat = h.world.seated.seats p has.0 in
         let v : ℕ = reading (scene_of s) (word_of a) in
         let lawful = subst IsLayout (sym seat.0) h.world.sized.layout in
         let own : StoresOwn t.index a = subst (λ o. IfSome o (StoresOwn t.index)) is (owns t) in
-        let step : IsStep s p a =
+        let deeds = deeds_are s p a t.index h.world.seated has.0 own is in
         record {
-          filled = h.world.filled;
-          seated = h.world.seated;
-          below = below;
-          next = is;
-          allowed = subst (λ o. IfSome o (IsAllowed t)) is (allowed t);
-          own = own;
-          goes = goes t v lawful (h.ordered p below);
-        } in
-        let deeds = deeds_are s p a t.index h.world.seated below own is in
-        let one : Single (event_deeds s.layout (scene_of s) (happening s p a)) = subst Single deeds (single_or (outcome t (Some a) v).progress.outer _ (single_mail s.layout p (words_of s.cells) a)) in
-        record {
-          world = world_step s p a h.world step;
-          ordered = ordered_set s p (stand_stepped t v) h.world.seated.processes_each below (ordered_stepped t v lawful (h.ordered p below)) h.ordered;
-          comes = subst (Comes s.layout s.limit first (scene_of (advanced_by s p a))) (ap (λ ds. history ++ ds) (sym one)) (comes_by s.layout s.limit first history refl refl (step_takes s p a step) h.comes);
+          access = a;
+          step = record {
+            filled = h.world.filled;
+            seated = h.world.seated;
+            below = has.0;
+            next = is;
+            allowed = subst (λ o. IfSome o (IsAllowed t)) is (allowed t);
+            own = own;
+            goes = goes t v lawful (h.ordered p has.0);
+          };
+          least = subst (λ o. IfSome o (IsLeast t)) is (least t (h.ordered p has.0));
+          ordered = ordered_stepped t v lawful (h.ordered p has.0);
+          one = subst Single deeds (single_or (outcome t (Some a) v).progress.outer _ (single_mail s.layout p (words_of s.cells) a));
         }
+
+pub follows_advanced : {first : Scene} {history : List Deed} (s : WorldState) (p : ℕ) → Follows first s history → advance_refusal s p ≡ None → Follows first (advanced s p) (history ++ list_of (stepped s p).deed)
+follows_advanced {first = first} {history = history} s p h may =
+    let is = step_is s p h may in
+    let a : Access = is.access in
+    subst (λ o. Follows first (advanced_if s p o) (history ++ list_of (stepped_if s p o).deed)) (sym is.step.next)
+    (record {
+      world = world_step s p a h.world is.step;
+      ordered = ordered_set s p (stand_stepped (stand_at s.processes p) (reading (scene_of s) (word_of a))) h.world.seated.processes_each is.step.below is.ordered h.ordered;
+      comes = subst (Comes s.layout s.limit first (scene_of (advanced_by s p a))) (ap (λ ds. history ++ ds) (sym is.one)) (comes_by s.layout s.limit first history refl refl (step_takes s p a is.step) h.comes);
+    })

@@ -26,9 +26,11 @@ pub mod Costs
 pub mod CallBounds
 pub mod CallSteps
 pub mod CallWalks
+pub mod Scanned
 pub mod Ordered
 pub mod Following
 pub mod Beginning
+pub mod Keeping
 pub mod WorldTallies
 pub mod Sends
 pub mod Asked

@@ -1,8 +1,8 @@
 -- What each process of a world keeps in its private memory, so that whatever its machine does is the definition's step.
-use Rattle.std.proofs.Common.{◌≡◌, ℕ, Bool, true, false, ◌&&◌, ◌==◌, nat_lt, if◌then◌else◌, [], ◌∷◌, length, Option, Some, None, IfSome, refl, sym, subst, inl, inr, eqb-true, ltb-true}
-use Rattle.std.proofs.lemmas.Bool.{cases_Bool}
+use Rattle.std.proofs.Common.{◌≡◌, ℕ, Bool, true, false, ◌&&◌, ◌==◌, nat_lt, if◌then◌else◌, [], ◌∷◌, length, Option, Some, None, IsSome, IfSome, refl, sym, ◌∙◌, subst, inl, inr, arith, eqb-true, ltb-true}
+use Rattle.std.proofs.lemmas.Bool.{cases_Bool, true≢false}
 use Rattle.rmecore.specs.Place.{Place, Rest, Dead, Wait, Inside}
-use Rattle.rmecore.specs.Machine.{after_access, next_access as lock_access, StoresOwn as IsLockOwn}
+use Rattle.rmecore.specs.Machine.{after_access, next_access as lock_access, StoresOwn as IsLockOwn, IsLeast as IsLeastOfLock}
 use Rattle.rmecore.specs.declared.access.Access.{Access}
 use Rattle.rmecore.specs.declared.access.Access.TheVariants.{Load, Store}
 use Rattle.rmecore.specs.declared.word.Word.TheVariants.{Choosing as ChoosingOf, Number as NumberOf, Inside as InsideOf, Data as DataAt}
@@ -24,12 +24,13 @@ use Rattle.rmeworld.specs.declared.call.Call.TheVariants.{Lock, Unlock, Consiste
 use Rattle.rmeworld.specs.declared.errand.Errand.{Errand as Chore}
 use Rattle.rmeworld.specs.declared.errand.Errand.TheVariants.{Free as IsFree, Asking, Doing as Does}
 use Rattle.rmeworld.specs.declared.why.Why.{Why}
-use Rattle.rmeworld.specs.declared.why.Why.TheVariants.{Mending}
+use Rattle.rmeworld.specs.declared.why.Why.TheVariants.{Checking, Ruining, Mending, Working}
 use Rattle.rmeworld.specs.Entered.{is_entry}
 use Rattle.rmeworld.specs.Errands.{errand_of, HasStep, Held}
-use Rattle.rmeworld.specs.Refused.{first_cause, start_refusal}
-use Rattle.rmeworld.specs.Spot.{Spot, Doing, Begins, next_spot, begun_from, only_spot}
-use Rattle.rmeworld.specs.Stand.{Stand, spot_of, standing, resting, crashed, job_left, lock_moved, access_by, next_access, spot_after, IsAllowed, StoresOwn, started, stepped, stepped_by}
+use Rattle.rmeworld.specs.Refused.{is_idle, is_idle_by, first_cause, start_refusal}
+use Rattle.rmeworld.specs.Spot.{Spot, Doing, Begins, next_spot, at_lock, begun_from, only_spot, end_place}
+use Rattle.rmeworld.specs.Stand.{Stand, spot_of, standing, resting, crashed, job_left, lock_moved, access_by, next_access, spot_after, IsAllowed, IsLeast, StoresOwn, started, stepped, stepped_by}
+use Rattle.rmeworld.proofs.Scanned.{IsScanned, least_of_lock, scanned_after, no_step_is_idle}
 use Rattle.rmeworld.proofs.Chores.{with, lock_goes, ask_goes, job_goes, Goes, lock_allowed, doing_allowed, script_allowed}
 
 -- a job of this layout
@@ -41,12 +42,13 @@ FitsChore l (Does why job) = (job.layout ≡ l) × FitsStage l job.stage
 pub record IsOrdered (s : Stand) : Type 0 where
   pub held : Held s.errand s.lock
   pub fits : FitsChore s.layout s.errand
+  pub scanned : IsScanned s.layout.procs s.index s.lock
 
 pub ordered_rest : (l : Layout) (limit p : ℕ) → IsOrdered (resting l limit p)
-ordered_rest l limit p = record { held = tt; fits = tt }
+ordered_rest l limit p = record { held = tt; fits = tt; scanned = tt }
 
 pub ordered_crashed : (s : Stand) → IsOrdered (crashed s)
-ordered_crashed s = record { held = tt; fits = tt }
+ordered_crashed s = record { held = tt; fits = tt; scanned = tt }
 
 -- the next step
 
@@ -98,30 +100,74 @@ entry_inside : (t s : Place) → is_entry s t ≡ true → t ≡ Inside
 entry_inside Inside s e = refl
 entry_inside _ s e = cc
 
+-- where a script ends
+end_scanned : (n p : ℕ) (why : Why) (reply : Reply) → IsScanned n p (end_place why reply)
+end_scanned n p Checking (Ruined true) = tt
+end_scanned n p Checking _ = tt
+end_scanned n p Ruining reply = tt
+end_scanned n p Mending reply = tt
+end_scanned n p (Working t) reply = tt
+
 pub ordered_stepped : (s : Stand) (v : ℕ) → IsLayout s.layout → IsOrdered s → IsOrdered (stepped s v)
 ordered_stepped s v lawful h = by s.errand h.held h.fits
   where
-    moved : (t : Place) → IsOrdered (lock_moved s t)
-    moved t = elim (cases_Bool (is_entry s.lock t)) [
-      | inl e ↦ rw e (record { held = (entry_inside t s.lock e, tt); fits = (refl, fits_first s.layout lawful task.Check tt) })
-      | inr e ↦ rw e (record { held = tt; fits = tt })
+    moved : (t : Place) → IsScanned s.layout.procs s.index t → IsOrdered (lock_moved s t)
+    moved t scanned = elim (cases_Bool (is_entry s.lock t)) [
+      | inl e ↦ rw e (record { held = (entry_inside t s.lock e, tt); fits = (refl, fits_first s.layout lawful task.Check tt); scanned = scanned })
+      | inr e ↦ rw e (record { held = tt; fits = tt; scanned = scanned })
     ]
 
     on : (why : Why) (job : Pending) → s.lock ≡ Inside → FitsChore s.layout (Does why job) → (x : Script Reply) → left job ≡ x → IsOrdered (job_left s why job x)
-    on why job inside fits (Done reply) is = record { held = tt; fits = tt }
-    on why job inside fits (Asks i rest) is = record { held = (inside, subst HasStep (sym is) tt); fits = fits }
-    on why job inside fits (Writes i x rest) is = record { held = (inside, subst HasStep (sym is) tt); fits = fits }
+    on why job inside fits (Done reply) is = record { held = tt; fits = tt; scanned = end_scanned s.layout.procs s.index why reply }
+    on why job inside fits (Asks i rest) is = record { held = (inside, subst HasStep (sym is) tt); fits = fits; scanned = h.scanned }
+    on why job inside fits (Writes i x rest) is = record { held = (inside, subst HasStep (sym is) tt); fits = fits; scanned = h.scanned }
 
     by : (e : Chore) → Held e s.lock → FitsChore s.layout e → IsOrdered (stepped_by s e v)
-    by IsFree held fits = moved (after_access (standing s) (lock_access (standing s)) v)
+    by IsFree held fits = moved (after_access (standing s) (lock_access (standing s)) v) (scanned_after s.layout.procs s.limit s.index s.lock v h.scanned)
     by (Asking job) held fits = elim (cases_Bool (v == 1)) [
-      | inl e ↦ rw e (record { held = tt; fits = tt })
-      | inr e ↦ rw e (record { held = held; fits = fits })
+      | inl e ↦ rw e (record { held = tt; fits = tt; scanned = h.scanned })
+      | inr e ↦ rw e (record { held = held; fits = fits; scanned = h.scanned })
     ]
     by (Does why job) held fits =
         let stage = fits_after s.layout lawful job.stage v fits.1 in
         let next : FitsChore s.layout (Does why (fed job v)) = (fits.0, subst (λ l. FitsStage s.layout (stage_after l job.stage v)) (sym fits.0) stage) in
         on why (fed job v) held.0 next (left (fed job v)) refl
+
+some_place : (l : Layout) (p : ℕ) (s : Place) (b c : Bool) (o : Option Place) → IsSome (at_lock l p s b c o) → IsSome o
+some_place l p s b c None some = cc
+some_place l p s b c (Some t) some = refl
+
+-- the next step is one of the least process
+pub least : (s : Stand) → IsOrdered s → IfSome (next_access s) (IsLeast s)
+least s h = by s.errand
+  where
+    lifted : (o : Option Access) → IfSome o (IsLeastOfLock (standing s)) → IfSome o (IsLeast (with s IsFree))
+    lifted None h = tt
+    lifted (Some a) h = λ word v some. h word v (some_place s.layout s.index s.lock s.mended s.barred _ some)
+
+    doing : (e : Chore) (why : Why) (x : Script Reply) → IfSome (access_by s.limit s.index s.lock (Doing why x)) (IsLeast (with s e))
+    doing e why (Asks i rest) = λ word v some. omega arith
+    doing e why (Writes i x rest) = λ word v some. omega arith
+    doing e why (Done reply) = tt
+
+    by : (e : Chore) → IfSome (next_access (with s e)) (IsLeast (with s e))
+    by IsFree = lifted (lock_access (standing s)) (least_of_lock (standing s) h.scanned)
+    by (Asking job) = λ word v some. omega arith
+    by (Does why job) = doing (Does why job) why (left job)
+
+-- where a call is under way there is a next step
+pub has_step : (s : Stand) → IsOrdered s → is_idle (spot_of s) ≡ false → next_access s ≡ None → ⊥
+has_step s h = by s.errand h.held
+  where
+    doing : (why : Why) (x : Script Reply) → HasStep x → access_by s.limit s.index s.lock (Doing why x) ≡ None → ⊥
+    doing why (Asks i rest) has none = cc
+    doing why (Writes i x rest) has none = cc
+    doing why (Done reply) has none = has
+
+    by : (e : Chore) → Held e s.lock → is_idle_by s.lock (errand_of e) ≡ false → access_by s.limit s.index s.lock (errand_of e) ≡ None → ⊥
+    by IsFree held busy none = true≢false (sym (no_step_is_idle s.layout.procs s.limit s.index s.lock h.scanned none) ∙ busy)
+    by (Asking job) held busy none = cc
+    by (Does why job) held busy none = doing why (left job) held.1 none
 
 -- a start that is not refused
 fits_only : (b : Bool) (x : Spot) → b ≡ true → only_spot b x ≡ Some x
@@ -146,25 +192,25 @@ module _ (l : Layout) (limit p : ℕ) (lawful : IsLayout l) (barred : Bool) wher
   abbrev Starts : Stand → Call → Type 0
   Starts s call = (begun_from l p s.lock s.mended (errand_of s.errand) call ≡ Some (spot_of (started s call))) × IsOrdered (started s call)
 
-  idle : {s : Stand} → Held s.errand s.lock → FitsChore s.layout s.errand → IsOrdered s
-  idle held fits = record { held = held; fits = fits }
+  idle : {s : Stand} → Held s.errand s.lock → FitsChore s.layout s.errand → IsScanned s.layout.procs s.index s.lock → IsOrdered s
+  idle held fits scanned = record { held = held; fits = fits; scanned = scanned }
 
   starts : (lock : Place) (mended : Bool) (call : Call) → start_refusal l (spot_of (at lock mended)) call ≡ None → Starts (at lock mended) call
-  starts Rest b Lock h = (refl, idle tt tt)
-  starts Dead b Lock h = (refl, idle tt tt)
-  starts Rest b Recover h = (refl, idle tt tt)
-  starts Dead b Recover h = (refl, idle tt tt)
-  starts (Wait k unpassed looked) b Withdraw h = (refl, idle tt tt)
-  starts Inside true Unlock h = (refl, idle tt tt)
-  starts Inside false Unlock h = (refl, idle (refl, tt) (refl, fits_first l lawful task.Ruin tt))
-  starts Inside false Consistent h = (refl, idle (refl, tt) (refl, fits_first l lawful task.Repair tt))
+  starts Rest b Lock h = (refl, idle tt tt tt)
+  starts Dead b Lock h = (refl, idle tt tt tt)
+  starts Rest b Recover h = (refl, idle tt tt tt)
+  starts Dead b Recover h = (refl, idle tt tt tt)
+  starts (Wait k unpassed looked) b Withdraw h = (refl, idle tt tt tt)
+  starts Inside true Unlock h = (refl, idle tt tt tt)
+  starts Inside false Unlock h = (refl, idle (refl, tt) (refl, fits_first l lawful task.Ruin tt) tt)
+  starts Inside false Consistent h = (refl, idle (refl, tt) (refl, fits_first l lawful task.Repair tt) tt)
   starts Inside b (Append seq value) h =
       let both = both_causes b (length value == l.width) Unmended BadWidth h in
       let may : (b && (length value == l.width)) ≡ true = rw (both.0, both.1) refl in
-      (fits_only _ _ may, idle (refl, tt) (refl, fits_first l lawful (task.Append seq value) (eqb-true _ _ both.1)))
-  starts Inside b Close h = (fits_only b _ (unless_cause b Unmended h), idle (refl, tt) (refl, fits_first l lawful task.Close tt))
-  starts Inside b (Get i) h = let less = unless_cause (nat_lt i 4) BadIndex h in (fits_only _ _ less, idle (refl, tt) (refl, fits_first l lawful (task.BoardGet i) (ltb-true i 4 less)))
-  starts Inside b (Put i v) h = let less = unless_cause (nat_lt i 4) BadIndex h in (fits_only _ _ less, idle (refl, tt) (refl, fits_first l lawful (task.BoardPut i v) (ltb-true i 4 less)))
+      (fits_only _ _ may, idle (refl, tt) (refl, fits_first l lawful (task.Append seq value) (eqb-true _ _ both.1)) tt)
+  starts Inside b Close h = (fits_only b _ (unless_cause b Unmended h), idle (refl, tt) (refl, fits_first l lawful task.Close tt) tt)
+  starts Inside b (Get i) h = let less = unless_cause (nat_lt i 4) BadIndex h in (fits_only _ _ less, idle (refl, tt) (refl, fits_first l lawful (task.BoardGet i) (ltb-true i 4 less)) tt)
+  starts Inside b (Put i v) h = let less = unless_cause (nat_lt i 4) BadIndex h in (fits_only _ _ less, idle (refl, tt) (refl, fits_first l lawful (task.BoardPut i v) (ltb-true i 4 less)) tt)
   starts _ _ Lock h = absurd (refused h)
   starts _ _ Recover h = absurd (refused h)
   starts _ _ Withdraw h = absurd (refused h)

@@ -15,6 +15,8 @@ pub mod Law
 pub mod Holders
 pub mod WorldState
 pub mod Replayed
+pub mod Acts
+pub mod WorldRuns
 pub mod Advancing
 pub mod Reached
 pub mod UnderWay

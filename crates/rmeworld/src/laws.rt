@@ -1,20 +1,25 @@
 //! Laws over every story of a world: every list of happenings, of any number of processes, in which each may come after
 //! those before it. Each is the contract of a function that does nothing.
 
-ghost use Rattle.std.specs.Prelude.{◌≡◌, ℕ, List, [], ◌∷◌, ◌++◌, length};
+ghost use Rattle.std.specs.Prelude.{◌≡◌, ℕ, false, List, [], ◌∷◌, ◌++◌, length, None};
+ghost use Rattle.rmecore.specs.Paid.{is_glance};
 ghost use Rattle.rmecore.specs.Simulated.{own_at};
 ghost use Rattle.redomail.specs.Layout.{words_of};
 ghost use Rattle.judge.specs.Starts.{state_of};
+ghost use Rattle.rmeworld.specs.declared.call.Call.{Call as CallOf};
+ghost use Rattle.rmeworld.specs.Answered.{answer_at, done_by};
 ghost use Rattle.rmeworld.specs.ImageRules.{layout_of, IsLawfulImage};
 ghost use Rattle.rmeworld.specs.ImageStart.{IsStartOf};
 ghost use Rattle.rmeworld.specs.CallWalk.{CallsTakeTheirSteps, NoCallTakesMore};
 ghost use Rattle.rmeworld.specs.Holders.{OnlyHoldersPut};
 ghost use Rattle.rmeworld.specs.Law.{IsLater, EveryStoryIsSound, EveryStoryIsLegal, EveryLaterStoryIsSound, EveryStoryEndsLawful};
 ghost use Rattle.rmeworld.specs.Reached.{crashed_scene, EveryStoryLeavesAnImage};
+ghost use Rattle.rmeworld.specs.Replayed.{start_refusal, started, advance_refusal, stepped, advanced, crash_refusal, crash_deed, crashed, list_of};
 ghost use Rattle.rmeworld.specs.Sent.{EveryDeedWasAsked, EveryMessageWasSent, EveryCloseWasAsked, EveryRuinWasAsked, RepliesTell, StoredIsShown};
-ghost use Rattle.rmeworld.specs.Spot.{Happening};
+ghost use Rattle.rmeworld.specs.Spot.{Happening, Begins, Falls, outer};
 ghost use Rattle.rmeworld.specs.World.{Scene, at_first, Can, onward, Story, last_scene, event_deeds, deeds, own_happenings, spot_after};
-ghost use Rattle.rmeworld.specs.WorldState.{scene_of, new_world, image_world};
+ghost use Rattle.rmeworld.specs.WorldRuns.{IsRun};
+ghost use Rattle.rmeworld.specs.WorldState.{WorldState, spot_at, scene_of, Takes, happening_of, ChoosesLeast, new_world, image_world};
 
 use crate::image::Image;
 use judge::Start;
@@ -57,6 +62,23 @@ pub fn worlds_begin()
     ensures new { (l : Layout) (limit : ℕ) → scene_of (new_world l limit) ≡ at_first }
     ensures image { (i : Image) → scene_of (image_world i) ≡ crashed_scene (length i.lock) (own_at i.lock) (words_of i.cells) }
     ensures judged { (i : Image) (s : Start) → IsLawfulImage i → IsStartOf i s → IsLater (layout_of i) i.limit (own_at i.lock) (words_of i.cells) (state_of s) }
+{}
+
+/// A world keeps to the definition in every run, whether memory is found for it or not. From a new world, or that of a lawful
+/// image, each start, step and crash that is not refused is one that the definition allows there, and leads where it leads.
+/// Where the definition leaves a choice, the step is one of the least process. What is told of it is the definition's: the
+/// event, with the lock's deed and the answer of its part; the one deed of the history; and the answer of the call.
+pub fn worlds_keep_to_the_definition()
+    ensures starts { (s : WorldState) (p : ℕ) (call : CallOf) → IsRun s → start_refusal s p call ≡ None → Takes s (Begins p call) (started s p call) }
+    ensures steps { (s : WorldState) (p : ℕ) → IsRun s → advance_refusal s p ≡ None → Takes s (happening_of p (stepped s p).happened) (advanced s p) }
+    ensures kind { (s : WorldState) (p : ℕ) → IsRun s → advance_refusal s p ≡ None → is_glance (stepped s p).happened.kind ≡ false }
+    ensures least { (s : WorldState) (p : ℕ) → IsRun s → advance_refusal s p ≡ None → ChoosesLeast s p (stepped s p).happened }
+    ensures outer { (s : WorldState) (p : ℕ) → IsRun s → advance_refusal s p ≡ None → (stepped s p).happened.outer ≡ outer (spot_at s.processes p) (happening_of p (stepped s p).happened) }
+    ensures done { (s : WorldState) (p : ℕ) → IsRun s → advance_refusal s p ≡ None → (stepped s p).happened.done ≡ done_by (spot_at s.processes p).lock (spot_at s.processes p).errand (stepped s p).happened.kind (stepped s p).happened.value }
+    ensures deed { (s : WorldState) (p : ℕ) → IsRun s → advance_refusal s p ≡ None → list_of (stepped s p).deed ≡ event_deeds s.layout (scene_of s) (happening_of p (stepped s p).happened) }
+    ensures answers { (s : WorldState) (p : ℕ) → IsRun s → advance_refusal s p ≡ None → (stepped s p).answer ≡ answer_at (spot_at s.processes p) (stepped s p).happened.kind (stepped s p).happened.value }
+    ensures crashes { (s : WorldState) (p : ℕ) → IsRun s → crash_refusal s p ≡ None → Takes s (Falls p) (crashed s p) }
+    ensures told { (s : WorldState) (p : ℕ) → crash_deed p ∷ [] ≡ event_deeds s.layout (scene_of s) (Falls p) }
 {}
 
 /// Only a process that is inside puts a data word. So from its Enter on, crashes and re-entries or not, no other puts one

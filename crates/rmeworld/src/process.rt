@@ -19,7 +19,7 @@ use crate::outcome::{Outcome, asked, job_outcome, lock_outcome};
 use crate::why::Why;
 use redomail::{Job, Layout, Next, Reply, Task};
 use rmecore::{
-    Access, CoreCall, CoreDone, Found, Kind, LockProcess, Progress, Refusal, Scan, Word,
+    Access, CoreCall, CoreDone, Found, Kind, LockProcess, Progress, Refusal, Scan, Stage, Word,
 };
 use std::fmt;
 use std::marker::Model;
@@ -59,7 +59,7 @@ impl Model for Process {
 impl Process {
     ghost use Rattle.rmecore.specs.Named.{own_number, own_call};
     ghost use Rattle.std.specs.Prelude.{◌<◌};
-    ghost use Rattle.rmecore.specs.Machine.{word_of};
+    ghost use Rattle.rmecore.specs.Machine.{word_of, place_of};
     ghost use Rattle.rmeworld.specs.Spot.{next_spot, Begins};
     ghost use Rattle.rmeworld.specs.Refused.{start_refusal, is_idle};
     ghost use Rattle.rmeworld.specs.Stand.{IsSize, Stand, standing, spot_of, resting, crashed, stepped, started, works, ended_by, next_access, spot_after, outcome, IsAllowed, IsLeast, InWords, StoresOwn};
@@ -204,6 +204,65 @@ impl Process {
         self.mended = mended;
         check_next(&mut self.errand, self.layout, self.index, checks);
         progress
+    }
+
+    /// Where the lock's part stands, in the machine's own terms, if there is nothing to do with the data words.
+    pub fn stage(&self) -> Option<Stage>
+        ensures free { IfSome result (λ t. self.now.errand ≡ Errand.Free) }
+        ensures place { IfSome result (λ t. place_of self.now.layout.procs self.now.index t ≡ self.now.lock) }
+    {
+        match self.errand {
+            Errand::Free => Some(self.lock.stage()),
+            Errand::Asking(_) | Errand::Doing(..) => None,
+        }
+    }
+
+    /// A seam of this workspace, for who takes steps of the lock's part at the words alone, as the running lock's fast path:
+    /// the machine is told where those steps have led. It takes any place, also one that no step leads to.
+    pub fn seam_stand(&mut self, to: Stage)
+        requires { self.old.errand ≡ Errand.Free }
+        ensures { self.new ≡ record self.old { lock = place_of self.old.layout.procs self.old.index to } }
+    {
+        self.lock.seam_stand(to);
+    }
+
+    /// A seam of this workspace, as `seam_stand`: steps taken at the words alone have led inside, with nothing to mend.
+    pub fn seam_stand_clean(&mut self)
+        requires { self.old.errand ≡ Errand.Free }
+        ensures { self.new ≡ record self.old { lock = Inside; mended = true } }
+    {
+        let mended = &mut self.mended;
+        *mended = true;
+        self.lock.seam_stand(Stage::Inside);
+    }
+
+    /// Starts a lock, if it is at rest or has crashed and no call is under way. Elsewhere it answers false, and `start` says
+    /// why a lock is refused.
+    pub fn start_lock(&mut self) -> bool
+        ensures accepted { result ≡ true → start_refusal self.old.layout (spot_of self.old) Call.Lock ≡ None }
+        ensures exact { result ≡ true → self.new ≡ started self.old Call.Lock }
+        ensures spot { result ≡ true → next_spot self.old.layout self.old.limit (spot_of self.old) (Begins self.old.index Call.Lock) ≡ Some (spot_of self.new) }
+        ensures not { result ≡ false → self.new ≡ self.old }
+    {
+        match (&self.errand, self.lock.stage()) {
+            (Errand::Free, Stage::Rest | Stage::Dead) => {
+                let call = CoreCall::Lock;
+                self.lock.seam_stand(Stage::ReadingChoosing { call });
+                self.barred = false;
+                true
+            }
+            _ => false,
+        }
+    }
+
+    /// Whether it is inside, with nothing to mend and no call under way: an unlock is two stores then.
+    pub fn is_clean(&self) -> bool
+        ensures { result ≡ true → (self.now.errand ≡ Errand.Free) × (self.now.lock ≡ Inside) × (self.now.mended ≡ true) × (self.now.barred ≡ false) }
+    {
+        match (&self.errand, self.lock.stage()) {
+            (Errand::Free, Stage::Inside) => self.mended && !self.barred,
+            _ => false,
+        }
     }
 
     /// The step with which consistent begins: unless the lock is ruined, the repair comes next.

@@ -14,5 +14,6 @@ pub mod Plays
 pub mod Replays
 pub mod Trials
 pub mod Wholes
+pub mod Stories
 pub mod Pieces
 pub mod Answers

@@ -1,12 +1,12 @@
 //! Laws of the texts.
 
-ghost use Rattle.std.specs.Prelude.{◌≡◌, ℕ, List, Result, Ok, None, IfOk};
+ghost use Rattle.std.specs.Prelude.{◌≡◌, ℕ, List, Result, Ok, Some, None, IfOk};
 ghost use Rattle.redomail.specs.declared.layout.Layout.{Layout as LayoutOf};
 ghost use Rattle.judge.specs.Starts.{state_of};
 ghost use Rattle.judge.specs.Table.{empty};
 ghost use Rattle.judge.specs.declared.start.Start.{Start as StartOf};
 ghost use Rattle.rmeworld.specs.declared.image.Image.{Image as ImageOf};
-ghost use Rattle.rmeworld.specs.ImageRules.{IsLawfulImage};
+ghost use Rattle.rmeworld.specs.ImageRules.{layout_of, IsLawfulImage};
 ghost use Rattle.rmeworld.specs.ImageStart.{IsStartOf};
 ghost use Rattle.rmeworld.specs.Replayed.{image_of};
 ghost use Rattle.rmeworld.specs.WorldState.{new_world, new_refusal, image_world};
@@ -18,6 +18,7 @@ ghost use Rattle.schedule.specs.Plays.{Tape};
 ghost use Rattle.schedule.specs.Replays.{Replays};
 ghost use Rattle.schedule.specs.Runs.{deeds_of, run_on};
 ghost use Rattle.schedule.specs.Schedules.{Scheduled, IsScheduled, spelling, schedule_at};
+ghost use Rattle.schedule.specs.Stories.{IsStory};
 ghost use Rattle.schedule.specs.Traces.{Traced, IsTraced, trace_spelling, trace_at};
 ghost use Rattle.schedule.specs.Verdicts.{verdict_on};
 ghost use Rattle.schedule.specs.Wholes.{world_behaviour};
@@ -34,6 +35,14 @@ pub fn one_spelling_of_traces()
     ensures again { (trace : Traced) → IsTraced trace → trace_at (trace_spelling trace) ≡ Ok trace }
     ensures takes { (text : List ℕ) (trace : Traced) → trace_at text ≡ Ok trace → (text ≡ trace_spelling trace) × IsTraced trace }
     ensures only { (one other : Traced) → IsTraced one → IsTraced other → trace_spelling one ≡ trace_spelling other → one ≡ other }
+{}
+
+/// The run of a schedule on a world is a story of the definition, whether a line is refused or not, and whether memory is
+/// found or not. From a new world, or from that of a lawful image, some story tells just the deeds and answers that the run
+/// tells, in its order, and ends with just the words that it leaves. A replay reports of just this run.
+pub fn runs_are_stories()
+    ensures new { (l : LayoutOf) (limit : ℕ) (lines : List LineOf) → new_refusal l limit ≡ None → IsStory l limit None (run_on world_behaviour 2 (new_world l limit) lines) }
+    ensures later { (i : ImageOf) (lines : List LineOf) → IsLawfulImage i → IsStory (layout_of i) i.limit (Some i) (run_on world_behaviour 2 (image_world i) lines) }
 {}
 
 /// The lock theorem of replays: whatever lines are played on a new world, a new judge of its processes and its capacity

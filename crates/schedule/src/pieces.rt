@@ -18,6 +18,21 @@ pub trait TakeLine {
         ensures { (lines : List (List ℕ)) → after self.old lines → OnOk result (after self.new (lines ++ line.now ∷ [])) };
 }
 
+/// Hands on the line that begins in the buffer and ends so. One that begins here is handed on from where it stands.
+fn hand_on<T: TakeLine>(buffer: &mut Vec<u8>, taker: &mut T, end: &[u8]) -> Result<(), AllocError>
+    ensures cleared { OnOk result (buffer.new.items ≡ []) }
+    ensures taken { (lines : List (List ℕ)) → T.after taker.old lines → OnOk result (T.after taker.new (lines ++ (buffer.old.items ++ end.now) ∷ [])) }
+{
+    if buffer.is_empty() {
+        taker.take_line(end)?;
+        return Ok(());
+    }
+    buffer.extend_from_slice(end)?;
+    taker.take_line(buffer)?;
+    buffer.clear();
+    Ok(())
+}
+
 /// Hands on each line that ends in the piece, and keeps the beginning of the next in the buffer.
 fn feed<T: TakeLine>(buffer: &mut Vec<u8>, taker: &mut T, piece: &[u8]) -> Result<(), AllocError>
     requires { parts_of buffer.old.items ≡ buffer.old.items ∷ [] }
@@ -27,14 +42,15 @@ fn feed<T: TakeLine>(buffer: &mut Vec<u8>, taker: &mut T, piece: &[u8]) -> Resul
 {
     let mut rest = piece;
     while let Some((front, after)) = cut_once(rest, b'\n') {
-        buffer.extend_from_slice(front)?;
-        taker.take_line(buffer)?;
-        buffer.clear();
+        hand_on(buffer, taker, front)?;
         rest = after;
     }
     buffer.extend_from_slice(rest)?;
     Ok(())
 }
+
+/// Room for any line without a fault: the longest names twelve words, eleven of them numbers of twenty digits.
+const LINE_ROOM: usize = 240;
 
 /// Hands on each line of the source, and answers what stands after the last one. It keeps one line at a time.
 /// What the taker becomes doesn't depend on how the bytes were cut into pieces.
@@ -51,7 +67,7 @@ pub fn take_lines<S: Source, T: TakeLine>(
     ensures fault { IfErr result (λ fault. (fault ≡ ReplayFault.Read) × (S.failures source.new ≡ min (S.failures source.old + 1) (2 ^ 64 - 1))
         ⊎ (fault ≡ ReplayFault.OutOfMemory) × (S.failures source.new ≡ S.failures source.old)) }
 {
-    let mut buffer = Vec::new(alloc);
+    let mut buffer = Vec::with_capacity(alloc, LINE_ROOM)?;
     let mut piece = [0; 512];
     for _ in 0..u64::MAX {
         match source.read(&mut piece) {

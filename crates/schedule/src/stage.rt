@@ -43,26 +43,35 @@ fn begin(alloc: Global, line: &[u8]) -> Result<Stage, AllocError>
 }
 
 impl Stage {
-    /// After one more line, which has this number.
-    pub fn next(self, alloc: Global, number: u64, line: &[u8]) -> Result<Stage, AllocError>
-        requires { IsStage self }
-        ensures stage { IfOk result (λ stage. IsStage stage) }
-        ensures stands { (lines : List (List ℕ)) → Stands self lines → number ≡ length lines + 1 → IfOk result (λ stage. Stands stage (lines ++ line.now ∷ [])) }
+    /// Takes one more line, which has this number.
+    pub fn take(&mut self, alloc: Global, number: u64, line: &[u8]) -> Result<(), AllocError>
+        requires { IsStage self.old }
+        ensures stage { IsStage self.new }
+        ensures stands { (lines : List (List ℕ)) → Stands self.old lines → number ≡ length lines + 1 → OnOk result (Stands self.new (lines ++ line.now ∷ [])) }
     {
         match self {
-            Stage::First => begin(alloc, line),
-            Stage::Refused(head, refusal) => match read_deed(head.width, line) {
-                Ok(_) => Ok(Stage::Refused(head, refusal)),
-                Err(fault) => Ok(Stage::Faulty(number, fault)),
-            },
-            Stage::Judging(head, mut judge, mut hearing) => match read_deed(head.width, line) {
-                Ok(deed) => {
-                    hearing.hear(&mut judge, deed);
-                    Ok(Stage::Judging(head, judge, hearing))
+            Stage::First => {
+                *self = begin(alloc, line)?;
+                Ok(())
+            }
+            Stage::Refused(head, _) => match read_deed(head.width, line) {
+                Ok(_) => Ok(()),
+                Err(fault) => {
+                    *self = Stage::Faulty(number, fault);
+                    Ok(())
                 }
-                Err(fault) => Ok(Stage::Faulty(number, fault)),
             },
-            Stage::Faulty(line, fault) => Ok(Stage::Faulty(line, fault)),
+            Stage::Judging(head, judge, hearing) => match read_deed(head.width, line) {
+                Ok(deed) => {
+                    hearing.hear(judge, deed);
+                    Ok(())
+                }
+                Err(fault) => {
+                    *self = Stage::Faulty(number, fault);
+                    Ok(())
+                }
+            },
+            Stage::Faulty(..) => Ok(()),
         }
     }
 }

@@ -12,7 +12,6 @@ use crate::stage::Stage;
 use crate::verdict::Verdict;
 use std::alloc::{AllocError, Global};
 use std::marker::Model;
-use std::mem;
 
 /// What is known of a trace so far, and the number of its next line.
 #[derive(Drop)]
@@ -78,8 +77,7 @@ impl TakeLine for TraceJudge {
     ghost after = { Follows };
 
     fn take_line(&mut self, line: &[u8]) -> Result<(), AllocError> {
-        let stage = mem::replace(&mut self.stage, Stage::First);
-        self.stage = stage.next(self.alloc, self.line, line)?;
+        self.stage.take(self.alloc, self.line, line)?;
         self.line = self.line.saturating_add(1);
         Ok(())
     }

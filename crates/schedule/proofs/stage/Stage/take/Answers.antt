@@ -1,4 +1,4 @@
-use Rattle.std.proofs.Common.{◌∷◌, ◌++◌, [], subst, arith, length-append}
+use Rattle.std.proofs.Common.{◌∷◌, ◌++◌, [], sym, subst, arith, length-append}
 use Rattle.schedule.specs.declared.stage.Stage.TheVariants as stages
 use Rattle.schedule.specs.Deeds.{deed_at}
 use Rattle.schedule.specs.Traces.{trace_head_at}
@@ -6,18 +6,18 @@ use Rattle.schedule.specs.Trials.{Stands}
 use Rattle.schedule.specs.Hearings.{bench, opened}
 use Rattle.schedule.proofs.Heard.{hears_both}
 use Rattle.schedule.proofs.Staging.{more_reads, more_fails, more_faulty}
-use Rattle.schedule.proofs.stage.Stage.next.Goals as goal
+use Rattle.schedule.proofs.stage.Stage.take.Goals as goal
 
 pub returns-in-Ok-clause-stands : goal.returns-in-Ok-clause-stands
 returns-in-Ok-clause-stands c lines stands number =
     let head = c.in-Refused.head in
-    let h : Stands (stages.Refused head c.in-Refused.refusal) lines = subst (λ s. Stands s lines) c.in-Refused.is stands in
+    let h : Stands (stages.Refused head c.in-Refused.field-1) lines = subst (λ s. Stands s lines) c.in-Refused.is stands in
     (h.0 ++ c.in-Ok.field-0 ∷ [], more_reads trace_head_at (λ g. deed_at g.width) lines c.args.line.now head h.0 c.in-Ok.field-0 h.1 c.in-Ok.ensures, h.2)
 
 pub returns-in-Err-clause-stands : goal.returns-in-Err-clause-stands
 returns-in-Err-clause-stands c lines stands number =
     let head = c.in-Refused.head in
-    let h : Stands (stages.Refused head c.in-Refused.refusal) lines = subst (λ s. Stands s lines) c.in-Refused.is stands in (
+    let h : Stands (stages.Refused head c.in-Refused.field-1) lines = subst (λ s. Stands s lines) c.in-Refused.is stands in (
       rw number (more_fails trace_head_at (λ g. deed_at g.width) lines c.args.line.now head h.0 c.in-Err.fault h.1 c.in-Err.ensures),
       omega (arith, length-append lines (c.args.line.now ∷ [])),
     )
@@ -43,7 +43,9 @@ returns-in-Err-read_deed-clause-stands c lines stands number =
 
 pub returns-in-Faulty-clause-stands : goal.returns-in-Faulty-clause-stands
 returns-in-Faulty-clause-stands c lines stands number =
-    let h : Stands (stages.Faulty c.in-Faulty.line c.in-Faulty.fault) lines = subst (λ s. Stands s lines) c.in-Faulty.is stands in (
-      more_faulty trace_head_at (λ g. deed_at g.width) lines c.args.line.now (c.in-Faulty.line, c.in-Faulty.fault) h.1 h.0,
+    let h : Stands (stages.Faulty c.in-Faulty.field-0 c.in-Faulty.field-1) lines = subst (λ s. Stands s lines) c.in-Faulty.is stands in
+    let now : Stands (stages.Faulty c.in-Faulty.field-0 c.in-Faulty.field-1) (lines ++ c.args.line.now ∷ []) = (
+      more_faulty trace_head_at (λ g. deed_at g.width) lines c.args.line.now (c.in-Faulty.field-0, c.in-Faulty.field-1) h.1 h.0,
       omega (arith, length-append lines (c.args.line.now ∷ [])),
-    )
+    ) in
+    subst (λ s. Stands s (lines ++ c.args.line.now ∷ [])) (sym c.in-Faulty.is) now

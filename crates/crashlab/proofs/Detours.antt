@@ -139,7 +139,7 @@ taken_row l limit p x k b c v =
     let s : Stand = free_stand l limit p (Reread core.Lock (suc x ∷ suc k ∷ [])) b c in
     let t : VariantStand = process_of Renumber s Straight Nothing in
     let to : number_found t v ≡ process_of Renumber (out_stand l limit p (Door (others l.procs p) 0)) (Over (suc k)) Nothing = ap (scans_over t (stepped s v)) (number_is l limit p s.lock b c v) ∙ ap (λ u. process_of Renumber u (Over (suc k)) Nothing) (scans_again (stepped s v)) in
-    subst (λ u. IfSome (next_access s) (IsRow Renumber s (variant_spot_of t) (variant_spot_of u) (plain_outcome s v) v)) (sym to) (rw (eqb_self p) (refl, refl, refl))
+    subst (λ u. IfSome (next_access s) (IsRow Renumber s (variant_spot_of t) (variant_spot_of u) (plain_outcome s v) v)) (sym to) (rw (eqb_self p) (refl, refl, refl, refl))
 
 renumber_at : (l : Layout) (limit p : ℕ) (s : Place) (b c : Bool) (v : ℕ) → Steady (free_stand l limit p s b c) → Follows (process_of Renumber (free_stand l limit p s b c) Straight Nothing) v
 renumber_at l limit p (Reread core.Lock (suc x ∷ suc k ∷ [])) b c v h = taken_row l limit p x k b c v
@@ -157,16 +157,16 @@ straight_of s v h = by s.errand h
 -- while it scans again, beside the number k + 1 that stands
 
 over_door : (l : Layout) (limit p m k v : ℕ) (x : Bool) → nat_lt m limit ≡ x → Follows (process_of Renumber (out_stand l limit p (Door [] m)) (Over (suc k)) Nothing) v
-over_door l limit p m k v true e = rw (e, eqb_self p, eqb_self (m + 1), e) (refl, refl, refl)
+over_door l limit p m k v true e = rw (e, eqb_self p, eqb_self (m + 1), e) (refl, refl, refl, refl)
 over_door l limit p m k v false e =
     let past : nat_le limit m ≡ true = le-leb limit m (ltb-false m limit e) in
     let s : Stand = out_stand l limit p (Door [] m) in
     let t : VariantStand = process_of Renumber s (Over (suc k)) Nothing in
     let to : variant_stepped t v ≡ process_of Renumber (out_stand l limit p (Wait (suc k) (others l.procs p) None)) Straight Nothing = rw e (ap (λ u. process_of Renumber u Straight Nothing) (waits_again s k)) in
-    subst (λ u. IfSome (next_access s) (IsRow Renumber s (variant_spot_of t) (variant_spot_of u) silent v)) (sym to) (rw (e, eqb_self p, past) (refl, refl, refl))
+    subst (λ u. IfSome (next_access s) (IsRow Renumber s (variant_spot_of t) (variant_spot_of u) silent v)) (sym to) (rw (e, eqb_self p, past) (refl, refl, refl, refl))
 
 over_row : (l : Layout) (limit p : ℕ) (unread : List ℕ) (m k v : ℕ) → Follows (process_of Renumber (out_stand l limit p (Door unread m)) (Over (suc k)) Nothing) v
-over_row l limit p (j ∷ js) m k v = rw (eqb_self j) (refl, refl, refl)
+over_row l limit p (j ∷ js) m k v = rw (eqb_self j) (refl, refl, refl, refl)
 over_row l limit p [] m k v = over_door l limit p m k v (nat_lt m limit) refl
 
 -- exit on crash: the third reread finds the process inside
@@ -233,7 +233,7 @@ inside_row : (l : Layout) (limit p : ℕ) (d : CoreCall) (k : ℕ) (b c : Bool) 
 inside_row l limit p d k b c i =
     let s : Stand = free_stand l limit p (Reread d (zero ∷ suc k ∷ [])) b c in
     let t : VariantStand = process_of ExitOnCrash s Straight Nothing in
-    subst (λ u. IfSome (next_access s) (IsRow ExitOnCrash s (variant_spot_of t) (variant_spot_of (process_of ExitOnCrash u Dropping Nothing)) silent (suc i))) (sym (goes_out s d)) (rw (eqb_self p) (refl, refl, refl))
+    subst (λ u. IfSome (next_access s) (IsRow ExitOnCrash s (variant_spot_of t) (variant_spot_of (process_of ExitOnCrash u Dropping Nothing)) silent (suc i))) (sym (goes_out s d)) (rw (eqb_self p) (refl, refl, refl, refl))
 
 exit_at : (l : Layout) (limit p : ℕ) (s : Place) (b c : Bool) (v : ℕ) → Steady (free_stand l limit p s b c) → Follows (process_of ExitOnCrash (free_stand l limit p s b c) Straight Nothing) v
 exit_at l limit p (Reread d (zero ∷ suc k ∷ [])) b c (suc i) h = inside_row l limit p d k b c i
@@ -256,7 +256,7 @@ exits_of s v h = by s.errand h
     by (Does why job) h = stays_in (record s { errand = Does why job }) v h (never_found s why job v) (λ e. cc)
 
 drop_row : (l : Layout) (limit p : ℕ) (d : CoreCall) (v : ℕ) → Follows (process_of ExitOnCrash (out_stand l limit p (Unmarking d)) Dropping Nothing) v
-drop_row l limit p d v = rw (eqb_self p) (refl, refl, refl)
+drop_row l limit p d v = rw (eqb_self p) (refl, refl, refl, refl)
 
 -- on a detour and off it
 

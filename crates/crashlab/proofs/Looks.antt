@@ -22,7 +22,7 @@ use Rattle.rmeworld.specs.declared.errand.Errand.{Errand as Chore}
 use Rattle.rmeworld.specs.declared.errand.Errand.TheVariants.{Free as IsFree, Asking, Doing as Does}
 use Rattle.rmeworld.specs.declared.why.Why.{Why}
 use Rattle.rmeworld.specs.declared.why.Why.TheVariants.{Checking, Ruining, Mending}
-use Rattle.rmeworld.specs.Answered.{by_lock, answer_by}
+use Rattle.rmeworld.specs.Answered.{by_lock, answer_by, done_by}
 use Rattle.rmeworld.specs.Errands.{errand_of}
 use Rattle.rmeworld.specs.Spot.{Errand, Free, Doing, Spot, next_spot, moved_by, at_lock, outer_by, only_spot, settled, end_place, end_mended, end_barred, mended_entered, errand_entered}
 use Rattle.rmeworld.specs.Stand.{Stand, spot_of, standing, access_by, next_access, happening, outcome, stepped, stepped_by, job_left}
@@ -30,7 +30,7 @@ use Rattle.crashlab.specs.declared.change.Change.TheVariants.{Nothing}
 use Rattle.crashlab.specs.declared.detour.Detour.TheVariants.{Straight}
 use Rattle.crashlab.specs.declared.variant.Variant.TheVariants.{NoLook}
 use Rattle.crashlab.specs.Variants.{and_detour, no_look, variant_deed, variant_answer}
-use Rattle.crashlab.specs.VariantSpots.{beside, at_variant, variant_moved, variant_spot, variant_outer_by, variant_outer, variant_answer_by, variant_answer_at}
+use Rattle.crashlab.specs.VariantSpots.{beside, at_variant, variant_moved, variant_spot, variant_outer_by, variant_outer, variant_answer_by, variant_answer_at, variant_done_by, variant_done_at}
 use Rattle.crashlab.specs.VariantStands.{variant_spot_of, unlooked, is_of, past_look}
 use Rattle.crashlab.proofs.Starts.{free_stand}
 use Rattle.crashlab.proofs.Steady.{FitsChore, Steady, step_goes, step_steady}
@@ -248,10 +248,11 @@ seen_settled true b c why (Done reply) = λ i. Some (record { lock = unlooked_en
 
 looks_by : (l : Layout) (limit p : ℕ) (s : Place) (b c : Bool) (e : Errand) (v : ℕ) → FitsLook s
     → IfSome (access_by limit p s e) (λ a. (variant_moved NoLook l limit p (unlooked NoLook s) b c e Straight (kind_of a) (word_of a) (carried a v) ≡ beside Straight (seen (moved_by l limit p s b c e (kind_of a) (word_of a) (carried a v))))
-    × (variant_outer_by NoLook p (unlooked NoLook s) e Straight (kind_of a) (carried a v) ≡ outer_by p s e (kind_of a) (carried a v)) × (variant_answer_by NoLook (unlooked NoLook s) b c e Straight (kind_of a) (carried a v) ≡ answer_by s b c e (kind_of a) (carried a v)))
-looks_by l limit p s b c Free v h = IfSome_then (access limit p s) (looks_at l limit p s b c v h) (λ a k. (k.0, k.1, ap (by_lock c) k.2))
-looks_by l limit p s b c (Doing why (Asks i rest)) v h = (ap (beside Straight) (sym (seen_settled _ b c why (rest v))), refl, refl)
-looks_by l limit p s b c (Doing why (Writes i x rest)) v h = (ap (beside Straight) (sym (seen_settled _ b c why rest)), refl, refl)
+    × (variant_outer_by NoLook p (unlooked NoLook s) e Straight (kind_of a) (carried a v) ≡ outer_by p s e (kind_of a) (carried a v)) × (variant_answer_by NoLook (unlooked NoLook s) b c e Straight (kind_of a) (carried a v) ≡ answer_by s b c e (kind_of a) (carried a v))
+    × (variant_done_by NoLook (unlooked NoLook s) e Straight (kind_of a) (carried a v) ≡ done_by s e (kind_of a) (carried a v)))
+looks_by l limit p s b c Free v h = IfSome_then (access limit p s) (looks_at l limit p s b c v h) (λ a k. (k.0, k.1, ap (by_lock c) k.2, k.2))
+looks_by l limit p s b c (Doing why (Asks i rest)) v h = (ap (beside Straight) (sym (seen_settled _ b c why (rest v))), refl, refl, refl)
+looks_by l limit p s b c (Doing why (Writes i x rest)) v h = (ap (beside Straight) (sym (seen_settled _ b c why rest)), refl, refl, refl)
 looks_by l limit p s b c (Doing why (Done reply)) v h = tt
 
 bare : (s : Stand) → variant_spot_of (process_of NoLook s Straight Nothing) ≡ record { spot = record (spot_of s) { lock = unlooked NoLook s.lock }; detour = Straight }
@@ -265,7 +266,8 @@ looks_row s v h k = by (next_access s) (looks_by s.layout s.limit s.index s.lock
 
     by : (o : Option Access)
         → IfSome o (λ a. (variant_moved NoLook s.layout s.limit s.index (unlooked NoLook s.lock) s.mended s.barred (errand_of s.errand) Straight (kind_of a) (word_of a) (carried a v) ≡ beside Straight (seen (moved_by s.layout s.limit s.index s.lock s.mended s.barred (errand_of s.errand) (kind_of a) (word_of a) (carried a v))))
-        × (variant_outer_by NoLook s.index (unlooked NoLook s.lock) (errand_of s.errand) Straight (kind_of a) (carried a v) ≡ outer_by s.index s.lock (errand_of s.errand) (kind_of a) (carried a v)) × (variant_answer_by NoLook (unlooked NoLook s.lock) s.mended s.barred (errand_of s.errand) Straight (kind_of a) (carried a v) ≡ answer_by s.lock s.mended s.barred (errand_of s.errand) (kind_of a) (carried a v)))
+        × (variant_outer_by NoLook s.index (unlooked NoLook s.lock) (errand_of s.errand) Straight (kind_of a) (carried a v) ≡ outer_by s.index s.lock (errand_of s.errand) (kind_of a) (carried a v)) × (variant_answer_by NoLook (unlooked NoLook s.lock) s.mended s.barred (errand_of s.errand) Straight (kind_of a) (carried a v) ≡ answer_by s.lock s.mended s.barred (errand_of s.errand) (kind_of a) (carried a v))
+        × (variant_done_by NoLook (unlooked NoLook s.lock) (errand_of s.errand) Straight (kind_of a) (carried a v) ≡ done_by s.lock (errand_of s.errand) (kind_of a) (carried a v)))
         → IfSome o (λ a. next_spot s.layout s.limit (spot_of s) (happening s a v) ≡ Some (spot_of (stepped s v)))
         → IfSome o (IsRow NoLook s (variant_spot_of (process_of NoLook s Straight Nothing)) (variant_spot_of (process_of NoLook (past_look (stepped s v)) Straight Nothing)) (outcome s o v) v)
     by None x y = tt
@@ -273,4 +275,5 @@ looks_row s v h k = by (next_access s) (looks_by s.layout s.limit s.index s.lock
       ap (λ u. variant_spot NoLook s.layout s.limit u (happening s a v)) (bare s) ∙ x.0 ∙ ap (λ o. beside Straight (seen o)) y ∙ sym (ap (λ u. Some u) to),
       ap (λ u. variant_outer NoLook u (happening s a v)) (bare s) ∙ x.1,
       ap (λ u. variant_answer_at NoLook u (kind_of a) (carried a v)) (bare s) ∙ x.2,
+      ap (λ u. variant_done_at NoLook u (kind_of a) (carried a v)) (bare s) ∙ x.3,
     )

@@ -17,7 +17,7 @@ use Rattle.rmeworld.specs.declared.errand.Errand.{Errand as Chore}
 use Rattle.rmeworld.specs.declared.errand.Errand.TheVariants.{Free as IsFree, Asking, Doing as Does}
 use Rattle.rmeworld.specs.declared.outcome.Outcome.{Outcome}
 use Rattle.rmeworld.specs.declared.why.Why.TheVariants.{Checking, Ruining, Mending, Working}
-use Rattle.rmeworld.specs.Answered.{by_script, answer_by}
+use Rattle.rmeworld.specs.Answered.{by_script, answer_by, done_by}
 use Rattle.rmeworld.specs.Errands.{errand_of, HasStep}
 use Rattle.rmeworld.specs.Spot.{Errand, Free, Doing, only_spot, settled, outer_by, end_mended, end_barred}
 use Rattle.rmeworld.specs.Stand.{Stand, spot_of, access_by, next_access, outcome, stepped, job_left}
@@ -27,7 +27,7 @@ use Rattle.crashlab.specs.declared.detour.Detour.TheVariants.{Straight}
 use Rattle.crashlab.specs.declared.variant.Variant.{Variant}
 use Rattle.crashlab.specs.declared.variant.Variant.TheVariants.{CountUp}
 use Rattle.crashlab.specs.VariantScripts.{raised, counting_up}
-use Rattle.crashlab.specs.VariantSpots.{beside, variant_moved, variant_outer_by, variant_answer_by}
+use Rattle.crashlab.specs.VariantSpots.{beside, variant_moved, variant_outer_by, variant_answer_by, variant_done_by}
 use Rattle.crashlab.specs.VariantStands.{VariantStand, variant_spot_of, unlooked, changed_script, changed_errand, changed_access, is_put, unless_answered, silent, plain_outcome, variant_stepped}
 use Rattle.crashlab.proofs.Seats.{step_stays}
 use Rattle.crashlab.proofs.Starts.{changed_spot}
@@ -147,8 +147,8 @@ pub plain_lands : (variant : Variant) (s : Stand) (v : ℕ) (job : Pending) (e :
 plain_lands variant s v job e o looks inside told is answer = lands variant Nothing s v job e o looks (λ r. refl) (λ h. h) inside told is answer
 
 -- what the outcome of a step of a script is
-pub outcome_is : (s : Stand) (e : Script Reply) (a : Access) (v : ℕ) → errand_of s.errand ≡ Doing Mending e → ((outcome s (Some a) v).progress.outer ≡ None) × ((outcome s (Some a) v).answer ≡ by_script Mending s.mended (tail e (carried a v)))
-outcome_is s e a v at = (ap (λ x. outer_by s.index s.lock x (kind_of a) (carried a v)) at, ap (λ x. answer_by s.lock s.mended s.barred x (kind_of a) (carried a v)) at)
+pub outcome_is : (s : Stand) (e : Script Reply) (a : Access) (v : ℕ) → errand_of s.errand ≡ Doing Mending e → ((outcome s (Some a) v).progress.outer ≡ None) × ((outcome s (Some a) v).answer ≡ by_script Mending s.mended (tail e (carried a v))) × ((outcome s (Some a) v).progress.done ≡ None)
+outcome_is s e a v at = (ap (λ x. outer_by s.index s.lock x (kind_of a) (carried a v)) at, ap (λ x. answer_by s.lock s.mended s.barred x (kind_of a) (carried a v)) at, ap (λ x. done_by s.lock x (kind_of a) (carried a v)) at)
 
 pub allowed_put : (i x : ℕ) → ((i == i) && (x == x)) ≡ true
 allowed_put i x = rw (eqb_self i, eqb_self x) refl
@@ -179,7 +179,8 @@ CountOutcome s v put o = if put then silent else outcome s o v
 abbrev CountRow : Stand → ℕ → Option Access → Errand → VariantStand → Outcome → Type 0
 CountRow s v o e to out =
     IfSome o (λ a. (variant_moved CountUp s.layout s.limit s.index s.lock s.mended s.barred e Straight (kind_of a) (word_of a) (carried a v) ≡ Some (variant_spot_of to))
-    × (variant_outer_by CountUp s.index s.lock e Straight (kind_of a) (carried a v) ≡ out.progress.outer) × (variant_answer_by CountUp s.lock s.mended s.barred e Straight (kind_of a) (carried a v) ≡ out.answer))
+    × (variant_outer_by CountUp s.index s.lock e Straight (kind_of a) (carried a v) ≡ out.progress.outer) × (variant_answer_by CountUp s.lock s.mended s.barred e Straight (kind_of a) (carried a v) ≡ out.answer)
+    × (variant_done_by CountUp s.lock e Straight (kind_of a) (carried a v) ≡ out.progress.done))
 
 abbrev CountGoal : Stand → ℕ → Errand → Type 0
 CountGoal s v x =
@@ -193,12 +194,13 @@ count_put s v i x rest job true e at inside told is =
     let n : ℕ = raised s.layout.cap v in
     let two : i ≡ 2 = eqb-true i 2 e in
     let left_so : Doing Mending (Writes 2 n rest) ≡ changed_errand (Counted n) s.layout s.index (errand_of s.errand) = ap (λ z. Doing Mending (Writes z n rest)) (sym two) ∙ ap (changed_errand (Counted n) s.layout s.index) (sym at) in
-    (λ k. Some (record { spot = record { lock = sym inside k; mended = s.mended; barred = s.barred; errand = left_so k }; detour = Straight }), refl, refl)
+    (λ k. Some (record { spot = record { lock = sym inside k; mended = s.mended; barred = s.barred; errand = left_so k }; detour = Straight }), refl, refl, refl)
 count_put s v i x rest job false e at inside told is =
     let out = outcome_is s (Writes i x rest) (Store Puts (DataAt i) x) v at in (
       ap (λ y. beside Straight (only_spot y (settled s.mended s.barred Mending (counting_up s.layout.cap rest)))) (allowed_put i x) ∙ count_lands s v job rest (outcome s (Some (Store Puts (DataAt i) x)) v).answer inside told is out.1,
       sym out.0,
       count_answer s.mended s.layout.cap rest ∙ sym out.1,
+      sym out.2,
     )
 
 count_by : (s : Stand) (v : ℕ) (e : Script Reply) (job : Pending) → errand_of s.errand ≡ Doing Mending e → HasStep e → s.lock ≡ Inside → (HasStep (tail e v) → left job ≡ tail e v) → stepped s v ≡ job_left s Mending job (tail e v) → CountGoal s v (Doing Mending e)
@@ -207,6 +209,7 @@ count_by s v (Asks i rest) job at h inside told is =
       ap (λ y. beside Straight (only_spot y (settled s.mended s.barred Mending (counting_up s.layout.cap (rest v))))) (eqb_self i) ∙ count_lands s v job (rest v) (outcome s (Some (Load Gets (DataAt i))) v).answer inside told is out.1,
       sym out.0,
       count_answer s.mended s.layout.cap (rest v) ∙ sym out.1,
+      sym out.2,
     )
 count_by s v (Writes i x rest) job at h inside told is = count_put s v i x rest job (i == 2) refl at inside told is
 count_by s v (Done r) job at h inside told is = absurd h
@@ -240,6 +243,7 @@ counted_row s n v h fits =
       ap (λ y. beside Straight (only_spot y (settled s.mended s.barred Mending fits.rest))) (allowed_put 2 n) ∙ plain_lands CountUp s v m.job fits.rest (outcome s (Some (Store Puts (DataAt 2) fits.value)) v).answer (λ t. refl) m.inside told is out.1,
       sym out.0,
       sym out.1,
+      sym out.2,
     )
 
 -- what a step leaves

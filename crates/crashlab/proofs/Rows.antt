@@ -17,7 +17,7 @@ use Rattle.redomail.specs.Script.{Script, Get as Asks, Put as Writes, Done, tail
 use Rattle.rmeworld.specs.declared.outcome.Outcome.{Outcome}
 use Rattle.rmeworld.specs.declared.why.Why.{Why}
 use Rattle.rmeworld.specs.declared.why.Why.TheVariants.{Checking, Ruining, Mending, Working}
-use Rattle.rmeworld.specs.Answered.{by_lock, by_script, answer_by}
+use Rattle.rmeworld.specs.Answered.{by_lock, by_script, answer_by, done_by}
 use Rattle.rmeworld.specs.Errands.{errand_of}
 use Rattle.rmeworld.specs.Spot.{Errand, Free, Doing, next_spot, moved_by, at_lock, outer_by}
 use Rattle.rmeworld.specs.Stand.{Stand, spot_of, access_by, next_access, happening, outcome, stepped}
@@ -28,7 +28,7 @@ use Rattle.crashlab.specs.declared.detour.Detour.TheVariants.{Straight}
 use Rattle.crashlab.specs.declared.variant.Variant.{Variant}
 use Rattle.crashlab.specs.declared.variant.Variant.TheVariants.{Right, NoTies}
 use Rattle.crashlab.specs.Variants.{and_detour, variant_next, variant_deed, variant_answer}
-use Rattle.crashlab.specs.VariantSpots.{VariantSpot, beside, at_variant, variant_moved, variant_spot, variant_outer_by, variant_outer, variant_answer_by, variant_answer_at}
+use Rattle.crashlab.specs.VariantSpots.{VariantSpot, beside, at_variant, variant_moved, variant_spot, variant_outer_by, variant_outer, variant_answer_by, variant_answer_at, variant_done_by, variant_done_at}
 use Rattle.crashlab.specs.VariantStands.{VariantStand, variant_spot_of, unlooked, changed_errand, variant_next_access, variant_stepped, variant_outcome, plain_outcome, is_of, untied}
 use Rattle.crashlab.proofs.Steady.{Steady, step_goes}
 
@@ -36,6 +36,7 @@ use Rattle.crashlab.proofs.Steady.{Steady, step_goes}
 abbrev pub IsRow : Variant → Stand → VariantSpot → VariantSpot → Outcome → ℕ → Access → Type 0
 IsRow variant s from to o v a =
     (variant_spot variant s.layout s.limit from (happening s a v) ≡ Some to) × (variant_outer variant from (happening s a v) ≡ o.progress.outer) × (variant_answer_at variant from (kind_of a) (carried a v) ≡ o.answer)
+    × (variant_done_at variant from (kind_of a) (carried a v) ≡ o.progress.done)
 
 abbrev pub process_of : Variant → Stand → Detour → Change → VariantStand
 process_of variant s d change = record { variant = variant; stand = s; detour = d; change = change }
@@ -61,11 +62,12 @@ after_next l p s b c (Some t) = refl
 
 agreed : (variant : Variant) (l : Layout) (limit p : ℕ) (s : Place) (b c : Bool) (e : Errand) (v w : ℕ) → (e ≡ Free → IfSome (access limit p s) (Agrees variant l.procs limit p s v w)) → ((why : Why) (left : Script Reply) → e ≡ Doing why left → w ≡ v)
     → IfSome (access_by limit p s e) (λ a. (variant_moved variant l limit p s b c e Straight (kind_of a) (word_of a) (carried a v) ≡ beside Straight (moved_by l limit p s b c e (kind_of a) (word_of a) (carried a w)))
-    × (variant_outer_by variant p s e Straight (kind_of a) (carried a v) ≡ outer_by p s e (kind_of a) (carried a w)) × (variant_answer_by variant s b c e Straight (kind_of a) (carried a v) ≡ answer_by s b c e (kind_of a) (carried a w)))
-agreed variant l limit p s b c Free v w agree same = IfSome_then (access limit p s) (agree refl) (λ a h. (ap (at_variant l p s b c Straight) h.0 ∙ after_next l p s b c _, h.1, ap (by_lock c) h.2))
+    × (variant_outer_by variant p s e Straight (kind_of a) (carried a v) ≡ outer_by p s e (kind_of a) (carried a w)) × (variant_answer_by variant s b c e Straight (kind_of a) (carried a v) ≡ answer_by s b c e (kind_of a) (carried a w))
+    × (variant_done_by variant s e Straight (kind_of a) (carried a v) ≡ done_by s e (kind_of a) (carried a w)))
+agreed variant l limit p s b c Free v w agree same = IfSome_then (access limit p s) (agree refl) (λ a h. (ap (at_variant l p s b c Straight) h.0 ∙ after_next l p s b c _, h.1, ap (by_lock c) h.2, h.2))
 agreed variant l limit p s b c (Doing why left) v w agree same =
     let e = sym (same why left refl) in
-    all (access_by limit p s (Doing why left)) _ (λ a. (ap (λ u. beside Straight (moved_by l limit p s b c (Doing why left) (kind_of a) (word_of a) (carried a u))) e, refl, ap (λ u. by_script why b (tail left (carried a u))) e))
+    all (access_by limit p s (Doing why left)) _ (λ a. (ap (λ u. beside Straight (moved_by l limit p s b c (Doing why left) (kind_of a) (word_of a) (carried a u))) e, refl, ap (λ u. by_script why b (tail left (carried a u))) e, refl))
 
 -- nothing of a script is changed
 pub nothing_changed : (l : Layout) (p : ℕ) (e : Errand) → changed_errand Nothing l p e ≡ e
@@ -92,7 +94,8 @@ lock_row variant s v w h looks agree same =
 
     by : (o : Option Access)
         → IfSome o (λ a. (variant_moved variant s.layout s.limit s.index s.lock s.mended s.barred (errand_of s.errand) Straight (kind_of a) (word_of a) (carried a v) ≡ beside Straight (moved_by s.layout s.limit s.index s.lock s.mended s.barred (errand_of s.errand) (kind_of a) (word_of a) (carried a w)))
-        × (variant_outer_by variant s.index s.lock (errand_of s.errand) Straight (kind_of a) (carried a v) ≡ outer_by s.index s.lock (errand_of s.errand) (kind_of a) (carried a w)) × (variant_answer_by variant s.lock s.mended s.barred (errand_of s.errand) Straight (kind_of a) (carried a v) ≡ answer_by s.lock s.mended s.barred (errand_of s.errand) (kind_of a) (carried a w)))
+        × (variant_outer_by variant s.index s.lock (errand_of s.errand) Straight (kind_of a) (carried a v) ≡ outer_by s.index s.lock (errand_of s.errand) (kind_of a) (carried a w)) × (variant_answer_by variant s.lock s.mended s.barred (errand_of s.errand) Straight (kind_of a) (carried a v) ≡ answer_by s.lock s.mended s.barred (errand_of s.errand) (kind_of a) (carried a w))
+        × (variant_done_by variant s.lock (errand_of s.errand) Straight (kind_of a) (carried a v) ≡ done_by s.lock (errand_of s.errand) (kind_of a) (carried a w)))
         → IfSome o (λ a. next_spot s.layout s.limit (spot_of s) (happening s a w) ≡ Some (spot_of (stepped s w)))
         → IfSome o (IsRow variant s (variant_spot_of (process_of variant s Straight Nothing)) (variant_spot_of (process_of variant (stepped s w) Straight Nothing)) (outcome s o w) v)
     by None x y = tt
@@ -100,6 +103,7 @@ lock_row variant s v w h looks agree same =
       ap (λ u. variant_spot variant s.layout s.limit u (happening s a v)) from ∙ x.0 ∙ ap (beside Straight) y ∙ sym (ap (λ u. Some u) to),
       ap (λ u. variant_outer variant u (happening s a v)) from ∙ x.1,
       ap (λ u. variant_answer_at variant u (kind_of a) (carried a v)) from ∙ x.2,
+      ap (λ u. variant_done_at variant u (kind_of a) (carried a v)) from ∙ x.3,
     )
 
 -- the lock itself

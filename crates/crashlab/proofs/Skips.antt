@@ -23,7 +23,7 @@ use Rattle.crashlab.specs.declared.change.Change.TheVariants.{Nothing, LeavesOut
 use Rattle.crashlab.specs.declared.detour.Detour.TheVariants.{Straight}
 use Rattle.crashlab.specs.declared.variant.Variant.TheVariants.{LastSkipped}
 use Rattle.crashlab.specs.VariantScripts.{leaving_out}
-use Rattle.crashlab.specs.VariantSpots.{beside, variant_moved, variant_outer_by, variant_answer_by}
+use Rattle.crashlab.specs.VariantSpots.{beside, variant_moved, variant_outer_by, variant_answer_by, variant_done_by}
 use Rattle.crashlab.specs.VariantStands.{VariantStand, variant_spot_of, changed_errand, unless_answered, is_put, plain_outcome, last_put_next, variant_stepped}
 use Rattle.crashlab.proofs.Steady.{Steady, step_steady}
 use Rattle.crashlab.proofs.Rows.{process_of, Follows, all, lock_row}
@@ -65,7 +65,7 @@ SkipOutcome s v put out = if put then plain_outcome (stepped s v) 0 else out
 abbrev Lands : Stand → ℕ → Script Reply → Bool → Outcome → Type 0
 Lands s v e put out =
     (Some (record { spot = settled s.mended s.barred Mending (leaving_out (last_of s) e); detour = Straight }) ≡ Some (variant_spot_of (SkipAfter s v put out.answer)))
-    × (None ≡ (SkipOutcome s v put out).progress.outer) × (by_script Mending s.mended (leaving_out (last_of s) e) ≡ (SkipOutcome s v put out).answer)
+    × (None ≡ (SkipOutcome s v put out).progress.outer) × (by_script Mending s.mended (leaving_out (last_of s) e) ≡ (SkipOutcome s v put out).answer) × (None ≡ (SkipOutcome s v put out).progress.done)
 
 skip_past : (s : Stand) (v : ℕ) (job : Pending) (j x : ℕ) (rest : Script Reply) (out : Outcome) → (j == last_of s) ≡ true → Steady s → s.lock ≡ Inside → left job ≡ Writes j x rest → stepped s v ≡ job_left s Mending job (Writes j x rest) → Lands s v (Writes j x rest) true out
 skip_past s v job j x rest out here h inside told is =
@@ -84,33 +84,36 @@ skip_past s v job j x rest out here h inside told is =
           ∙ ap (λ change. Some (variant_spot_of (process_of LastSkipped (stepped t 0) Straight change))) (nothing_stays (by_script Mending t.mended rest)),
       sym (ap (λ o. (outcome t o 0).progress.outer) next ∙ out'.0),
       ap (by_script Mending s.mended) skipped ∙ ap (λ b. by_script Mending b rest) (sym mended) ∙ sym (ap (λ o. (outcome t o 0).answer) next ∙ out'.1),
+      sym (ap (λ o. (outcome t o 0).progress.done) next ∙ out'.2),
     )
 
-lands_on : (s : Stand) (v : ℕ) (job : Pending) (e : Script Reply) (out : Outcome) → is_put (last_of s) (access_by s.limit s.index Inside (Doing Mending e)) ≡ false → s.lock ≡ Inside → (HasStep e → left job ≡ e) → stepped s v ≡ job_left s Mending job e → out.progress.outer ≡ None → out.answer ≡ by_script Mending s.mended e → Lands s v e false out
-lands_on s v job e out other inside told is outer answer = (
+lands_on : (s : Stand) (v : ℕ) (job : Pending) (e : Script Reply) (out : Outcome) → is_put (last_of s) (access_by s.limit s.index Inside (Doing Mending e)) ≡ false → s.lock ≡ Inside → (HasStep e → left job ≡ e) → stepped s v ≡ job_left s Mending job e → out.progress.outer ≡ None → out.answer ≡ by_script Mending s.mended e → out.progress.done ≡ None → Lands s v e false out
+lands_on s v job e out other inside told is outer answer done = (
   lands LastSkipped LeavesOut s v job e out.answer (λ t. refl) (λ r. refl) (leave_step (last_of s) s.limit s.index Inside e other) inside told is answer,
   sym outer,
   leave_answer (last_of s) s.limit s.index Inside s.mended e other ∙ sym answer,
+  sym done,
 )
 
 lands_put : (s : Stand) (v : ℕ) (job : Pending) (j x : ℕ) (rest : Script Reply) (out : Outcome) (put : Bool) → (j == last_of s) ≡ put → Steady s → s.lock ≡ Inside → left job ≡ Writes j x rest → stepped s v ≡ job_left s Mending job (Writes j x rest) → out.progress.outer ≡ None → out.answer ≡ by_script Mending s.mended (Writes j x rest)
-    → Lands s v (Writes j x rest) put out
-lands_put s v job j x rest out true here h inside told is outer answer = skip_past s v job j x rest out here h inside told is
-lands_put s v job j x rest out false here h inside told is outer answer = lands_on s v job (Writes j x rest) out here inside (λ _. told) is outer answer
+    → out.progress.done ≡ None → Lands s v (Writes j x rest) put out
+lands_put s v job j x rest out true here h inside told is outer answer done = skip_past s v job j x rest out here h inside told is
+lands_put s v job j x rest out false here h inside told is outer answer done = lands_on s v job (Writes j x rest) out here inside (λ _. told) is outer answer done
 
-lands_by : (s : Stand) (v : ℕ) (job : Pending) (e : Script Reply) (out : Outcome) → Steady s → s.lock ≡ Inside → (HasStep e → left job ≡ e) → stepped s v ≡ job_left s Mending job e → out.progress.outer ≡ None → out.answer ≡ by_script Mending s.mended e → Lands s v e (last_put_next (stepped s v)) out
-lands_by s v job e out h inside told is outer answer = subst (λ y. Lands s v e y out) (sym (next_is s v job e told is)) (by e told is answer)
+lands_by : (s : Stand) (v : ℕ) (job : Pending) (e : Script Reply) (out : Outcome) → Steady s → s.lock ≡ Inside → (HasStep e → left job ≡ e) → stepped s v ≡ job_left s Mending job e → out.progress.outer ≡ None → out.answer ≡ by_script Mending s.mended e → out.progress.done ≡ None → Lands s v e (last_put_next (stepped s v)) out
+lands_by s v job e out h inside told is outer answer done = subst (λ y. Lands s v e y out) (sym (next_is s v job e told is)) (by e told is answer)
   where
     by : (e : Script Reply) → (HasStep e → left job ≡ e) → stepped s v ≡ job_left s Mending job e → out.answer ≡ by_script Mending s.mended e → Lands s v e (is_put (last_of s) (access_by s.limit s.index Inside (Doing Mending e))) out
-    by (Asks i rest) told is answer = lands_on s v job (Asks i rest) out refl inside told is outer answer
-    by (Writes j x rest) told is answer = lands_put s v job j x rest out (j == last_of s) refl h inside (told tt) is outer answer
-    by (Done r) told is answer = lands_on s v job (Done r) out refl inside told is outer answer
+    by (Asks i rest) told is answer = lands_on s v job (Asks i rest) out refl inside told is outer answer done
+    by (Writes j x rest) told is answer = lands_put s v job j x rest out (j == last_of s) refl h inside (told tt) is outer answer done
+    by (Done r) told is answer = lands_on s v job (Done r) out refl inside told is outer answer done
 
 abbrev SkipRow : Stand → ℕ → Option Access → Errand → Outcome → Type 0
 SkipRow s v o e out =
     IfSome o (λ a. (variant_moved LastSkipped s.layout s.limit s.index s.lock s.mended s.barred e Straight (kind_of a) (word_of a) (carried a v) ≡ Some (variant_spot_of (SkipAfter s v (last_put_next (stepped s v)) out.answer)))
     × (variant_outer_by LastSkipped s.index s.lock e Straight (kind_of a) (carried a v) ≡ (SkipOutcome s v (last_put_next (stepped s v)) out).progress.outer)
-    × (variant_answer_by LastSkipped s.lock s.mended s.barred e Straight (kind_of a) (carried a v) ≡ (SkipOutcome s v (last_put_next (stepped s v)) out).answer))
+    × (variant_answer_by LastSkipped s.lock s.mended s.barred e Straight (kind_of a) (carried a v) ≡ (SkipOutcome s v (last_put_next (stepped s v)) out).answer)
+    × (variant_done_by LastSkipped s.lock e Straight (kind_of a) (carried a v) ≡ (SkipOutcome s v (last_put_next (stepped s v)) out).progress.done))
 
 abbrev SkipGoal : Stand → ℕ → Errand → Type 0
 SkipGoal s v x = SkipRow s v (access_by s.limit s.index s.lock x) (changed_errand LeavesOut s.layout s.index x) (outcome s (access_by s.limit s.index s.lock x) v)
@@ -119,13 +122,13 @@ skip_by : (s : Stand) (v : ℕ) (e : Script Reply) (job : Pending) → is_put (l
     → stepped s v ≡ job_left s Mending job (tail e v) → SkipGoal s v (Doing Mending e)
 skip_by s v (Asks i rest) job other h at step inside told is =
     let o = outcome_is s (Asks i rest) (Load Gets (DataAt i)) v at in
-    let l = lands_by s v job (rest v) (outcome s (Some (Load Gets (DataAt i))) v) h inside told is o.0 o.1 in
-    (ap (λ y. beside Straight (only_spot y (settled s.mended s.barred Mending (leaving_out (last_of s) (rest v))))) (eqb_self i) ∙ l.0, l.1, l.2)
+    let l = lands_by s v job (rest v) (outcome s (Some (Load Gets (DataAt i))) v) h inside told is o.0 o.1 o.2 in
+    (ap (λ y. beside Straight (only_spot y (settled s.mended s.barred Mending (leaving_out (last_of s) (rest v))))) (eqb_self i) ∙ l.0, l.1, l.2, l.3)
 skip_by s v (Writes i x rest) job other h at step inside told is =
     let o = outcome_is s (Writes i x rest) (Store Puts (DataAt i) x) v at in
-    let l = lands_by s v job rest (outcome s (Some (Store Puts (DataAt i) x)) v) h inside told is o.0 o.1 in
+    let l = lands_by s v job rest (outcome s (Some (Store Puts (DataAt i) x)) v) h inside told is o.0 o.1 o.2 in
     subst (λ y. SkipRow s v (Some (Store Puts (DataAt i) x)) (Doing Mending (if y then rest else Writes i x (leaving_out (last_of s) rest))) (outcome s (Some (Store Puts (DataAt i) x)) v)) (sym other)
-    (ap (λ y. beside Straight (only_spot y (settled s.mended s.barred Mending (leaving_out (last_of s) rest)))) (allowed_put i x) ∙ l.0, l.1, l.2)
+    (ap (λ y. beside Straight (only_spot y (settled s.mended s.barred Mending (leaving_out (last_of s) rest)))) (allowed_put i x) ∙ l.0, l.1, l.2, l.3)
 skip_by s v (Done r) job other h at step inside told is = absurd step
 
 skips_row : (s : Stand) (v : ℕ) → Steady s → IsMending s.errand → last_put_next s ≡ false → Follows (process_of LastSkipped s Straight LeavesOut) v

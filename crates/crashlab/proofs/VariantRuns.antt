@@ -13,6 +13,7 @@ use Rattle.redomail.specs.Layout.{IsLayout}
 use Rattle.rmeworld.specs.declared.call.Call.{Call}
 use Rattle.rmeworld.specs.declared.call.Call.TheVariants.{Lock, Unlock, Consistent, Recover, Append, Close, Get, Put, Withdraw}
 use Rattle.rmeworld.specs.declared.errand.Errand.TheVariants.{Free as IsFree}
+use Rattle.rmeworld.specs.Acts.{Act, Starts, Steps, Crashes, unless}
 use Rattle.rmeworld.specs.Errands.{errand_of}
 use Rattle.rmeworld.specs.Refused.{start_refusal as spot_refusal}
 use Rattle.rmeworld.specs.Spot.{Free, at_rest, Begins, Falls, Moves}
@@ -23,10 +24,10 @@ use Rattle.crashlab.specs.declared.detour.Detour.{Detour}
 use Rattle.crashlab.specs.declared.detour.Detour.TheVariants.{Straight, Dropping, Over}
 use Rattle.crashlab.specs.declared.variant.Variant.{Variant}
 use Rattle.crashlab.specs.declared.variant.Variant.TheVariants.{Right, NoLook, NoTies, Renumber, ExitOnCrash, CountUp, LastSkipped}
-use Rattle.crashlab.specs.VariantSpots.{beside, variant_begun, variant_spot, variant_outer, variant_answer_at}
+use Rattle.crashlab.specs.VariantSpots.{beside, variant_begun, variant_spot, variant_outer, variant_answer_at, variant_done_at}
 use Rattle.crashlab.specs.VariantStands.{VariantStand, variant_resting, variant_crashed, variant_spot_of, unlooked, changed_errand, variant_next_access, variant_stepped, variant_outcome, change_of, variant_started}
 use Rattle.crashlab.specs.VariantWorlds.{VariantState, stand_at, HasSeat, IsSeated, new_world, start_refusal, started, access_at, unless_step, found_by, stepped, stepped_if, advanced_if, advanced, crashed}
-use Rattle.crashlab.specs.VariantRuns.{Act, Starts, Steps, Falls as Crashes, unless, acted, run_of, IsRun, spot_at, move}
+use Rattle.crashlab.specs.VariantRuns.{acted, run_of, IsRun, spot_at, move}
 use Rattle.rmeworld.proofs.WorldSteps.{words_by_length, cells_by_length}
 use Rattle.crashlab.proofs.Seats.{seated, set_each, variant_step_stays, variant_start_stays, seat_stays, with_seat, same_by}
 use Rattle.crashlab.proofs.Rests.{rest_at, seated_new}
@@ -265,6 +266,12 @@ an_answer s p a run below e =
     let h = is_fit s run in
     let seat = h.seated.seats p below in
     ap (λ o. (stepped_if s p o).answer) e ∙ sym (step_row s p a (stand_at s.processes p) (h.each p below) e).2 ∙ (λ i. variant_answer_at (seat.0 i) (spot_at s p) (kind_of a) (carried a (found_by s a)))
+
+pub a_done : (s : VariantState) (p : ℕ) (a : Access) → IsRun s → p < s.layout.procs → access_at s p ≡ Some a → (stepped s p).happened.done ≡ variant_done_at s.variant (spot_at s p) (kind_of a) (carried a (found_by s a))
+a_done s p a run below e =
+    let h = is_fit s run in
+    let seat = h.seated.seats p below in
+    ap (λ o. (stepped_if s p o).happened.done) e ∙ sym (step_row s p a (stand_at s.processes p) (h.each p below) e).3 ∙ (λ i. variant_done_at (seat.0 i) (spot_at s p) (kind_of a) (carried a (found_by s a)))
 
 is_below : (p n : ℕ) (r : Option Refusal) (x : Bool) → nat_lt p n ≡ x → (if x then r else Some NoSuchProcess) ≡ None → (p < n) × (r ≡ None)
 is_below p n r true e h = (ltb-true p n e, h)

@@ -1,29 +1,18 @@
 -- What a world of a variant comes to: its starts, steps and crashes, one after the other, from a new one.
-use Rattle.std.specs.Prelude.{◌≡◌, ℕ, List, [], ◌∷◌, Option, Some, None}
+use Rattle.std.specs.Prelude.{◌≡◌, ℕ, List, [], ◌∷◌}
 use Rattle.rmecore.specs.Machine.{kind_of, word_of, carried}
 use Rattle.rmecore.specs.declared.access.Access.{Access}
-use Rattle.rmecore.specs.declared.refusal.Refusal.{Refusal}
-use Rattle.rmeworld.specs.declared.call.Call.{Call}
+use Rattle.rmeworld.specs.Acts.{Act, Starts, Steps, Crashes, unless}
 use Rattle.rmeworld.specs.Spot.{Happening, Moves}
 use Rattle.rmeworld.specs.Stand.{IsSize}
 use Rattle.crashlab.specs.VariantSpots.{VariantSpot}
 use Rattle.crashlab.specs.VariantStands.{variant_spot_of}
 use Rattle.crashlab.specs.VariantWorlds.{VariantState, stand_at, new_world, start_refusal, started, found_by, advance_refusal, advanced, crash_refusal, crashed}
 
-pub data Act : Type 0 where
-  Starts : (p : ℕ) → (call : Call) → Act
-  Steps : (p : ℕ) → Act
-  Falls : (p : ℕ) → Act
-
--- what is refused changes nothing
-abbrev pub unless : Option Refusal → VariantState → VariantState → VariantState
-unless None s t = t
-unless (Some r) s t = s
-
 abbrev pub acted : VariantState → Act → VariantState
 acted s (Starts p call) = unless (start_refusal s p call) s (started s p call)
 acted s (Steps p) = unless (advance_refusal s p) s (advanced s p)
-acted s (Falls p) = unless (crash_refusal s p) s (crashed s p)
+acted s (Crashes p) = unless (crash_refusal s p) s (crashed s p)
 
 abbrev pub run_of : VariantState → List Act → VariantState
 run_of s [] = s

@@ -2,6 +2,7 @@
 use Rattle.std.specs.Prelude.{ℕ, Bool, true, false, Option, Some, None}
 use Rattle.rmecore.specs.Place.{Place}
 use Rattle.rmecore.specs.declared.access.Access.{Access}
+use Rattle.rmecore.specs.declared.core_done.CoreDone.{CoreDone}
 use Rattle.rmecore.specs.declared.kind.Kind.{Kind}
 use Rattle.rmecore.specs.declared.outer.Outer.{Outer}
 use Rattle.rmecore.specs.declared.outer.Outer.TheVariants.{Crash}
@@ -77,6 +78,14 @@ variant_answer_by variant s b c (Doing why left) d kind v = by_script why b (tai
 
 abbrev pub variant_answer_at : Variant → VariantSpot → Kind → ℕ → Option Answer
 variant_answer_at variant s kind v = variant_answer_by variant s.spot.lock s.spot.mended s.spot.barred s.spot.errand s.detour kind v
+
+-- the answer of the lock's part, where that ends with the step
+abbrev pub variant_done_by : Variant → Place → Errand → Detour → Kind → ℕ → Option CoreDone
+variant_done_by variant s Free d kind v = variant_answer variant s d kind v
+variant_done_by variant s (Doing why left) d kind v = None
+
+abbrev pub variant_done_at : Variant → VariantSpot → Kind → ℕ → Option CoreDone
+variant_done_at variant s kind v = variant_done_by variant s.spot.lock s.spot.errand s.detour kind v
 
 -- the step that comes next: the script's, or the lock's
 abbrev pub variant_access_by : Variant → ℕ → ℕ → Place → Errand → Detour → Option Access

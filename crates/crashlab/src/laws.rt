@@ -7,7 +7,7 @@ ghost use Rattle.redomail.specs.declared.layout.Layout.{Layout};
 ghost use Rattle.rmeworld.specs.declared.call.Call.{Call};
 ghost use Rattle.rmeworld.specs.Spot.{Spot, Happening, Begins, Falls, at_rest, next_spot, outer};
 ghost use Rattle.crashlab.specs.declared.detour.Detour.TheVariants.{Straight};
-ghost use Rattle.crashlab.specs.VariantSpots.{beside, variant_spot, variant_outer, variant_answer_at, variant_access_at};
+ghost use Rattle.crashlab.specs.VariantSpots.{beside, variant_spot, variant_outer, variant_answer_at, variant_done_at, variant_access_at};
 ghost use Rattle.crashlab.specs.VariantWorlds.{VariantState, new_world, start_refusal, started, access_at, found_by, stepped, advanced, crashed};
 ghost use Rattle.crashlab.specs.VariantRuns.{IsRun, spot_at, move};
 
@@ -16,7 +16,7 @@ use crate::variant::Variant;
 /// In every run of a world of a variant each process goes by the variant's definition, which is the lock's but for the rows
 /// that the variant changes. It begins at rest; its starts, steps and crashes lead where the definition says; the step that
 /// comes next is the definition's, of the least process where there is a choice; and what is told of the step as the lock's
-/// deed and the call's answer is the definition's.
+/// deed, the answer of the lock's part and the call's answer is the definition's.
 pub fn variants_keep_to_their_rows()
     ensures rest { (variant : Variant) (l : Layout) (limit p : ℕ) → p < l.procs → spot_at (new_world variant l limit) p ≡ record { spot = at_rest; detour = Straight } }
     ensures starts { (s : VariantState) (p : ℕ) (call : Call) → IsRun s → start_refusal s p call ≡ None → variant_spot s.variant s.layout s.limit (spot_at s p) (Begins p call) ≡ Some (spot_at (started s p call) p) }
@@ -24,6 +24,7 @@ pub fn variants_keep_to_their_rows()
     ensures steps { (s : VariantState) (p : ℕ) (a : Access) → IsRun s → p < s.layout.procs → access_at s p ≡ Some a → variant_spot s.variant s.layout s.limit (spot_at s p) (move s p a) ≡ Some (spot_at (advanced s p) p) }
     ensures deeds { (s : VariantState) (p : ℕ) (a : Access) → IsRun s → p < s.layout.procs → access_at s p ≡ Some a → (stepped s p).happened.outer ≡ variant_outer s.variant (spot_at s p) (move s p a) }
     ensures answers { (s : VariantState) (p : ℕ) (a : Access) → IsRun s → p < s.layout.procs → access_at s p ≡ Some a → (stepped s p).answer ≡ variant_answer_at s.variant (spot_at s p) (kind_of a) (carried a (found_by s a)) }
+    ensures done { (s : VariantState) (p : ℕ) (a : Access) → IsRun s → p < s.layout.procs → access_at s p ≡ Some a → (stepped s p).happened.done ≡ variant_done_at s.variant (spot_at s p) (kind_of a) (carried a (found_by s a)) }
     ensures falls { (s : VariantState) (p : ℕ) → IsRun s → p < s.layout.procs → variant_spot s.variant s.layout s.limit (spot_at s p) (Falls p) ≡ Some (spot_at (crashed s p) p) }
 {}
 

@@ -1,4 +1,4 @@
-use Rattle.crashlab.proofs.VariantRuns.{a_rest, a_start, a_step, a_deed, an_answer, a_crash}
+use Rattle.crashlab.proofs.VariantRuns.{a_rest, a_start, a_step, a_deed, an_answer, a_done, a_crash}
 use Rattle.crashlab.proofs.Choices.{a_choice}
 use Rattle.crashlab.proofs.laws.variants_keep_to_their_rows.Goals as goal
 
@@ -19,6 +19,9 @@ returns-clause-deeds c s p a run below is = a_deed s p a run below is
 
 pub returns-clause-answers : goal.returns-clause-answers
 returns-clause-answers c s p a run below is = an_answer s p a run below is
+
+pub returns-clause-done : goal.returns-clause-done
+returns-clause-done c s p a run below is = a_done s p a run below is
 
 pub returns-clause-falls : goal.returns-clause-falls
 returns-clause-falls c s p run below = a_crash s p run below

@@ -3,7 +3,7 @@ use Rattle.std.proofs.Common.{◌≡◌, ℕ, zero, suc, ◌<◌, List, [], ◌�
 use Rattle.std.proofs.lemmas.List.{map-append}
 use Rattle.std.proofs.lemmas.List.Elements.{All-nil, All-cons, All-head, All-tail, All-push}
 use Rattle.redomail.specs.declared.layout.Layout.{Layout}
-use Rattle.one_lock.specs.declared.standing.Standing.TheVariants.{Out}
+use Rattle.one_lock.specs.declared.member_state.MemberState.TheVariants.{Out}
 use Rattle.one_lock.specs.Member.{Seat, new_seats, AreAll}
 use Rattle.one_lock.specs.Shown.{CanSend, place_of}
 

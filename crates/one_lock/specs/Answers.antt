@@ -1,5 +1,6 @@
 -- What a member's call is answered: what the world under the lock answers its process.
-use Rattle.std.specs.Prelude.{◌≡◌, ℕ, Bool, true, false, ◌⊎◌, Option, Some, None, Result, Ok, Err}
+use Rattle.std.specs.Prelude.{◌≡◌, ◌≢◌, ◌↔◌, ◌+◌, ◌≤◌, ℕ, zero, suc, Bool, true, false, ◌⊎◌, Option, Some, None, IsNone, IsTrue, List, [], ◌∷◌, length, Result, Ok, Err}
+use Rattle.rmecore.specs.Simulated.{tally_at}
 use Rattle.rmecore.specs.declared.refusal.Refusal.{Refusal}
 use Rattle.rmecore.specs.declared.refusal.Refusal.TheVariants.{OutOfMemory as WantsMemory}
 use Rattle.rmecore.specs.declared.found.Found.{Found}
@@ -7,17 +8,18 @@ use Rattle.rmecore.specs.declared.found.Found.TheVariants.{Idle}
 use Rattle.redomail.specs.declared.reply.Reply.{Reply}
 use Rattle.redomail.specs.declared.reply.Reply.TheVariants.{Mended as MendedOrNot, Word, Done}
 use Rattle.rmeworld.specs.declared.call.Call.{Call}
+use Rattle.rmeworld.specs.declared.call.Call.TheVariants.{Lock}
 use Rattle.rmeworld.specs.declared.answer.Answer.{Answer}
 use Rattle.rmeworld.specs.declared.answer.Answer.TheVariants.{Clean, OwnerDied, NumbersSpent, Found as FoundOut, Mail}
-use Rattle.rmeworld.specs.Replayed.{stepped, started, crashed, start_refusal, advance_refusal, crash_refusal}
+use Rattle.rmeworld.specs.Replayed.{stepped, advanced, started, crashed, start_refusal, advance_refusal, crash_refusal}
 use Rattle.rmeworld.specs.WorldState.{WorldState}
 use Rattle.runs.specs.declared.entry_kind.Entry.{Entry}
 use Rattle.runs.specs.declared.entry_kind.Entry.TheVariants.{Clean as CleanEntry, OwnerDied as OwnerDiedEntry}
 use Rattle.runs.specs.declared.lock_fault.LockFault.{LockFault}
 use Rattle.runs.specs.declared.lock_fault.LockFault.TheVariants.{Crashed, NotYet, NumbersSpent as SpentFault, NotRecoverable as RuinFault, OutOfMemory}
 use Rattle.one_lock.specs.declared.opening.Opening.{Opening}
-use Rattle.one_lock.specs.declared.standing.Standing.{Standing}
-use Rattle.one_lock.specs.declared.standing.Standing.TheVariants.{Mended}
+use Rattle.one_lock.specs.declared.member_state.MemberState.{MemberState}
+use Rattle.one_lock.specs.declared.member_state.MemberState.TheVariants.{Mended}
 use Rattle.one_lock.specs.Member.{Seat, is_lost}
 use Rattle.one_lock.specs.Story.{IsTold}
 
@@ -56,33 +58,68 @@ refusal_of_start (Some call) p s = start_refusal s p call
 abbrev pub Opens : ℕ → Opening → WorldState → Type 0
 Opens p o s = (refusal_of_crash o.crash p s ≡ None) × (refusal_of_start o.call p (crash_by o.crash p s) ≡ None)
 
--- Some run from all words 0 ends in a world in which a step of p, opened so, is refused nothing and gives this answer.
-pub record Gives (p : ℕ) (o : Opening) (answer : Option Answer) : Type 0 where
+-- the next step of p is a look or a weigh that has to be taken again: one more of its steps is blocked
+abbrev pub IsBlocked : ℕ → WorldState → Type 0
+IsBlocked p s = (tally_at (advanced s p).tallies p).blocked ≢ (tally_at s.tallies p).blocked
+
+-- Some run from all words 0 ends in a world in which a step of p, opened so, is refused nothing, gives this answer, and is
+-- blocked or not.
+pub record Gives (p : ℕ) (o : Opening) (answer : Option Answer) (blocked : Bool) : Type 0 where
   pub world : WorldState
   pub steps : ℕ
   pub told : IsTold world steps
   pub opens : Opens p o world
   pub accepted : advance_refusal (opened o p world) p ≡ None
   pub given : (stepped (opened o p world) p).answer ≡ answer
+  pub held : IsTrue blocked ↔ IsBlocked p (opened o p world)
 
 -- what comes before a call's first step, and before its later ones
-abbrev pub first_of : Standing → Call → Opening
+abbrev pub first_of : MemberState → Call → Opening
 first_of standing call = record { crash = is_lost standing; call = Some call }
 
 abbrev pub further : Opening
 further = record { crash = false; call = None }
 
--- The next step of a call is opened so: it is the first, or the first gave no answer.
-pub record IsUnderWay (p : ℕ) (standing : Standing) (call : Call) (o : Opening) : Type 0 where
-  pub way : (o ≡ first_of standing call) ⊎ ((o ≡ further) × Gives p (first_of standing call) None)
+-- what comes before the step after these, each told by whether it was blocked
+abbrev pub opening_after : Opening → List Bool → Opening
+opening_after first [] = first
+opening_after first (b ∷ bs) = further
 
--- The last step of a call gave this answer: it was the first, or the first gave none.
-pub record IsAnswered (p : ℕ) (standing : Standing) (call : Call) (answer : Option Answer) : Type 0 where
-  pub by : Gives p (first_of standing call) answer ⊎ (Gives p (first_of standing call) None × Gives p further answer)
+-- p took these steps of a call, the last one first, and none of them gave an answer
+abbrev pub HasTaken : ℕ → Opening → List Bool → Type 0
+HasTaken p first [] = Unit {0}
+HasTaken p first (b ∷ bs) = HasTaken p first bs × Gives p (opening_after first bs) None b
+
+abbrev pub count_blocked : List Bool → ℕ
+count_blocked [] = 0
+count_blocked (true ∷ bs) = suc (count_blocked bs)
+count_blocked (false ∷ bs) = count_blocked bs
+
+-- as many turns as these are enough for so many blocked steps; no number of turns is enough for any
+abbrev pub Suffice : Option ℕ → ℕ → Type 0
+Suffice None k = Unit {0}
+Suffice (Some turns) k = k ≤ turns
+
+-- the turns that are left once one of them is taken; of none, none
+abbrev pub spent : Option ℕ → Option ℕ
+spent None = None
+spent (Some zero) = Some zero
+spent (Some (suc turns)) = Some turns
+
+-- A call of p took a member's own steps from one count to another. Its last step gave this answer, those before it gave none,
+-- and no more of those were blocked than it had turns. Without an answer just as many were blocked, and the last was too.
+pub record IsAnswered (p : ℕ) (standing : MemberState) (call : Call) (turns : Option ℕ) (from to : ℕ) (answer : Option Answer) : Type 0 where
+  pub before : List Bool
+  pub blocked : Bool
+  pub taken : HasTaken p (first_of standing call) before
+  pub given : Gives p (opening_after (first_of standing call) before) answer blocked
+  pub counted : to ≡ from + suc (length before)
+  pub few : Suffice turns (count_blocked before)
+  pub gives_up : IsNone answer → (blocked ≡ true) × (turns ≡ Some (count_blocked before))
 
 -- The result of a member's call is what its process was answered, or the call was cut off.
-pub record Answered {T : Type 0} (by : Option Answer → Result T LockFault) (m : Seat) (call : Call) (result : Result T LockFault) : Type 0 where
-  pub told : (result ≡ Err Crashed) ⊎ ((result ≡ Err OutOfMemory) ⊎ ((answer : Option Answer) × (IsAnswered m.process m.standing call answer × (result ≡ by answer))))
+pub record Answered {T : Type 0} (by : Option Answer → Result T LockFault) (old : Seat) (call : Call) (turns : Option ℕ) (new : Seat) (result : Result T LockFault) : Type 0 where
+  pub told : (result ≡ Err Crashed) ⊎ ((result ≡ Err OutOfMemory) ⊎ ((answer : Option Answer) × (IsAnswered old.process old.standing call turns old.steps new.steps answer × (result ≡ by answer))))
 
 -- by what its process was answered: a lock, which has waited as often as it may where there is no answer; a recovery; a
 -- mending; a reading of the board; what answers nothing; and a task
@@ -112,5 +149,13 @@ reply_by _ = Done
 -- A task of a process that is in and has mended was given an answer, and answers so.
 pub record IsReply (p : ℕ) (call : Call) (reply : Reply) : Type 0 where
   pub answer : Answer
-  pub answered : IsAnswered p Mended call (Some answer)
+  pub from : ℕ
+  pub to : ℕ
+  pub answered : IsAnswered p Mended call None from to (Some answer)
   pub is : reply ≡ reply_by (Some answer)
+
+-- A whole call of the mailbox that ends for what its lock was answered, and so took no step but the lock's, up to this count.
+abbrev pub EndsAtLock : Seat → Option ℕ → ℕ → LockFault → Type 0
+EndsAtLock old turns to NotYet = IsAnswered old.process old.standing Lock turns old.steps to None
+EndsAtLock old turns to SpentFault = IsAnswered old.process old.standing Lock turns old.steps to (Some NumbersSpent)
+EndsAtLock old turns to _ = Unit {0}

@@ -10,15 +10,15 @@ use Rattle.runs.specs.declared.lock_fault.LockFault.{LockFault}
 use Rattle.runs.specs.declared.lock_fault.LockFault.TheVariants.{Crashed, NotYet, NumbersSpent, NotRecoverable, OutOfMemory}
 use Rattle.runs.specs.declared.entry_kind.Entry.{Entry}
 use Rattle.runs.specs.declared.entry_kind.Entry.TheVariants.{Clean, OwnerDied}
-use Rattle.one_lock.specs.declared.standing.Standing.{Standing}
-use Rattle.one_lock.specs.declared.standing.Standing.TheVariants.{Out, Lost, Mended, Unmended}
+use Rattle.one_lock.specs.declared.member_state.MemberState.{MemberState}
+use Rattle.one_lock.specs.declared.member_state.MemberState.TheVariants.{Out, Lost, Mended, Unmended}
 
 -- a member: its process, the sizes of its arena, where it stands between its calls, its own steps so far, its share of the
 -- ledger, and how many it has counted of the last call that was started, held at the greatest u64
 pub record Seat : Type 0 where
   pub process : ℕ
   pub layout : Layout
-  pub standing : Standing
+  pub standing : MemberState
   pub steps : ℕ
   pub counted : ℕ
 
@@ -27,17 +27,17 @@ abbrev pub new_seats : Layout → ℕ → List Seat
 new_seats l zero = []
 new_seats l (suc n) = new_seats l n ++ record { process = n; layout = l; standing = Out; steps = 0; counted = 0 } ∷ []
 
-abbrev pub is_in : Standing → Bool
+abbrev pub is_in : MemberState → Bool
 is_in Mended = true
 is_in Unmended = true
 is_in _ = false
 
-abbrev pub is_lost : Standing → Bool
+abbrev pub is_lost : MemberState → Bool
 is_lost Lost = true
 is_lost _ = false
 
 -- the calls that a process may start where its member stands
-abbrev pub may_start : Standing → Call → Bool
+abbrev pub may_start : MemberState → Call → Bool
 may_start standing Lock = not (is_in standing)
 may_start standing Recover = not (is_in standing)
 may_start Unmended Consistent = true
@@ -102,32 +102,32 @@ of_consistent NotRecoverable = true
 of_consistent e = of_steps e
 
 -- where a fault leaves the member: out of the line, or without its private memory
-abbrev pub fallen_to : LockFault → Standing
+abbrev pub fallen_to : LockFault → MemberState
 fallen_to NumbersSpent = Out
 fallen_to NotRecoverable = Out
 fallen_to _ = Lost
 
-abbrev pub stands_entered : Result Entry LockFault → Standing
+abbrev pub stands_entered : Result Entry LockFault → MemberState
 stands_entered (Ok Clean) = Mended
 stands_entered (Ok OwnerDied) = Unmended
 stands_entered (Err e) = fallen_to e
 
-abbrev pub stands_out : {T : Type 0} → Result T LockFault → Standing
+abbrev pub stands_out : {T : Type 0} → Result T LockFault → MemberState
 stands_out (Ok a) = Out
 stands_out (Err e) = fallen_to e
 
-abbrev pub stands_found : Result Found LockFault → Standing
+abbrev pub stands_found : Result Found LockFault → MemberState
 stands_found (Ok FoundInside) = Unmended
 stands_found (Ok _) = Out
 stands_found (Err e) = Lost
 
-abbrev pub stands_mended : Result Bool LockFault → Standing
+abbrev pub stands_mended : Result Bool LockFault → MemberState
 stands_mended (Ok b) = Mended
 stands_mended (Err NotRecoverable) = Unmended
 stands_mended (Err e) = Lost
 
 -- a call on the board leaves the member as it stood
-abbrev pub stands_still : {T : Type 0} → Standing → Result T LockFault → Standing
+abbrev pub stands_still : {T : Type 0} → MemberState → Result T LockFault → MemberState
 stands_still s (Ok a) = s
 stands_still s (Err e) = Lost
 

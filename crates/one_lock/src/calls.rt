@@ -3,12 +3,12 @@
 //! Each plan is asked before each step and once before the answer, while no lock is held. The first asking that falls ends
 //! the call. A call that is refused for where the member stands or for what it is given takes no step and asks nothing.
 
-ghost use Rattle.std.specs.Prelude.{◌≡◌, ◌≢◌, ◌<◌, ◌≤◌, ◌⊎◌, ◌↔◌, ℕ, Ok, IfOk, IfErr, IsErrOf, OnOk, OnErr, IsNone, IsSome, true, false, length};
-ghost use Rattle.one_lock.specs.Answers.{Answered, IsReply, entry_by, found_by, mended_by, word_by, reply_by};
+ghost use Rattle.std.specs.Prelude.{◌≡◌, ◌≢◌, ◌<◌, ◌≤◌, ◌⊎◌, ◌↔◌, ℕ, Ok, Some, None, IfOk, IfErr, IsErrOf, OnOk, OnErr, IsNone, IsSome, true, false, length};
+ghost use Rattle.one_lock.specs.Answers.{Answered, IsReply, EndsAtLock, entry_by, found_by, mended_by, word_by, reply_by};
 ghost use Rattle.one_lock.specs.Member.{Goes, AskedEach, AskedOnceMore, Counts, CountsOn, is_in, may_start, of_lock, of_wait, of_steps, of_consistent, falls_by, stands_entered, stands_out, stands_found, stands_mended, stands_still};
 
 use crate::member::Member;
-use crate::standing::Standing;
+use crate::member_state::MemberState;
 use plans::CrashPlan;
 use redomail::Reply;
 use rmecore::{Body, Found};
@@ -21,7 +21,7 @@ use std::sync::ledger::Ledger;
 const BOARD: u64 = 4;
 
 /// What a lock answers, and where it leaves the member. With no answer it has waited as often as it may.
-fn entered(answer: Option<Answer>) -> (Result<Entry, LockFault>, Standing)
+fn entered(answer: Option<Answer>) -> (Result<Entry, LockFault>, MemberState)
     ensures told { result.0 ≡ entry_by answer }
     ensures stands { result.1 ≡ stands_entered result.0 }
     ensures inside { OnOk result.0 (is_in result.1 ≡ true) }
@@ -30,40 +30,40 @@ fn entered(answer: Option<Answer>) -> (Result<Entry, LockFault>, Standing)
     ensures patient { IsErrOf result.0 LockFault.NotYet → IsNone answer }
 {
     match answer {
-        None => (Err(LockFault::NotYet), Standing::Lost),
-        Some(Answer::Clean) => (Ok(Entry::Clean), Standing::Mended),
-        Some(Answer::OwnerDied) => (Ok(Entry::OwnerDied), Standing::Unmended),
-        Some(Answer::NumbersSpent) => (Err(LockFault::NumbersSpent), Standing::Out),
-        Some(_) => (Err(LockFault::NotRecoverable), Standing::Out),
+        None => (Err(LockFault::NotYet), MemberState::Lost),
+        Some(Answer::Clean) => (Ok(Entry::Clean), MemberState::Mended),
+        Some(Answer::OwnerDied) => (Ok(Entry::OwnerDied), MemberState::Unmended),
+        Some(Answer::NumbersSpent) => (Err(LockFault::NumbersSpent), MemberState::Out),
+        Some(_) => (Err(LockFault::NotRecoverable), MemberState::Out),
     }
 }
 
 /// What a recovery answers, and where it leaves the member.
-fn found(answer: Option<Answer>) -> (Result<Found, LockFault>, Standing)
+fn found(answer: Option<Answer>) -> (Result<Found, LockFault>, MemberState)
     ensures told { result.0 ≡ found_by answer }
     ensures stands { result.1 ≡ stands_found result.0 }
     ensures falls { (f : ℕ) → falls_by result.0 f ≡ f }
     ensures fine { OnErr result.0 ⊥ }
 {
     match answer {
-        Some(Answer::Found(Found::Inside)) => (Ok(Found::Inside), Standing::Unmended),
-        Some(Answer::Found(Found::Left)) => (Ok(Found::Left), Standing::Out),
-        Some(Answer::Found(Found::Doorway)) => (Ok(Found::Doorway), Standing::Out),
-        Some(Answer::Found(Found::Waiting)) => (Ok(Found::Waiting), Standing::Out),
-        _ => (Ok(Found::Idle), Standing::Out),
+        Some(Answer::Found(Found::Inside)) => (Ok(Found::Inside), MemberState::Unmended),
+        Some(Answer::Found(Found::Left)) => (Ok(Found::Left), MemberState::Out),
+        Some(Answer::Found(Found::Doorway)) => (Ok(Found::Doorway), MemberState::Out),
+        Some(Answer::Found(Found::Waiting)) => (Ok(Found::Waiting), MemberState::Out),
+        _ => (Ok(Found::Idle), MemberState::Out),
     }
 }
 
 /// What `consistent` answers, and where it leaves the member.
-fn mended(answer: Option<Answer>) -> (Result<bool, LockFault>, Standing)
+fn mended(answer: Option<Answer>) -> (Result<bool, LockFault>, MemberState)
     ensures told { result.0 ≡ mended_by answer }
     ensures stands { result.1 ≡ stands_mended result.0 }
     ensures falls { (f : ℕ) → falls_by result.0 f ≡ f }
     ensures faults { IfErr result.0 (λ e. e ≡ LockFault.NotRecoverable) }
 {
     match answer {
-        Some(Answer::Mail(Reply::Mended(repaired))) => (Ok(repaired), Standing::Mended),
-        _ => (Err(LockFault::NotRecoverable), Standing::Unmended),
+        Some(Answer::Mail(Reply::Mended(repaired))) => (Ok(repaired), MemberState::Mended),
+        _ => (Err(LockFault::NotRecoverable), MemberState::Unmended),
     }
 }
 
@@ -104,7 +104,7 @@ impl<L: Ledger> Member<L> {
         ensures goes { Goes self.old self.new }
         ensures stands { is_in self.old.standing ≡ false → self.new.standing ≡ stands_entered result }
         ensures faults { is_in self.old.standing ≡ false → IfErr result (λ e. of_lock e ≡ true) }
-        ensures answered { is_in self.old.standing ≡ false → Answered entry_by self.old Call.Lock result }
+        ensures answered { is_in self.old.standing ≡ false → Answered entry_by self.old Call.Lock (Some turns) self.new result }
     {
         self.lock_by(rt, plan, Some(turns))
     }
@@ -119,7 +119,7 @@ impl<L: Ledger> Member<L> {
         ensures goes { Goes self.old self.new }
         ensures stands { is_in self.old.standing ≡ false → self.new.standing ≡ stands_entered result }
         ensures faults { is_in self.old.standing ≡ false → IfErr result (λ e. of_wait e ≡ true) }
-        ensures answered { is_in self.old.standing ≡ false → Answered entry_by self.old Call.Lock result }
+        ensures answered { is_in self.old.standing ≡ false → Answered entry_by self.old Call.Lock None self.new result }
     {
         self.lock_by(rt, plan, None)
     }
@@ -141,7 +141,7 @@ impl<L: Ledger> Member<L> {
         ensures goes { Goes self.old self.new }
         ensures stands { is_in self.old.standing ≡ false → self.new.standing ≡ stands_entered result }
         ensures faults { is_in self.old.standing ≡ false → IfErr result (λ e. of_lock e ≡ true) }
-        ensures answered { is_in self.old.standing ≡ false → Answered entry_by self.old Call.Lock result }
+        ensures answered { is_in self.old.standing ≡ false → Answered entry_by self.old Call.Lock turns self.new result }
     {
         if self.standing.is_in() {
             return Err(LockFault::AlreadyIn);
@@ -166,7 +166,7 @@ impl<L: Ledger> Member<L> {
         ensures goes { Goes self.old self.new }
         ensures stands { is_in self.old.standing ≡ false → self.new.standing ≡ stands_found result }
         ensures faults { is_in self.old.standing ≡ false → IfErr result (λ e. of_steps e ≡ true) }
-        ensures answered { is_in self.old.standing ≡ false → Answered found_by self.old Call.Recover result }
+        ensures answered { is_in self.old.standing ≡ false → Answered found_by self.old Call.Recover None self.new result }
     {
         if self.standing.is_in() {
             return Err(LockFault::AlreadyIn);
@@ -183,17 +183,17 @@ impl<L: Ledger> Member<L> {
         rt: &R,
         plan: &mut P,
     ) -> Result<bool, LockFault>
-        ensures refused { IsErrOf result LockFault.NotInconsistent ↔ (self.old.standing ≢ Standing.Unmended) }
-        ensures unasked { self.old.standing ≢ Standing.Unmended → (self.new ≡ self.old) × (P.asked plan.new ≡ P.asked plan.old) }
-        ensures asked { self.old.standing ≡ Standing.Unmended → AskedOnceMore self.old self.new (P.asked plan.old) (P.asked plan.new) }
-        ensures counted { self.old.standing ≡ Standing.Unmended → Counts self.old self.new }
+        ensures refused { IsErrOf result LockFault.NotInconsistent ↔ (self.old.standing ≢ MemberState.Unmended) }
+        ensures unasked { self.old.standing ≢ MemberState.Unmended → (self.new ≡ self.old) × (P.asked plan.new ≡ P.asked plan.old) }
+        ensures asked { self.old.standing ≡ MemberState.Unmended → AskedOnceMore self.old self.new (P.asked plan.old) (P.asked plan.new) }
+        ensures counted { self.old.standing ≡ MemberState.Unmended → Counts self.old self.new }
         ensures fallen { P.fallen plan.new ≡ falls_by result (P.fallen plan.old) }
         ensures goes { Goes self.old self.new }
-        ensures stands { self.old.standing ≡ Standing.Unmended → self.new.standing ≡ stands_mended result }
-        ensures faults { self.old.standing ≡ Standing.Unmended → IfErr result (λ e. of_consistent e ≡ true) }
-        ensures answered { self.old.standing ≡ Standing.Unmended → Answered mended_by self.old Call.Consistent result }
+        ensures stands { self.old.standing ≡ MemberState.Unmended → self.new.standing ≡ stands_mended result }
+        ensures faults { self.old.standing ≡ MemberState.Unmended → IfErr result (λ e. of_consistent e ≡ true) }
+        ensures answered { self.old.standing ≡ MemberState.Unmended → Answered mended_by self.old Call.Consistent None self.new result }
     {
-        if self.standing != Standing::Unmended {
+        if self.standing != MemberState::Unmended {
             return Err(LockFault::NotInconsistent);
         }
         let (repaired, standing) = mended(self.begin(rt, plan, Call::Consistent, None)?);
@@ -211,13 +211,13 @@ impl<L: Ledger> Member<L> {
         ensures goes { Goes self.old self.new }
         ensures stands { is_in self.old.standing ≡ true → self.new.standing ≡ stands_out result }
         ensures faults { is_in self.old.standing ≡ true → IfErr result (λ e. of_steps e ≡ true) }
-        ensures answered { is_in self.old.standing ≡ true → Answered (λ _. Ok tt) self.old Call.Unlock result }
+        ensures answered { is_in self.old.standing ≡ true → Answered (λ _. Ok tt) self.old Call.Unlock None self.new result }
     {
         if !self.standing.is_in() {
             return Err(LockFault::NotOwner);
         }
         self.begin(rt, plan, Call::Unlock, None)?;
-        self.conclude(plan, Ok(()), Standing::Out)
+        self.conclude(plan, Ok(()), MemberState::Out)
     }
 
     /// Reads a word of the board, 0 to 3.
@@ -238,7 +238,7 @@ impl<L: Ledger> Member<L> {
         ensures goes { Goes self.old self.new }
         ensures stands { is_in self.old.standing ≡ true → i < 4 → self.new.standing ≡ stands_still self.old.standing result }
         ensures faults { is_in self.old.standing ≡ true → i < 4 → IfErr result (λ e. of_steps e ≡ true) }
-        ensures answered { is_in self.old.standing ≡ true → i < 4 → Answered word_by self.old (Call.Get i) result }
+        ensures answered { is_in self.old.standing ≡ true → i < 4 → Answered word_by self.old (Call.Get i) None self.new result }
     {
         if !self.standing.is_in() {
             return Err(LockFault::NotOwner);
@@ -270,7 +270,7 @@ impl<L: Ledger> Member<L> {
         ensures goes { Goes self.old self.new }
         ensures stands { is_in self.old.standing ≡ true → i < 4 → self.new.standing ≡ stands_still self.old.standing result }
         ensures faults { is_in self.old.standing ≡ true → i < 4 → IfErr result (λ e. of_steps e ≡ true) }
-        ensures answered { is_in self.old.standing ≡ true → i < 4 → Answered (λ _. Ok tt) self.old (Call.Put i value) result }
+        ensures answered { is_in self.old.standing ≡ true → i < 4 → Answered (λ _. Ok tt) self.old (Call.Put i value) None self.new result }
     {
         if !self.standing.is_in() {
             return Err(LockFault::NotOwner);
@@ -303,6 +303,7 @@ impl<L: Ledger> Member<L> {
         ensures goes { Goes self.old self.new }
         ensures stands { is_in self.old.standing ≡ false → length value ≡ self.old.layout.width → self.new.standing ≡ stands_out result }
         ensures faults { is_in self.old.standing ≡ false → length value ≡ self.old.layout.width → IfErr result (λ e. of_lock e ≡ true) }
+        ensures at_lock { IfErr result (EndsAtLock self.old (Some turns) self.new.steps) }
         ensures answered { IfOk result (λ reply. IsReply self.old.process (Call.Append seq value) reply) }
     {
         self.append_by(rt, seq, value, plan, Some(turns))
@@ -326,6 +327,7 @@ impl<L: Ledger> Member<L> {
         ensures goes { Goes self.old self.new }
         ensures stands { is_in self.old.standing ≡ false → length value ≡ self.old.layout.width → self.new.standing ≡ stands_out result }
         ensures faults { is_in self.old.standing ≡ false → length value ≡ self.old.layout.width → IfErr result (λ e. of_wait e ≡ true) }
+        ensures at_lock { IfErr result (EndsAtLock self.old None self.new.steps) }
         ensures answered { IfOk result (λ reply. IsReply self.old.process (Call.Append seq value) reply) }
     {
         self.append_by(rt, seq, value, plan, None)
@@ -351,6 +353,7 @@ impl<L: Ledger> Member<L> {
         ensures goes { Goes self.old self.new }
         ensures stands { is_in self.old.standing ≡ false → length value ≡ self.old.layout.width → self.new.standing ≡ stands_out result }
         ensures faults { is_in self.old.standing ≡ false → length value ≡ self.old.layout.width → IfErr result (λ e. of_lock e ≡ true) }
+        ensures at_lock { IfErr result (EndsAtLock self.old turns self.new.steps) }
         ensures answered { IfOk result (λ reply. IsReply self.old.process (Call.Append seq value) reply) }
     {
         if value.width() != self.layout.width {
@@ -374,6 +377,7 @@ impl<L: Ledger> Member<L> {
         ensures goes { Goes self.old self.new }
         ensures stands { is_in self.old.standing ≡ false → self.new.standing ≡ stands_out result }
         ensures faults { is_in self.old.standing ≡ false → IfErr result (λ e. of_lock e ≡ true) }
+        ensures at_lock { IfErr result (EndsAtLock self.old (Some turns) self.new.steps) }
         ensures answered { IfOk result (λ reply. IsReply self.old.process Call.Close reply) }
     {
         self.mail_by(rt, plan, Call::Close, Some(turns))
@@ -389,6 +393,7 @@ impl<L: Ledger> Member<L> {
         ensures goes { Goes self.old self.new }
         ensures stands { is_in self.old.standing ≡ false → self.new.standing ≡ stands_out result }
         ensures faults { is_in self.old.standing ≡ false → IfErr result (λ e. of_wait e ≡ true) }
+        ensures at_lock { IfErr result (EndsAtLock self.old None self.new.steps) }
         ensures answered { IfOk result (λ reply. IsReply self.old.process Call.Close reply) }
     {
         self.mail_by(rt, plan, Call::Close, None)
@@ -396,6 +401,7 @@ impl<L: Ledger> Member<L> {
 
     /// A whole call of the mailbox: a lock, `consistent` where the entry is `OwnerDied`, the task and an unlock. It is asked
     /// once before its one answer.
+    #[tactic(auto, using(crate::proofs::Answered::cut_at_lock, crate::proofs::Answered::locked_out, crate::proofs::Answered::came_in))]
     fn mail_by<R: Wait, P: CrashPlan>(
         &mut self,
         rt: &R,
@@ -403,7 +409,7 @@ impl<L: Ledger> Member<L> {
         call: Call,
         turns: Option<u64>,
     ) -> Result<Reply, LockFault>
-        requires { may_start Standing.Mended call ≡ true }
+        requires { may_start MemberState.Mended call ≡ true }
         ensures refused { IsErrOf result LockFault.AlreadyIn ↔ (is_in self.old.standing ≡ true) }
         ensures unasked { is_in self.old.standing ≡ true → (self.new ≡ self.old) × (P.asked plan.new ≡ P.asked plan.old) }
         ensures patient { IsErrOf result LockFault.NotYet → IsSome turns }
@@ -413,6 +419,7 @@ impl<L: Ledger> Member<L> {
         ensures goes { Goes self.old self.new }
         ensures stands { is_in self.old.standing ≡ false → self.new.standing ≡ stands_out result }
         ensures faults { is_in self.old.standing ≡ false → IfErr result (λ e. of_lock e ≡ true) }
+        ensures at_lock { IfErr result (EndsAtLock self.old turns self.new.steps) }
         ensures answered { IfOk result (λ reply. IsReply self.old.process call reply) }
     {
         if self.standing.is_in() {
@@ -423,7 +430,7 @@ impl<L: Ledger> Member<L> {
             Ok(_) => {
                 self.standing = standing;
                 let reply = self.work(rt, plan, call)?;
-                self.conclude(plan, reply, Standing::Out)
+                self.conclude(plan, reply, MemberState::Out)
             }
             Err(fault) => self.conclude(plan, Err(fault), standing),
         }
@@ -439,7 +446,7 @@ impl<L: Ledger> Member<L> {
         call: Call,
     ) -> Result<Result<Reply, LockFault>, LockFault>
         requires inside { is_in self.old.standing ≡ true }
-        requires task { may_start Standing.Mended call ≡ true }
+        requires task { may_start MemberState.Mended call ≡ true }
         ensures goes { Goes self.old self.new }
         ensures counted { CountsOn self.old self.new }
         ensures asked { OnOk result (AskedEach self.old self.new (P.asked plan.old) (P.asked plan.new)) }
@@ -447,7 +454,7 @@ impl<L: Ledger> Member<L> {
         ensures fallen { P.fallen plan.new ≡ falls_by result (P.fallen plan.old) }
         ensures falls { IfOk result (λ reply. (f : ℕ) → falls_by reply f ≡ f) }
         ensures faults { IfOk result (λ reply. IfErr reply (λ e. e ≡ LockFault.NotRecoverable)) }
-        ensures lost { OnErr result (self.new.standing ≡ Standing.Lost) }
+        ensures lost { OnErr result (self.new.standing ≡ MemberState.Lost) }
         ensures only { IfErr result (λ e. (e ≡ LockFault.Crashed) ⊎ (e ≡ LockFault.OutOfMemory)) }
         ensures answered { IfOk result (λ answer. IfOk answer (λ reply. IsReply self.old.process call reply)) }
     {
@@ -474,10 +481,10 @@ impl<L: Ledger> Member<L> {
         ensures fallen { P.fallen plan.new ≡ falls_by result (P.fallen plan.old) }
         ensures stands { IfOk result (λ mended. self.new.standing ≡ stands_mended mended) }
         ensures faults { IfOk result (λ mended. IfErr mended (λ e. e ≡ LockFault.NotRecoverable)) }
-        ensures lost { OnErr result (self.new.standing ≡ Standing.Lost) }
+        ensures lost { OnErr result (self.new.standing ≡ MemberState.Lost) }
         ensures only { IfErr result (λ e. (e ≡ LockFault.Crashed) ⊎ (e ≡ LockFault.OutOfMemory)) }
     {
-        if self.standing == Standing::Mended {
+        if self.standing == MemberState::Mended {
             return Ok(Ok(false));
         }
         let (repaired, standing) = mended(self.pursue(rt, plan, Call::Consistent, None)?);

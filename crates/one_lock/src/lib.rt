@@ -10,14 +10,14 @@ pub mod gather_fault;
 pub mod gathering;
 pub mod lab;
 pub mod member;
+pub mod member_state;
 mod opening;
 mod shared;
-pub mod standing;
 
 pub use arena::Arena;
 pub use gather_fault::GatherFault;
 pub use gathering::gather;
 pub use lab::run_lab;
 pub use member::Member;
+pub use member_state::MemberState;
 pub use runs::Entry;
-pub use standing::Standing;

@@ -1,13 +1,13 @@
 //! A process's way to the world.
 
-ghost use Rattle.std.specs.Prelude.{◌≡◌, ℕ, ◌<◌, ◌≤◌, ◌+◌, IfOk, IfErr, OnOk, OnErr, IsNone, IsSome, true};
+ghost use Rattle.std.specs.Prelude.{◌≡◌, ℕ, ◌<◌, ◌≤◌, ◌+◌, ◌↔◌, IfOk, IfErr, OnOk, OnErr, Some, IsNone, IsSome, IsTrue, true, false};
 ghost use Rattle.rmecore.specs.Simulated.{one_more};
 ghost use Rattle.one_lock.specs.Member.{Goes, AskedEach, AskedOnceMore, Counts, CountsOn, falls_by, may_start};
-ghost use Rattle.one_lock.specs.Answers.{Gives, IsAnswered};
+ghost use Rattle.one_lock.specs.Answers.{Gives, IsAnswered, spent};
 
+use crate::member_state::MemberState;
 use crate::opening::Opening;
 use crate::shared::{Shared, Turn};
-use crate::standing::Standing;
 use crossbeam_utils::Backoff;
 use plans::CrashPlan;
 use redomail::Layout;
@@ -23,7 +23,7 @@ use std::sync::{Arc, Mutex, Wait};
 pub struct Member<L: Ledger> {
     pub(super) process: u64,
     pub(super) layout: Layout,
-    pub(super) standing: Standing,
+    pub(super) standing: MemberState,
     pub(super) shared: Arc<Mutex<Shared<L>>>,
     pub(super) share: Share<L>,
     pub(super) counted: u64,
@@ -40,6 +40,19 @@ impl<L: Ledger> Model for Member<L> {
     ghost invariant = { λ m. (m.share.parts ≡ 1) × (m.process < 64) };
 }
 
+/// Takes one of the turns that are left. Was there none?
+fn is_spent(left: &mut Option<u64>) -> bool
+    ensures none { IsTrue result ↔ (left.old ≡ Some 0) }
+    ensures less { result ≡ false → left.new ≡ spent left.old }
+{
+    match *left {
+        Some(0) => return true,
+        Some(more) => *left = Some(more - 1),
+        None => {}
+    }
+    false
+}
+
 impl<L: Ledger> Member<L> {
     ghost use Rattle.std.specs.Prelude.{Err, ◌⊎◌};
 
@@ -52,12 +65,12 @@ impl<L: Ledger> Member<L> {
     ) -> Member<L>
         requires part { share.parts ≡ 1 }
         requires few { process < 64 }
-        ensures { result ≡ record { process = process; layout = layout; standing = Standing.Out; steps = share.amount; counted = 0 } }
+        ensures { result ≡ record { process = process; layout = layout; standing = MemberState.Out; steps = share.amount; counted = 0 } }
     {
         Member {
             process,
             layout,
-            standing: Standing::Out,
+            standing: MemberState::Out,
             shared,
             share,
             counted: 0,
@@ -73,7 +86,7 @@ impl<L: Ledger> Member<L> {
     }
 
     /// Where it stands between its calls.
-    pub fn standing(&self) -> Standing
+    pub fn standing(&self) -> MemberState
         ensures { result ≡ self.now.standing }
     {
         self.standing
@@ -102,11 +115,11 @@ impl<L: Ledger> Member<L> {
         ensures asked { P.asked plan.new ≡ one_more (P.asked plan.old) }
         ensures fallen { P.fallen plan.new ≡ falls_by result (P.fallen plan.old) }
         ensures ok { OnOk result (self.new ≡ self.old) }
-        ensures err { OnErr result (self.new ≡ record self.old { standing = Standing.Lost }) }
+        ensures err { OnErr result (self.new ≡ record self.old { standing = MemberState.Lost }) }
         ensures only { IfErr result (λ e. e ≡ LockFault.Crashed) }
     {
         if plan.falls() {
-            self.standing = Standing::Lost;
+            self.standing = MemberState::Lost;
             return Err(LockFault::Crashed);
         }
         Ok(())
@@ -123,9 +136,9 @@ impl<L: Ledger> Member<L> {
         ensures asked { P.asked plan.new ≡ one_more (P.asked plan.old) }
         ensures fallen { P.fallen plan.new ≡ falls_by result (P.fallen plan.old) }
         ensures ok { OnOk result (self.new ≡ record self.old { steps = self.old.steps + 1; counted = one_more self.old.counted }) }
-        ensures err { OnErr result (self.new ≡ record self.old { standing = Standing.Lost }) }
+        ensures err { OnErr result (self.new ≡ record self.old { standing = MemberState.Lost }) }
         ensures only { IfErr result (λ e. (e ≡ LockFault.Crashed) ⊎ (e ≡ LockFault.OutOfMemory)) }
-        ensures gives { IfOk result (λ turn. Gives self.old.process opening turn.answer) }
+        ensures gives { IfOk result (λ turn. Gives self.old.process opening turn.answer turn.blocked) }
     {
         self.ask(plan)?;
         let turn = self
@@ -138,7 +151,7 @@ impl<L: Ledger> Member<L> {
                 Ok(turn)
             }
             Err(_) => {
-                self.standing = Standing::Lost;
+                self.standing = MemberState::Lost;
                 Err(LockFault::OutOfMemory)
             }
         }
@@ -159,10 +172,10 @@ impl<L: Ledger> Member<L> {
         ensures ended { OnErr result (AskedOnceMore self.old self.new (P.asked plan.old) (P.asked plan.new)) }
         ensures fallen { P.fallen plan.new ≡ falls_by result (P.fallen plan.old) }
         ensures kept { OnOk result (self.new.standing ≡ self.old.standing) }
-        ensures lost { OnErr result (self.new.standing ≡ Standing.Lost) }
+        ensures lost { OnErr result (self.new.standing ≡ MemberState.Lost) }
         ensures only { IfErr result (λ e. (e ≡ LockFault.Crashed) ⊎ (e ≡ LockFault.OutOfMemory)) }
         ensures patient { IsNone turns → IfOk result (λ answer. IsSome answer) }
-        ensures answered { IfOk result (λ answer. IsAnswered self.old.process self.old.standing call answer) }
+        ensures answered { IfOk result (λ answer. IsAnswered self.old.process self.old.standing call turns self.old.steps self.new.steps answer) }
     {
         self.counted = 0;
         self.pursue(rt, plan, call, turns)
@@ -170,7 +183,7 @@ impl<L: Ledger> Member<L> {
 
     /// Takes a call that its process may start to its answer, or until one blocked reading more than it has turns; with no
     /// turns it waits as long as it has to. Its own steps are counted on. The asking before the answer is left to the caller.
-    #[tactic(auto, using(crate::proofs::Answered::answered_by, crate::proofs::Answered::goes_further))]
+    #[tactic(auto, using(crate::proofs::Answered::begins, crate::proofs::Answered::answered_by, crate::proofs::Answered::given_up))]
     pub(super) fn pursue<R: Wait, P: CrashPlan>(
         &mut self,
         rt: &R,
@@ -185,10 +198,10 @@ impl<L: Ledger> Member<L> {
         ensures ended { OnErr result (AskedOnceMore self.old self.new (P.asked plan.old) (P.asked plan.new)) }
         ensures fallen { P.fallen plan.new ≡ falls_by result (P.fallen plan.old) }
         ensures kept { OnOk result (self.new.standing ≡ self.old.standing) }
-        ensures lost { OnErr result (self.new.standing ≡ Standing.Lost) }
+        ensures lost { OnErr result (self.new.standing ≡ MemberState.Lost) }
         ensures only { IfErr result (λ e. (e ≡ LockFault.Crashed) ⊎ (e ≡ LockFault.OutOfMemory)) }
         ensures patient { IsNone turns → IfOk result (λ answer. IsSome answer) }
-        ensures answered { IfOk result (λ answer. IsAnswered self.old.process self.old.standing call answer) }
+        ensures answered { IfOk result (λ answer. IsAnswered self.old.process self.old.standing call turns self.old.steps self.new.steps answer) }
     {
         let mut left = turns;
         let mut opening = Opening {
@@ -206,10 +219,8 @@ impl<L: Ledger> Member<L> {
                 call: None,
             };
             if turn.blocked {
-                match left {
-                    Some(0) => return Ok(None),
-                    Some(more) => left = Some(more - 1),
-                    None => {}
+                if is_spent(&mut left) {
+                    return Ok(None);
                 }
                 backoff.snooze();
             }
@@ -222,12 +233,12 @@ impl<L: Ledger> Member<L> {
         &mut self,
         plan: &mut P,
         answer: Result<T, LockFault>,
-        standing: Standing,
+        standing: MemberState,
     ) -> Result<T, LockFault>
         requires { (f : ℕ) → falls_by answer f ≡ f }
         ensures asked { P.asked plan.new ≡ one_more (P.asked plan.old) }
         ensures fallen { P.fallen plan.new ≡ falls_by result (P.fallen plan.old) }
-        ensures answer { ((result ≡ answer) × (self.new ≡ record self.old { standing = standing })) ⊎ ((result ≡ Err LockFault.Crashed) × (self.new ≡ record self.old { standing = Standing.Lost })) }
+        ensures answer { ((result ≡ answer) × (self.new ≡ record self.old { standing = standing })) ⊎ ((result ≡ Err LockFault.Crashed) × (self.new ≡ record self.old { standing = MemberState.Lost })) }
     {
         self.ask(plan)?;
         self.standing = standing;

@@ -58,7 +58,7 @@ impl<L: Ledger> Shared<L> {
         ensures share { OnOk result (share.new.amount ≡ share.old.amount + 1) }
         ensures uncounted { OnErr result ((self.new.total ≡ self.old.total) × (share.new.amount ≡ share.old.amount)) }
         ensures parts { share.new.parts ≡ share.old.parts }
-        ensures gives { IfOk result (λ turn. Gives p opening turn.answer) }
+        ensures gives { IfOk result (λ turn. Gives p opening turn.answer turn.blocked) }
         ensures refused { IfErr result (Refuses p opening self.old.world) }
     {
         self.told();

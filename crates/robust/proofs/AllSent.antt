@@ -16,7 +16,7 @@ use Rattle.rmeworld.specs.declared.image.Image.{Image}
 use Rattle.rmeworld.specs.ImageRules.{layout_of}
 use Rattle.rmeworld.specs.Sent.{EveryMessageWasSent, IsSent}
 use Rattle.rmeworld.specs.Spot.{Happening, Begins, Falls}
-use Rattle.runs.specs.declared.entry.Entry.{Entry}
+use Rattle.runs.specs.declared.entry.TakenStep.{TakenStep}
 use Rattle.one_lock.specs.declared.lab.spec.Spec.{Spec}
 use Rattle.runs.specs.declared.setup.Setup.{Setup}
 use Rattle.runs.specs.Gathering.{Gathers, IsGlance, IsTold, has_member, image_at}
@@ -51,27 +51,27 @@ module _ (P : Call → Type 0) (p : ℕ) where
   begins_before false None q h = All-nil Q
   begins_before false (Some call) q h = All-cons Q (Begins q call) [] h (All-nil Q)
 
-  begins_taken : (e : Entry) → Q (taken e.by e.step.kind e.step.word e.value)
+  begins_taken : (e : TakenStep) → Q (taken e.by e.step.kind e.step.word e.value)
   unfolding OfBegins
   begins_taken e = by_kind (λ k h. OfBegins P p h) e.by e.step.word e.value tt (λ k. tt) e.step.kind
 
-  begins_entry : (e : Entry) → (e.by ≡ p → OfStart P e.step.start) → All Q (happenings e)
+  begins_entry : (e : TakenStep) → (e.by ≡ p → OfStart P e.step.start) → All Q (happenings e)
   begins_entry e h = All-append Q (before e.step.crashed e.step.start e.by) (taken e.by e.step.kind e.step.word e.value ∷ []) (begins_before e.step.crashed e.step.start e.by h) (All-cons Q (taken e.by e.step.kind e.step.word e.value) [] (begins_taken e) (All-nil Q))
 
-  abbrev F : Entry → Type 0
+  abbrev F : TakenStep → Type 0
   F e = OfStart P e.step.start
 
-  own_first : (e : Entry) (es : List Entry) → All F (own p (e ∷ es)) → e.by ≡ p → F e
+  own_first : (e : TakenStep) (es : List TakenStep) → All F (own p (e ∷ es)) → e.by ≡ p → F e
   own_first e es h same = All-head F e (own p es) (subst (All F) (own_taken p e es (eq-eqb e.by p same)) h)
 
-  own_rest : (e : Entry) (es : List Entry) → All F (own p (e ∷ es)) → All F (own p es)
+  own_rest : (e : TakenStep) (es : List TakenStep) → All F (own p (e ∷ es)) → All F (own p es)
   own_rest e es h = go (e.by == p) refl
     where
       go : (b : Bool) → (e.by == p) ≡ b → All F (own p es)
       go true is = All-tail F e (own p es) (subst (All F) (own_taken p e es is) h)
       go false is = subst (All F) (own_passed p e es is) h
 
-  pub begins_all : (es : List Entry) → All F (own p es) → All Q (spelled es)
+  pub begins_all : (es : List TakenStep) → All F (own p es) → All Q (spelled es)
   begins_all [] h = All-nil Q
   begins_all (e ∷ es) h = All-append Q (happenings e) (spelled es) (begins_entry e (own_first e es h)) (begins_all es (own_rest e es h))
 
@@ -90,13 +90,13 @@ content_numbered l xs c =
     by_rule r = elim r.rule [ inl unshown ↦ unshown.numbered | inr shown ↦ shown.listed.numbered ]
 
 -- the messages at the end of a run
-pub shown_entries : (s : Setup) (run : List Entry) → IsLayout s.layout → IsRun s run → RunsShow → shown_by s run ≡ entries s.layout (cells_of s run) (cells_of s run 2)
+pub shown_entries : (s : Setup) (run : List TakenStep) → IsLayout s.layout → IsRun s run → RunsShow → shown_by s run ≡ entries s.layout (cells_of s run) (cells_of s run 2)
 shown_entries s run layout legal shows =
     let h = (shows s run layout legal).0 in
     ap (λ (t : State). t.mail.shown) (sym (state_led (empty s.layout.procs s.layout.cap) h.0 (deeds_of s run) h.1)) ∙ h.2
 
 -- the messages shown are such as are sent, where each process of the run has started just its own appends
-module _ (s : Spec) (run : List Entry) (w : Words) (n : ℕ) (layout : IsLayout (sizes_of s).layout) (legal : IsRun (sizes_of s) run) (numbered : IsNumbered (sizes_of s).layout w n) (sent : EveryMessageWasSent)
+module _ (s : Spec) (run : List TakenStep) (w : Words) (n : ℕ) (layout : IsLayout (sizes_of s).layout) (legal : IsRun (sizes_of s) run) (numbered : IsNumbered (sizes_of s).layout w n) (sent : EveryMessageWasSent)
     (shown : shown_by (sizes_of s) run ≡ entries (sizes_of s).layout w n) (sending : (p : ℕ) → p < s.procs → AreSending s.width s.messages p (own p run)) where
   abbrev z : Setup
   z = sizes_of s
@@ -137,16 +137,16 @@ module _ (s : Spec) (run : List Entry) (w : Words) (n : ℕ) (layout : IsLayout 
     are_all_sent = record { each = its; total = counted_all s.procs s.messages ms (senders z.layout w n numbered) counted }
 
 -- glances start nothing
-glance_starts : (P : Call → Type 0) (e : Entry) → IsGlance e → OfStart P e.step.start
+glance_starts : (P : Call → Type 0) (e : TakenStep) → IsGlance e → OfStart P e.step.start
 glance_starts P e h = subst (OfStart P) (sym (ap (λ s. s.start) h.1)) tt
 
-pub sending_more : (width k p : ℕ) (es glances : List Entry) → All IsGlance glances → AreSending width k p es → AreSending width k p (es ++ glances)
+pub sending_more : (width k p : ℕ) (es glances : List TakenStep) → All IsGlance glances → AreSending width k p es → AreSending width k p (es ++ glances)
 sending_more width k p es glances are h =
-    let F : Entry → Type 0 = λ e. OfStart (IsSending width k p) e.step.start in
+    let F : TakenStep → Type 0 = λ e. OfStart (IsSending width k p) e.step.start in
     All-append F es glances h (All-weaker IsGlance F (glance_starts (IsSending width k p)) glances are)
 
 -- of the one run, where each member has sent its own
-module _ (z : Setup) (width k : ℕ) (first : Seated) (others : List Seated) (run : List Entry) (told : IsTold first others (length others) run) where
+module _ (z : Setup) (width k : ℕ) (first : Seated) (others : List Seated) (run : List TakenStep) (told : IsTold first others (length others) run) where
   abbrev Has : Seated → Type 0
   Has x = AreSending width k x.pass.by (own x.pass.by run) × IsAmong x.pass.by k (shown_by z run)
 
@@ -157,7 +157,7 @@ module _ (z : Setup) (width k : ℕ) (first : Seated) (others : List Seated) (ru
   still_shown x h starts =
       let here : IsAmong x.pass.by k (shown_by z x.pass.seen) = subst (λ (s : Setup). IsAmong x.pass.by k (shown_by s x.pass.seen)) h.0 h.1.1 in
       let more = shown_on z x.pass.seen starts.0 in
-      subst (λ (es : List Entry). IsAmong x.pass.by k (shown_by z es)) (sym starts.1) (subst (IsAmong x.pass.by k) (sym more.1) (among_more x.pass.by k (shown_by z x.pass.seen) more.0 here))
+      subst (λ (es : List TakenStep). IsAmong x.pass.by k (shown_by z es)) (sym starts.1) (subst (IsAmong x.pass.by k) (sym more.1) (among_more x.pass.by k (shown_by z x.pass.seen) more.0 here))
 
   all_have : All Known (first ∷ others) → All Has (first ∷ others)
   all_have h =

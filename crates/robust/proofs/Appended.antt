@@ -23,7 +23,7 @@ use Rattle.rmeworld.specs.Spot.{Errand, Free, Doing, Spot, Happening, Moves, at_
 use Rattle.rmeworld.specs.World.{Scene, at_first, last_scene, Story}
 use Rattle.runs.specs.declared.entry_kind.Entry.{Entry as Entering}
 use Rattle.runs.specs.declared.entry_kind.Entry.TheVariants as entering
-use Rattle.runs.specs.declared.entry.Entry.{Entry}
+use Rattle.runs.specs.declared.entry.TakenStep.{TakenStep}
 use Rattle.runs.specs.declared.lock_fault.LockFault.{LockFault}
 use Rattle.runs.specs.declared.setup.Setup.{Setup}
 use Rattle.runs.specs.Calls.{spot_before, AreMoves, ServedAll}
@@ -44,42 +44,42 @@ use Rattle.runs.proofs.Runs.{own-append, spelled-append, scene-append}
 use Rattle.runs.proofs.Shown.{shown_on}
 
 -- an entry of a process, and those before it and behind it
-pub record Own (p : ℕ) (es front : List Entry) (e : Entry) : Type 0 where
-  pub earlier : List Entry
-  pub later : List Entry
+pub record Own (p : ℕ) (es front : List TakenStep) (e : TakenStep) : Type 0 where
+  pub earlier : List TakenStep
+  pub later : List TakenStep
   pub is : es ≡ earlier ++ e ∷ later
   pub own_are : own p earlier ≡ front
   pub by : e.by ≡ p
 
-pub own_taken : (p : ℕ) (x : Entry) (xs : List Entry) → (x.by == p) ≡ true → own p (x ∷ xs) ≡ x ∷ own p xs
+pub own_taken : (p : ℕ) (x : TakenStep) (xs : List TakenStep) → (x.by == p) ≡ true → own p (x ∷ xs) ≡ x ∷ own p xs
 own_taken p x xs is = rw is refl
 
-pub own_passed : (p : ℕ) (x : Entry) (xs : List Entry) → (x.by == p) ≡ false → own p (x ∷ xs) ≡ own p xs
+pub own_passed : (p : ℕ) (x : TakenStep) (xs : List TakenStep) → (x.by == p) ≡ false → own p (x ∷ xs) ≡ own p xs
 own_passed p x xs is = rw is refl
 
-pub own_split : (p : ℕ) (es front : List Entry) (e : Entry) (back : List Entry) → own p es ≡ front ++ e ∷ back → Own p es front e
+pub own_split : (p : ℕ) (es front : List TakenStep) (e : TakenStep) (back : List TakenStep) → own p es ≡ front ++ e ∷ back → Own p es front e
 own_split p [] [] e back h = absurd (cc)
 own_split p [] (f ∷ fs) e back h = absurd (let k : [] ≡ f ∷ (fs ++ e ∷ back) = h in cc)
 own_split p (x ∷ xs) front e back h = go (x.by == p) refl front h (λ rest k. own_split p xs rest e back k)
   where
-    go : (b : Bool) → (x.by == p) ≡ b → (fs : List Entry) → own p (x ∷ xs) ≡ fs ++ e ∷ back → ((rest : List Entry) → own p xs ≡ rest ++ e ∷ back → Own p xs rest e) → Own p (x ∷ xs) fs e
+    go : (b : Bool) → (x.by == p) ≡ b → (fs : List TakenStep) → own p (x ∷ xs) ≡ fs ++ e ∷ back → ((rest : List TakenStep) → own p xs ≡ rest ++ e ∷ back → Own p xs rest e) → Own p (x ∷ xs) fs e
     go true is [] k later =
         let there = own_taken p x xs is in
         let all : x ∷ own p xs ≡ e ∷ back = sym there ∙ k in
         let same : x ≡ e = cc in
-        record { earlier = []; later = xs; is = ap (λ (y : Entry). y ∷ xs) same; own_are = refl; by = ap (λ (y : Entry). y.by) (sym same) ∙ eqb-true x.by p is }
+        record { earlier = []; later = xs; is = ap (λ (y : TakenStep). y ∷ xs) same; own_are = refl; by = ap (λ (y : TakenStep). y.by) (sym same) ∙ eqb-true x.by p is }
     go true is (g ∷ gs) k later =
         let there = own_taken p x xs is in
         let all : x ∷ own p xs ≡ g ∷ (gs ++ e ∷ back) = sym there ∙ k in
         let same : x ≡ g = cc in
         let o = later gs (let rest : own p xs ≡ gs ++ e ∷ back = cc in rest) in
         let mine = own_taken p x o.earlier is in
-        record { earlier = x ∷ o.earlier; later = o.later; is = ap (λ (l : List Entry). x ∷ l) o.is; own_are = mine ∙ (λ i. same i ∷ o.own_are i); by = o.by }
+        record { earlier = x ∷ o.earlier; later = o.later; is = ap (λ (l : List TakenStep). x ∷ l) o.is; own_are = mine ∙ (λ i. same i ∷ o.own_are i); by = o.by }
     go false is fs k later =
         let there = own_passed p x xs is in
         let o = later fs (sym there ∙ k) in
         let mine = own_passed p x o.earlier is in
-        record { earlier = x ∷ o.earlier; later = o.later; is = ap (λ (l : List Entry). x ∷ l) o.is; own_are = mine ∙ o.own_are; by = o.by }
+        record { earlier = x ∷ o.earlier; later = o.later; is = ap (λ (l : List TakenStep). x ∷ l) o.is; own_are = mine ∙ o.own_are; by = o.by }
 
 pub all_at : {A : Type 0} (P : A → Type 0) (xs : List A) (x : A) (ys : List A) → All P (xs ++ x ∷ ys) → P x
 all_at P [] x ys h = All-head P x ys h
@@ -95,9 +95,9 @@ among_more p seq xs more h = record {
 
 -- the step that ends the append with this number in what y's pass has more than z's, and the entries around it
 pub record Ended (z y : Seated) (seq : ℕ) (r : Reply) : Type 0 where
-  pub earlier : List Entry
-  pub entry : Entry
-  pub later : List Entry
+  pub earlier : List TakenStep
+  pub entry : TakenStep
+  pub later : List TakenStep
   pub seen : y.pass.seen ≡ ((z.pass.seen ++ earlier) ++ entry ∷ []) ++ later
   pub by : entry.by ≡ z.pass.by
   pub ends : EndsAppend z.pass.setup (z.pass.seen ++ earlier) entry seq r
@@ -109,7 +109,7 @@ module _ (z y : Seated) (c d : Call) (order : List Call) (answers told rest : Li
   abbrev t : Task
   t = task.Append seq value
 
-  pub append_ended : (mine : List Entry) → ServedAll z (c ∷ d ∷ order) answers blocked y mine → z.pass.start ≡ Some c → Only t (spot_now z.pass).errand → All (Brings t) (c ∷ d ∷ order) → answers ≡ told ++ Mail r ∷ rest → IsTasks r → Ended z y seq r
+  pub append_ended : (mine : List TakenStep) → ServedAll z (c ∷ d ∷ order) answers blocked y mine → z.pass.start ≡ Some c → Only t (spot_now z.pass).errand → All (Brings t) (c ∷ d ∷ order) → answers ≡ told ++ Mail r ∷ rest → IsTasks r → Ended z y seq r
   append_ended [] served start only brings is its = absurd (let k : [] ≡ c ∷ d ∷ order = served.started in cc)
   append_ended (e ∷ es) served start only brings is its =
       let s = z.pass.setup in
@@ -120,18 +120,18 @@ module _ (z y : Seated) (c d : Call) (order : List Call) (answers told rest : Li
       let by = (own_split p calls.since [] e es calls.mine_are).by in
       let at : spot_before s here e ≡ spot_now z.pass = ap (λ (u : Bool × Option Call × ℕ). gone s here (before u.0 u.1 u.2)) (λ i. (served.crash.0 i, started i, by i)) in
       let fine = each_start (Brings t) (e ∷ es) (subst (All (Brings t)) (sym served.started) brings) in
-      let found : Answering t s here (e ∷ es) (Mail r) = find t s here e es (Mail r) told rest (All-tail (λ (f : Entry). OfStart (Brings t) f.step.start) e es fine) (subst (λ (u : Spot). Only t u.errand) (sym at) only) (served.answered ∙ is) in
+      let found : Answering t s here (e ∷ es) (Mail r) = find t s here e es (Mail r) told rest (All-tail (λ (f : TakenStep). OfStart (Brings t) f.step.start) e es fine) (subst (λ (u : Spot). Only t u.errand) (sym at) only) (served.answered ∙ is) in
       let f = found.entry in
       let o : Own p calls.since found.front f = own_split p calls.since found.front f found.back (calls.mine_are ∙ found.is) in
-      let front : List Entry = z.pass.seen ++ o.earlier in
-      let mine : own p front ≡ own p z.pass.seen ++ found.front = own-append p z.pass.seen o.earlier ∙ ap (λ (l : List Entry). own p z.pass.seen ++ l) o.own_are in
+      let front : List TakenStep = z.pass.seen ++ o.earlier in
+      let mine : own p front ≡ own p z.pass.seen ++ found.front = own-append p z.pass.seen o.earlier ∙ ap (λ (l : List TakenStep). own p z.pass.seen ++ l) o.own_are in
       let there : spot_of s f.by front ≡ gone s here (spelled found.front) =
-      ap (λ (q : ℕ). spot_of s q front) o.by ∙ ap (λ (l : List Entry). gone s at_rest (spelled l)) mine ∙ ap (gone s at_rest) (spelled-append (own p z.pass.seen) found.front) ∙ gone-append s at_rest (spelled (own p z.pass.seen)) (spelled found.front) in
+      ap (λ (q : ℕ). spot_of s q front) o.by ∙ ap (λ (l : List TakenStep). gone s at_rest (spelled l)) mine ∙ ap (gone s at_rest) (spelled-append (own p z.pass.seen) found.front) ∙ gone-append s at_rest (spelled (own p z.pass.seen)) (spelled found.front) in
       let spot : spot_at s front f ≡ spot_before s (gone s here (spelled found.front)) f = ap (λ (u : Spot). spot_before s u f) there in
       let work = task_mails t _ _ _ _ f.step.kind f.value r found.only its found.answer in
-      let move = all_at (λ (g : Entry). is_glance g.step.kind ≡ false) found.front f found.back (subst AreMoves found.is served.moves) in
+      let move = all_at (λ (g : TakenStep). is_glance g.step.kind ≡ false) found.front f found.back (subst AreMoves found.is served.moves) in
       let whole : y.pass.seen ≡ (front ++ f ∷ []) ++ o.later =
-      calls.seen ∙ ap (λ (l : List Entry). z.pass.seen ++ l) o.is ∙ sym (append_assoc z.pass.seen o.earlier (f ∷ o.later)) ∙ sym (append_assoc front (f ∷ []) o.later) in
+      calls.seen ∙ ap (λ (l : List TakenStep). z.pass.seen ++ l) o.is ∙ sym (append_assoc z.pass.seen o.earlier (f ∷ o.later)) ∙ sym (append_assoc front (f ∷ []) o.later) in
       record {
         earlier = o.earlier;
         entry = f;
@@ -152,10 +152,10 @@ stored_shown z y seq r h layout every stored =
     let told : IsAmong f.by seq (shown_by s (front ++ f ∷ [])) = (every s y.pass.seen layout h.run).answered front f h.later seq r h.seen h.ends stored in
     let grown = shown_on s (front ++ f ∷ []) h.later in
     let among : IsAmong f.by seq (shown_by s ((front ++ f ∷ []) ++ h.later)) = subst (IsAmong f.by seq) (sym grown.1) (among_more f.by seq (shown_by s (front ++ f ∷ [])) grown.0 told) in
-    subst (λ (u : ℕ × Setup × List Entry). IsAmong u.0 seq (shown_by u.1 u.2)) (λ i. (h.by i, sym h.setup i, sym h.seen i)) among
+    subst (λ (u : ℕ × Setup × List TakenStep). IsAmong u.0 seq (shown_by u.1 u.2)) (λ i. (h.by i, sym h.setup i, sym h.seen i)) among
 
 -- a reply of an append holds of the mailbox at its point of the run
-reply_told : (s : Setup) (es front : List Entry) (e : Entry) (back : List Entry) (seq : ℕ) (r : Reply) → IsLayout s.layout → IsRun s es → RepliesTell → es ≡ (front ++ e ∷ []) ++ back → EndsAppend s front e seq r → ReplyTells s.layout e.by seq r (judged_by s (front ++ e ∷ [])).mail
+reply_told : (s : Setup) (es front : List TakenStep) (e : TakenStep) (back : List TakenStep) (seq : ℕ) (r : Reply) → IsLayout s.layout → IsRun s es → RepliesTell → es ≡ (front ++ e ∷ []) ++ back → EndsAppend s front e seq r → ReplyTells s.layout e.by seq r (judged_by s (front ++ e ∷ [])).mail
 reply_told s es front e back seq r layout run tell split ends =
     let l = s.layout in
     let hs = spelled front ++ before e.step.crashed e.step.start e.by in
@@ -176,8 +176,8 @@ ended_told z y seq r h layout tell =
     record {
       since = h.earlier ++ h.entry ∷ [];
       later = h.later;
-      seen = h.seen ∙ ap (λ (es : List Entry). es ++ h.later) all;
-      tells = subst (λ (u : ℕ × List Entry). ReplyTells s.layout u.0 seq r (judged_by s u.1).mail) (λ i. (h.by i, all i)) told;
+      seen = h.seen ∙ ap (λ (es : List TakenStep). es ++ h.later) all;
+      tells = subst (λ (u : ℕ × List TakenStep). ReplyTells s.layout u.0 seq r (judged_by s u.1).mail) (λ i. (h.by i, all i)) told;
     }
 
 -- a call that sets out from outside the section has no task under way
@@ -218,7 +218,7 @@ module _ (x y : Seated) (turns seq : ℕ) (value : List ℕ) (r : Reply) (a b c 
   outset : Only (task.Append seq value) (spot_now z.pass).errand
   outset = outset_only (task.Append seq value) (ready x) (either_start (is_idle (spot_now x.pass)) x none) may
 
-  inside_ended : (entry : Entering) (mended : Bool) (order : List Call) (answers : List Answer) (blocked : ℕ) (mine : List Entry) → order ≡ Lock ∷ calls_inside entry (Append seq value) → answers ≡ answer_of entry ∷ answers_inside entry mended r
+  inside_ended : (entry : Entering) (mended : Bool) (order : List Call) (answers : List Answer) (blocked : ℕ) (mine : List TakenStep) → order ≡ Lock ∷ calls_inside entry (Append seq value) → answers ≡ answer_of entry ∷ answers_inside entry mended r
       → ServedAll z order answers blocked y mine → Ended z y seq r
   inside_ended entering.Clean mended order answers blocked mine is told h =
       append_ended z y Lock (Append seq value) (Unlock ∷ []) answers (answer_of entering.Clean ∷ []) (Unlocked ∷ []) blocked seq value r mine (subst (λ (l : List Call). ServedAll z l answers blocked y mine) is h) refl outset (brings_all entering.Clean seq value) told its
@@ -257,8 +257,8 @@ told_began x y seq r h =
     record {
       since = h.since;
       later = h.later;
-      seen = h.seen ∙ ap (λ (es : List Entry). (es ++ h.since) ++ h.later) seen;
-      tells = subst (λ (u : Setup × ℕ × List Entry). ReplyTells u.0.layout u.1 seq r (judged_by u.0 (u.2 ++ h.since)).mail) (λ i. (same.0 i, same.1 i, seen i)) h.tells;
+      seen = h.seen ∙ ap (λ (es : List TakenStep). (es ++ h.since) ++ h.later) seen;
+      tells = subst (λ (u : Setup × ℕ × List TakenStep). ReplyTells u.0.layout u.1 seq r (judged_by u.0 (u.2 ++ h.since)).mail) (λ i. (same.0 i, same.1 i, seen i)) h.tells;
     }
 
 pub append_tells : (x y : Seated) (seq : ℕ) (value : List ℕ) (result : Result Reply LockFault) (a b c d : ℕ) → x.pass.start ≡ None → IsPass x.pass → RepliesTell → OnOk result (refusal_now (ready x) Lock ≡ None) → IfOk result (Appends seq)

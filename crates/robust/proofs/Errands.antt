@@ -28,7 +28,7 @@ use Rattle.rmeworld.specs.Entered.{is_entry}
 use Rattle.rmeworld.specs.Spot.{Errand, Free, Doing, Spot, at_lock, settled, only_spot, moved_by, inside_only, begun_from}
 use Rattle.rmeworld.specs.CallWalk.{and_answer}
 use Rattle.runs.specs.declared.setup.Setup.{Setup}
-use Rattle.runs.specs.declared.entry.Entry.{Entry}
+use Rattle.runs.specs.declared.entry.TakenStep.{TakenStep}
 use Rattle.runs.specs.Runs.{before, taken, happenings, spelled, gone}
 use Rattle.runs.specs.Calls.{spot_before, answers_from, and_call, starts}
 use Rattle.runs.specs.Under.{Replies, Mends}
@@ -54,17 +54,17 @@ Brings t (Put i v) = ⊥
 Brings t call = Unit {0}
 
 -- the starts of some entries
-pub each_start : (P : Call → Type 0) (mine : List Entry) → All P (starts mine) → All (λ (e : Entry). OfStart P e.step.start) mine
+pub each_start : (P : Call → Type 0) (mine : List TakenStep) → All P (starts mine) → All (λ (e : TakenStep). OfStart P e.step.start) mine
 each_start P [] h = All-nil _
 each_start P (e ∷ es) h = go e.step.start refl (each_start P es)
   where
-    go : (o : Option Call) → e.step.start ≡ o → (All P (starts es) → All (λ (f : Entry). OfStart P f.step.start) es) → All (λ (f : Entry). OfStart P f.step.start) (e ∷ es)
+    go : (o : Option Call) → e.step.start ≡ o → (All P (starts es) → All (λ (f : TakenStep). OfStart P f.step.start) es) → All (λ (f : TakenStep). OfStart P f.step.start) (e ∷ es)
     go None is later =
         let rest : All P (starts es) = subst (λ (o : Option Call). All P (and_call o (starts es))) is h in
-        All-cons (λ (f : Entry). OfStart P f.step.start) e es (subst (OfStart P) (sym is) tt) (later rest)
+        All-cons (λ (f : TakenStep). OfStart P f.step.start) e es (subst (OfStart P) (sym is) tt) (later rest)
     go (Some c) is later =
         let all : All P (c ∷ starts es) = subst (λ (o : Option Call). All P (and_call o (starts es))) is h in
-        All-cons (λ (f : Entry). OfStart P f.step.start) e es (subst (OfStart P) (sym is) (All-head P c (starts es) all)) (later (All-tail P c (starts es) all))
+        All-cons (λ (f : TakenStep). OfStart P f.step.start) e es (subst (OfStart P) (sym is) (All-head P c (starts es) all)) (later (All-tail P c (starts es) all))
 
 module _ (t : Task) where
   abbrev At : Option Spot → Spot → Type 0
@@ -134,33 +134,33 @@ module _ (t : Task) where
     only_taken p kind word v spot h =
         by_kind (λ k e. Only t (gone s spot (e ∷ [])).errand) p word v h (λ k. only_moved s.layout s.limit p spot.lock spot.mended spot.barred spot.errand k word v spot h h) kind
 
-    only_after : (spot : Spot) (e : Entry) → Only t (spot_before s spot e).errand → Only t (gone s spot (happenings e)).errand
+    only_after : (spot : Spot) (e : TakenStep) → Only t (spot_before s spot e).errand → Only t (gone s spot (happenings e)).errand
     only_after spot e h =
         subst (λ (u : Spot). Only t u.errand) (sym (gone-append s spot (before e.step.crashed e.step.start e.by) (taken e.by e.step.kind e.step.word e.value ∷ [])))
         (only_taken e.by e.step.kind e.step.word e.value (spot_before s spot e) h)
 
     -- one of these entries answers so, where at most this task is under way
-    pub record Answering (spot : Spot) (mine : List Entry) (a : Answer) : Type 0 where
-      pub front : List Entry
-      pub entry : Entry
-      pub back : List Entry
+    pub record Answering (spot : Spot) (mine : List TakenStep) (a : Answer) : Type 0 where
+      pub front : List TakenStep
+      pub entry : TakenStep
+      pub back : List TakenStep
       pub is : mine ≡ front ++ entry ∷ back
       pub answer : answer_at (spot_before s (gone s spot (spelled front)) entry) entry.step.kind entry.value ≡ Some a
       pub only : Only t (spot_before s (gone s spot (spelled front)) entry).errand
 
-    later_on : (spot : Spot) (e : Entry) (es : List Entry) (a : Answer) → Answering (gone s spot (happenings e)) es a → Answering spot (e ∷ es) a
+    later_on : (spot : Spot) (e : TakenStep) (es : List TakenStep) (a : Answer) → Answering (gone s spot (happenings e)) es a → Answering spot (e ∷ es) a
     later_on spot e es a h =
         let same : gone s (gone s spot (happenings e)) (spelled h.front) ≡ gone s spot (spelled (e ∷ h.front)) = sym (gone-append s spot (happenings e) (spelled h.front)) in
         record {
           front = e ∷ h.front;
           entry = h.entry;
           back = h.back;
-          is = ap (λ (l : List Entry). e ∷ l) h.is;
+          is = ap (λ (l : List TakenStep). e ∷ l) h.is;
           answer = subst (λ (u : Spot). answer_at (spot_before s u h.entry) h.entry.step.kind h.entry.value ≡ Some a) same h.answer;
           only = subst (λ (u : Spot). Only t (spot_before s u h.entry).errand) same h.only;
         }
 
-    here_or_later : (spot : Spot) (e : Entry) (es : List Entry) (a : Answer) (told rest : List Answer) → Only t (spot_before s spot e).errand → answers_from s spot (e ∷ es) ≡ told ++ a ∷ rest
+    here_or_later : (spot : Spot) (e : TakenStep) (es : List TakenStep) (a : Answer) (told rest : List Answer) → Only t (spot_before s spot e).errand → answers_from s spot (e ∷ es) ≡ told ++ a ∷ rest
         → ((more : List Answer) → answers_from s (gone s spot (happenings e)) es ≡ more ++ a ∷ rest → Answering spot (e ∷ es) a) → Answering spot (e ∷ es) a
     here_or_later spot e es a told rest only is later = go (answer_at (spot_before s spot e) e.step.kind e.value) refl told is
       where
@@ -181,14 +181,14 @@ module _ (t : Task) where
     none_there a [] rest e = absurd (cc)
     none_there a (b ∷ bs) rest e = absurd (let k : [] ≡ b ∷ (bs ++ a ∷ rest) = e in cc)
 
-    pub find : (spot : Spot) (e : Entry) (es : List Entry) (a : Answer) (told rest : List Answer) → All (λ (f : Entry). OfStart (Brings t) f.step.start) es → Only t (spot_before s spot e).errand
+    pub find : (spot : Spot) (e : TakenStep) (es : List TakenStep) (a : Answer) (told rest : List Answer) → All (λ (f : TakenStep). OfStart (Brings t) f.step.start) es → Only t (spot_before s spot e).errand
         → answers_from s spot (e ∷ es) ≡ told ++ a ∷ rest → Answering spot (e ∷ es) a
     find spot e [] a told rest fine only is = here_or_later spot e [] a told rest only is (λ more k. absurd (none_there a more rest k))
     find spot e (f ∷ fs) a told rest fine only is =
         here_or_later spot e (f ∷ fs) a told rest only is (λ more k.
         later_on spot e (f ∷ fs) a
-        (find (gone s spot (happenings e)) f fs a more rest (All-tail (λ (g : Entry). OfStart (Brings t) g.step.start) f fs fine)
-        (only_before f.step.crashed f.step.start f.by (gone s spot (happenings e)) (All-head (λ (g : Entry). OfStart (Brings t) g.step.start) f fs fine) (only_after spot e only)) k))
+        (find (gone s spot (happenings e)) f fs a more rest (All-tail (λ (g : TakenStep). OfStart (Brings t) g.step.start) f fs fine)
+        (only_before f.step.crashed f.step.start f.by (gone s spot (happenings e)) (All-head (λ (g : TakenStep). OfStart (Brings t) g.step.start) f fs fine) (only_after spot e only)) k))
 
 -- the lock and the ruin check answer with no reply, and a mending with such a one alone
 abbrev pub IsTasks : Reply → Type 0

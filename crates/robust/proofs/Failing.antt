@@ -10,7 +10,7 @@ use Rattle.rmeworld.specs.declared.call.Call.{Call}
 use Rattle.rmeworld.specs.declared.call.Call.TheVariants.{Lock, Append}
 use Rattle.rmeworld.specs.Refused.{is_idle}
 use Rattle.rmeworld.specs.Sent.{ReplyTells}
-use Rattle.runs.specs.declared.entry.Entry.{Entry}
+use Rattle.runs.specs.declared.entry.TakenStep.{TakenStep}
 use Rattle.runs.specs.declared.lock_fault.LockFault.{LockFault}
 use Rattle.runs.specs.declared.lock_fault.LockFault.TheVariants.{Crashed, NotYet, NumbersSpent, NotRecoverable, AlreadyIn, BadWidth}
 use Rattle.runs.specs.declared.setup.Setup.{Setup}
@@ -75,16 +75,16 @@ module _ (x y : Seated) (seq : ℕ) (value : List ℕ) (a b c d : ℕ) where
 
 -- a call adds to what its process has seen
 abbrev pub Grown : Seated → Seated → Type 0
-Grown x y = (since : List Entry) × (y.pass.seen ≡ x.pass.seen ++ since)
+Grown x y = (since : List TakenStep) × (y.pass.seen ≡ x.pass.seen ++ since)
 
-calls_grow : (x y : Seated) (mine : List Entry) → Calls (began (ready x) Lock).pass mine y.pass → Grown x y
-calls_grow x y mine c = (c.since, c.seen ∙ ap (λ (es : List Entry). es ++ c.since) (either_seen (is_idle (spot_now x.pass)) x))
+calls_grow : (x y : Seated) (mine : List TakenStep) → Calls (began (ready x) Lock).pass mine y.pass → Grown x y
+calls_grow x y mine c = (c.since, c.seen ∙ ap (λ (es : List TakenStep). es ++ c.since) (either_seen (is_idle (spot_now x.pass)) x))
 
 still_grown : (x y : Seated) → y ≡ x → Grown x y
 still_grown x y e = ([], ap (λ (u : Seated). u.pass.seen) e ∙ sym (append-nil x.pass.seen))
 
 pub grown_on : (x y z : Seated) → Grown x y → Grown y z → Grown x z
-grown_on x y z h g = (h.0 ++ g.0, g.1 ∙ ap (λ (es : List Entry). es ++ g.0) h.1 ∙ append_assoc x.pass.seen h.0 g.0)
+grown_on x y z h g = (h.0 ++ g.0, g.1 ∙ ap (λ (es : List TakenStep). es ++ g.0) h.1 ∙ append_assoc x.pass.seen h.0 g.0)
 
 module _ (x y : Seated) (seq : ℕ) (value : List ℕ) (a b c d : ℕ) where
   fails_grow : (turns : ℕ) (e : LockFault) → AppendFails x turns seq value y a b c d e → Grown x y
@@ -101,16 +101,16 @@ module _ (x y : Seated) (seq : ℕ) (value : List ℕ) (a b c d : ℕ) where
 -- what is told later is told from the start on
 pub told_from : (x y z : Seated) (seq : ℕ) (r : Reply) → Grown x y → seat_of y ≡ seat_of x → ToldIn y seq r z → ToldIn x seq r z
 told_from x y z seq r grown same h =
-    let seen : y.pass.seen ++ h.since ≡ x.pass.seen ++ (grown.0 ++ h.since) = ap (λ (es : List Entry). es ++ h.since) grown.1 ∙ append_assoc x.pass.seen grown.0 h.since in
+    let seen : y.pass.seen ++ h.since ≡ x.pass.seen ++ (grown.0 ++ h.since) = ap (λ (es : List TakenStep). es ++ h.since) grown.1 ∙ append_assoc x.pass.seen grown.0 h.since in
     record {
       since = grown.0 ++ h.since;
       later = h.later;
-      seen = h.seen ∙ ap (λ (es : List Entry). es ++ h.later) seen;
-      tells = subst (λ (u : (TableId × Setup × ℕ) × List Entry). ReplyTells u.0.1.layout u.0.2 seq r (judged_by u.0.1 u.1).mail) (λ i. (same i, seen i)) h.tells;
+      seen = h.seen ∙ ap (λ (es : List TakenStep). es ++ h.later) seen;
+      tells = subst (λ (u : (TableId × Setup × ℕ) × List TakenStep). ReplyTells u.0.1.layout u.0.2 seq r (judged_by u.0.1 u.1).mail) (λ i. (same i, seen i)) h.tells;
     }
 
 -- what was shown stays shown
-pub shown_then : (x y : Seated) (n : ℕ) (since later : List Entry) → HasShown n x → IsAmong x.pass.by n (shown_by x.pass.setup (x.pass.seen ++ since))
+pub shown_then : (x y : Seated) (n : ℕ) (since later : List TakenStep) → HasShown n x → IsAmong x.pass.by n (shown_by x.pass.setup (x.pass.seen ++ since))
 shown_then x y n since later h =
     let more = shown_on x.pass.setup x.pass.seen since in
     subst (IsAmong x.pass.by n) (sym more.1) (among_more x.pass.by n (shown_by x.pass.setup x.pass.seen) more.0 h)
@@ -120,7 +120,7 @@ pub refused : (x y : Seated) (seq : ℕ) (r : Reply) → 1 ≤ seq → ((n : ℕ
     → ((r ≡ reply.Full) ⊎ (r ≡ reply.Closed)) × RefusedAt y seq r
 refused x y seq r some shown same kind unsent told = (by_kind r kind unsent told.tells, at)
   where
-    front : List Entry
+    front : List TakenStep
     front = x.pass.seen ++ told.since
 
     above : (n : ℕ) → 1 ≤ n → n ≢ 1 → 1 < n

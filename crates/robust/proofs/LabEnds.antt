@@ -16,7 +16,7 @@ use Rattle.rmeworld.specs.Spot.{Happening, Begins, who}
 use Rattle.rmeworld.specs.World.{at_first}
 use Rattle.rmeworld.proofs.ImageStarts.{lawful_content}
 use Rattle.redomail.specs.declared.layout.Layout.{Layout}
-use Rattle.runs.specs.declared.entry.Entry.{Entry}
+use Rattle.runs.specs.declared.entry.TakenStep.{TakenStep}
 use Rattle.runs.specs.declared.setup.Setup.{Setup}
 use Rattle.one_lock.specs.declared.lab.lab_fault.LabFault.{LabFault}
 use Rattle.one_lock.specs.declared.lab.lab_fault.LabFault.TheVariants.{Member, Reply as Replied}
@@ -60,7 +60,7 @@ none_long [] h = refl
 none_long (x ∷ xs) h = absurd (cc)
 
 -- at one point of the run its mailbox refused a message
-module _ (s : Spec) (run front rest : List Entry) (is : run ≡ front ++ rest) (layout : IsLayout (sizes_of s).layout) (legal : IsRun (sizes_of s) run) (sending : (p : ℕ) → p < s.procs → AreSending s.width s.messages p (own p run)) where
+module _ (s : Spec) (run front rest : List TakenStep) (is : run ≡ front ++ rest) (layout : IsLayout (sizes_of s).layout) (legal : IsRun (sizes_of s) run) (sending : (p : ℕ) → p < s.procs → AreSending s.width s.messages p (own p run)) where
   abbrev z : Setup
   z = sizes_of s
 
@@ -73,7 +73,7 @@ module _ (s : Spec) (run front rest : List Entry) (is : run ≡ front ++ rest) (
       let asked = every z.layout z.limit (spelled front) layout front_run closed in
       let p = asked.0 in
       let P = IsSending s.width s.messages p in
-      let F : Entry → Type 0 = λ e. OfStart P e.step.start in
+      let F : TakenStep → Type 0 = λ e. OfStart P e.step.start in
       let below : p < s.procs = All-contains (λ (h : Happening). who h < s.procs) (spelled front) (Begins p Close) (story_within z.layout z.limit at_first (spelled front) front_run) asked.1 in
       let mine : All F (own p front) = all_left F (own p front) (own p rest) (subst (All F) (ap (own p) is ∙ own-append p front rest) (sending p below)) in
       begins_it P p Close (All-contains (OfBegins P p) (spelled front) (Begins p Close) (begins_all P p front mine) asked.1)
@@ -113,10 +113,10 @@ lab_ends s ended image cause layout setups worked f g lawful was closes shows lo
     x : Seated
     x = f.done.member
 
-    Q : ℕ → List Entry → Type 0
+    Q : ℕ → List TakenStep → Type 0
     Q = AreSending s.width s.messages
 
-    more : (p : ℕ) (es glances : List Entry) → All IsGlance glances → Q p es → Q p (es ++ glances)
+    more : (p : ℕ) (es glances : List TakenStep) → All IsGlance glances → Q p es → Q p (es ++ glances)
     more = sending_more s.width s.messages
 
     has : HasWorked s f.done
@@ -148,7 +148,7 @@ lab_ends s ended image cause layout setups worked f g lawful was closes shows lo
         let there : has_member p (g.first ∷ g.others) ≡ true = subst (λ (l : List Seated). has_member p l ≡ true) g.are (g.all p (subst (λ (u : Setup). p < u.layout.procs) (sym same) low)) in
         each_holds Q more g.first g.others (length g.others) g.run g.told keeps p there
 
-    O : ℕ → List Entry → Type 0
+    O : ℕ → List TakenStep → Type 0
     O p es = AreInOrder None es
 
     keep_order : All (Keeps O order_more g.first g.others (length g.others) g.run g.told) (g.first ∷ g.others)
@@ -187,12 +187,12 @@ lab_ends s ended image cause layout setups worked f g lawful was closes shows lo
     by : (e : Ending) → EndsSo s x e → fault_by x.pass.by e ≡ Some cause → EndsLab s cause
     by AllSent h is = absurd (cc)
     by (Fault why) (inl spent) is = subst (EndsLab s) (same_fault (Member x.pass.by why) cause is) (below, spent)
-    by (Fault why) (inr ruin) is = absurd (none_read z x.pass.seen starts.0 x.pass.by layout (subst (IsRun z) starts.1 legal) (λ p low. subst (λ (es : List Entry). AreInOrder None (own p es)) starts.1 (ordered p low)) loads nobody ruin.1)
+    by (Fault why) (inr ruin) is = absurd (none_read z x.pass.seen starts.0 x.pass.by layout (subst (IsRun z) starts.1 legal) (λ p low. subst (λ (es : List TakenStep). AreInOrder None (own p es)) starts.1 (ordered p low)) loads nobody ruin.1)
     by (Refused reply) h is =
         let at = h.1.3 in
         let seq = h.1.0 in
         let rest = at.later ++ starts.0 in
-        let split : g.run ≡ at.front ++ rest = starts.1 ∙ ap (λ (es : List Entry). es ++ starts.0) at.seen ∙ append_assoc at.front at.later starts.0 in
+        let split : g.run ≡ at.front ++ rest = starts.1 ∙ ap (λ (es : List TakenStep). es ++ starts.0) at.seen ∙ append_assoc at.front at.later starts.0 in
         let tells : ReplyTells z.layout x.pass.by seq reply (judged_by z at.front).mail = subst (λ (u : Setup). ReplyTells u.layout x.pass.by seq reply (judged_by u at.front).mail) setup at.tells in
         elim h.0 [
           | inl full ↦

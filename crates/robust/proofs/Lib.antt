@@ -8,3 +8,8 @@ pub mod LabEnds
 pub mod Unruined
 pub mod Working
 pub mod Worked
+pub mod FreeSteps
+pub mod Peeks
+pub mod Waits
+pub mod Straight
+pub mod FastLock

@@ -8,7 +8,7 @@ use Rattle.rmeworld.specs.declared.call.Call.TheVariants.{Lock, Unlock, Consiste
 use Rattle.rmeworld.specs.Refused.{is_idle}
 use Rattle.runs.specs.declared.entry_kind.Entry.{Entry as Entering}
 use Rattle.runs.specs.declared.entry_kind.Entry.TheVariants as entering
-use Rattle.runs.specs.declared.entry.Entry.{Entry}
+use Rattle.runs.specs.declared.entry.TakenStep.{TakenStep}
 use Rattle.runs.specs.declared.lock_fault.LockFault.{LockFault}
 use Rattle.runs.specs.Calls.{starts}
 use Rattle.runs.specs.Faults.{ready, CutBy}
@@ -51,8 +51,8 @@ module _ (P : Call → Type 0) (task : Call) (lock : P Lock) (unlock : P Unlock)
   all_within done (inr h) = all_front done (Lock ∷ Consistent ∷ Unlock ∷ []) h all_ruined
 
   -- also where a crash came before the first
-  all_cut : (mine : List Entry) → (mine ≡ []) ⊎ IsWithin task (starts mine) → All P (starts mine)
-  all_cut mine (inl none) = subst (λ (es : List Entry). All P (starts es)) (sym none) (All-nil P)
+  all_cut : (mine : List TakenStep) → (mine ≡ []) ⊎ IsWithin task (starts mine) → All P (starts mine)
+  all_cut mine (inl none) = subst (λ (es : List TakenStep). All P (starts es)) (sym none) (All-nil P)
   all_cut mine (inr h) = all_within (starts mine) h
 
 either_own : (b : Bool) (x : Seated) → (own_of (if b then x else fell x).pass ≡ own_of x.pass) × ((if b then x else fell x).pass.by ≡ x.pass.by)
@@ -60,11 +60,11 @@ either_own true x = (refl, refl)
 either_own false x = (refl, refl)
 
 module _ (width k : ℕ) where
-  sends_calls : (x y : Seated) (mine : List Entry) → Calls x.pass mine y.pass → AreSending width k x.pass.by mine → SendsOnly width k x → SendsOnly width k y
+  sends_calls : (x y : Seated) (mine : List TakenStep) → Calls x.pass mine y.pass → AreSending width k x.pass.by mine → SendsOnly width k x → SendsOnly width k y
   sends_calls x y mine c new old =
       let own_are : own_of y.pass ≡ own_of x.pass ++ mine =
-      ap (λ (p : ℕ). own p y.pass.seen) c.by ∙ ap (own x.pass.by) c.seen ∙ own-append x.pass.by x.pass.seen c.since ∙ ap (λ (l : List Entry). own_of x.pass ++ l) c.mine_are in
-      subst (λ (u : ℕ × List Entry). AreSending width k u.0 u.1) (λ i. (sym c.by i, sym own_are i)) (All-append (λ (e : Entry). OfStart (IsSending width k x.pass.by) e.step.start) (own_of x.pass) mine old new)
+      ap (λ (p : ℕ). own p y.pass.seen) c.by ∙ ap (own x.pass.by) c.seen ∙ own-append x.pass.by x.pass.seen c.since ∙ ap (λ (l : List TakenStep). own_of x.pass ++ l) c.mine_are in
+      subst (λ (u : ℕ × List TakenStep). AreSending width k u.0 u.1) (λ i. (sym c.by i, sym own_are i)) (All-append (λ (e : TakenStep). OfStart (IsSending width k x.pass.by) e.step.start) (own_of x.pass) mine old new)
 
   module _ (x y : Seated) (seq : ℕ) (value : List ℕ) (a b c d : ℕ) (fits : IsSending width k x.pass.by (Append seq value)) (old : SendsOnly width k x) where
     abbrev z : Seated
@@ -74,7 +74,7 @@ module _ (width k : ℕ) where
     same = either_own (is_idle (spot_now x.pass)) x
 
     outset : SendsOnly width k z
-    outset = subst (λ (u : ℕ × List Entry). AreSending width k u.0 u.1) (λ i. (sym same.1 i, sym same.0 i)) old
+    outset = subst (λ (u : ℕ × List TakenStep). AreSending width k u.0 u.1) (λ i. (sym same.1 i, sym same.0 i)) old
 
     sends : IsSending width k z.pass.by (Append seq value)
     sends = subst (λ (p : ℕ). IsSending width k p (Append seq value)) (sym same.1) fits

@@ -11,7 +11,7 @@ use Rattle.rmeworld.specs.declared.call.Call.TheVariants.{Unlock}
 use Rattle.rmeworld.specs.Sent.{EveryRuinWasAsked, IsLeftUnmended}
 use Rattle.rmeworld.specs.Spot.{Spot, Happening, Begins, Falls, who, at_rest, next_spot}
 use Rattle.rmeworld.specs.World.{Scene, at_first, last_scene, Story, onward, reading}
-use Rattle.runs.specs.declared.entry.Entry.{Entry}
+use Rattle.runs.specs.declared.entry.TakenStep.{TakenStep}
 use Rattle.runs.specs.declared.setup.Setup.{Setup}
 use Rattle.runs.specs.Reading.{cells_of, LoadsTell}
 use Rattle.runs.specs.Ruins.{HasReadRuin, last_call, last_of, settles, MayStart, AreInOrder, NobodyRuins}
@@ -39,10 +39,10 @@ cut_at (x ∷ xs) ys (f ∷ fs) h back e =
     ]
 
 -- the entry that begins this call
-pub record Beginning (p : ℕ) (call : Call) (es : List Entry) (front : List Happening) : Type 0 where
-  pub earlier : List Entry
-  pub entry : Entry
-  pub later : List Entry
+pub record Beginning (p : ℕ) (call : Call) (es : List TakenStep) (front : List Happening) : Type 0 where
+  pub earlier : List TakenStep
+  pub entry : TakenStep
+  pub later : List TakenStep
   pub is : es ≡ earlier ++ entry ∷ later
   pub by : entry.by ≡ p
   pub starts : entry.step.start ≡ Some call
@@ -72,7 +72,7 @@ not_taken p q call kind word v [] back e =
 not_taken p q call kind word v (m ∷ []) back e = absurd (let k : taken q kind word v ∷ [] ≡ m ∷ Begins p call ∷ back = e in cc)
 not_taken p q call kind word v (m ∷ n ∷ ms) back e = absurd (let k : taken q kind word v ∷ [] ≡ m ∷ n ∷ (ms ++ Begins p call ∷ back) = e in cc)
 
-begun_at : (p : ℕ) (call : Call) (es : List Entry) (front back : List Happening) → spelled es ≡ front ++ Begins p call ∷ back → Beginning p call es front
+begun_at : (p : ℕ) (call : Call) (es : List TakenStep) (front back : List Happening) → spelled es ≡ front ++ Begins p call ∷ back → Beginning p call es front
 begun_at p call [] [] back e = absurd (cc)
 begun_at p call [] (f ∷ fs) back e = absurd (let k : [] ≡ f ∷ (fs ++ Begins p call ∷ back) = e in cc)
 begun_at p call (x ∷ es) front back e = by (cut_at (happenings x) (spelled es) front (Begins p call) back e) (λ mid rest. begun_at p call es mid back rest)
@@ -98,29 +98,29 @@ begun_at p call (x ∷ es) front back e = by (cut_at (happenings x) (spelled es)
           earlier = x ∷ b.earlier;
           entry = b.entry;
           later = b.later;
-          is = ap (λ (l : List Entry). x ∷ l) b.is;
+          is = ap (λ (l : List TakenStep). x ∷ l) b.is;
           by = b.by;
           starts = b.starts;
           front_is = later.1 ∙ ap (λ (l : List Happening). happenings x ++ l) b.front_is ∙ sym (append_assoc (happenings x) (spelled b.earlier) (crash_first b.entry.step.crashed b.entry.by));
         }
 
-order_front : (last : Option Call) (xs ys : List Entry) → AreInOrder last (xs ++ ys) → AreInOrder last xs
+order_front : (last : Option Call) (xs ys : List TakenStep) → AreInOrder last (xs ++ ys) → AreInOrder last xs
 order_front last [] ys h = tt
 order_front last (x ∷ xs) ys h = (h.0, order_front (last_call last x.step.crashed x.step.start) xs ys h.1)
 
-order_at : (last : Option Call) (xs : List Entry) (e : Entry) (ys : List Entry) → AreInOrder last (xs ++ e ∷ ys) → MayStart (last_of last xs) e.step.crashed e.step.start
+order_at : (last : Option Call) (xs : List TakenStep) (e : TakenStep) (ys : List TakenStep) → AreInOrder last (xs ++ e ∷ ys) → MayStart (last_of last xs) e.step.crashed e.step.start
 order_at last [] e ys h = h.0
 order_at last (x ∷ xs) e ys h = order_at (last_call last x.step.crashed x.step.start) xs e ys h.1
 
 module _ (s : Setup) (layout : IsLayout s.layout) (asked : EveryRuinWasAsked) (loads : LoadsTell) where
-  abbrev Ordered : List Entry → Type 0
+  abbrev Ordered : List TakenStep → Type 0
   Ordered es = (p : ℕ) → p < s.layout.procs → AreInOrder None (own p es)
 
-  ordered_front : (xs ys : List Entry) → Ordered (xs ++ ys) → Ordered xs
+  ordered_front : (xs ys : List TakenStep) → Ordered (xs ++ ys) → Ordered xs
   ordered_front xs ys h p below = order_front None (own p xs) (own p ys) (subst (AreInOrder None) (own-append p xs ys) (h p below))
 
   -- who begins to unlock there has read a ruin before, and so it stood in the word
-  left : (es : List Entry) (p : ℕ) → IsRun s es → Ordered es → IsLeftUnmended s.layout s.limit (spelled es) p → ((xs ys : List Entry) → es ≡ xs ++ ys → length xs < length es → cells_of s xs 0 ≡ 0) → ⊥
+  left : (es : List TakenStep) (p : ℕ) → IsRun s es → Ordered es → IsLeftUnmended s.layout s.limit (spelled es) p → ((xs ys : List TakenStep) → es ≡ xs ++ ys → length xs < length es → cells_of s xs 0 ≡ 0) → ⊥
   left es p run ordered u before_it =
       elim (walk s None at_rest (own p b.earlier) (refl, λ e. absurd (cc)) (order_front None (own p b.earlier) (b.entry ∷ own p b.later) mine) (run_goes s b.earlier p earlier_run)) [
         | inl ruin ↦ ruined ruin
@@ -137,7 +137,7 @@ module _ (s : Setup) (layout : IsLayout s.layout) (asked : EveryRuinWasAsked) (l
       same = eq-eqb b.entry.by p b.by
 
       owns : own p es ≡ own p b.earlier ++ b.entry ∷ own p b.later
-      owns = ap (own p) b.is ∙ own-append p b.earlier (b.entry ∷ b.later) ∙ ap (λ (l : List Entry). own p b.earlier ++ l) (own_taken p b.entry b.later same)
+      owns = ap (own p) b.is ∙ own-append p b.earlier (b.entry ∷ b.later) ∙ ap (λ (l : List TakenStep). own p b.earlier ++ l) (own_taken p b.entry b.later same)
 
       mine : AreInOrder None (own p b.earlier ++ b.entry ∷ own p b.later)
       mine = subst (AreInOrder None) owns (ordered p below)
@@ -170,7 +170,7 @@ module _ (s : Setup) (layout : IsLayout s.layout) (asked : EveryRuinWasAsked) (l
       ruined r =
           let o : Own p b.earlier r.front r.entry = own_split p b.earlier r.front r.entry r.back r.is in
           let parts : es ≡ (o.earlier ++ r.entry ∷ []) ++ (o.later ++ b.entry ∷ b.later) =
-          b.is ∙ ap (λ (l : List Entry). l ++ b.entry ∷ b.later) (o.is ∙ sym (append_assoc o.earlier (r.entry ∷ []) o.later)) ∙ append_assoc (o.earlier ++ r.entry ∷ []) o.later (b.entry ∷ b.later) in
+          b.is ∙ ap (λ (l : List TakenStep). l ++ b.entry ∷ b.later) (o.is ∙ sym (append_assoc o.earlier (r.entry ∷ []) o.later)) ∙ append_assoc (o.earlier ++ r.entry ∷ []) o.later (b.entry ∷ b.later) in
           let told = loads s o.earlier r.entry (legal_front s (o.earlier ++ r.entry ∷ []) (o.later ++ b.entry ∷ b.later) (subst (IsRun s) parts run)) r.reads.0 in
           let one : cells_of s o.earlier 0 ≡ 1 = ap (reading (end_of s o.earlier)) (sym r.reads.1) ∙ told ∙ r.reads.2 in
           let whole : es ≡ o.earlier ++ (r.entry ∷ (o.later ++ b.entry ∷ b.later)) = parts ∙ append_assoc o.earlier (r.entry ∷ []) (o.later ++ b.entry ∷ b.later) in
@@ -179,7 +179,7 @@ module _ (s : Setup) (layout : IsLayout s.layout) (asked : EveryRuinWasAsked) (l
           let zero_there = before_it o.earlier (r.entry ∷ (o.later ++ b.entry ∷ b.later)) whole (omega (arith, long, lengths)) in
           omega (arith, one, zero_there)
 
-  unruined : (n : ℕ) (es : List Entry) → length es < n → IsRun s es → Ordered es → cells_of s es 0 ≡ 0
+  unruined : (n : ℕ) (es : List TakenStep) → length es < n → IsRun s es → Ordered es → cells_of s es 0 ≡ 0
   unruined zero es few run ordered = absurd (omega arith)
   unruined (suc n) es few run ordered =
       elim (cases_eq (cells_of s es 0) 0) [
@@ -193,11 +193,11 @@ pub nobody_ruins : EveryRuinWasAsked → LoadsTell → NobodyRuins
 nobody_ruins asked loads s es layout run ordered = unruined s layout asked loads (suc (length es)) es (omega arith) run ordered
 
 -- so no process reads a ruin
-pub none_read : (s : Setup) (es rest : List Entry) (p : ℕ) → IsLayout s.layout → IsRun s (es ++ rest) → ((q : ℕ) → q < s.layout.procs → AreInOrder None (own q (es ++ rest))) → LoadsTell → NobodyRuins → HasReadRuin (own p es) → ⊥
+pub none_read : (s : Setup) (es rest : List TakenStep) (p : ℕ) → IsLayout s.layout → IsRun s (es ++ rest) → ((q : ℕ) → q < s.layout.procs → AreInOrder None (own q (es ++ rest))) → LoadsTell → NobodyRuins → HasReadRuin (own p es) → ⊥
 none_read s es rest p layout run ordered loads nobody r =
     let o : Own p es r.front r.entry = own_split p es r.front r.entry r.back r.is in
     let parts : es ++ rest ≡ (o.earlier ++ r.entry ∷ []) ++ (o.later ++ rest) =
-    ap (λ (l : List Entry). l ++ rest) (o.is ∙ sym (append_assoc o.earlier (r.entry ∷ []) o.later)) ∙ append_assoc (o.earlier ++ r.entry ∷ []) o.later rest in
+    ap (λ (l : List TakenStep). l ++ rest) (o.is ∙ sym (append_assoc o.earlier (r.entry ∷ []) o.later)) ∙ append_assoc (o.earlier ++ r.entry ∷ []) o.later rest in
     let whole : es ++ rest ≡ o.earlier ++ (r.entry ∷ (o.later ++ rest)) = parts ∙ append_assoc o.earlier (r.entry ∷ []) (o.later ++ rest) in
     let told = loads s o.earlier r.entry (legal_front s (o.earlier ++ r.entry ∷ []) (o.later ++ rest) (subst (IsRun s) parts run)) r.reads.0 in
     let one : cells_of s o.earlier 0 ≡ 1 = ap (reading (end_of s o.earlier)) (sym r.reads.1) ∙ told ∙ r.reads.2 in

@@ -5,7 +5,7 @@ use Rattle.rmeworld.specs.declared.call.Call.{Call}
 use Rattle.rmeworld.specs.declared.call.Call.TheVariants.{Lock, Append}
 use Rattle.rmeworld.specs.Refused.{is_idle}
 use Rattle.redomail.specs.declared.reply.Reply.{Reply}
-use Rattle.runs.specs.declared.entry.Entry.{Entry}
+use Rattle.runs.specs.declared.entry.TakenStep.{TakenStep}
 use Rattle.runs.specs.declared.setup.Setup.{Setup}
 use Rattle.runs.specs.declared.lock_fault.LockFault.{LockFault}
 use Rattle.runs.specs.Pass.{spot_now, Calls}
@@ -23,7 +23,7 @@ either_seat false x = refl
 begun_seat : (x : Seated) → seat_of (began (ready x) Lock) ≡ seat_of x
 begun_seat x = either_seat (is_idle (spot_now x.pass)) x
 
-calls_seat : (x y : Seated) (mine : List Entry) → Calls x.pass mine y.pass → seat_of y ≡ seat_of x
+calls_seat : (x y : Seated) (mine : List TakenStep) → Calls x.pass mine y.pass → seat_of y ≡ seat_of x
 calls_seat x y mine c = λ i. (c.table i, c.setup i, c.by i)
 
 whole_seat : (x : Seated) (turns : ℕ) (task : Call) (r : Result Reply LockFault) (y : Seated) (a b c d : ℕ) → WholeEnds (began (ready x) Lock) turns task r y a b c d → seat_of y ≡ seat_of x

@@ -3,7 +3,7 @@ use Rattle.std.specs.Prelude.{◌≡◌, ℕ, ◌*◌, ◌<◌, ◌≤◌, ◌�
 use Rattle.redomail.specs.declared.reply.Reply.{Reply}
 use Rattle.redomail.specs.declared.reply.Reply.TheVariants.{Full, Closed}
 use Rattle.rmeworld.specs.Sent.{ReplyTells}
-use Rattle.runs.specs.declared.entry.Entry.{Entry}
+use Rattle.runs.specs.declared.entry.TakenStep.{TakenStep}
 use Rattle.runs.specs.declared.lock_fault.LockFault.TheVariants as fault
 use Rattle.one_lock.specs.declared.lab.lab_fault.LabFault.{LabFault}
 use Rattle.one_lock.specs.declared.lab.lab_fault.LabFault.TheVariants.{BadSpec, OutOfMemory, Member, Reply as Replied}
@@ -30,8 +30,8 @@ pub record IsFirstFault (ended : List Done) (cause : LabFault) : Type 0 where
 
 -- at one point of the run that the member has seen, what the reply of an append with this number tells of the mailbox held
 pub record RefusedAt (x : Seated) (seq : ℕ) (reply : Reply) : Type 0 where
-  pub front : List Entry
-  pub later : List Entry
+  pub front : List TakenStep
+  pub later : List TakenStep
   pub seen : x.pass.seen ≡ front ++ later
   pub tells : ReplyTells x.pass.setup.layout x.pass.by seq reply (judged_by x.pass.setup front).mail
 

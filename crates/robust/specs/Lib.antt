@@ -22,3 +22,4 @@ pub mod Working
 pub mod Sending
 pub mod LabFaults
 pub mod Worked
+pub mod FastPath

@@ -3,7 +3,7 @@ use Rattle.std.specs.Prelude.{◌≡◌, ℕ, ◌≤◌, List, [], Option, Some,
 use Rattle.redomail.specs.Mailbox.{IsAmong}
 use Rattle.rmeworld.specs.declared.call.Call.{Call}
 use Rattle.rmeworld.specs.declared.call.Call.TheVariants.{Lock, Unlock, Consistent, Append}
-use Rattle.runs.specs.declared.entry.Entry.{Entry}
+use Rattle.runs.specs.declared.entry.TakenStep.{TakenStep}
 use Rattle.runs.specs.declared.setup.Setup.{Setup}
 use Rattle.runs.specs.Faults.{refusal_now, ready}
 use Rattle.runs.specs.Headline.{shown_by}
@@ -25,8 +25,8 @@ IsSending width k p Unlock = Unit {0}
 IsSending width k p _ = ⊥
 
 -- all calls that these entries start are such
-abbrev pub AreSending : ℕ → ℕ → ℕ → List Entry → Type 0
-AreSending width k p es = All (λ (e : Entry). OfStart (IsSending width k p) e.step.start) es
+abbrev pub AreSending : ℕ → ℕ → ℕ → List TakenStep → Type 0
+AreSending width k p es = All (λ (e : TakenStep). OfStart (IsSending width k p) e.step.start) es
 
 -- the member has started no other calls than these, of its own worker
 abbrev pub SendsOnly : ℕ → ℕ → Seated → Type 0

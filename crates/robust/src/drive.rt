@@ -3,7 +3,7 @@ ghost use Rattle.std.specs.Prelude.{◌≡◌, ◌≢◌, ℕ, ◌+◌, ◌≤�
 ghost use Rattle.rmeworld.specs.declared.call.Call.TheVariants.{Lock};
 ghost use Rattle.rmeworld.specs.OwnSteps.{most_steps};
 ghost use Rattle.rmeworld.specs.Refused.{is_idle};
-ghost use Rattle.runs.specs.declared.entry.Entry.{Entry};
+ghost use Rattle.runs.specs.declared.entry.TakenStep.{TakenStep};
 ghost use Rattle.runs.specs.Pass.{IsPass, spot_now};
 ghost use Rattle.runs.specs.Calls.{blocked_of, Ran, CutOff, Still, Served, Crashes, Calm, Fell};
 ghost use Rattle.runs.specs.Lasting.{Lasts};
@@ -32,12 +32,14 @@ impl Runner {
         requires under { IsUnder call.now (spot_now self.old.pass) }
         requires busy { is_idle (spot_now self.old.pass) ≡ false }
         requires lasts { Lasts self.old.pass.setup.layout.procs 256 (spot_now self.old.pass) }
-        ensures ran { IfOk result (λ o. (mine : List Entry) × Ran self.old o self.new mine × Calm (length mine) (C.asked plan.old) (C.asked plan.new) (C.fallen plan.old) (C.fallen plan.new)) }
+        ensures ran { IfOk result (λ o. (mine : List TakenStep) × Ran self.old o self.new mine × Calm (length mine) (C.asked plan.old) (C.asked plan.new) (C.fallen plan.old) (C.fallen plan.new)) }
         ensures still { IfOk result (λ o. Still call.now self.new o) }
         ensures crashed { IfErr result (λ e. e ≡ LockFault.Crashed) }
-        ensures cut { OnErr result ((mine : List Entry) × CutOff self.old mine self.new × Fell (length mine + 1) (C.asked plan.old) (C.asked plan.new) (C.fallen plan.old) (C.fallen plan.new) × (blocked_of self.old.pass mine ≡ 0)) }
+        ensures cut { OnErr result ((mine : List TakenStep) × CutOff self.old mine self.new × Fell (length mine + 1) (C.asked plan.old) (C.asked plan.new) (C.fallen plan.old) (C.fallen plan.new) × (blocked_of self.old.pass mine ≡ 0)) }
     {
-        let _ = call;
+        if let Some(ran) = self.fast_way(plan, call) {
+            return Ok(ran);
+        }
         for turn in 0..MOST_STEPS {
             self.ask(plan)?;
             let outcome = self.advance();
@@ -57,10 +59,10 @@ impl Runner {
         requires pass { IsPass self.old.pass }
         requires start { self.old.pass.start ≡ Some call.now }
         requires brief { call.now ≢ Lock }
-        ensures answered { IfOk result (λ a. (mine : List Entry) × Served self.old call.now (a ∷ []) 0 self.new mine × Calm (length mine + 1) (C.asked plan.old) (C.asked plan.new) (C.fallen plan.old) (C.fallen plan.new)) }
+        ensures answered { IfOk result (λ a. (mine : List TakenStep) × Served self.old call.now (a ∷ []) 0 self.new mine × Calm (length mine + 1) (C.asked plan.old) (C.asked plan.new) (C.fallen plan.old) (C.fallen plan.new)) }
         ensures fits { IfOk result (λ a. Fits call.now a) }
         ensures crashed { IfErr result (λ e. e ≡ LockFault.Crashed) }
-        ensures cut { OnErr result ((mine : List Entry) × Crashes self.old call.now self.new mine × Fell (length mine + 1) (C.asked plan.old) (C.asked plan.new) (C.fallen plan.old) (C.fallen plan.new)) }
+        ensures cut { OnErr result ((mine : List TakenStep) × Crashes self.old call.now self.new mine × Fell (length mine + 1) (C.asked plan.old) (C.asked plan.new) (C.fallen plan.old) (C.fallen plan.new)) }
         ensures idle { self.new.pass.start ≡ None }
         ensures few { CountsAtMost (most_steps self.old.pass.setup.layout call.now) self.old self.new }
     {
@@ -77,7 +79,7 @@ impl Runner {
     pub fn call<C: CrashPlan>(&mut self, plan: &mut C, call: &Call) -> Result<Answer, LockFault>
         requires idle { self.old.pass.start ≡ None }
         requires brief { call.now ≢ Lock }
-        ensures answered { IfOk result (λ a. (mine : List Entry) × Served (began self.old call.now) call.now (a ∷ []) 0 self.new mine × Calm (length mine + 1) (C.asked plan.old) (C.asked plan.new) (C.fallen plan.old) (C.fallen plan.new)) }
+        ensures answered { IfOk result (λ a. (mine : List TakenStep) × Served (began self.old call.now) call.now (a ∷ []) 0 self.new mine × Calm (length mine + 1) (C.asked plan.old) (C.asked plan.new) (C.fallen plan.old) (C.fallen plan.new)) }
         ensures accepted { OnOk result (refusal_now self.old call.now ≡ None) }
         ensures fits { IfOk result (λ a. Fits call.now a) }
         ensures fails { IfErr result (Fails self.old call.now self.new (C.asked plan.old) (C.asked plan.new) (C.fallen plan.old) (C.fallen plan.new)) }

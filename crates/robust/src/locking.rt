@@ -42,6 +42,20 @@ impl Runner {
         }
     }
 
+    /// Starts a lock, as `set_out` does.
+    pub fn set_out_lock(&mut self) -> Result<(), LockFault>
+        requires idle { self.old.pass.start ≡ None }
+        ensures out { OnOk result ((self.new ≡ began (ready self.old) Lock) × Begun Lock self.new.pass.setup.layout.procs (spot_now self.new.pass) × IsPass self.new.pass) }
+        ensures accepted { OnOk result (refusal_now (ready self.old) Lock ≡ None) }
+        ensures refused { OnErr result ((self.new ≡ self.old) × (refusal_now self.old Lock ≡ Some Refusal.AlreadyIn)) }
+        ensures fault { IfErr result (λ e. e ≡ LockFault.AlreadyIn) }
+    {
+        if self.start_lock() {
+            return Ok(());
+        }
+        self.set_out(&Call::Lock)
+    }
+
     /// Takes the steps of a lock up to its answer, or until it has been blocked once more than it was given turns. Between
     /// two blocked readings it rests. With no answer the process still waits in the line. The asking before the answer is left
     /// to the caller.

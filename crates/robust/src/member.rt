@@ -1,7 +1,7 @@
 //! A process of the running lock.
 ghost use Rattle.std.specs.Prelude.{◌≡◌, ◌≢◌, ℕ, ◌+◌, ◌*◌, ◌≤◌, ◌⊎◌, List, [], ◌∷◌, length, Some, None, Err, IfOk, IfErr, OnOk, OnErr};
 ghost use Rattle.redomail.specs.declared.reply.Reply.{Reply as ReplyOf};
-ghost use Rattle.runs.specs.declared.entry.Entry.{Entry as EntryOf};
+ghost use Rattle.runs.specs.declared.entry.TakenStep.{TakenStep};
 ghost use Rattle.rmeworld.specs.OwnSteps.{most_steps};
 ghost use Rattle.runs.specs.Pass.{fresh, spot_now, IsPass};
 ghost use Rattle.runs.specs.Running.{Seated, began};
@@ -28,6 +28,11 @@ use std::sync::Wait;
 
 /// A process of the running lock. It owns a seat at the table and may move to a thread. Contracts see it as its pass, a
 /// beginning of the one run, with the own steps of its last call.
+///
+/// A call that is refused (`AlreadyIn`, `NotOwner`, `NotInconsistent`, `BadIndex`, `BadWidth`) has done nothing and asked
+/// nothing. After `Crashed` the process has lost its private memory, and its words tell the next `lock`, `lock_within`,
+/// `recover` or whole mailbox call where it stood; till then the others are refused, but for `read_from`. An append that crashed is
+/// sent again with the same number: it answers `Already` where the message was stored.
 #[derive(Drop)]
 pub struct Member {
     pub(crate) runner: Runner,
@@ -80,7 +85,8 @@ impl Member {
         self.runner.by()
     }
 
-    /// The own steps of the last call that was started, held at the greatest u64; 0 before any call.
+    /// The own steps of the last call that was started, held at the greatest u64; 0 before any call (docs/model.md, Own steps
+    /// of a call). A whole mailbox call is one call; a refused call and `read_from` leave it as it was.
     pub fn steps(&self) -> u64
         ensures { result ≡ self.now.steps }
     {
@@ -89,7 +95,10 @@ impl Member {
 
     /// The messages shown from a place on, read from anywhere, also while a lock still waits or after a crash. They are those of
     /// one moment, the reading of count, so no older than anything that the caller has seen. Where there is no room for
-    /// them, only count has been read. It is no call of the process: `steps` answers as before.
+    /// them, only count has been read. It is no call of the process: `steps` answers as before (docs/mailbox.md, Entries below
+    /// count).
+    ///
+    /// `AllocError`: there was no room for all of them. Ask again from a later place, or once there is memory.
     pub fn read_from(&mut self, alloc: Global, place: u64) -> Result<Vec<Message>, AllocError>
         ensures messages { IfOk result (λ v. ReadsFrom self.old place v.items self.new) }
         ensures no_room { OnErr result (ReadsCount self.old place self.new) }
@@ -98,25 +107,37 @@ impl Member {
         self.runner.read_from(alloc, place)
     }
 
-    /// Leaves the section. A holder that came in again and has not mended ruins the lock.
+    /// Leaves the section (POSIX: `pthread_mutex_unlock`). A holder that came in again and has not mended ruins the lock for
+    /// good, as there an unlock without `pthread_mutex_consistent` does.
+    ///
+    /// `NotOwner` (POSIX: EPERM): the process isn't in the section, or crashed there; lock first. `Crashed`: it may have left
+    /// or not; a `recover` tells (`Inside`, `Left` or `Idle`), and a lock goes on from either.
     pub fn unlock<C: CrashPlan>(&mut self, plan: &mut C) -> Result<(), LockFault>
         ensures accepted { OnOk result (refusal_now self.old Call.Unlock ≡ None) }
-        ensures served { OnOk result ((mine : List EntryOf) × Served (began self.old Call.Unlock) Call.Unlock (Answer.Unlocked ∷ []) 0 self.new mine × Calm (length mine + 1) (C.asked plan.old) (C.asked plan.new) (C.fallen plan.old) (C.fallen plan.new)) }
+        ensures served { OnOk result ((mine : List TakenStep) × Served (began self.old Call.Unlock) Call.Unlock (Answer.Unlocked ∷ []) 0 self.new mine × Calm (length mine + 1) (C.asked plan.old) (C.asked plan.new) (C.fallen plan.old) (C.fallen plan.new)) }
         ensures fails { IfErr result (Fails self.old Call.Unlock self.new (C.asked plan.old) (C.asked plan.new) (C.fallen plan.old) (C.fallen plan.new)) }
         ensures seat { seat_of self.new ≡ seat_of self.old }
         ensures table { OnOk result (table_steps self.old.pass Call.Unlock Answer.Unlocked ≡ Some self.new.steps) }
         ensures few { refusal_now self.old Call.Unlock ≡ None → self.new.steps ≤ most_steps self.old.pass.setup.layout Call.Unlock }
     {
+        if self.runner.is_clean() && plan.is_calm() {
+            self.runner.fast_unlock(plan);
+            return Ok(());
+        }
         match self.runner.call(plan, &Call::Unlock)? {
             Answer::Unlocked => Ok(()),
             _ => unreachable!(),
         }
     }
 
-    /// Gives up the place in the line, after a call that answered NotYet.
+    /// Gives up the place in the line, after a call that answered NotYet (docs/model.md, Withdraw). A later lock comes behind
+    /// those that have a number then.
+    ///
+    /// `NotOwner`: the process doesn't wait: its last call didn't answer NotYet; there is nothing to give up. `Crashed`: the
+    /// place may be held still; a lock waits on with it, a `recover` tells (`Waiting` or `Idle`).
     pub fn withdraw<C: CrashPlan>(&mut self, plan: &mut C) -> Result<(), LockFault>
         ensures accepted { OnOk result (refusal_now self.old Call.Withdraw ≡ None) }
-        ensures served { OnOk result ((mine : List EntryOf) × Served (began self.old Call.Withdraw) Call.Withdraw (Answer.Withdrawn ∷ []) 0 self.new mine × Calm (length mine + 1) (C.asked plan.old) (C.asked plan.new) (C.fallen plan.old) (C.fallen plan.new)) }
+        ensures served { OnOk result ((mine : List TakenStep) × Served (began self.old Call.Withdraw) Call.Withdraw (Answer.Withdrawn ∷ []) 0 self.new mine × Calm (length mine + 1) (C.asked plan.old) (C.asked plan.new) (C.fallen plan.old) (C.fallen plan.new)) }
         ensures fails { IfErr result (Fails self.old Call.Withdraw self.new (C.asked plan.old) (C.asked plan.new) (C.fallen plan.old) (C.fallen plan.new)) }
         ensures seat { seat_of self.new ≡ seat_of self.old }
         ensures table { OnOk result (table_steps self.old.pass Call.Withdraw Answer.Withdrawn ≡ Some self.new.steps) }
@@ -129,10 +150,13 @@ impl Member {
     }
 
     /// Reads a word of the board, 0 to 3, as a holder: what the run's last `put` there has put, 0 where there is none. That
-    /// `put` is the caller's own where it has made one since it entered, crashes between or not.
+    /// `put` is the caller's own where it has made one since it entered, crashes between or not (docs/mailbox.md, BoardGet).
+    ///
+    /// `NotOwner`: the process isn't in the section, or crashed there; lock first. `BadIndex`: there is no such word.
+    /// `Crashed`: lock again, which answers `OwnerDied`.
     pub fn get<C: CrashPlan>(&mut self, i: u64, plan: &mut C) -> Result<u64, LockFault>
         ensures accepted { OnOk result (refusal_now self.old (Call.Get i) ≡ None) }
-        ensures served { IfOk result (λ v. (mine : List EntryOf) × Served (began self.old (Call.Get i)) (Call.Get i) (Answer.Mail (Reply.Word v) ∷ []) 0 self.new mine × Calm (length mine + 1) (C.asked plan.old) (C.asked plan.new) (C.fallen plan.old) (C.fallen plan.new)) }
+        ensures served { IfOk result (λ v. (mine : List TakenStep) × Served (began self.old (Call.Get i)) (Call.Get i) (Answer.Mail (Reply.Word v) ∷ []) 0 self.new mine × Calm (length mine + 1) (C.asked plan.old) (C.asked plan.new) (C.fallen plan.old) (C.fallen plan.new)) }
         ensures last { IfOk result (λ v. v ≡ value_or (last_put self.old.pass.setup i self.new.pass.seen) 0) }
         ensures own { OnOk result (LastIsOwn self.old.pass.setup self.old.pass.by i self.new.pass.seen) }
         ensures fails { IfErr result (Fails self.old (Call.Get i) self.new (C.asked plan.old) (C.asked plan.new) (C.fallen plan.old) (C.fallen plan.new)) }
@@ -147,11 +171,14 @@ impl Member {
         }
     }
 
-    /// Writes a word of the board, 0 to 3, as a holder.
+    /// Writes a word of the board, 0 to 3, as a holder (docs/mailbox.md, BoardPut).
+    ///
+    /// `NotOwner`: the process isn't in the section, or crashed there; lock first. `BadIndex`: there is no such word.
+    /// `Crashed`: the word may be written or not; lock again, which answers `OwnerDied`, read it, and write it again.
     pub fn put<C: CrashPlan>(&mut self, i: u64, value: u64, plan: &mut C) -> Result<(), LockFault>
         ensures accepted { OnOk result (refusal_now self.old (Call.Put i value) ≡ None) }
-        ensures served { OnOk result ((reply : ReplyOf) × (mine : List EntryOf) × Served (began self.old (Call.Put i value)) (Call.Put i value) (Answer.Mail reply ∷ []) 0 self.new mine × Calm (length mine + 1) (C.asked plan.old) (C.asked plan.new) (C.fallen plan.old) (C.fallen plan.new)) }
-        ensures last { OnOk result ((e : EntryOf) × (last_put self.old.pass.setup i self.new.pass.seen ≡ Some e) × (e.by ≡ self.old.pass.by) × (e.value ≡ value)) }
+        ensures served { OnOk result ((reply : ReplyOf) × (mine : List TakenStep) × Served (began self.old (Call.Put i value)) (Call.Put i value) (Answer.Mail reply ∷ []) 0 self.new mine × Calm (length mine + 1) (C.asked plan.old) (C.asked plan.new) (C.fallen plan.old) (C.fallen plan.new)) }
+        ensures last { OnOk result ((e : TakenStep) × (last_put self.old.pass.setup i self.new.pass.seen ≡ Some e) × (e.by ≡ self.old.pass.by) × (e.value ≡ value)) }
         ensures fails { IfErr result (Fails self.old (Call.Put i value) self.new (C.asked plan.old) (C.asked plan.new) (C.fallen plan.old) (C.fallen plan.new)) }
         ensures seat { seat_of self.new ≡ seat_of self.old }
         ensures table { OnOk result ((reply : ReplyOf) × (table_steps self.old.pass (Call.Put i value) (Answer.Mail reply) ≡ Some self.new.steps)) }
@@ -163,11 +190,15 @@ impl Member {
         }
     }
 
-    /// Mends what a crash inside has left, as a holder that came in again. Answers whether there was something to mend.
+    /// Mends what a crash inside has left, as a holder that came in again (POSIX: `pthread_mutex_consistent`). Answers whether
+    /// an append was cut off behind its commit; its message is shown from then on.
+    ///
+    /// `NotInconsistent` (POSIX: EINVAL): the process has nothing to mend; go on. `Crashed`: lock again, which answers
+    /// `OwnerDied`, and mend then. `NotRecoverable`: the lock is ruined; the process is inside still, and can but unlock.
     pub fn consistent<C: CrashPlan>(&mut self, plan: &mut C) -> Result<bool, LockFault>
         ensures accepted { OnOk result (refusal_now self.old Call.Consistent ≡ None) }
-        ensures served { IfOk result (λ mended. (mine : List EntryOf) × Served (began self.old Call.Consistent) Call.Consistent (Answer.Mail (Reply.Mended mended) ∷ []) 0 self.new mine × Calm (length mine + 1) (C.asked plan.old) (C.asked plan.new) (C.fallen plan.old) (C.fallen plan.new)) }
-        ensures fails { IfErr result (λ e. Fails self.old Call.Consistent self.new (C.asked plan.old) (C.asked plan.new) (C.fallen plan.old) (C.fallen plan.new) e ⊎ (e ≡ LockFault.NotRecoverable) × ((mine : List EntryOf) × Served (began self.old Call.Consistent) Call.Consistent (Answer.NotRecoverable ∷ []) 0 self.new mine × Calm (length mine + 1) (C.asked plan.old) (C.asked plan.new) (C.fallen plan.old) (C.fallen plan.new))) }
+        ensures served { IfOk result (λ mended. (mine : List TakenStep) × Served (began self.old Call.Consistent) Call.Consistent (Answer.Mail (Reply.Mended mended) ∷ []) 0 self.new mine × Calm (length mine + 1) (C.asked plan.old) (C.asked plan.new) (C.fallen plan.old) (C.fallen plan.new)) }
+        ensures fails { IfErr result (λ e. Fails self.old Call.Consistent self.new (C.asked plan.old) (C.asked plan.new) (C.fallen plan.old) (C.fallen plan.new) e ⊎ (e ≡ LockFault.NotRecoverable) × ((mine : List TakenStep) × Served (began self.old Call.Consistent) Call.Consistent (Answer.NotRecoverable ∷ []) 0 self.new mine × Calm (length mine + 1) (C.asked plan.old) (C.asked plan.new) (C.fallen plan.old) (C.fallen plan.new))) }
         ensures seat { seat_of self.new ≡ seat_of self.old }
         ensures table { IfOk result (λ mended. table_steps self.old.pass Call.Consistent (Answer.Mail (Reply.Mended mended)) ≡ Some self.new.steps) }
         ensures table_ruined { IfErr result (λ e. e ≡ LockFault.NotRecoverable → table_steps self.old.pass Call.Consistent Answer.NotRecoverable ≡ Some self.new.steps) }
@@ -180,8 +211,11 @@ impl Member {
         }
     }
 
-    /// Finds out where a crash has left the process, and goes no further than it must. Found inside, the process is a holder
-    /// that has to mend, or ruins the lock at its unlock.
+    /// Finds out where a crash has left the process, and goes no further than it must: it never waits (docs/model.md,
+    /// Recover). Found inside, the process is a holder that has to mend, or ruins the lock at its unlock. Found waiting or in
+    /// its doorway, it holds nothing, and its next lock goes on from there.
+    ///
+    /// `AlreadyIn`: the process is in the section; there is nothing to find out. `Crashed`: recover, or lock, again.
     pub fn recover<C: CrashPlan>(&mut self, plan: &mut C) -> Result<Found, LockFault>
         ensures accepted { OnOk result (refusal_now (ready self.old) Call.Recover ≡ None) }
         ensures served { IfOk result (λ found. AnsweredIn (began (ready self.old) Call.Recover) Call.Recover (Answer.Found found ∷ []) 0 self.new (C.asked plan.old) (C.asked plan.new) (C.fallen plan.old) (C.fallen plan.new)) }
@@ -197,8 +231,14 @@ impl Member {
         }
     }
 
-    /// Enters the section, also after a crash, unless it is blocked once more than it was given turns. Then it still waits, with
-    /// its place kept: a later lock waits on, and `withdraw` gives the place up.
+    /// Enters the section, also after a crash, unless it is blocked once more than it was given turns (POSIX:
+    /// `pthread_mutex_timedlock`, with turns for time; docs/model.md, Lock). `OwnerDied` (POSIX: EOWNERDEAD) says that this
+    /// process itself crashed inside: call `consistent` before the unlock.
+    ///
+    /// `AlreadyIn`: the process is in the section. `Crashed`: lock again. `NotYet`: it still waits, with its place kept; lock
+    /// again to wait on, or `withdraw`. `NumbersSpent`: another held the last number, the process is at rest; lock again
+    /// once it has left. `NotRecoverable` (POSIX: ENOTRECOVERABLE): the lock is ruined and the process has left; nobody will
+    /// hold it any more, and `read_from` still reads its messages.
     pub fn lock_within<C: CrashPlan>(
         &mut self,
         plan: &mut C,
@@ -221,7 +261,10 @@ impl Member {
         }
     }
 
-    /// Enters the section, also after a crash, and waits for as long as it has to.
+    /// Enters the section, also after a crash, and waits for as long as it has to (POSIX: `pthread_mutex_lock`; docs/model.md,
+    /// Lock). `OwnerDied` (POSIX: EOWNERDEAD) says that this process itself crashed inside: call `consistent` before the unlock.
+    ///
+    /// `AlreadyIn`, `Crashed`, `NumbersSpent` and `NotRecoverable` as at `lock_within`; never `NotYet`.
     pub fn lock<R: Wait, C: CrashPlan>(&mut self, rt: &R, plan: &mut C) -> Result<Entry, LockFault>
         ensures accepted { OnOk result (refusal_now (ready self.old) Call.Lock ≡ None) }
         ensures entered { IfOk result (λ entry. (turns : ℕ) × LockEnds (began (ready self.old) Call.Lock) turns (Some (answer_of entry)) self.new (C.asked plan.old) (C.asked plan.new) (C.fallen plan.old) (C.fallen plan.new)) }
@@ -231,7 +274,7 @@ impl Member {
         ensures counts { IfOk result (λ entry. LockCounts (began (ready self.old) Call.Lock) (Some (answer_of entry)) self.new) }
         ensures counts_out { IfErr result (LockCountsOut (began (ready self.old) Call.Lock) self.new) }
     {
-        self.runner.set_out(&Call::Lock)?;
+        self.runner.set_out_lock()?;
         entered(self.runner.wait(rt, plan)?)
     }
 }

@@ -17,7 +17,7 @@ impl TableRule<(), Known, Setup> for OneRun {
 }
 
 /// Names the step that a load or a store is.
-pub trait Deed {
+pub trait StepName {
     ghost use Rattle.std.specs.Prelude.{ℕ};
     ghost use Rattle.runs.specs.declared.entry.Step.{Step};
 
@@ -27,7 +27,7 @@ pub trait Deed {
     ghost value: { ℕ };
 }
 
-impl Deed for Brand {
+impl StepName for Brand {
     ghost use Rattle.runs.specs.Rule.{no_step};
 
     ghost step = { no_step };
@@ -40,7 +40,7 @@ pub struct Does<D> {
     of: PhantomData<D>,
 }
 
-impl<D: Deed> Play<(), Known> for Does<D> {
+impl<D: StepName> Play<(), Known> for Does<D> {
     ghost use Rattle.std.specs.Prelude.{◌≡◌};
     ghost use Rattle.runs.specs.Rule.{Did};
 
@@ -52,7 +52,7 @@ pub struct Passes<D> {
     of: PhantomData<D>,
 }
 
-impl<D: Deed> Play<(), Known> for Passes<D> {
+impl<D: StepName> Play<(), Known> for Passes<D> {
     ghost use Rattle.std.specs.Prelude.{◌≡◌};
     ghost use Rattle.runs.specs.Rule.{Did};
 

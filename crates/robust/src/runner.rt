@@ -1,5 +1,5 @@
 //! A process at work: its seat and its machine, one step at a time.
-ghost use Rattle.std.specs.Prelude.{◌≡◌, ℕ, ◌<◌, ◌^◌, true, false, Some, None, IsSome, is_none, IfErr, OnOk, OnErr, IsTrue};
+ghost use Rattle.std.specs.Prelude.{◌≡◌, ℕ, List, [], ◌∷◌, length, IfSome, ◌<◌, ◌≤◌, ◌^◌, true, false, Some, None, IsSome, is_none, IfErr, OnOk, OnErr, IsTrue};
 ghost use Rattle.rmecore.specs.Machine.{kind_of, word_of, carried};
 ghost use Rattle.rmecore.specs.Simulated.{one_more};
 ghost use Rattle.rmecore.specs.World.{is_store};
@@ -7,14 +7,26 @@ ghost use Rattle.redomail.specs.Layout.{size};
 ghost use Rattle.rmeworld.specs.Refused.{start_refusal, is_idle};
 ghost use Rattle.rmeworld.specs.Stand.{IsSize, InWords, StoresOwn};
 ghost use Rattle.runs.specs.Runs.{InTable, IsBeyond};
+ghost use Rattle.rmecore.specs.Place.{Inside};
+ghost use Rattle.rmeworld.specs.OwnSteps.{most_steps};
+ghost use Rattle.rmeworld.specs.declared.answer.Answer.TheVariants.{Unlocked};
+ghost use Rattle.rmeworld.specs.declared.call.Call.TheVariants.{Lock, Unlock};
+ghost use Rattle.runs.specs.declared.entry.TakenStep.{TakenStep};
+ghost use Rattle.runs.specs.Calls.{Ran, Going, Still, Calm};
+ghost use Rattle.runs.specs.Faults.{refusal_now, AnsweredIn};
+ghost use Rattle.runs.specs.Tabled.{table_steps};
 ghost use Rattle.runs.specs.Under.{Begun};
+ghost use Rattle.plans.specs.Plans.{so_many_more};
+ghost use Rattle.robust.specs.FastPath.{free_spot};
+ghost use Rattle.robust.specs.Working.{seat_of};
 ghost use Rattle.runs.specs.Pass.{Advances, Looks, IsPass, fresh, spot_now, moved_spot};
 
+use crate::fast_path::{Reached, bar, enter, leave};
 use crate::walker::Walker;
 use plans::CrashPlan;
 use redomail::Layout;
-use rmecore::{Access, Kind, Refusal, Word};
-use rmeworld::{Call, Outcome, Process};
+use rmecore::{Access, CoreCall, Kind, Refusal, Stage, Word};
+use rmeworld::{Answer, Call, Outcome, Process};
 use runs::{LockFault, Setup};
 use std::marker::Model;
 
@@ -91,6 +103,15 @@ fn perform(walker: &mut Walker, access: Access) -> u64
             value
         }
     }
+}
+
+/// So many askings of a plan that never falls.
+fn count_calm<C: CrashPlan>(plan: &mut C, askings: u64)
+    requires { C.calm plan.old ≡ true }
+    ensures asked { C.asked plan.new ≡ so_many_more askings (C.asked plan.old) }
+    ensures fallen { C.fallen plan.new ≡ C.fallen plan.old }
+{
+    plan.count_askings(askings);
 }
 
 impl Runner {
@@ -173,8 +194,107 @@ impl Runner {
         self.process.feed(value)
     }
 
+    /// The fast path of a lock that has just been started, where the plan never falls: its steps up to its answer or to a
+    /// blocked reading, or as far as nothing is in the way. The askings before them are counted behind them.
+    fn fast_lock<C: CrashPlan>(&mut self, plan: &mut C) -> Option<Option<Answer>>
+        requires begun { Begun Lock self.old.pass.setup.layout.procs (spot_now self.old.pass) }
+        ensures ran { IfSome result (λ o. (mine : List TakenStep) × Ran self.old o self.new mine × Calm (length mine) (C.asked plan.old) (C.asked plan.new) (C.fallen plan.old) (C.fallen plan.new)) }
+        ensures still { IfSome result (Still Lock self.new) }
+        ensures on { result ≡ None → (mine : List TakenStep) × Going self.old mine self.new × Calm (length mine) (C.asked plan.old) (C.asked plan.new) (C.fallen plan.old) (C.fallen plan.new) }
+        ensures begun { result ≡ None → Begun Lock self.new.pass.setup.layout.procs (spot_now self.new.pass) }
+    {
+        let Some(
+            Stage::ReadingChoosing {
+                call: CoreCall::Lock,
+            },
+        ) = self.process.stage()
+        else {
+            return None;
+        };
+        if !plan.is_calm() {
+            return None;
+        }
+        let (reached, taken) = enter(&mut self.walker);
+        self.steps = self.steps.saturating_add(taken);
+        count_calm(plan, taken);
+        match reached {
+            Reached::Blocked(stage) => {
+                self.process.seam_stand(stage);
+                Some(None)
+            }
+            Reached::Stands(stage) => {
+                self.process.seam_stand(stage);
+                None
+            }
+            Reached::Clean => {
+                self.process.seam_stand_clean();
+                Some(Some(Answer::Clean))
+            }
+            Reached::Ruined => {
+                bar(&mut self.process);
+                None
+            }
+        }
+    }
+
+    /// The fast path of a call, where it has one.
+    pub fn fast_way<C: CrashPlan>(&mut self, plan: &mut C, call: &Call) -> Option<Option<Answer>>
+        requires begun { Begun call.now self.old.pass.setup.layout.procs (spot_now self.old.pass) }
+        ensures ran { IfSome result (λ o. (mine : List TakenStep) × Ran self.old o self.new mine × Calm (length mine) (C.asked plan.old) (C.asked plan.new) (C.fallen plan.old) (C.fallen plan.new)) }
+        ensures still { IfSome result (Still call.now self.new) }
+        ensures on { result ≡ None → (mine : List TakenStep) × Going self.old mine self.new × Calm (length mine) (C.asked plan.old) (C.asked plan.new) (C.fallen plan.old) (C.fallen plan.new) }
+        ensures begun { result ≡ None → Begun call.now self.new.pass.setup.layout.procs (spot_now self.new.pass) }
+    {
+        match call {
+            Call::Lock => self.fast_lock(plan),
+            _ => None,
+        }
+    }
+
+    /// Whether the process is a holder with nothing to mend and no call under way.
+    pub fn is_clean(&self) -> bool
+        ensures { result ≡ true → spot_now self.now.pass ≡ free_spot Inside true }
+    {
+        self.process.is_clean()
+    }
+
+    /// An unlock of a holder with nothing to mend, where the plan never falls: two stores. The askings before them and before
+    /// the answer are counted behind them.
+    pub fn fast_unlock<C: CrashPlan>(&mut self, plan: &mut C)
+        requires idle { self.old.pass.start ≡ None }
+        requires clean { spot_now self.old.pass ≡ free_spot Inside true }
+        requires calm { C.calm plan.old ≡ true }
+        ensures accepted { refusal_now self.old Unlock ≡ None }
+        ensures served { AnsweredIn (began self.old Unlock) Unlock (Unlocked ∷ []) 0 self.new (C.asked plan.old) (C.asked plan.new) (C.fallen plan.old) (C.fallen plan.new) }
+        ensures table { table_steps self.old.pass Unlock Unlocked ≡ Some self.new.steps }
+        ensures few { self.new.steps ≤ most_steps self.old.pass.setup.layout Unlock }
+        ensures seat { seat_of self.new ≡ seat_of self.old }
+    {
+        self.walker.begin(Call::Unlock);
+        let _pass = self.walker.by();
+        leave(&mut self.walker);
+        self.process.seam_stand(Stage::Rest);
+        self.steps = 2;
+        count_calm(plan, 3);
+    }
+
+    /// Starts a lock, where the process is neither inside nor in a call. Elsewhere nothing changes.
+    pub fn start_lock(&mut self) -> bool
+        requires idle { self.old.pass.start ≡ None }
+        ensures started { result ≡ true → (self.new ≡ began self.old Lock) × Begun Lock self.new.pass.setup.layout.procs (spot_now self.new.pass) × IsPass self.new.pass × (refusal_now self.old Lock ≡ None) }
+        ensures not { result ≡ false → self.new ≡ self.old }
+    {
+        if !self.process.start_lock() {
+            return false;
+        }
+        self.walker.begin(Call::Lock);
+        let _pass = self.walker.by();
+        self.steps = 0;
+        true
+    }
+
     /// Starts a call behind another one, whose steps go on being counted, unless it is refused.
-    pub fn go_on(&mut self, call: &Call) -> Result<(), Refusal>
+    pub fn begin_behind(&mut self, call: &Call) -> Result<(), Refusal>
         requires { self.old.pass.start ≡ None }
         ensures accepted { OnOk result ((start_refusal self.old.pass.setup.layout (spot_now self.old.pass) call.now ≡ None) × (self.new ≡ behind self.old call.now)) }
         ensures begun { OnOk result (Begun call.now self.old.pass.setup.layout.procs (spot_now self.new.pass)) }
@@ -197,7 +317,7 @@ impl Runner {
         ensures refused { IfErr result (λ e. start_refusal self.old.pass.setup.layout (spot_now self.old.pass) call.now ≡ Some e) }
         ensures err { OnErr result (self.new ≡ self.old) }
     {
-        self.go_on(call)?;
+        self.begin_behind(call)?;
         self.steps = 0;
         Ok(())
     }

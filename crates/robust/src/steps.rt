@@ -2,12 +2,17 @@
 ghost use Rattle.std.specs.Prelude.{◌≡◌, ℕ, ◌<◌};
 ghost use Rattle.runs.specs.Rule.{Did, MayLoad, MayStore, MayPass};
 
-use crate::rule::{Deed, Does, Passes, Words};
+use crate::rule::{Does, Passes, StepName, Words};
 use atomic_table::Seat;
 use runs::entry::{Known, Step};
 use std::marker::Brand;
 
-fn load_named<D: Deed>(table: &Words, seat: &mut Seat<(), Known>, step: Step, word: usize) -> u64
+fn load_named<D: StepName>(
+    table: &Words,
+    seat: &mut Seat<(), Known>,
+    step: Step,
+    word: usize,
+) -> u64
     requires table { seat.old.table_id ≡ table.now.table_id }
     requires word { word < table.now.table_id.words }
     requires step { step ≡ D.step }
@@ -19,7 +24,7 @@ fn load_named<D: Deed>(table: &Words, seat: &mut Seat<(), Known>, step: Step, wo
     table.load::<Does<D>>(seat, word)
 }
 
-fn store_named<D: Deed>(
+fn store_named<D: StepName>(
     table: &Words,
     seat: &mut Seat<(), Known>,
     step: Step,
@@ -37,7 +42,7 @@ fn store_named<D: Deed>(
     table.store::<Does<D>>(seat, word, new);
 }
 
-fn pass_named<D: Deed>(table: &Words, seat: &mut Seat<(), Known>, step: Step, value: u64)
+fn pass_named<D: StepName>(table: &Words, seat: &mut Seat<(), Known>, step: Step, value: u64)
     requires table { seat.old.table_id ≡ table.now.table_id }
     requires some { 0 < table.now.table_id.words }
     requires step { step ≡ D.step }

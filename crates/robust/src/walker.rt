@@ -5,6 +5,7 @@ ghost use Rattle.rmecore.specs.World.{is_store};
 ghost use Rattle.rmeworld.specs.Spot.{next_spot, Begins};
 ghost use Rattle.rmeworld.specs.Stand.{IsSize};
 ghost use Rattle.runs.specs.Runs.{InTable, IsBeyond, index as index_of, word_count, IsRun};
+ghost use Rattle.robust.specs.FastPath.{IsClear};
 ghost use Rattle.runs.specs.Pass.{Pass, Advances, Looks, IsPass, alone, rest_known, fresh, spot_now, moved_spot};
 
 use crate::rule::{Cut, OneRun};
@@ -103,6 +104,22 @@ impl Walker {
         self.by
     }
 
+    /// How many processes there are.
+    pub fn procs(&self) -> u64
+        ensures is { result ≡ self.now.setup.layout.procs }
+        ensures pass { IsPass self.now }
+    {
+        self.setup.layout.procs
+    }
+
+    /// The greatest number that a process may take.
+    pub fn limit(&self) -> u64
+        ensures is { result ≡ self.now.setup.limit }
+        ensures pass { IsPass self.now }
+    {
+        self.setup.limit
+    }
+
     /// The sizes of the arena.
     pub fn setup(&self) -> Setup
         ensures is { result ≡ self.now.setup }
@@ -129,6 +146,42 @@ impl Walker {
         self.fallen = false;
         forget(&mut self.start);
         found
+    }
+
+    /// One load, where no crash and no start is owed.
+    pub fn load_clear(&mut self, kind: Kind, word: Word) -> u64
+        requires table { InTable self.old.setup word }
+        requires kind { is_store kind ≡ false }
+        requires clear { IsClear self.old }
+        requires may { (found : ℕ) → found < 2 ^ 64 → IsSome (moved_spot self.old kind word found) }
+        ensures { Advances self.old kind word result self.new }
+    {
+        let step = Step {
+            crashed: false,
+            start: None,
+            kind,
+            word,
+        };
+        let at = index(&self.setup, word);
+        steps::load(&self.board.shared, &mut self.seat, step, at as usize)
+    }
+
+    /// One store, where no crash and no start is owed.
+    pub fn store_clear(&mut self, kind: Kind, word: Word, new: u64)
+        requires table { InTable self.old.setup word }
+        requires kind { is_store kind ≡ true }
+        requires clear { IsClear self.old }
+        requires may { IsSome (moved_spot self.old kind word new) }
+        ensures { Advances self.old kind word new self.new }
+    {
+        let step = Step {
+            crashed: false,
+            start: None,
+            kind,
+            word,
+        };
+        let at = index(&self.setup, word);
+        steps::store(&self.board.shared, &mut self.seat, step, at as usize, new);
     }
 
     /// One store, which carries the crash and the start that are owed.

@@ -34,7 +34,7 @@ impl Runner {
         ensures cut { OnErr result (CutIn self.old call.now self.new (C.asked plan.old) (C.asked plan.new) (C.fallen plan.old) (C.fallen plan.new)) }
         ensures few { CountsAtMost (most_steps self.old.pass.setup.layout call.now) self.old self.new }
     {
-        match self.go_on(call) {
+        match self.begin_behind(call) {
             Ok(()) => match self.run(plan, call)? {
                 Some(answer) => Ok(answer),
                 None => unreachable!(),

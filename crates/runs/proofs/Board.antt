@@ -14,7 +14,7 @@ use Rattle.rmeworld.specs.Spot.{Happening}
 use Rattle.rmeworld.specs.World.{Scene, at_first, Story, last_scene, put_cell}
 use Rattle.rmeworld.proofs.Holders.{holders_put}
 use Rattle.runs.specs.declared.setup.Setup.{Setup}
-use Rattle.runs.specs.declared.entry.Entry.{Entry}
+use Rattle.runs.specs.declared.entry.TakenStep.{TakenStep}
 use Rattle.runs.specs.Runs.{before, taken, happenings, spelled, own, IsRun, end_of}
 use Rattle.rmeworld.specs.declared.answer.Answer.{Answer}
 use Rattle.rmeworld.specs.declared.call.Call.{Call}
@@ -24,21 +24,21 @@ use Rattle.runs.specs.Calls.{Served}
 use Rattle.runs.specs.Board.{is_data, puts, or_earlier, last_put, value_or, LastIsOwn}
 use Rattle.runs.proofs.Runs.{spelled-append, by_kind, who_taken, scene-append, cells_entry, cells_now}
 
-pub none_earlier : (o : Option Entry) → or_earlier o None ≡ o
+pub none_earlier : (o : Option TakenStep) → or_earlier o None ≡ o
 none_earlier None = refl
 none_earlier (Some e) = refl
 
-or_assoc : (a b c : Option Entry) → or_earlier (or_earlier a b) c ≡ or_earlier a (or_earlier b c)
+or_assoc : (a b c : Option TakenStep) → or_earlier (or_earlier a b) c ≡ or_earlier a (or_earlier b c)
 or_assoc None b c = refl
 or_assoc (Some e) b c = refl
 
-value_joins : (a b : Option Entry) (v : ℕ) → value_or a (value_or b v) ≡ value_or (or_earlier a b) v
+value_joins : (a b : Option TakenStep) (v : ℕ) → value_or a (value_or b v) ≡ value_or (or_earlier a b) v
 value_joins None b v = refl
 value_joins (Some e) b v = refl
 
-pub last-append : (s : Setup) (i : ℕ) (xs ys : List Entry) → last_put s i (xs ++ ys) ≡ or_earlier (last_put s i ys) (last_put s i xs)
+pub last-append : (s : Setup) (i : ℕ) (xs ys : List TakenStep) → last_put s i (xs ++ ys) ≡ or_earlier (last_put s i ys) (last_put s i xs)
 last-append s i [] ys = sym (none_earlier (last_put s i ys))
-last-append s i (x ∷ xs) ys = ap (λ (o : Option Entry). or_earlier o (if puts s i x then Some x else None)) (last-append s i xs ys) ∙ or_assoc (last_put s i ys) (last_put s i xs) (if puts s i x then Some x else None)
+last-append s i (x ∷ xs) ys = ap (λ (o : Option TakenStep). or_earlier o (if puts s i x then Some x else None)) (last-append s i xs ys) ∙ or_assoc (last_put s i ys) (last_put s i xs) (if puts s i x then Some x else None)
 
 -- a word of the board is one of the data words
 below_all : (w n x i : ℕ) → i < 4 → 6 + w + i < 10 + w + n + x
@@ -71,11 +71,11 @@ module _ (s : Setup) (i : ℕ) (low : i < 4) where
       go true is = rw is (put_at cells word v)
       go false is = rw is refl
 
-  if_value : (b : Bool) (e : Entry) (v : ℕ) → (if b then e.value else v) ≡ value_or (if b then Some e else None) v
+  if_value : (b : Bool) (e : TakenStep) (v : ℕ) → (if b then e.value else v) ≡ value_or (if b then Some e else None) v
   if_value true e v = refl
   if_value false e v = refl
 
-  board_after : (w : Scene) (es : List Entry) → (last_scene s.layout s.limit w (spelled es)).cells at ≡ value_or (last_put s i es) (w.cells at)
+  board_after : (w : Scene) (es : List TakenStep) → (last_scene s.layout s.limit w (spelled es)).cells at ≡ value_or (last_put s i es) (w.cells at)
   board_after w [] = refl
   board_after w (e ∷ es) =
       let u = last_scene s.layout s.limit w (happenings e) in
@@ -84,7 +84,7 @@ module _ (s : Setup) (i : ℕ) (low : i < 4) where
       ap (λ (x : Scene). x.cells at) (scene-append s.layout s.limit w (happenings e) (spelled es)) ∙ board_after u es ∙ ap (value_or (last_put s i es)) here ∙ value_joins (last_put s i es) (if puts s i e then Some e else None) (w.cells at)
 
   -- a word of the board holds what the run has put there last
-  pub board_holds : (es : List Entry) → (end_of s es).cells at ≡ value_or (last_put s i es) 0
+  pub board_holds : (es : List TakenStep) → (end_of s es).cells at ≡ value_or (last_put s i es) 0
   board_holds es = board_after at_first es
 
 all_back : (p : ℕ) (xs ys : List Happening) → AllPutBy p (xs ++ ys) → AllPutBy p ys
@@ -101,7 +101,7 @@ stores_data k (InsideOf q) kind e = absurd (true≢false (sym (and_parts (is_sto
 taken_puts : (k q : ℕ) (word : Word) (v : ℕ) (kind : Kind) → (is_store kind && is_data k word) ≡ true → puts_data (taken q kind word v) ≡ true
 taken_puts k q word v kind = by_kind (λ kind h. (is_store kind && is_data k word) ≡ true → puts_data h ≡ true) q word v (λ e. absurd (cc)) (λ kind e. let r = stores_data k word kind e in rw r.0 r.1) kind
 
-puts_own : (s : Setup) (i p : ℕ) (es : List Entry) → AllPutBy p (spelled es) → last_put s i (own p es) ≡ last_put s i es
+puts_own : (s : Setup) (i p : ℕ) (es : List TakenStep) → AllPutBy p (spelled es) → last_put s i (own p es) ≡ last_put s i es
 puts_own s i p [] h = refl
 puts_own s i p (e ∷ es) h = go (puts_own s i p es h'.1) (e.by == p) refl (puts s i e) refl
   where
@@ -112,17 +112,17 @@ puts_own s i p (e ∷ es) h = go (puts_own s i p es h'.1) (e.by == p) refl (puts
     mine is = sym (who_taken e.by e.step.kind e.step.word e.value) ∙ h'.0 (taken_puts (board_at s.layout i) e.by e.step.word e.value e.step.kind is)
 
     go : last_put s i (own p es) ≡ last_put s i es → (b : Bool) → (e.by == p) ≡ b → (c : Bool) → puts s i e ≡ c → last_put s i (own p (e ∷ es)) ≡ last_put s i (e ∷ es)
-    go later true is c put = rw is (ap (λ (o : Option Entry). or_earlier o (if puts s i e then Some e else None)) later)
+    go later true is c put = rw is (ap (λ (o : Option TakenStep). or_earlier o (if puts s i e then Some e else None)) later)
     go later false is true put = absurd (true≢false (sym (eq-eqb e.by p (mine put)) ∙ is))
     go later false is false put = rw is (later ∙ sym (none_earlier (last_put s i es)) ∙ ap (λ (b : Bool). or_earlier (last_put s i es) (if b then Some e else None)) (sym put))
 
 -- since its Enter a process's own puts are the last
-pub last_is_own : (s : Setup) (p i : ℕ) (es : List Entry) → IsLayout s.layout → p < s.layout.procs → IsRun s es → LastIsOwn s p i es
+pub last_is_own : (s : Setup) (p i : ℕ) (es : List TakenStep) → IsLayout s.layout → p < s.layout.procs → IsRun s es → LastIsOwn s p i es
 last_is_own s p i es layout below run since e k is =
     let told : Story s.layout s.limit at_first (spelled k.before ++ spelled since) = subst (Story s.layout s.limit at_first) (ap spelled k.split ∙ spelled-append k.before since) run in
     let mine = holders_put s.layout s.limit p (spelled k.before) (spelled since) k.earlier layout below told k.entered k.stays in
-    ap (last_put s i) k.split ∙ last-append s i k.before since ∙ ap (λ (o : Option Entry). or_earlier o (last_put s i k.before)) (sym (puts_own s i p since mine) ∙ is)
+    ap (last_put s i) k.split ∙ last-append s i k.before since ∙ ap (λ (o : Option TakenStep). or_earlier o (last_put s i k.before)) (sym (puts_own s i p since mine) ∙ is)
 
-pub last_is_own_after : (x y : Seated) (call : Call) (answers : List Answer) (mine : List Entry) (i : ℕ) → IsPass x.pass → Served (began x call) call answers 0 y mine → LastIsOwn x.pass.setup x.pass.by i y.pass.seen
+pub last_is_own_after : (x y : Seated) (call : Call) (answers : List Answer) (mine : List TakenStep) (i : ℕ) → IsPass x.pass → Served (began x call) call answers 0 y mine → LastIsOwn x.pass.setup x.pass.by i y.pass.seen
 last_is_own_after x y call answers mine i pass r =
     last_is_own x.pass.setup x.pass.by i y.pass.seen pass.size.layout pass.below (subst (λ (s : Setup). IsRun s y.pass.seen) r.calls.setup r.calls.run)

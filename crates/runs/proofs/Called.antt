@@ -5,7 +5,7 @@ use Rattle.rmeworld.specs.declared.call.Call.{Call}
 use Rattle.rmeworld.specs.declared.answer.Answer.{Answer}
 use Rattle.rmecore.specs.Paid.{is_glance}
 use Rattle.rmecore.specs.Simulated.{one_more}
-use Rattle.runs.specs.declared.entry.Entry.{Entry}
+use Rattle.runs.specs.declared.entry.TakenStep.{TakenStep}
 use Rattle.runs.specs.Runs.{own, IsRun}
 use Rattle.runs.specs.Pass.{Pass, IsPass, EndsWith, Adds, Calls}
 use Rattle.runs.specs.Running.{Seated, many_more, fell}
@@ -15,99 +15,99 @@ use Rattle.runs.proofs.Runs.{own-append, own_mine}
 calls_none : (x : Pass) → IsRun x.setup x.seen → Calls x [] x
 calls_none x run = record { table = refl; setup = refl; by = refl; since = []; seen = sym (append-nil x.seen); mine_are = refl; last = ends_none x.seen; run = run }
   where
-    no_end : (front : List Entry) (e : Entry) → [] ≡ front ++ e ∷ [] → ⊥
+    no_end : (front : List TakenStep) (e : TakenStep) → [] ≡ front ++ e ∷ [] → ⊥
     no_end [] e h = cc
     no_end (f ∷ fs) e h = cc
 
-    ends_none : (es : List Entry) → EndsWith [] es
+    ends_none : (es : List TakenStep) → EndsWith [] es
     ends_none es front e h = absurd (no_end front e h)
 
-ends_one : (e : Entry) (es xs : List Entry) → es ≡ xs ++ e ∷ [] → EndsWith (e ∷ []) es
-ends_one e es xs h [] last k = (xs, h ∙ ap (λ (l : Entry). xs ++ l ∷ []) (let s : e ≡ last = cc in s))
+ends_one : (e : TakenStep) (es xs : List TakenStep) → es ≡ xs ++ e ∷ [] → EndsWith (e ∷ []) es
+ends_one e es xs h [] last k = (xs, h ∙ ap (λ (l : TakenStep). xs ++ l ∷ []) (let s : e ≡ last = cc in s))
 ends_one e es xs h (f ∷ []) last k = absurd (let t : [] ≡ last ∷ [] = cc in cc)
 ends_one e es xs h (f ∷ g ∷ fs) last k = absurd (let t : [] ≡ g ∷ (fs ++ last ∷ []) = cc in cc)
 
-pub ends_cons : (e f : Entry) (fs es : List Entry) → EndsWith (f ∷ fs) es → EndsWith (e ∷ f ∷ fs) es
+pub ends_cons : (e f : TakenStep) (fs es : List TakenStep) → EndsWith (f ∷ fs) es → EndsWith (e ∷ f ∷ fs) es
 ends_cons e f fs es h [] last k = absurd (let t : f ∷ fs ≡ [] = cc in cc)
 ends_cons e f fs es h (g ∷ front) last k = h front last (let t : f ∷ fs ≡ front ++ last ∷ [] = cc in t)
 
 -- steps one after another, each with its entry
-abbrev pub Grows : Pass → List Entry → Pass → Type 0
+abbrev pub Grows : Pass → List TakenStep → Pass → Type 0
 Grows x [] y = y ≡ x
 Grows x (e ∷ es) y = (z : Pass) × (e.by ≡ x.by) × Adds x e z × Grows z es y
 
-ends_with : (e : Entry) (es : List Entry) (z y : Pass) (xs : List Entry) → z.seen ≡ xs ++ e ∷ [] → Grows z es y → EndsWith es y.seen → EndsWith (e ∷ es) y.seen
+ends_with : (e : TakenStep) (es : List TakenStep) (z y : Pass) (xs : List TakenStep) → z.seen ≡ xs ++ e ∷ [] → Grows z es y → EndsWith es y.seen → EndsWith (e ∷ es) y.seen
 ends_with e [] z y xs h t last = ends_one e y.seen xs (ap (λ (p : Pass). p.seen) t ∙ h)
 ends_with e (f ∷ fs) z y xs h t last = ends_cons e f fs y.seen last
 
-pub calls_grown : (x y : Pass) (mine : List Entry) → IsRun x.setup x.seen → Grows x mine y → Calls x mine y
+pub calls_grown : (x y : Pass) (mine : List TakenStep) → IsRun x.setup x.seen → Grows x mine y → Calls x mine y
 calls_grown x y [] run h = subst (Calls x []) (sym h) (calls_none x run)
 calls_grown x y (e ∷ es) run h =
     let z = h.0 in
     let a = h.2 in
     let c = calls_grown z y es a.run h.3 in
-    let since : List Entry = (a.between ++ e ∷ []) ++ c.since in
+    let since : List TakenStep = (a.between ++ e ∷ []) ++ c.since in
     record {
       table = c.table ∙ a.table;
       setup = c.setup ∙ a.setup;
       by = c.by ∙ a.by;
       since = since;
-      seen = c.seen ∙ ap (λ (l : List Entry). l ++ c.since) a.seen ∙ ap (λ (l : List Entry). l ++ c.since) (append_assoc x.seen a.between (e ∷ [])) ∙ append_assoc x.seen (a.between ++ e ∷ []) c.since;
-      mine_are = own-append x.by (a.between ++ e ∷ []) c.since ∙ ap (λ (l : List Entry). l ++ own x.by c.since) (own-append x.by a.between (e ∷ []) ∙ ap (λ (l : List Entry). l ++ own x.by (e ∷ [])) a.apart ∙ own_mine x.by e h.1)
-          ∙ ap (λ (l : List Entry). e ∷ l) (ap (λ (p : ℕ). own p c.since) (sym a.by) ∙ c.mine_are);
+      seen = c.seen ∙ ap (λ (l : List TakenStep). l ++ c.since) a.seen ∙ ap (λ (l : List TakenStep). l ++ c.since) (append_assoc x.seen a.between (e ∷ [])) ∙ append_assoc x.seen (a.between ++ e ∷ []) c.since;
+      mine_are = own-append x.by (a.between ++ e ∷ []) c.since ∙ ap (λ (l : List TakenStep). l ++ own x.by c.since) (own-append x.by a.between (e ∷ []) ∙ ap (λ (l : List TakenStep). l ++ own x.by (e ∷ [])) a.apart ∙ own_mine x.by e h.1)
+          ∙ ap (λ (l : List TakenStep). e ∷ l) (ap (λ (p : ℕ). own p c.since) (sym a.by) ∙ c.mine_are);
       last = ends_with e es z y (x.seen ++ a.between) a.seen h.3 c.last;
       run = c.run;
     }
 
-grows_taken : (x y : Pass) (mine : List Entry) → Takes x mine y → Grows x mine y
+grows_taken : (x y : Pass) (mine : List TakenStep) → Takes x mine y → Grows x mine y
 grows_taken x y [] h = h
 grows_taken x y (e ∷ es) h =
-    (h.0, ap (λ (f : Entry). f.by) h.1, subst (λ (f : Entry). Adds x f h.0) (sym h.1) h.2.adds, grows_taken h.0 y es h.3)
+    (h.0, ap (λ (f : TakenStep). f.by) h.1, subst (λ (f : TakenStep). Adds x f h.0) (sym h.1) h.2.adds, grows_taken h.0 y es h.3)
 
-pub calls_of : (x y : Pass) (mine : List Entry) → IsRun x.setup x.seen → Takes x mine y → Calls x mine y
+pub calls_of : (x y : Pass) (mine : List TakenStep) → IsRun x.setup x.seen → Takes x mine y → Calls x mine y
 calls_of x y mine run h = calls_grown x y mine run (grows_taken x y mine h)
 
-starts_none : (z y : Pass) (es : List Entry) → Takes z es y → z.start ≡ None → starts es ≡ []
+starts_none : (z y : Pass) (es : List TakenStep) → Takes z es y → z.start ≡ None → starts es ≡ []
 starts_none z y [] h none = refl
 starts_none z y (e ∷ es) h none =
-    let first : e.step.start ≡ None = ap (λ (f : Entry). f.step.start) h.1 ∙ none in
+    let first : e.step.start ≡ None = ap (λ (f : TakenStep). f.step.start) h.1 ∙ none in
     ap (λ (o : Option Call). and_call o (starts es)) first ∙ starts_none h.0 y es h.3 h.2.start
 
-crashes_none : (z y : Pass) (es : List Entry) → Takes z es y → z.fallen ≡ false → All (λ (f : Entry). f.step.crashed ≡ false) es
+crashes_none : (z y : Pass) (es : List TakenStep) → Takes z es y → z.fallen ≡ false → All (λ (f : TakenStep). f.step.crashed ≡ false) es
 crashes_none z y [] h none = All-nil _
 crashes_none z y (e ∷ es) h none =
-    All-cons (λ (f : Entry). f.step.crashed ≡ false) e es (ap (λ (f : Entry). f.step.crashed) h.1 ∙ none) (crashes_none h.0 y es h.3 h.2.fallen)
+    All-cons (λ (f : TakenStep). f.step.crashed ≡ false) e es (ap (λ (f : TakenStep). f.step.crashed) h.1 ∙ none) (crashes_none h.0 y es h.3 h.2.fallen)
 
-pub first_crash : (x y : Pass) (mine : List Entry) → Takes x mine y → FirstCrash x.fallen mine
+pub first_crash : (x y : Pass) (mine : List TakenStep) → Takes x mine y → FirstCrash x.fallen mine
 first_crash x y [] h = tt
-first_crash x y (e ∷ es) h = (ap (λ (f : Entry). f.step.crashed) h.1, crashes_none h.0 y es h.3 h.2.fallen)
+first_crash x y (e ∷ es) h = (ap (λ (f : TakenStep). f.step.crashed) h.1, crashes_none h.0 y es h.3 h.2.fallen)
 
-pub started_as : (x y : Pass) (mine : List Entry) (call : Call) → Takes x mine y → x.start ≡ Some call → (mine ≡ []) ⊎ (starts mine ≡ call ∷ [])
+pub started_as : (x y : Pass) (mine : List TakenStep) (call : Call) → Takes x mine y → x.start ≡ Some call → (mine ≡ []) ⊎ (starts mine ≡ call ∷ [])
 started_as x y [] call h is = inl refl
 started_as x y (e ∷ es) call h is =
-    let first : e.step.start ≡ Some call = ap (λ (f : Entry). f.step.start) h.1 ∙ is in
+    let first : e.step.start ≡ Some call = ap (λ (f : TakenStep). f.step.start) h.1 ∙ is in
     inr (ap (λ (o : Option Call). and_call o (starts es)) first ∙ ap (λ (cs : List Call). call ∷ cs) (starts_none h.0 y es h.3 h.2.start))
 
-all_start_none : (z y : Pass) (es : List Entry) → Takes z es y → z.start ≡ None → All (λ (f : Entry). f.step.start ≡ None) es
+all_start_none : (z y : Pass) (es : List TakenStep) → Takes z es y → z.start ≡ None → All (λ (f : TakenStep). f.step.start ≡ None) es
 all_start_none z y [] h none = All-nil _
 all_start_none z y (e ∷ es) h none =
-    All-cons (λ (f : Entry). f.step.start ≡ None) e es (ap (λ (f : Entry). f.step.start) h.1 ∙ none) (all_start_none h.0 y es h.3 h.2.start)
+    All-cons (λ (f : TakenStep). f.step.start ≡ None) e es (ap (λ (f : TakenStep). f.step.start) h.1 ∙ none) (all_start_none h.0 y es h.3 h.2.start)
 
-pub first_start : (x y : Pass) (mine : List Entry) (call : Call) → Takes x mine y → x.start ≡ Some call → (mine ≡ [] → ⊥) → FirstStart call mine
+pub first_start : (x y : Pass) (mine : List TakenStep) (call : Call) → Takes x mine y → x.start ≡ Some call → (mine ≡ [] → ⊥) → FirstStart call mine
 first_start x y [] call h is some = some refl
-first_start x y (e ∷ es) call h is some = (ap (λ (f : Entry). f.step.start) h.1 ∙ is, all_start_none h.0 y es h.3 h.2.start)
+first_start x y (e ∷ es) call h is some = (ap (λ (f : TakenStep). f.step.start) h.1 ∙ is, all_start_none h.0 y es h.3 h.2.start)
 
-pub are_moves : (x y : Pass) (mine : List Entry) → Takes x mine y → AreMoves mine
+pub are_moves : (x y : Pass) (mine : List TakenStep) → Takes x mine y → AreMoves mine
 are_moves x y [] h = All-nil _
-are_moves x y (e ∷ es) h = All-cons (λ (f : Entry). is_glance f.step.kind ≡ false) e es h.4 (are_moves h.0 y es h.3)
+are_moves x y (e ∷ es) h = All-cons (λ (f : TakenStep). is_glance f.step.kind ≡ false) e es h.4 (are_moves h.0 y es h.3)
 
 -- behind a step nothing is owed
-pub nothing_owed : (x y : Pass) (mine : List Entry) → Takes x mine y → (mine ≡ [] → ⊥) → (y.fallen ≡ false) × (y.start ≡ None)
+pub nothing_owed : (x y : Pass) (mine : List TakenStep) → Takes x mine y → (mine ≡ [] → ⊥) → (y.fallen ≡ false) × (y.start ≡ None)
 nothing_owed x y [] h some = absurd (some refl)
 nothing_owed x y (e ∷ []) h some = (ap (λ (p : Pass). p.fallen) h.3 ∙ h.2.fallen, ap (λ (p : Pass). p.start) h.3 ∙ h.2.start)
 nothing_owed x y (e ∷ f ∷ es) h some = nothing_owed h.0 y (f ∷ es) h.3 (λ k. cc)
 
-pub served_of : (x y : Seated) (call : Call) (answers : List Answer) (blocked : ℕ) (mine : List Entry) → IsPass x.pass → x.pass.start ≡ Some call → Takes x.pass mine y.pass → answers_of x.pass mine ≡ answers → blocked_of x.pass mine ≡ blocked
+pub served_of : (x y : Seated) (call : Call) (answers : List Answer) (blocked : ℕ) (mine : List TakenStep) → IsPass x.pass → x.pass.start ≡ Some call → Takes x.pass mine y.pass → answers_of x.pass mine ≡ answers → blocked_of x.pass mine ≡ blocked
     → y.steps ≡ many_more (length mine) x.steps → (mine ≡ [] → ⊥) → Served x call answers blocked y mine
 served_of x y call answers blocked mine pass start takes answered blocks steps some =
     let owed = nothing_owed x.pass y.pass mine takes some in
@@ -128,13 +128,13 @@ served_of x y call answers blocked mine pass start takes answered blocks steps s
     at_all (inl e) = absurd (some e)
     at_all (inr e) = e
 
-none_taken : (x y : Pass) (mine : List Entry) → mine ≡ [] → Takes x mine y → y ≡ x
-none_taken x y mine none h = subst (λ (es : List Entry). Takes x es y) none h
+none_taken : (x y : Pass) (mine : List TakenStep) → mine ≡ [] → Takes x mine y → y ≡ x
+none_taken x y mine none h = subst (λ (es : List TakenStep). Takes x es y) none h
 
-pub calls_fell : (x z y : Pass) (mine : List Entry) → Calls x mine z → y ≡ record z { fallen = true; start = None } → Calls x mine y
+pub calls_fell : (x z y : Pass) (mine : List TakenStep) → Calls x mine z → y ≡ record z { fallen = true; start = None } → Calls x mine y
 calls_fell x z y mine c e = subst (Calls x mine) (sym e) (record { table = c.table; setup = c.setup; by = c.by; since = c.since; seen = c.seen; mine_are = c.mine_are; last = c.last; run = c.run })
 
-pub crashes_of : (x y : Seated) (call : Call) (mine : List Entry) → IsPass x.pass → x.pass.start ≡ Some call → CutOff x mine y → Crashes x call y mine
+pub crashes_of : (x y : Seated) (call : Call) (mine : List TakenStep) → IsPass x.pass → x.pass.start ≡ Some call → CutOff x mine y → Crashes x call y mine
 crashes_of x y call mine pass start cut =
     let is = ap (λ (s : Seated). s.pass) cut.crash in
     record {
@@ -148,13 +148,13 @@ crashes_of x y call mine pass start cut =
     }
 
 -- steps with an answer are some
-pub some_steps : (x : Seated) (mine : List Entry) (a : Answer) → answers_of x.pass mine ≡ a ∷ [] → mine ≡ [] → ⊥
+pub some_steps : (x : Seated) (mine : List TakenStep) (a : Answer) → answers_of x.pass mine ≡ a ∷ [] → mine ≡ [] → ⊥
 some_steps x mine a e none = absurd (let k : [] ≡ a ∷ [] = sym (ap (answers_of x.pass) none) ∙ e in cc)
 
-pub served_ran : (x y : Seated) (call : Call) (a : Answer) (mine : List Entry) → IsPass x.pass → x.pass.start ≡ Some call → Ran x (Some a) y mine → Served x call (a ∷ []) 0 y mine
+pub served_ran : (x y : Seated) (call : Call) (a : Answer) (mine : List TakenStep) → IsPass x.pass → x.pass.start ≡ Some call → Ran x (Some a) y mine → Served x call (a ∷ []) 0 y mine
 served_ran x y call a mine pass start r = served_of x y call (a ∷ []) 0 mine pass start r.takes r.answers r.blocked r.steps (some_steps x mine a r.answers)
 
-pub cut_ran : (x y z : Seated) (o : Option Answer) (mine : List Entry) → Ran x o y mine → z ≡ fell y → CutOff x mine z
+pub cut_ran : (x y z : Seated) (o : Option Answer) (mine : List TakenStep) → Ran x o y mine → z ≡ fell y → CutOff x mine z
 cut_ran x y z o mine r e = record { last = y; takes = r.takes; steps = r.steps; crash = e }
 
 pub on_err : {T E : Type 0} (P : Type 0) (r : Result T E) → P → OnErr r P
@@ -162,8 +162,8 @@ on_err P (Ok x) p = tt
 on_err P (Err e) p = p
 
 -- one asking more than steps
-pub fell_more : (mine : List Entry) (asked before now : ℕ) → now ≡ one_more before → before ≡ many_more (length mine) asked → now ≡ many_more (length mine + 1) asked
+pub fell_more : (mine : List TakenStep) (asked before now : ℕ) → now ≡ one_more before → before ≡ many_more (length mine) asked → now ≡ many_more (length mine + 1) asked
 fell_more mine asked before now e f = e ∙ ap one_more f ∙ ap (λ (k : ℕ). many_more k asked) (let s : suc (length mine) ≡ length mine + 1 = omega arith in s)
 
-pub served_as : (x y z : Seated) (call : Call) (a : Answer) (mine : List Entry) → IsPass x.pass → x.pass.start ≡ Some call → {o : Option Answer} → o ≡ Some a → Ran x o y mine → z ≡ y → Served x call (a ∷ []) 0 z mine
+pub served_as : (x y z : Seated) (call : Call) (a : Answer) (mine : List TakenStep) → IsPass x.pass → x.pass.start ≡ Some call → {o : Option Answer} → o ≡ Some a → Ran x o y mine → z ≡ y → Served x call (a ∷ []) 0 z mine
 served_as x y z call a mine pass start {o} is r e = subst (λ (s : Seated). Served x call (a ∷ []) 0 s mine) (sym e) (served_ran x y call a mine pass start (subst (λ (t : Option Answer). Ran x t y mine) is r))

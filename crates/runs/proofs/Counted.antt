@@ -10,7 +10,7 @@ use Rattle.rmeworld.specs.declared.answer.Answer.TheVariants.{NumbersSpent as Sp
 use Rattle.rmeworld.specs.declared.call.Call.{Call}
 use Rattle.rmeworld.specs.declared.call.Call.TheVariants.{Lock, Unlock, Consistent, Recover, Append, Close, Get, Put, Withdraw}
 use Rattle.rmeworld.proofs.CallBounds.{table_most}
-use Rattle.runs.specs.declared.entry.Entry.{Entry}
+use Rattle.runs.specs.declared.entry.TakenStep.{TakenStep}
 use Rattle.runs.specs.declared.lock_fault.LockFault.{LockFault}
 use Rattle.runs.specs.declared.lock_fault.LockFault.TheVariants.{NotYet, NumbersSpent, NotRecoverable}
 use Rattle.runs.specs.declared.entry_kind.Entry.{Entry as Entering}
@@ -42,7 +42,7 @@ most_small l size (Get i) = omega arith
 most_small l size (Put i v) = omega arith
 
 -- a call that is never blocked
-served_counts : (x y : Seated) (call : Call) (a : Answer) (mine : List Entry) → IsSize x.pass.setup.layout → Served (began x call) call (a ∷ []) 0 y mine → table_steps x.pass call a ≡ Some y.steps
+served_counts : (x y : Seated) (call : Call) (a : Answer) (mine : List TakenStep) → IsSize x.pass.setup.layout → Served (began x call) call (a ∷ []) 0 y mine → table_steps x.pass call a ≡ Some y.steps
 served_counts x y call a mine size r =
     let told = calls_keep_the_table (began x call) call (a ∷ []) 0 y mine r in
     let k : ℕ = told.0 in
@@ -53,24 +53,24 @@ served_counts x y call a mine size r =
     told.1 ∙ ap (λ (n : ℕ). Some n) (sym counted)
 
 pub called_counts : (x z y : Seated) (call : Call) (a b c d : ℕ) (r : Result Answer LockFault) → z ≡ began x call → IsPass z.pass
-    → IfOk r (λ answer. (mine : List Entry) × Served z call (answer ∷ []) 0 y mine × Calm (length mine + 1) a b c d) → IfOk r (λ answer. table_steps x.pass call answer ≡ Some y.steps)
+    → IfOk r (λ answer. (mine : List TakenStep) × Served z call (answer ∷ []) 0 y mine × Calm (length mine + 1) a b c d) → IfOk r (λ answer. table_steps x.pass call answer ≡ Some y.steps)
 called_counts x z y call a b c d (Err e) is pass h = tt
 called_counts x z y call a b c d (Ok answer) is pass h =
     let at = subst (λ (u : Seated). IsPass u.pass × Served u call (answer ∷ []) 0 y h.0) is (pass, h.1) in
     served_counts x y call answer h.0 at.0.size at.1
 
 -- the entries between two passes
-dropped : (xs ys : List Entry) → drop (length xs) (xs ++ ys) ≡ ys
+dropped : (xs ys : List TakenStep) → drop (length xs) (xs ++ ys) ≡ ys
 dropped [] ys = refl
 dropped (x ∷ xs) ys = dropped xs ys
 
-since_is : (x y : Pass) (mine : List Entry) → Calls x mine y → own x.by (drop (length x.seen) y.seen) ≡ mine
-since_is x y mine c = ap (λ (es : List Entry). own x.by (drop (length x.seen) es)) c.seen ∙ ap (own x.by) (dropped x.seen c.since) ∙ c.mine_are
+since_is : (x y : Pass) (mine : List TakenStep) → Calls x mine y → own x.by (drop (length x.seen) y.seen) ≡ mine
+since_is x y mine c = ap (λ (es : List TakenStep). own x.by (drop (length x.seen) es)) c.seen ∙ ap (own x.by) (dropped x.seen c.since) ∙ c.mine_are
 
-blocked_is : (x y : Seated) (call : Call) (answers : List Answer) (blocked : ℕ) (mine : List Entry) → Served x call answers blocked y mine → blocked_since x.pass y.pass ≡ blocked
+blocked_is : (x y : Seated) (call : Call) (answers : List Answer) (blocked : ℕ) (mine : List TakenStep) → Served x call answers blocked y mine → blocked_since x.pass y.pass ≡ blocked
 blocked_is x y call answers blocked mine r = ap (blocked_of x.pass) (since_is x.pass y.pass mine r.calls) ∙ r.blocks
 
-counted_as : (x y : Seated) (call : Call) (answers : List Answer) (blocked : ℕ) (mine : List Entry) (k : ℕ) → Served x call answers blocked y mine → length mine ≡ k + blocked → y.steps ≡ many_more (k + blocked_since x.pass y.pass) x.steps
+counted_as : (x y : Seated) (call : Call) (answers : List Answer) (blocked : ℕ) (mine : List TakenStep) (k : ℕ) → Served x call answers blocked y mine → length mine ≡ k + blocked → y.steps ≡ many_more (k + blocked_since x.pass y.pass) x.steps
 counted_as x y call answers blocked mine k r sum = r.steps ∙ ap (λ (n : ℕ). many_more n x.steps) (sum ∙ ap (λ (b : ℕ). k + b) (sym (blocked_is x y call answers blocked mine r)))
 
 pub lock_counts : (x y : Seated) (turns a b c d : ℕ) (o : Option Answer) → LockEnds x turns o y a b c d → LockCounts x o y
@@ -114,24 +114,24 @@ few_kept x call (a ∷ b ∷ more) blocked steps some h = absurd h
 none_few : (a b : ℕ) → 0 ≤ a + b
 none_few a b = omega arith
 
-takes_few : (x y : Pass) (call : Call) (mine : List Entry) → IsPass x → x.start ≡ Some call → Takes x mine y → length mine ≤ most_steps x.setup.layout call + blocked_of x mine
+takes_few : (x y : Pass) (call : Call) (mine : List TakenStep) → IsPass x → x.start ≡ Some call → Takes x mine y → length mine ≤ most_steps x.setup.layout call + blocked_of x mine
 takes_few x y call [] pass start takes = none_few (most_steps x.setup.layout call) (blocked_of x [])
 takes_few x y call (e ∷ es) pass start takes =
     few_kept x call (answers_of x (e ∷ es)) (blocked_of x (e ∷ es)) (length (e ∷ es)) pass.size.procs
     (keeps_the_table x y call (answers_of x (e ∷ es)) (blocked_of x (e ∷ es)) (e ∷ es) (calls_of x y (e ∷ es) pass.run takes) (first_crash x y (e ∷ es) takes) (first_start x y (e ∷ es) call takes start (λ none. cc)) (are_moves x y (e ∷ es) takes) refl refl)
 
 -- steps of a call, of which no more than so many were blocked
-pub few_taken : (x z : Seated) (y : Pass) (call : Call) (mine : List Entry) (most : ℕ) → IsPass x.pass → x.pass.start ≡ Some call → Takes x.pass mine y → most_steps x.pass.setup.layout call + blocked_of x.pass mine ≤ most → z.steps ≡ many_more (length mine) x.steps → CountsAtMost most x z
+pub few_taken : (x z : Seated) (y : Pass) (call : Call) (mine : List TakenStep) (most : ℕ) → IsPass x.pass → x.pass.start ≡ Some call → Takes x.pass mine y → most_steps x.pass.setup.layout call + blocked_of x.pass mine ≤ most → z.steps ≡ many_more (length mine) x.steps → CountsAtMost most x z
 few_taken x z y call mine most pass start takes few steps = (length mine, (let all = takes_few x.pass y call mine pass start takes in omega arith), steps)
 
 unblocked : (a b : ℕ) → b ≡ 0 → a + b ≤ a
 unblocked a b e = omega arith
 
-pub few_ran : (x y z : Seated) (call : Call) (a : Answer) (mine : List Entry) {o : Option Answer} → o ≡ Some a → IsPass x.pass → x.pass.start ≡ Some call → Ran x o y mine → z.steps ≡ y.steps → CountsAtMost (most_steps x.pass.setup.layout call) x z
+pub few_ran : (x y z : Seated) (call : Call) (a : Answer) (mine : List TakenStep) {o : Option Answer} → o ≡ Some a → IsPass x.pass → x.pass.start ≡ Some call → Ran x o y mine → z.steps ≡ y.steps → CountsAtMost (most_steps x.pass.setup.layout call) x z
 few_ran x y z call a mine {o} is pass start r e =
     few_taken x z y.pass call mine (most_steps x.pass.setup.layout call) pass start r.takes (unblocked (most_steps x.pass.setup.layout call) (blocked_of x.pass mine) (r.blocked ∙ ap blocks is)) (e ∙ r.steps)
 
-pub few_cut : (x z : Seated) (call : Call) (mine : List Entry) → IsPass x.pass → x.pass.start ≡ Some call → CutOff x mine z → blocked_of x.pass mine ≡ 0 → CountsAtMost (most_steps x.pass.setup.layout call) x z
+pub few_cut : (x z : Seated) (call : Call) (mine : List TakenStep) → IsPass x.pass → x.pass.start ≡ Some call → CutOff x mine z → blocked_of x.pass mine ≡ 0 → CountsAtMost (most_steps x.pass.setup.layout call) x z
 few_cut x z call mine pass start cut none =
     few_taken x z cut.last.pass call mine (most_steps x.pass.setup.layout call) pass start cut.takes (unblocked (most_steps x.pass.setup.layout call) (blocked_of x.pass mine) none) (ap (λ (u : Seated). u.steps) cut.crash ∙ cut.steps)
 
@@ -164,18 +164,18 @@ ok_any (Err e) P p = tt
 at_most_more : (a b k turns : ℕ) → b ≡ k → k ≤ turns → a + b ≤ a + turns
 at_most_more a b k turns is few = omega arith
 
-pub turned_few : (x y z : Seated) (a b : List Entry) (k turns : ℕ) → k ≤ turns → IsPass x.pass → x.pass.start ≡ Some Lock → Turning x a k y → (answer : Answer) {o : Option Answer} → o ≡ Some answer → Ran y o z b → CountsAtMost (most_steps x.pass.setup.layout Lock + turns) x z
+pub turned_few : (x y z : Seated) (a b : List TakenStep) (k turns : ℕ) → k ≤ turns → IsPass x.pass → x.pass.start ≡ Some Lock → Turning x a k y → (answer : Answer) {o : Option Answer} → o ≡ Some answer → Ran y o z b → CountsAtMost (most_steps x.pass.setup.layout Lock + turns) x z
 turned_few x y z a b k turns few pass start t answer {o} is r =
     let served = turned_served x y z a b k t Lock answer is pass start r in
     (length (a ++ b), (let told = few_kept x.pass Lock (answer ∷ []) k (length (a ++ b)) pass.size.procs (calls_keep_the_table x Lock (answer ∷ []) k z (a ++ b) served) in omega arith), served.steps)
 
-pub turned_few_cut : (x y z : Seated) (a b : List Entry) (k turns : ℕ) → k ≤ turns → IsPass x.pass → x.pass.start ≡ Some Lock → Turning x a k y → CutOff y b z → blocked_of y.pass b ≡ 0 → CountsAtMost (most_steps x.pass.setup.layout Lock + turns) x z
+pub turned_few_cut : (x y z : Seated) (a b : List TakenStep) (k turns : ℕ) → k ≤ turns → IsPass x.pass → x.pass.start ≡ Some Lock → Turning x a k y → CutOff y b z → blocked_of y.pass b ≡ 0 → CountsAtMost (most_steps x.pass.setup.layout Lock + turns) x z
 turned_few_cut x y z a b k turns few pass start t cut none =
     let all = turned_cut x y z a b k t cut in
     let blocked : blocked_of x.pass (a ++ b) ≡ k = later_blocked x y z a b k t ∙ (let e : k + blocked_of y.pass b ≡ k = omega arith in e) in
     few_taken x z all.last.pass Lock (a ++ b) (most_steps x.pass.setup.layout Lock + turns) pass start all.takes (at_most_more (most_steps x.pass.setup.layout Lock) (blocked_of x.pass (a ++ b)) k turns blocked few) (ap (λ (u : Seated). u.steps) all.crash ∙ all.steps)
 
-pub turned_few_out : (x z : Seated) (mine : List Entry) (k turns : ℕ) → k ≤ turns → IsPass x.pass → x.pass.start ≡ Some Lock → Turning x mine (k + 1) z → CountsAtMost (most_steps x.pass.setup.layout Lock + turns) x z
+pub turned_few_out : (x z : Seated) (mine : List TakenStep) (k turns : ℕ) → k ≤ turns → IsPass x.pass → x.pass.start ≡ Some Lock → Turning x mine (k + 1) z → CountsAtMost (most_steps x.pass.setup.layout Lock + turns) x z
 turned_few_out x z mine k turns few pass start t =
     let told = calls_keep_the_table x Lock [] (k + 1) z mine (turned_out x z mine k Lock pass start t) in
     (length mine, (let sum = told.1 in let less = told.2 in omega arith), t.steps)

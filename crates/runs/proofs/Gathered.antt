@@ -8,7 +8,7 @@ use Rattle.rmecore.specs.declared.word.Word.{Word}
 use Rattle.redomail.specs.Layout.{size}
 use Rattle.rmeworld.specs.World.{reading}
 use Rattle.runs.specs.declared.setup.Setup.{Setup}
-use Rattle.runs.specs.declared.entry.Entry.{Entry}
+use Rattle.runs.specs.declared.entry.TakenStep.{TakenStep}
 use Rattle.runs.specs.declared.entry.View.{View}
 use Rattle.runs.specs.declared.entry.Known.{Known}
 use Rattle.runs.specs.Runs.{own, has, IsRun, end_of, index, InTable}
@@ -74,8 +74,8 @@ answers_each first (x ∷ xs) =
     (λ i d h. has-append_left _ (answers_of first xs) (x.pass.by ∷ []) (answers_each first xs i d h))
 
 -- a beginning of a beginning
-begins_on : (xs ys zs : List Entry) → Begins xs ys → Begins ys zs → Begins xs zs
-begins_on xs ys zs a b = (a.0 ++ b.0, b.1 ∙ ap (λ (l : List Entry). l ++ b.0) a.1 ∙ append_assoc xs a.0 b.0)
+begins_on : (xs ys zs : List TakenStep) → Begins xs ys → Begins ys zs → Begins xs zs
+begins_on xs ys zs a b = (a.0 ++ b.0, b.1 ∙ ap (λ (l : List TakenStep). l ++ b.0) a.1 ∙ append_assoc xs a.0 b.0)
 
 pub all_left : {X : Type 0} (P : X → Type 0) (xs ys : List X) → All P (xs ++ ys) → All P xs
 all_left P [] ys h = All-nil P
@@ -113,17 +113,17 @@ knows_first x k e =
 
 -- a glance more
 module _ (first : Seated) (xs : List Seated) (n : ℕ) (k l : Known) (word : Word) (found : ℕ) (h : Knows first xs n k) (d : Did (glanced word) k found l) where
-  abbrev front : List Entry
+  abbrev front : List TakenStep
   front = k.view.seen ++ d.between
 
-  abbrev g : Entry
+  abbrev g : TakenStep
   g = entry_of k.view (glanced word) found
 
   g_by : g.by ≡ first.pass.by
   g_by = ap (λ (ps : List ℕ). slice_index ps 0) h.answers ∙ answers_first first xs
 
   before : IsTold first xs n front
-  before = h.tells front (record { begins = (d.between, refl); own_are = λ p m. own-append p k.view.seen d.between ∙ ap (λ (es : List Entry). own p k.view.seen ++ es) (d.apart p m) ∙ append-nil (own p k.view.seen) }) d.told
+  before = h.tells front (record { begins = (d.between, refl); own_are = λ p m. own-append p k.view.seen d.between ∙ ap (λ (es : List TakenStep). own p k.view.seen ++ es) (d.apart p m) ∙ append-nil (own p k.view.seen) }) d.told
 
   answers : l.view.answers ≡ answers_of first xs
   answers = d.answers ∙ h.answers
@@ -131,7 +131,7 @@ module _ (first : Seated) (xs : List Seated) (n : ℕ) (k l : Known) (word : Wor
   answered : (p : ℕ) → has p (answers_of first xs) ≡ true → has p l.view.answers ≡ true
   answered p m = subst (λ (ps : List ℕ). has p ps ≡ true) (sym answers) m
 
-  module _ (run : List Entry) (inside : IsIn run l.view) where
+  module _ (run : List TakenStep) (inside : IsIn run l.view) where
     own_run : (p : ℕ) → has p (answers_of first xs) ≡ true → own p run ≡ own p front ++ own p (g ∷ [])
     own_run p m = inside.own_are p (answered p m) ∙ ap (own p) d.seen ∙ own-append p front (g ∷ [])
 
@@ -141,7 +141,7 @@ module _ (first : Seated) (xs : List Seated) (n : ℕ) (k l : Known) (word : Wor
     other : (x : Seated) → has x.pass.by (answers_of first xs) ≡ true → IsWhole first front x → IsWhole first run x
     other x m w = record {
       begins = begins_on x.pass.seen front run w.begins front_begins;
-      own_is = λ ne. own_run x.pass.by m ∙ ap (λ (es : List Entry). own x.pass.by front ++ es) (own_other x.pass.by g (λ (e : g.by ≡ x.pass.by). ne (sym e ∙ g_by))) ∙ append-nil (own x.pass.by front) ∙ w.own_is ne;
+      own_is = λ ne. own_run x.pass.by m ∙ ap (λ (es : List TakenStep). own x.pass.by front ++ es) (own_other x.pass.by g (λ (e : g.by ≡ x.pass.by). ne (sym e ∙ g_by))) ∙ append-nil (own x.pass.by front) ∙ w.own_is ne;
     }
 
     told_more : IsTold first xs (n + 1) run
@@ -152,7 +152,7 @@ module _ (first : Seated) (xs : List Seated) (n : ℕ) (k l : Known) (word : Wor
           are_glances = All-append IsGlance before.glances (g ∷ []) before.are_glances (All-cons IsGlance g [] (word, refl) (All-nil IsGlance));
           count_is = (let c = before.count_is in omega (arith, length-append before.glances (g ∷ []), c));
           begins = begins_on first.pass.seen front run before.begins front_begins;
-          own_is = own_run p (answers_has_first first xs) ∙ ap (λ (es : List Entry). own p front ++ es) (own_mine p g g_by) ∙ ap (λ (es : List Entry). es ++ g ∷ []) before.own_is ∙ append_assoc (own p first.pass.seen) before.glances (g ∷ []);
+          own_is = own_run p (answers_has_first first xs) ∙ ap (λ (es : List TakenStep). own p front ++ es) (own_mine p g g_by) ∙ ap (λ (es : List TakenStep). es ++ g ∷ []) before.own_is ∙ append_assoc (own p first.pass.seen) before.glances (g ∷ []);
           whole = λ i e m. other _ (answers_each first xs i e m) (before.whole i e m);
         }
 
@@ -200,21 +200,21 @@ all_some s v a = first_there v.answers (a.1 0 a.2)
 
 pub looked : (s : Setup) (k l : Known) (word : Word) (found : ℕ) → AnswersAll s k.view → Did (glanced word) k found l → Looked s word k found l
 looked s k l word found all d =
-    let e : Entry = entry_of k.view (glanced word) found in
+    let e : TakenStep = entry_of k.view (glanced word) found in
     let setup : l.view.setup ≡ s = d.setup ∙ all.0 in
-    let whole : IsRun s ((k.view.seen ++ d.between) ++ e ∷ []) = subst (λ (t : Setup × List Entry). IsRun t.0 t.1) (λ i. (setup i, d.seen i)) d.run in
+    let whole : IsRun s ((k.view.seen ++ d.between) ++ e ∷ []) = subst (λ (t : Setup × List TakenStep). IsRun t.0 t.1) (λ i. (setup i, d.seen i)) d.run in
     let none : d.between ≡ [] = run_within s k.view.seen d.between (legal_front s (k.view.seen ++ d.between) (e ∷ []) whole) (λ p h. d.apart p (all.1 p h)) in
-    let here : k.view.seen ++ d.between ≡ k.view.seen = ap (λ (b : List Entry). k.view.seen ++ b) none ∙ append-nil k.view.seen in
-    let seen : l.view.seen ≡ k.view.seen ++ e ∷ [] = d.seen ∙ ap (λ (es : List Entry). es ++ e ∷ []) here in
-    let legal : IsRun s (k.view.seen ++ e ∷ []) = subst (λ (es : List Entry). IsRun s (es ++ e ∷ [])) here whole in
+    let here : k.view.seen ++ d.between ≡ k.view.seen = ap (λ (b : List TakenStep). k.view.seen ++ b) none ∙ append-nil k.view.seen in
+    let seen : l.view.seen ≡ k.view.seen ++ e ∷ [] = d.seen ∙ ap (λ (es : List TakenStep). es ++ e ∷ []) here in
+    let legal : IsRun s (k.view.seen ++ e ∷ []) = subst (λ (es : List TakenStep). IsRun s (es ++ e ∷ [])) here whole in
     record {
       setup = d.setup;
       answers = d.answers;
       run = legal_front s k.view.seen (e ∷ []) legal;
-      words = ap (λ (es : List Entry). (end_of s es).words) seen ∙ words_snoc s k.view.seen e;
-      cells = ap (λ (es : List Entry). (end_of s es).cells) seen ∙ cells_snoc s k.view.seen e;
+      words = ap (λ (es : List TakenStep). (end_of s es).words) seen ∙ words_snoc s k.view.seen e;
+      cells = ap (λ (es : List TakenStep). (end_of s es).cells) seen ∙ cells_snoc s k.view.seen e;
       found_is = sym (last_reads s k.view.seen e legal refl);
-      told = subst (λ (es : List Entry). All (IsIn es) k.told) here d.told;
+      told = subst (λ (es : List TakenStep). All (IsIn es) k.told) here d.told;
     }
 
 pub looked_stays : (s : Setup) (word : Word) (k l : Known) (found : ℕ) → Looked s word k found l → Stays s k l

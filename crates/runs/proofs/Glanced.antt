@@ -13,7 +13,7 @@ use Rattle.redomail.specs.declared.message.Message.{Message}
 use Rattle.redomail.proofs.Changes.{length-entries}
 use Rattle.redomail.proofs.Words.{row-from_entry, place_low, place_up, place_small}
 use Rattle.runs.specs.declared.setup.Setup.{Setup}
-use Rattle.runs.specs.declared.entry.Entry.{Entry}
+use Rattle.runs.specs.declared.entry.TakenStep.{TakenStep}
 use Rattle.runs.specs.Runs.{IsRun}
 use Rattle.runs.specs.Pass.{Pass, glance_entry, glanced, IsPass, Looks, Calls}
 use Rattle.runs.specs.Running.{Seated}
@@ -22,7 +22,7 @@ use Rattle.runs.proofs.Called.{Grows, calls_grown}
 use Rattle.runs.proofs.Runs.{last_reads, cells_snoc}
 use Rattle.runs.proofs.Shown.{runs_show, entries_stand_in_runs}
 
-abbrev pub entries_of : (x : Seated) (ws : List Word) (y : Seated) → Glances x ws y → List Entry
+abbrev pub entries_of : (x : Seated) (ws : List Word) (y : Seated) → Glances x ws y → List TakenStep
 entries_of x [] y h = []
 entries_of x (w ∷ ws) y h = glance_entry x.pass w h.1 ∷ entries_of h.0 ws y h.4
 
@@ -80,11 +80,11 @@ length_entries l a (suc n) =
 pub told : (x y : Pass) (i v : ℕ) → Looks x (DataAt i) v y → v ≡ cells_of y.setup y.seen i
 told x y i v h =
     let a = h.adds in
-    let e : Entry = glance_entry x (DataAt i) v in
+    let e : TakenStep = glance_entry x (DataAt i) v in
     let run : IsRun y.setup ((x.seen ++ a.between) ++ e ∷ []) = subst (IsRun y.setup) a.seen a.run in
     sym (last_reads y.setup (x.seen ++ a.between) e run refl)
     ∙ ap (λ (w : Words). w i) (sym (cells_snoc y.setup (x.seen ++ a.between) e))
-    ∙ ap (λ (es : List Entry). cells_of y.setup es i) (sym a.seen)
+    ∙ ap (λ (es : List TakenStep). cells_of y.setup es i) (sym a.seen)
 
 -- words of rows and entries that are the same
 row_word : (v w : Words) (i n k : ℕ) → row v i n ≡ row w i n → k < n → v (i + k) ≡ w (i + k)
@@ -114,10 +114,10 @@ stood x y z ws a k v pass h looks steps below within =
     let i : ℕ = place_at l a + k in
     let all = glances_snoc x ws y z (DataAt i) v h looks steps in
     let c = calls_glanced x (ws ++ DataAt i ∷ []) z all pass.run in
-    let run : IsRun s (x.pass.seen ++ c.since) = subst (λ (t : Setup × List Entry). IsRun t.0 t.1) (λ j. (c.setup j, c.seen j)) c.run in
+    let run : IsRun s (x.pass.seen ++ c.since) = subst (λ (t : Setup × List TakenStep). IsRun t.0 t.1) (λ j. (c.setup j, c.seen j)) c.run in
     let same = (entries_stand_in_runs s x.pass.seen c.since pass.size.layout run).1 a below in
     told y.pass z.pass i v looks
-    ∙ ap (λ (t : Setup × List Entry). cells_of t.0 t.1 i) (λ j. (c.setup j, c.seen j))
+    ∙ ap (λ (t : Setup × List TakenStep). cells_of t.0 t.1 i) (λ j. (c.setup j, c.seen j))
     ∙ entry_word l (cells_of s (x.pass.seen ++ c.since)) (cells_of s x.pass.seen) a k same within
 
 -- an entry, from its words in a row
@@ -170,8 +170,8 @@ pub later_stands : (x : Seated) (ws : List Word) (y : Seated) → IsPass x.pass 
 later_stands x ws y pass h =
     let s = x.pass.setup in
     let c = calls_glanced x ws y h pass.run in
-    let P : Setup × List Entry → Type 0 = λ t. (cells_of s x.pass.seen 2 ≤ cells_of t.0 t.1 2) × ((a : ℕ) → a < cells_of s x.pass.seen 2 → entry t.0.layout (cells_of t.0 t.1) a ≡ entry s.layout (cells_of s x.pass.seen) a) in
-    let run : IsRun s (x.pass.seen ++ c.since) = subst (λ (t : Setup × List Entry). IsRun t.0 t.1) (λ j. (c.setup j, c.seen j)) c.run in
+    let P : Setup × List TakenStep → Type 0 = λ t. (cells_of s x.pass.seen 2 ≤ cells_of t.0 t.1 2) × ((a : ℕ) → a < cells_of s x.pass.seen 2 → entry t.0.layout (cells_of t.0 t.1) a ≡ entry s.layout (cells_of s x.pass.seen) a) in
+    let run : IsRun s (x.pass.seen ++ c.since) = subst (λ (t : Setup × List TakenStep). IsRun t.0 t.1) (λ j. (c.setup j, c.seen j)) c.run in
     subst P (λ j. (sym c.setup j, sym c.seen j)) (entries_stand_in_runs s x.pass.seen c.since pass.size.layout run)
 
 -- one place more
@@ -194,10 +194,10 @@ words_more l place a h =
 module _ (x : Seated) (place count : ℕ) (y z : Seated) (messages : List Message) (pass : IsPass x.pass) (looks : Looks x.pass (DataAt 2) count y.pass) (steps : y.steps ≡ x.steps)
     (glances : Glances y (entry_words x.pass.setup.layout place (length messages)) z) (answer : messages ≡ drop place (entries x.pass.setup.layout (cells_of y.pass.setup y.pass.seen) count)) where
   run : IsRun x.pass.setup (up_to_count x.pass looks.adds.between count)
-  run = subst (λ (t : Setup × List Entry). IsRun t.0 t.1) (λ j. (looks.adds.setup j, looks.adds.seen j)) looks.adds.run
+  run = subst (λ (t : Setup × List TakenStep). IsRun t.0 t.1) (λ j. (looks.adds.setup j, looks.adds.seen j)) looks.adds.run
 
   count_is : count ≡ cells_of x.pass.setup (up_to_count x.pass looks.adds.between count) 2
-  count_is = told x.pass y.pass 2 count looks ∙ ap (λ (t : Setup × List Entry). cells_of t.0 t.1 2) (λ j. (looks.adds.setup j, looks.adds.seen j))
+  count_is = told x.pass y.pass 2 count looks ∙ ap (λ (t : Setup × List TakenStep). cells_of t.0 t.1 2) (λ j. (looks.adds.setup j, looks.adds.seen j))
 
   pub reads : ReadsFrom x place messages z
   reads =
@@ -216,9 +216,9 @@ module _ (x : Seated) (place count : ℕ) (y z : Seated) (messages : List Messag
         shown = entries s.layout (cells_of s es) (cells_of s es 2);
         are_shown = (runs_show s es pass.size.layout run).0;
         counted = count_is ∙ sym (length-entries s.layout (cells_of s es) (cells_of s es 2));
-        answer = answer ∙ ap (λ (t : Setup × List Entry × ℕ). drop place (entries s.layout (cells_of t.0 t.1) t.2)) (λ j. (looks.adds.setup j, looks.adds.seen j, count_is j));
+        answer = answer ∙ ap (λ (t : Setup × List TakenStep × ℕ). drop place (entries s.layout (cells_of t.0 t.1) t.2)) (λ j. (looks.adds.setup j, looks.adds.seen j, count_is j));
         later = rest.since;
-        seen = rest.seen ∙ ap (λ (es : List Entry). es ++ rest.since) looks.adds.seen;
+        seen = rest.seen ∙ ap (λ (es : List TakenStep). es ++ rest.since) looks.adds.seen;
         mine = entries_of x words z whole;
         calls = calls_glanced x words z whole pass.run;
         glances = are_glances x words z whole;

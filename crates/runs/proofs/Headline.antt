@@ -19,7 +19,7 @@ use Rattle.rmeworld.specs.World.{Scene, at_first, onward, last_scene, event_deed
 use Rattle.rmeworld.proofs.Reaching.{all_after-append, sound_ends}
 use Rattle.rmeworld.proofs.Replies.{answers}
 use Rattle.runs.specs.declared.setup.Setup.{Setup}
-use Rattle.runs.specs.declared.entry.Entry.{Entry}
+use Rattle.runs.specs.declared.entry.TakenStep.{TakenStep}
 use Rattle.runs.specs.Runs.{before, taken, spelled, end_of, gone}
 use Rattle.runs.specs.Headline.{deeds_of, judged_by, shown_by, spot_at, AnsweredIsShown}
 use Rattle.runs.proofs.Runs.{spelled-append, spelled_snoc, spot_own, spot_in_run, scene-append}
@@ -45,23 +45,23 @@ own_before true None q = rw (eq-eqb q q refl) refl
 own_before true (Some call) q = rw (eq-eqb q q refl) refl
 
 -- the scene right before the step of e, after these entries
-abbrev pub scene_at : Setup → List Entry → Entry → Scene
+abbrev pub scene_at : Setup → List TakenStep → TakenStep → Scene
 scene_at s es e = last_scene s.layout s.limit (end_of s es) (before e.step.crashed e.step.start e.by)
 
-pub spot_is : (s : Setup) (es : List Entry) (e : Entry) → (scene_at s es e).spots e.by ≡ spot_at s es e
+pub spot_is : (s : Setup) (es : List TakenStep) (e : TakenStep) → (scene_at s es e).spots e.by ≡ spot_at s es e
 spot_is s es e =
     spot_own s (end_of s es) (before e.step.crashed e.step.start e.by) e.by ∙ ap (gone s ((end_of s es).spots e.by)) (own_before e.step.crashed e.step.start e.by)
     ∙ ap (λ (q : Spot). gone s q (before e.step.crashed e.step.start e.by)) (spot_in_run s es e.by)
 
 -- how far a run is spelled out before the step of e
-pub spelled_to : (s : Setup) (es : List Entry) (e : Entry) → spelled (es ++ e ∷ []) ≡ (spelled es ++ before e.step.crashed e.step.start e.by) ++ taken e.by e.step.kind e.step.word e.value ∷ []
+pub spelled_to : (s : Setup) (es : List TakenStep) (e : TakenStep) → spelled (es ++ e ∷ []) ≡ (spelled es ++ before e.step.crashed e.step.start e.by) ++ taken e.by e.step.kind e.step.word e.value ∷ []
 spelled_to s es e = spelled_snoc es e ∙ sym (append_assoc (spelled es) (before e.step.crashed e.step.start e.by) (taken e.by e.step.kind e.step.word e.value ∷ []))
 
 append_shown : (p seq : ℕ) (reply : Reply) (shown : List Message) → AppendTells p seq (Done reply) shown → (reply ≡ Stored) ⊎ (reply ≡ Already) → IsAmong p seq shown
 append_shown p seq reply shown tells (inl e) = subst (λ (r : Reply). AppendTells p seq (Done r) shown) e tells
 append_shown p seq reply shown tells (inr e) = subst (λ (r : Reply). AppendTells p seq (Done r) shown) e tells
 
-pub answered : (s : Setup) (es : List Entry) → Sound s.layout s.limit at_first (empty s.layout.procs s.layout.cap) (spelled es) → AnsweredIsShown s es
+pub answered : (s : Setup) (es : List TakenStep) → Sound s.layout s.limit at_first (empty s.layout.procs s.layout.cap) (spelled es) → AnsweredIsShown s es
 answered s es sound front e back seq reply split ends stored =
     let l = s.layout in
     let hs = spelled front ++ before e.step.crashed e.step.start e.by in
@@ -79,7 +79,7 @@ answered s es sound front e back seq reply split ends stored =
     answers (task.Append seq ends.value) spot.mended (tail ends.left e.value) reply (ap (λ (x : Errand). answer_by spot.lock spot.mended spot.barred x e.step.kind e.value) (sym ends.append) ∙ ends.answer) in
     append_shown e.by seq reply shown (subst (λ (r : Script Reply). AppendTells e.by seq r shown) done at_errand) stored
 
-pub words_sit : (s : Setup) (es : List Entry) → Sound s.layout s.limit at_first (empty s.layout.procs s.layout.cap) (spelled es) → Sits s.layout (end_of s es).cells (judged_by s es)
+pub words_sit : (s : Setup) (es : List TakenStep) → Sound s.layout s.limit at_first (empty s.layout.procs s.layout.cap) (spelled es) → Sits s.layout (end_of s es).cells (judged_by s es)
 words_sit s es sound =
     let l = s.layout in
     let r = sound_ends l s.limit at_first (empty l.procs l.cap) (spelled es) sound in

@@ -13,27 +13,27 @@ use Rattle.rmeworld.specs.Spot.{Spot, at_rest}
 use Rattle.rmeworld.specs.World.{at_first, reading}
 use Rattle.runs.specs.declared.setup.Setup.{Setup}
 use Rattle.runs.specs.declared.entry.Step.{Step}
-use Rattle.runs.specs.declared.entry.Entry.{Entry}
+use Rattle.runs.specs.declared.entry.TakenStep.{TakenStep}
 use Rattle.runs.specs.declared.entry.View.{View}
 use Rattle.runs.specs.declared.entry.Known.{Known}
 use Rattle.runs.specs.Runs.{own, has, spelled, happenings, IsRun, end_of, gone, Goes, spot_of, word_count, index, InTable, IsBeyond, Shows, stores}
 use Rattle.runs.specs.Rule.{count_from, opening_known, longer, joined, spent_known, Begins, IsAnswered, Fits, AllFit, IsIn, IsMember, IsKept, Kept, stepper, entry_of, Did, May, MayLoad, MayStore, MayPass}
 use Rattle.runs.proofs.Runs.{own-append, own_other, prolongs, shows_load, shows_store, shows_beyond, reads_beyond, shows_rest}
 
-nothing_after : (xs ys zs : List Entry) → xs ≡ ys ++ zs → length xs ≡ length ys → zs ≡ []
+nothing_after : (xs ys zs : List TakenStep) → xs ≡ ys ++ zs → length xs ≡ length ys → zs ≡ []
 nothing_after xs ys [] e h = refl
 nothing_after xs ys (z ∷ zs) e h = absurd (let k : length xs ≡ length (ys ++ z ∷ zs) = ap length e in omega (arith, length-append ys (z ∷ zs)))
 
 -- a process that has all its entries in a beginning has none after it
-pub none_after : (p : ℕ) (log xs rest : List Entry) → log ≡ xs ++ rest → own p log ≡ own p xs → own p rest ≡ []
+pub none_after : (p : ℕ) (log xs rest : List TakenStep) → log ≡ xs ++ rest → own p log ≡ own p xs → own p rest ≡ []
 none_after p log xs rest e h = nothing_after (own p log) (own p xs) (own p rest) (ap (own p) e ∙ own-append p xs rest) (ap length h)
 
-begins_more : (log xs : List Entry) (e : Entry) → Begins xs log → Begins xs (log ++ e ∷ [])
-begins_more log xs e b = (b.0 ++ e ∷ [], ap (λ (l : List Entry). l ++ e ∷ []) b.1 ∙ append_assoc xs b.0 (e ∷ []))
+begins_more : (log xs : List TakenStep) (e : TakenStep) → Begins xs log → Begins xs (log ++ e ∷ [])
+begins_more log xs e b = (b.0 ++ e ∷ [], ap (λ (l : List TakenStep). l ++ e ∷ []) b.1 ∙ append_assoc xs b.0 (e ∷ []))
 
 -- a step of another process
-own_kept : (p : ℕ) (log : List Entry) (e : Entry) → e.by ≢ p → own p (log ++ e ∷ []) ≡ own p log
-own_kept p log e h = own-append p log (e ∷ []) ∙ ap (λ (l : List Entry). own p log ++ l) (own_other p e h) ∙ append-nil (own p log)
+own_kept : (p : ℕ) (log : List TakenStep) (e : TakenStep) → e.by ≢ p → own p (log ++ e ∷ []) ≡ own p log
+own_kept p log e h = own-append p log (e ∷ []) ∙ ap (λ (l : List TakenStep). own p log ++ l) (own_other p e h) ∙ append-nil (own p log)
 
 has_or : (b : Bool) (c : Bool) → (b || c) ≡ true → (b ≡ true) ⊎ (c ≡ true)
 has_or true c h = inl refl
@@ -79,8 +79,8 @@ member_set views owner id v w p at keep m =
     (λ (s : owner p ≢ id). (m.0, set_else views id (owner p) w s ∙ m.1, m.2))
 
 -- the one lemma for all kinds: an entry that is allowed at the stepper's place, and by the words, prolongs the run
-module _ (sizes : Setup) (log : List Entry) (owner : ℕ → ℕ) (words : List ℕ) (views : List Known) (k : IsKept sizes log owner words views) (id : ℕ) (v : Known) (at : get_elem? views id ≡ some v) (step : Step) (value : ℕ) (may : May step v.view value) where
-  abbrev e : Entry
+module _ (sizes : Setup) (log : List TakenStep) (owner : ℕ → ℕ) (words : List ℕ) (views : List Known) (k : IsKept sizes log owner words views) (id : ℕ) (v : Known) (at : get_elem? views id ≡ some v) (step : Step) (value : ℕ) (may : May step v.view value) where
+  abbrev e : TakenStep
   e = entry_of v.view step value
 
   abbrev w : Known
@@ -92,7 +92,7 @@ module _ (sizes : Setup) (log : List Entry) (owner : ℕ → ℕ) (words : List 
   longer_run : (stores e ≡ false → reading (end_of sizes log) step.word ≡ value) → IsRun sizes (log ++ e ∷ [])
   longer_run reads =
       let p = stepper v.view in
-      let here : spot_of sizes p v.view.seen ≡ spot_of sizes p log = ap (λ (es : List Entry). gone sizes at_rest (spelled es)) (sym mine.own_is) in
+      let here : spot_of sizes p v.view.seen ≡ spot_of sizes p log = ap (λ (es : List TakenStep). gone sizes at_rest (spelled es)) (sym mine.own_is) in
       let goes : Goes sizes (spot_of sizes p v.view.seen) (happenings e) = subst (λ (z : Setup). Goes z (spot_of z p v.view.seen) (happenings e)) mine.setup may.1 in
       prolongs sizes log e k.run mine.within (subst (λ (q : Spot). Goes sizes q (happenings e)) here goes) reads
 
@@ -138,10 +138,10 @@ module _ (sizes : Setup) (log : List Entry) (owner : ℕ → ℕ) (words : List 
         answers = refl;
         none_told = refl;
         between = f.0.0.0;
-        seen = ap (λ (l : List Entry). l ++ e ∷ []) f.0.0.1;
+        seen = ap (λ (l : List TakenStep). l ++ e ∷ []) f.0.0.1;
         apart = λ p h. none_after p log v.view.seen f.0.0.0 f.0.0.1 (f.0.1 p h).own_is;
         run = subst (λ (z : Setup). IsRun z (log ++ e ∷ [])) (sym mine.setup) run;
-        told = subst (λ (l : List Entry). All (IsIn l) v.told) f.0.0.1 (λ i d h. let g = f.1 i d h in record { begins = g.0; own_are = λ p m. (g.1 p m).own_is });
+        told = subst (λ (l : List TakenStep). All (IsIn l) v.told) f.0.0.1 (λ i d h. let g = f.1 i d h in record { begins = g.0; own_are = λ p m. (g.1 p m).own_is });
       }
 
 pub loads : (sizes : Setup) (slots id : ℕ) (v : Known) (c : List (ℕ × Unit {0})) (step : Step) (word : ℕ)
@@ -194,19 +194,19 @@ passes sizes slots id v c step word value may s h homes at small =
       (told sizes h.0 h.1 s.words s.views h.2 id v at step value m k.run, refl),
     )
 
-own_same : (p : ℕ) (log xs ys rest : List Entry) → log ≡ ys ++ rest → own p log ≡ own p xs → (more : List Entry) → ys ≡ xs ++ more → own p log ≡ own p ys
+own_same : (p : ℕ) (log xs ys rest : List TakenStep) → log ≡ ys ++ rest → own p log ≡ own p xs → (more : List TakenStep) → ys ≡ xs ++ more → own p log ≡ own p ys
 own_same p log xs ys rest e h more f =
-    let whole : log ≡ xs ++ (more ++ rest) = e ∙ ap (λ (l : List Entry). l ++ rest) f ∙ append_assoc xs more rest in
+    let whole : log ≡ xs ++ (more ++ rest) = e ∙ ap (λ (l : List TakenStep). l ++ rest) f ∙ append_assoc xs more rest in
     let none : own p (more ++ rest) ≡ [] = none_after p log xs (more ++ rest) whole h in
     let first : own p more ≡ [] = front_empty (own p more) (own p rest) (sym (own-append p more rest) ∙ none) in
-    h ∙ sym (ap (own p) f ∙ own-append p xs more ∙ ap (λ (l : List Entry). own p xs ++ l) first ∙ append-nil (own p xs))
+    h ∙ sym (ap (own p) f ∙ own-append p xs more ∙ ap (λ (l : List TakenStep). own p xs ++ l) first ∙ append-nil (own p xs))
   where
-    front_empty : (xs ys : List Entry) → xs ++ ys ≡ [] → xs ≡ []
+    front_empty : (xs ys : List TakenStep) → xs ++ ys ≡ [] → xs ≡ []
     front_empty [] ys e = refl
     front_empty (x ∷ xs) ys e = absurd (cc)
 
 -- of two beginnings of one list the shorter begins the longer
-two_fronts : (log xs ys r t : List Entry) → log ≡ xs ++ r → log ≡ ys ++ t → length xs ≤ length ys → Begins xs ys
+two_fronts : (log xs ys r t : List TakenStep) → log ≡ xs ++ r → log ≡ ys ++ t → length xs ≤ length ys → Begins xs ys
 two_fronts log [] ys r t e f h = (ys, refl)
 two_fronts log (x ∷ xs) [] r t e f h = absurd (omega arith)
 two_fronts [] (x ∷ xs) (y ∷ ys) r t e f h = absurd (cc)
@@ -217,12 +217,12 @@ two_fronts (l ∷ log) (x ∷ xs) (y ∷ ys) r t e f h =
     let b = two_fronts log xs ys r t e' f' (omega arith) in
     (b.0, λ k. sym same k ∷ b.1 k)
 
-longer_left : (log xs ys : List Entry) → Begins xs log → Begins ys log → (b : Bool) → ltb (length xs) (length ys) ≡ b → Begins xs (longer xs ys) × Begins ys (longer xs ys) × Begins (longer xs ys) log
+longer_left : (log xs ys : List TakenStep) → Begins xs log → Begins ys log → (b : Bool) → ltb (length xs) (length ys) ≡ b → Begins xs (longer xs ys) × Begins ys (longer xs ys) × Begins (longer xs ys) log
 longer_left log xs ys f g true is = rw is (let h : length xs < length ys = ltb-true _ _ is in (two_fronts log xs ys f.0 g.0 f.1 g.1 (omega arith), ([], sym (append-nil ys)), g))
 longer_left log xs ys f g false is = rw is (let h : length ys ≤ length xs = ltb-false _ _ is in (([], sym (append-nil xs)), two_fronts log ys xs g.0 f.0 g.1 f.1 h, f))
 
 -- the longer of two beginnings begins with both
-pub longer_begins : (log xs ys : List Entry) → Begins xs log → Begins ys log → Begins xs (longer xs ys) × Begins ys (longer xs ys) × Begins (longer xs ys) log
+pub longer_begins : (log xs ys : List TakenStep) → Begins xs log → Begins ys log → Begins xs (longer xs ys) × Begins ys (longer xs ys) × Begins (longer xs ys) log
 longer_begins log xs ys f g = longer_left log xs ys f g (ltb (length xs) (length ys)) refl
 
 -- the numbers below n
@@ -281,11 +281,11 @@ moved_other : (owner : ℕ → ℕ) (j i q : ℕ) → owner q ≢ j → moved ow
 unfolding moved
 moved_other owner j i q h = rw (ne_eqb (owner q) j h)
 
-own_seat : (sizes : Setup) (log : List Entry) (owner now : ℕ → ℕ) (i j : ℕ) (v u : View) (q : ℕ) → IsAnswered sizes log owner i v q → now q ≡ j → u.setup ≡ v.setup → u.seen ≡ v.seen → IsAnswered sizes log now j u q
+own_seat : (sizes : Setup) (log : List TakenStep) (owner now : ℕ → ℕ) (i j : ℕ) (v u : View) (q : ℕ) → IsAnswered sizes log owner i v q → now q ≡ j → u.setup ≡ v.setup → u.seen ≡ v.seen → IsAnswered sizes log now j u q
 own_seat sizes log owner now i j v u q x seat setup seen = record { setup = setup ∙ x.setup; within = x.within; seat = seat; own_is = x.own_is ∙ ap (own q) (sym seen) }
 
 -- the first process of a seat gets a seat of its own
-module _ (sizes : Setup) (log : List Entry) (owner : ℕ → ℕ) (words : List ℕ) (views : List Known) (k : IsKept sizes log owner words views) (id : ℕ) (mine : Setup) (p : ℕ) (ps : List ℕ) (seen : List Entry) where
+module _ (sizes : Setup) (log : List TakenStep) (owner : ℕ → ℕ) (words : List ℕ) (views : List Known) (k : IsKept sizes log owner words views) (id : ℕ) (mine : Setup) (p : ℕ) (ps : List ℕ) (seen : List TakenStep) where
   abbrev whole : Known
   whole = record { view = record { setup = mine; answers = p ∷ ps; seen = seen }; told = [] }
 
@@ -370,12 +370,12 @@ module _ (sizes : Setup) (log : List Entry) (owner : ℕ → ℕ) (words : List 
     cut_kept : IsKept sizes log now words cut_views
     cut_kept = record { run = k.run; shows = k.shows; fits = cut_fits; members = cut_members }
 
-pub cuts : (sizes : Setup) (id : ℕ) (mine : Setup) (p : ℕ) (ps : List ℕ) (seen : List Entry) → has p ps ≡ false
+pub cuts : (sizes : Setup) (id : ℕ) (mine : Setup) (p : ℕ) (ps : List ℕ) (seen : List TakenStep) → has p ps ≡ false
     → Splits (Kept sizes) id (record { view = record { setup = mine; answers = p ∷ ps; seen = seen }; told = [] }) (record { view = record { setup = mine; answers = ps; seen = seen }; told = [] }) (record { view = record { setup = mine; answers = p ∷ []; seen = seen }; told = [] })
 cuts sizes id mine p ps seen once s h at = (h.0, given h.1 p (length s.views), cut_kept sizes h.0 h.1 s.words s.views h.2 id mine p ps seen at once)
 
 -- one seat answers for the processes of both
-module _ (sizes : Setup) (log : List Entry) (owner : ℕ → ℕ) (words : List ℕ) (views : List Known) (k : IsKept sizes log owner words views) (id : ℕ) (v : Known) (other : ℕ) (w : Known) where
+module _ (sizes : Setup) (log : List TakenStep) (owner : ℕ → ℕ) (words : List ℕ) (views : List Known) (k : IsKept sizes log owner words views) (id : ℕ) (v : Known) (other : ℕ) (w : Known) where
   abbrev both : Known
   both = joined v w
 

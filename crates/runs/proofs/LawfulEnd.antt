@@ -20,7 +20,7 @@ use Rattle.rmeworld.specs.World.{at_first}
 use Rattle.rmeworld.proofs.LawfulNow.{every_story_leaves_an_image}
 use Rattle.rmeworld.proofs.Projection.{projected}
 use Rattle.runs.specs.declared.setup.Setup.{Setup}
-use Rattle.runs.specs.declared.entry.Entry.{Entry}
+use Rattle.runs.specs.declared.entry.TakenStep.{TakenStep}
 use Rattle.runs.specs.Runs.{spelled, IsRun, end_of}
 use Rattle.runs.specs.Rule.{count_from}
 use Rattle.runs.specs.Gathering.{image_at}
@@ -54,21 +54,21 @@ beyond_same n limit w a (e ∷ es) t run p past =
     let low = run.0.0 in
     beyond_same n limit (after n limit w e) _ es k.1 run.1 p past ∙ k.2 p (λ same. omega arith)
 
-words_beyond : (s : Setup) (es : List Entry) → IsRun s es → (p : ℕ) → s.layout.procs ≤ p → (end_of s es).words p ≡ zeros
+words_beyond : (s : Setup) (es : List TakenStep) → IsRun s es → (p : ℕ) → s.layout.procs ≤ p → (end_of s es).words p ≡ zeros
 words_beyond s es run p past =
     let r = projected s.layout s.limit at_first (spelled es) (λ q. tt) run in
     ap (λ (f : ℕ → Own). f p) (sym r.ends) ∙ beyond_same s.layout.procs s.limit core_rest nobody r.events (core_first s.layout.procs) r.run p past
 
 -- the words of the list are those that stand in the scene
-pub cells_counted : (s : Setup) (es : List Entry) → IsRun s es → words_of (map (end_of s es).cells (count_from 0 (size s.layout))) ≡ (end_of s es).cells
+pub cells_counted : (s : Setup) (es : List TakenStep) → IsRun s es → words_of (map (end_of s es).cells (count_from 0 (size s.layout))) ≡ (end_of s es).cells
 cells_counted s es run =
     let w = end_of s es in
     λ i. λ p. from_counted w.cells (size s.layout) 0 (λ j past. reads_beyond s es (DataAt j) past) p i
 
-own_counted : (s : Setup) (es : List Entry) → IsRun s es → own_at (map (end_of s es).words (count_from 0 s.layout.procs)) ≡ (end_of s es).words
+own_counted : (s : Setup) (es : List TakenStep) → IsRun s es → own_at (map (end_of s es).words (count_from 0 s.layout.procs)) ≡ (end_of s es).words
 own_counted s es run = λ i. λ p. from_counted (end_of s es).words s.layout.procs zeros (words_beyond s es run) p i
 
-pub lawful_end : (s : Setup) (es : List Entry) → IsRun s es → IsSize s.layout → (1 ≤ s.limit) × (s.limit ≤ 2 ^ 62) → IsLawfulImage (image_at s (end_of s es))
+pub lawful_end : (s : Setup) (es : List TakenStep) → IsRun s es → IsSize s.layout → (1 ≤ s.limit) × (s.limit ≤ 2 ^ 62) → IsLawfulImage (image_at s (end_of s es))
 lawful_end s es run sized limited =
     let l = s.layout in
     let w = end_of s es in

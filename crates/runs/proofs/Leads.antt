@@ -7,7 +7,7 @@ use Rattle.rmeworld.specs.declared.call.Call.{Call}
 use Rattle.rmeworld.specs.Spot.{Spot, at_rest, Happening, next_spot}
 use Rattle.runs.specs.declared.setup.Setup.{Setup}
 use Rattle.runs.specs.declared.entry.Step.{Step}
-use Rattle.runs.specs.declared.entry.Entry.{Entry}
+use Rattle.runs.specs.declared.entry.TakenStep.{TakenStep}
 use Rattle.runs.specs.declared.entry.Known.{Known}
 use Rattle.rmeworld.specs.Stand.{IsSize}
 use Rattle.runs.specs.Runs.{own, has, word_count, before, taken, happenings, spelled, gone, spot_of, Goes, index, InTable, IsBeyond, IsRun}
@@ -32,19 +32,19 @@ may x kind word value k some = (has_one x.by, goes-append x.setup (spot_of x.set
 pub may_glance : (x : Pass) (word : Word) (value : ℕ) → May (glanced word) (view_of x) value
 may_glance x word value = (has_one x.by, (refl, tt))
 
-own_grown : (p : ℕ) (seen between : List Entry) (e : Entry) → own p between ≡ [] → e.by ≡ p → own p ((seen ++ between) ++ e ∷ []) ≡ own p seen ++ e ∷ []
+own_grown : (p : ℕ) (seen between : List TakenStep) (e : TakenStep) → own p between ≡ [] → e.by ≡ p → own p ((seen ++ between) ++ e ∷ []) ≡ own p seen ++ e ∷ []
 own_grown p seen between e none by =
-    own-append p (seen ++ between) (e ∷ []) ∙ ap (λ (l : List Entry). l ++ own p (e ∷ [])) (own-append p seen between ∙ ap (λ (l : List Entry). own p seen ++ l) none ∙ append-nil (own p seen))
-    ∙ ap (λ (l : List Entry). own p seen ++ l) (own_mine p e by)
+    own-append p (seen ++ between) (e ∷ []) ∙ ap (λ (l : List TakenStep). l ++ own p (e ∷ [])) (own-append p seen between ∙ ap (λ (l : List TakenStep). own p seen ++ l) none ∙ append-nil (own p seen))
+    ∙ ap (λ (l : List TakenStep). own p seen ++ l) (own_mine p e by)
 
 -- an own step more
-pub own_seen : (x y : Pass) (e : Entry) → e.by ≡ x.by → Adds x e y → own x.by y.seen ≡ own x.by x.seen ++ e ∷ []
+pub own_seen : (x y : Pass) (e : TakenStep) → e.by ≡ x.by → Adds x e y → own x.by y.seen ≡ own x.by x.seen ++ e ∷ []
 own_seen x y e by a = ap (own x.by) a.seen ∙ own_grown x.by x.seen a.between e a.apart by
 
-pub spot_after : (x y : Pass) (e : Entry) → e.by ≡ x.by → Adds x e y → spot_of y.setup y.by y.seen ≡ gone x.setup (spot_of x.setup x.by x.seen) (happenings e)
+pub spot_after : (x y : Pass) (e : TakenStep) → e.by ≡ x.by → Adds x e y → spot_of y.setup y.by y.seen ≡ gone x.setup (spot_of x.setup x.by x.seen) (happenings e)
 spot_after x y e by a =
     subst (λ (t : Setup × ℕ). spot_of t.0 t.1 y.seen ≡ gone x.setup (spot_of x.setup x.by x.seen) (happenings e)) (λ i. (sym a.setup i, sym a.by i))
-    (ap (λ (es : List Entry). gone x.setup at_rest (spelled es)) (own_seen x y e by a) ∙ ap (gone x.setup at_rest) (spelled_snoc (own x.by x.seen) e) ∙ gone-append x.setup at_rest (spelled (own x.by x.seen)) (happenings e))
+    (ap (λ (es : List TakenStep). gone x.setup at_rest (spelled es)) (own_seen x y e by a) ∙ ap (gone x.setup at_rest) (spelled_snoc (own x.by x.seen) e) ∙ gone-append x.setup at_rest (spelled (own x.by x.seen)) (happenings e))
 
 -- where the step leads, there the process is after it
 pub spot_moves : (x y : Pass) (kind : Kind) (word : Word) (value : ℕ) → Advances x kind word value y → spot_now y ≡ unwrap_or (moved_spot x kind word value) (spot_now x)
@@ -88,7 +88,7 @@ adds_of x step value l y d table setup by seen = record {
   between = d.between;
   seen = seen ∙ d.seen;
   apart = d.apart x.by (has_one x.by);
-  run = subst (λ (t : Setup × List Entry). IsRun t.0 t.1) (λ i. ((d.setup ∙ sym setup) i, sym seen i)) d.run;
+  run = subst (λ (t : Setup × List TakenStep). IsRun t.0 t.1) (λ i. ((d.setup ∙ sym setup) i, sym seen i)) d.run;
 }
 
 pub looks_of : (x : Pass) (k : Known) (word : Word) (value : ℕ) (l : Known) (y : Pass) → k ≡ alone x.setup x.by x.seen → Did (glanced word) k value l → y ≡ record { table = x.table; setup = x.setup; by = x.by; fallen = x.fallen; start = x.start; seen = l.view.seen } → Looks x word value y

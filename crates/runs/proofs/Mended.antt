@@ -23,7 +23,7 @@ use Rattle.rmeworld.specs.declared.call.Call.{Call}
 use Rattle.rmeworld.specs.declared.call.Call.TheVariants.{Append, Close, Consistent}
 use Rattle.rmeworld.specs.declared.why.Why.TheVariants.{Mending, Working}
 use Rattle.runs.specs.declared.setup.Setup.{Setup}
-use Rattle.runs.specs.declared.entry.Entry.{Entry}
+use Rattle.runs.specs.declared.entry.TakenStep.{TakenStep}
 use Rattle.runs.specs.Runs.{before, crash_first, spelled, gone, spot_of}
 use Rattle.runs.specs.Pass.{Pass, Calls, spot_now}
 use Rattle.runs.specs.Running.{Seated}
@@ -157,21 +157,21 @@ mending_is Inside b (Doing Mending left) h = h
 mending_is _ b _ h = absurd h
 
 -- the own steps of a call, from its start
-abbrev Stepped : Pass → Call → List Entry → Spot → Type 0
+abbrev Stepped : Pass → Call → List TakenStep → Spot → Type 0
 Stepped x call mine t =
     (ms : List Happening) × OwnMoves x.by ms × (answers_in x.setup.layout x.setup.limit (next_or_same x.setup.layout x.setup.limit (spot_begun x) (Begins x.by call)) ms ≡ answers_of x mine)
     × (t ≡ gone x.setup (next_or_same x.setup.layout x.setup.limit (spot_begun x) (Begins x.by call)) ms)
 
-stepped : (x y : Pass) (call : Call) (mine : List Entry) → Calls x mine y → FirstCrash x.fallen mine → FirstStart call mine → AreMoves mine → Stepped x call mine (spot_of y.setup y.by y.seen)
+stepped : (x y : Pass) (call : Call) (mine : List TakenStep) → Calls x mine y → FirstCrash x.fallen mine → FirstStart call mine → AreMoves mine → Stepped x call mine (spot_of y.setup y.by y.seen)
 stepped x y call [] calls crash started moved = absurd started
 stepped x y call (e ∷ es) calls crash started moved =
     let s : Setup = x.setup in
     let p : ℕ = x.by in
     let q : Spot = spot_of s p x.seen in
-    let by = subst (All (λ (e : Entry). e.by ≡ p)) calls.mine_are (own_are p calls.since) in
-    let mine : e.by ≡ p = All-head (λ (e : Entry). e.by ≡ p) e es by in
-    let move : is_glance e.step.kind ≡ false = All-head (λ (e : Entry). is_glance e.step.kind ≡ false) e es moved in
-    let plain : ArePlain p es = plain_all p es (All-tail (λ (e : Entry). e.by ≡ p) e es by) crash.1 started.1 (All-tail (λ (e : Entry). is_glance e.step.kind ≡ false) e es moved) in
+    let by = subst (All (λ (e : TakenStep). e.by ≡ p)) calls.mine_are (own_are p calls.since) in
+    let mine : e.by ≡ p = All-head (λ (e : TakenStep). e.by ≡ p) e es by in
+    let move : is_glance e.step.kind ≡ false = All-head (λ (e : TakenStep). is_glance e.step.kind ≡ false) e es moved in
+    let plain : ArePlain p es = plain_all p es (All-tail (λ (e : TakenStep). e.by ≡ p) e es by) crash.1 started.1 (All-tail (λ (e : TakenStep). is_glance e.step.kind ≡ false) e es moved) in
     let ms : List Happening = steps_of p (e ∷ es) in
     let first = taken_own p e mine move in
     let later = spelled_plain p es plain in
@@ -190,7 +190,7 @@ begins_here x none = ap (λ (o : Option Call). gone x.setup (spot_of x.setup x.b
 alive_spot : (y : Pass) → y.fallen ≡ false → spot_begun y ≡ spot_of y.setup y.by y.seen
 alive_spot y alive = ap (λ (b : Bool). gone y.setup (spot_of y.setup y.by y.seen) (crash_first b y.by)) alive
 
-module _ (x y : Seated) (call : Call) (a : Answer) (blocked : ℕ) (mine : List Entry) (idle : x.pass.start ≡ None) (r : Served x call (a ∷ []) blocked y mine) where
+module _ (x y : Seated) (call : Call) (a : Answer) (blocked : ℕ) (mine : List TakenStep) (idle : x.pass.start ≡ None) (r : Served x call (a ∷ []) blocked y mine) where
   walked : Stepped x.pass call mine (spot_of y.pass.setup y.pass.by y.pass.seen)
   walked = stepped x.pass y.pass call mine r.calls r.crash r.first r.moves
 

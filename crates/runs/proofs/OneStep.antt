@@ -30,7 +30,7 @@ use Rattle.rmeworld.specs.Spot.{Errand, Free, Doing, Spot, at_rest, Happening, B
 use Rattle.rmeworld.specs.World.{Scene, at_first, Story, onward, reading, own_happenings}
 use Rattle.rmeworld.specs.CallWalk.{and_answer}
 use Rattle.runs.specs.declared.setup.Setup.{Setup}
-use Rattle.runs.specs.declared.entry.Entry.{Entry}
+use Rattle.runs.specs.declared.entry.TakenStep.{TakenStep}
 use Rattle.runs.specs.Runs.{before, taken, happenings, spelled, own, IsRun, end_of, gone, spot_of, Goes, stores}
 use Rattle.runs.specs.Pass.{Pass, spot_now, Calls}
 use Rattle.runs.specs.Running.{Seated, began}
@@ -62,7 +62,7 @@ module _ (s : Setup) where
           let here : u.spots p ≡ w.spots p = put_other w.spots (who h) _ p (λ e. eqb-false (who h) p is (sym e)) in
           rw is (subst (λ (x : Spot). Goes s x (own_happenings p hs)) here later)
 
-  pub run_goes : (es : List Entry) (p : ℕ) → IsRun s es → Goes s at_rest (spelled (own p es))
+  pub run_goes : (es : List TakenStep) (p : ℕ) → IsRun s es → Goes s at_rest (spelled (own p es))
   run_goes es p run = subst (Goes s at_rest) (own_spelled p es) (own_goes at_first (spelled es) p run)
 
   pub goes_front : (spot : Spot) (xs ys : List Happening) → Goes s spot (xs ++ ys) → Goes s spot xs
@@ -74,11 +74,11 @@ module _ (s : Setup) where
   goes_back spot (x ∷ xs) ys g = goes_back (unwrap_or (next_spot s.layout s.limit spot x) spot) xs ys g.1
 
   -- the step of an entry that comes next
-  entry_goes : (spot : Spot) (e : Entry) (es : List Entry) → Goes s spot (spelled (e ∷ es)) → IsSome (next_spot s.layout s.limit (spot_before s spot e) (taken e.by e.step.kind e.step.word e.value))
+  entry_goes : (spot : Spot) (e : TakenStep) (es : List TakenStep) → Goes s spot (spelled (e ∷ es)) → IsSome (next_spot s.layout s.limit (spot_before s spot e) (taken e.by e.step.kind e.step.word e.value))
   entry_goes spot e es g =
       (goes_back spot (before e.step.crashed e.step.start e.by) (taken e.by e.step.kind e.step.word e.value ∷ []) (goes_front spot (happenings e) (spelled es) g)).0
 
-own_by : (p : ℕ) (es : List Entry) (e : Entry) (rest : List Entry) → own p es ≡ e ∷ rest → e.by ≡ p
+own_by : (p : ℕ) (es : List TakenStep) (e : TakenStep) (rest : List TakenStep) → own p es ≡ e ∷ rest → e.by ≡ p
 own_by p [] e rest h = absurd (cc)
 own_by p (x ∷ xs) e rest h = go (λ later. own_by p xs e rest later) (x.by == p) refl
   where
@@ -87,7 +87,7 @@ own_by p (x ∷ xs) e rest h = go (λ later. own_by p xs e rest later) (x.by == 
         let there : own p (x ∷ xs) ≡ x ∷ own p xs = rw is refl in
         let all : x ∷ own p xs ≡ e ∷ rest = sym there ∙ h in
         let same : x ≡ e = cc in
-        ap (λ (y : Entry). y.by) (sym same) ∙ eqb-true x.by p is
+        ap (λ (y : TakenStep). y.by) (sym same) ∙ eqb-true x.by p is
     go later false is =
         let there : own p (x ∷ xs) ≡ own p xs = rw is refl in
         later (sym there ∙ h)
@@ -108,13 +108,13 @@ no_more l limit p b kind word v some move = still_inside l.procs limit p kind wo
     some_place (Some t) h = refl
 
 -- the entry of such a call
-pub record Single (x : Pass) (start : Spot) (answers : List Answer) (y : Pass) (mine : List Entry) : Type 0 where
-  pub entry : Entry
+pub record Single (x : Pass) (start : Spot) (answers : List Answer) (y : Pass) (mine : List TakenStep) : Type 0 where
+  pub entry : TakenStep
   pub is : mine ≡ entry ∷ []
   pub by : entry.by ≡ x.by
   pub step : IsSome (next_spot x.setup.layout x.setup.limit start (Moves x.by entry.step.kind entry.step.word entry.value))
   pub answered : and_answer (answer_at start entry.step.kind entry.value) [] ≡ answers
-  pub front : List Entry
+  pub front : List TakenStep
   pub ends : y.seen ≡ front ++ entry ∷ []
 
 -- from this spot each step ends inside with no call under way
@@ -132,15 +132,15 @@ module _ (x : Pass) (call : Call) (start : Spot) (b : Bool) (none : x.start ≡ 
   abbrev with_call : Pass
   with_call = record x { start = Some call }
 
-  starts_at : (e : Entry) → e.by ≡ x.by → e.step.crashed ≡ x.fallen → e.step.start ≡ Some call → spot_before s first e ≡ start
+  starts_at : (e : TakenStep) → e.by ≡ x.by → e.step.crashed ≡ x.fallen → e.step.start ≡ Some call → spot_before s first e ≡ start
   starts_at e by crashed started =
       ap (λ (t : Bool × Option Call × ℕ). gone s first (before t.0 t.1 t.2)) (λ i. (crashed i, started i, by i)) ∙ spot_begun x call none ∙ ap (λ (o : Option Spot). unwrap_or o (spot_now x)) begins
 
-  module _ (y : Pass) (e : Entry) (rest : List Entry) (c : Calls with_call (e ∷ rest) y) (crash : FirstCrash x.fallen (e ∷ rest)) (starts : FirstStart call (e ∷ rest)) (moves : AreMoves (e ∷ rest)) where
+  module _ (y : Pass) (e : TakenStep) (rest : List TakenStep) (c : Calls with_call (e ∷ rest) y) (crash : FirstCrash x.fallen (e ∷ rest)) (starts : FirstStart call (e ∷ rest)) (moves : AreMoves (e ∷ rest)) where
     allowed : Goes s first (spelled (e ∷ rest))
     allowed =
         let run : IsRun s y.seen = subst (λ (t : Setup). IsRun t y.seen) c.setup c.run in
-        let all : own x.by y.seen ≡ own x.by x.seen ++ e ∷ rest = ap (own x.by) c.seen ∙ own-append x.by x.seen c.since ∙ ap (λ (es : List Entry). own x.by x.seen ++ es) c.mine_are in
+        let all : own x.by y.seen ≡ own x.by x.seen ++ e ∷ rest = ap (own x.by) c.seen ∙ own-append x.by x.seen c.since ∙ ap (λ (es : List TakenStep). own x.by x.seen ++ es) c.mine_are in
         goes_back s at_rest (spelled (own x.by x.seen)) (spelled (e ∷ rest)) (subst (Goes s at_rest) (ap spelled all ∙ spelled-append (own x.by x.seen) (e ∷ rest)) (run_goes s y.seen x.by run))
 
     by : e.by ≡ x.by
@@ -150,7 +150,7 @@ module _ (x : Pass) (call : Call) (start : Spot) (b : Bool) (none : x.start ≡ 
     at = starts_at e by crash.0 starts.0
 
     is_step : (spot_before s first e ≡ start) × (taken e.by e.step.kind e.step.word e.value ≡ Moves x.by e.step.kind e.step.word e.value)
-    is_step = (at, taken_moves e.by e.step.kind e.step.word e.value (All-head (λ (f : Entry). is_glance f.step.kind ≡ false) e rest moves) ∙ ap (λ (q : ℕ). Moves q e.step.kind e.step.word e.value) by)
+    is_step = (at, taken_moves e.by e.step.kind e.step.word e.value (All-head (λ (f : TakenStep). is_glance f.step.kind ≡ false) e rest moves) ∙ ap (λ (q : ℕ). Moves q e.step.kind e.step.word e.value) by)
 
     some : IsSome (next_spot s.layout s.limit start (Moves x.by e.step.kind e.step.word e.value))
     some = subst (λ (t : Spot × Happening). IsSome (next_spot s.layout s.limit t.0 t.1)) (λ i. (is_step.0 i, is_step.1 i)) (entry_goes s first e rest allowed)
@@ -161,22 +161,22 @@ module _ (x : Pass) (call : Call) (start : Spot) (b : Bool) (none : x.start ≡ 
         gone-append s first (before e.step.crashed e.step.start e.by) (taken e.by e.step.kind e.step.word e.value ∷ [])
         ∙ ap (λ (t : Spot × Happening). unwrap_or (next_spot s.layout s.limit t.0 t.1) t.0) (λ i. (is_step.0 i, is_step.1 i)) ∙ ends e.step.kind e.step.word e.value some
 
-    second : (f : Entry) (more : List Entry) → rest ≡ f ∷ more → ⊥
+    second : (f : TakenStep) (more : List TakenStep) → rest ≡ f ∷ more → ⊥
     second f more are =
-        let crashes : All (λ (g : Entry). g.step.crashed ≡ false) (f ∷ more) = subst (All (λ (g : Entry). g.step.crashed ≡ false)) are crash.1 in
-        let calls : All (λ (g : Entry). g.step.start ≡ None) (f ∷ more) = subst (All (λ (g : Entry). g.step.start ≡ None)) are starts.1 in
-        let all_move : AreMoves (f ∷ more) = subst AreMoves are (All-tail (λ (g : Entry). is_glance g.step.kind ≡ false) e rest moves) in
-        let crashed : f.step.crashed ≡ false = All-head (λ (g : Entry). g.step.crashed ≡ false) f more crashes in
-        let none_started : f.step.start ≡ None = All-head (λ (g : Entry). g.step.start ≡ None) f more calls in
-        let move : is_glance f.step.kind ≡ false = All-head (λ (g : Entry). is_glance g.step.kind ≡ false) f more all_move in
-        let later : Goes s (gone s first (happenings e)) (spelled (f ∷ more)) = subst (λ (es : List Entry). Goes s (gone s first (happenings e)) (spelled es)) are (goes_back s first (happenings e) (spelled rest) allowed) in
+        let crashes : All (λ (g : TakenStep). g.step.crashed ≡ false) (f ∷ more) = subst (All (λ (g : TakenStep). g.step.crashed ≡ false)) are crash.1 in
+        let calls : All (λ (g : TakenStep). g.step.start ≡ None) (f ∷ more) = subst (All (λ (g : TakenStep). g.step.start ≡ None)) are starts.1 in
+        let all_move : AreMoves (f ∷ more) = subst AreMoves are (All-tail (λ (g : TakenStep). is_glance g.step.kind ≡ false) e rest moves) in
+        let crashed : f.step.crashed ≡ false = All-head (λ (g : TakenStep). g.step.crashed ≡ false) f more crashes in
+        let none_started : f.step.start ≡ None = All-head (λ (g : TakenStep). g.step.start ≡ None) f more calls in
+        let move : is_glance f.step.kind ≡ false = All-head (λ (g : TakenStep). is_glance g.step.kind ≡ false) f more all_move in
+        let later : Goes s (gone s first (happenings e)) (spelled (f ∷ more)) = subst (λ (es : List TakenStep). Goes s (gone s first (happenings e)) (spelled es)) are (goes_back s first (happenings e) (spelled rest) allowed) in
         let next : IsSome (next_spot s.layout s.limit (spot_before s (inside_free b) f) (taken f.by f.step.kind f.step.word f.value)) = entry_goes s (inside_free b) f more (subst (λ (q : Spot). Goes s q (spelled (f ∷ more))) after later) in
         let here : spot_before s (inside_free b) f ≡ inside_free b = ap (λ (t : Bool × Option Call). gone s (inside_free b) (before t.0 t.1 f.by)) (λ i. (crashed i, none_started i)) in
         let step : IsSome (next_spot s.layout s.limit (inside_free b) (Moves f.by f.step.kind f.step.word f.value)) = subst (λ (t : Spot × Happening). IsSome (next_spot s.layout s.limit t.0 t.1)) (λ i. (here i, taken_moves f.by f.step.kind f.step.word f.value move i)) next in
         no_more s.layout s.limit f.by b f.step.kind f.step.word f.value step move
 
   -- the call has this one step
-  pub single : (y : Pass) (mine : List Entry) (answers : List Answer) → Calls with_call mine y → FirstCrash x.fallen mine → FirstStart call mine → AreMoves mine → answers_of with_call mine ≡ answers → Single x start answers y mine
+  pub single : (y : Pass) (mine : List TakenStep) (answers : List Answer) → Calls with_call mine y → FirstCrash x.fallen mine → FirstStart call mine → AreMoves mine → answers_of with_call mine ≡ answers → Single x start answers y mine
   single y [] answers c crash starts moves told = absurd starts
   single y (e ∷ f ∷ more) answers c crash starts moves told = absurd (second y e (f ∷ more) c crash starts moves f more refl)
   single y (e ∷ []) answers c crash starts moves told =
@@ -256,7 +256,7 @@ put_step l limit p b i x Puts (DataAt j) v some = go ((j == board_at l i) && (v 
 put_step l limit p b i x _ _ v some = absurd (cc)
 
 -- what a get answers is what the run has put there last
-pub got : (x y : Seated) (i v : ℕ) (mine : List Entry) → x.pass.start ≡ None → refusal_now x (Get i) ≡ None → Served (began x (Get i)) (Get i) (Mail (reply.Word v) ∷ []) 0 y mine → v ≡ value_or (last_put x.pass.setup i y.pass.seen) 0
+pub got : (x y : Seated) (i v : ℕ) (mine : List TakenStep) → x.pass.start ≡ None → refusal_now x (Get i) ≡ None → Served (began x (Get i)) (Get i) (Mail (reply.Word v) ∷ []) 0 y mine → v ≡ value_or (last_put x.pass.setup i y.pass.seen) 0
 got x y i v mine none accepted r =
     let p = x.pass in
     let q = spot_now p in
@@ -268,15 +268,15 @@ got x y i v mine none accepted r =
     let k = get_step s.layout s.limit p.by q.mended i e.step.kind e.step.word e.value one.step in
     let same : e.value ≡ v = (let all : Mail (reply.Word e.value) ∷ [] ≡ Mail (reply.Word v) ∷ [] = one.answered in cc) in
     let loads : stores e ≡ false = ap is_store k.0 in
-    let run : IsRun s (one.front ++ e ∷ []) = subst (λ (t : Setup × List Entry). IsRun t.0 t.1) (λ i. (r.calls.setup i, one.ends i)) r.calls.run in
+    let run : IsRun s (one.front ++ e ∷ []) = subst (λ (t : Setup × List TakenStep). IsRun t.0 t.1) (λ i. (r.calls.setup i, one.ends i)) r.calls.run in
     let read : (end_of s one.front).cells (board_at s.layout i) ≡ e.value = ap (reading (end_of s one.front)) (sym k.1) ∙ last_reads s one.front e run loads in
     let none_put : (if puts s i e then Some e else None) ≡ None = ap (λ (b : Bool). if b && is_data (board_at s.layout i) e.step.word then Some e else None) loads in
-    let here : last_put s i y.pass.seen ≡ last_put s i one.front = ap (last_put s i) one.ends ∙ last-append s i one.front (e ∷ []) ∙ ap (λ (o : Option Entry). or_earlier o (last_put s i one.front)) none_put in
-    sym same ∙ sym read ∙ board_holds s i g.1 one.front ∙ ap (λ (o : Option Entry). value_or o 0) (sym here)
+    let here : last_put s i y.pass.seen ≡ last_put s i one.front = ap (last_put s i) one.ends ∙ last-append s i one.front (e ∷ []) ∙ ap (λ (o : Option TakenStep). or_earlier o (last_put s i one.front)) none_put in
+    sym same ∙ sym read ∙ board_holds s i g.1 one.front ∙ ap (λ (o : Option TakenStep). value_or o 0) (sym here)
 
 -- what was put is the run's last put there, and the caller's own
-pub has_put : (x y : Seated) (i v : ℕ) (reply : Reply) (mine : List Entry) → x.pass.start ≡ None → refusal_now x (Put i v) ≡ None → Served (began x (Put i v)) (Put i v) (Mail reply ∷ []) 0 y mine
-    → (e : Entry) × (last_put x.pass.setup i y.pass.seen ≡ Some e) × (e.by ≡ x.pass.by) × (e.value ≡ v)
+pub has_put : (x y : Seated) (i v : ℕ) (reply : Reply) (mine : List TakenStep) → x.pass.start ≡ None → refusal_now x (Put i v) ≡ None → Served (began x (Put i v)) (Put i v) (Mail reply ∷ []) 0 y mine
+    → (e : TakenStep) × (last_put x.pass.setup i y.pass.seen ≡ Some e) × (e.by ≡ x.pass.by) × (e.value ≡ v)
 has_put x y i v reply mine none accepted r =
     let p = x.pass in
     let q = spot_now p in
@@ -288,5 +288,5 @@ has_put x y i v reply mine none accepted r =
     let k = put_step s.layout s.limit p.by q.mended i v e.step.kind e.step.word e.value one.step in
     let is : puts s i e ≡ true = (λ j. is_store (k.0 j) && is_data (board_at s.layout i) (k.1 j)) ∙ eq-eqb (board_at s.layout i) (board_at s.layout i) refl in
     let one_put : (if puts s i e then Some e else None) ≡ Some e = ap (λ (b : Bool). if b then Some e else None) is in
-    let here : last_put s i y.pass.seen ≡ Some e = ap (last_put s i) one.ends ∙ last-append s i one.front (e ∷ []) ∙ ap (λ (o : Option Entry). or_earlier o (last_put s i one.front)) one_put in
+    let here : last_put s i y.pass.seen ≡ Some e = ap (last_put s i) one.ends ∙ last-append s i one.front (e ∷ []) ∙ ap (λ (o : Option TakenStep). or_earlier o (last_put s i one.front)) one_put in
     (e, here, one.by, k.2)

@@ -8,7 +8,7 @@ use Rattle.rmeworld.specs.declared.call.Call.TheVariants.{Lock, Unlock, Consiste
 use Rattle.rmeworld.specs.Refused.{is_idle}
 use Rattle.runs.specs.declared.entry_kind.Entry.{Entry as Entering}
 use Rattle.runs.specs.declared.entry_kind.Entry.TheVariants as entering
-use Rattle.runs.specs.declared.entry.Entry.{Entry}
+use Rattle.runs.specs.declared.entry.TakenStep.{TakenStep}
 use Rattle.runs.specs.declared.lock_fault.LockFault.{LockFault}
 use Rattle.runs.specs.Calls.{starts, and_call, FirstCrash}
 use Rattle.runs.specs.Faults.{ready}
@@ -30,9 +30,9 @@ order_calls last [] more h = tt
 order_calls last (c ∷ cs) more h = (h.0, order_calls (Some c) cs more h.1)
 
 -- entries without a crash that start these calls
-started_in_order : (last : Option Call) (es : List Entry) → All (λ (f : Entry). f.step.crashed ≡ false) es → CallsInOrder last (starts es) → AreInOrder last es
+started_in_order : (last : Option Call) (es : List TakenStep) → All (λ (f : TakenStep). f.step.crashed ≡ false) es → CallsInOrder last (starts es) → AreInOrder last es
 started_in_order last [] calm h = tt
-started_in_order last (e ∷ es) calm h = go e.step.crashed e.step.start refl refl (All-head (λ (f : Entry). f.step.crashed ≡ false) e es calm) (λ last2 k. started_in_order last2 es (All-tail (λ (f : Entry). f.step.crashed ≡ false) e es calm) k)
+started_in_order last (e ∷ es) calm h = go e.step.crashed e.step.start refl refl (All-head (λ (f : TakenStep). f.step.crashed ≡ false) e es calm) (λ last2 k. started_in_order last2 es (All-tail (λ (f : TakenStep). f.step.crashed ≡ false) e es calm) k)
   where
     go : (c : Bool) (o : Option Call) → e.step.crashed ≡ c → e.step.start ≡ o → c ≡ false → ((last2 : Option Call) → CallsInOrder last2 (starts es) → AreInOrder last2 es) → AreInOrder last (e ∷ es)
     go true o is starts_is k later = absurd (cc)
@@ -51,7 +51,7 @@ may_any last c Unlock h = absurd (let k : false ≡ true = h.1 in cc)
 may_any last c _ h = absurd h
 
 -- also where a crash stands in the first of them
-pub mine_in_order : (last : Option Call) (c : Bool) (mine : List Entry) → FirstCrash c mine → ((other : Option Call) → CallsInOrder other (starts mine)) → AreInOrder last mine
+pub mine_in_order : (last : Option Call) (c : Bool) (mine : List TakenStep) → FirstCrash c mine → ((other : Option Call) → CallsInOrder other (starts mine)) → AreInOrder last mine
 mine_in_order last c [] crash any = tt
 mine_in_order last c (e ∷ es) crash any = go e.step.start refl
   where
@@ -63,21 +63,21 @@ mine_in_order last c (e ∷ es) crash any = go e.step.start refl
         let all : MayStart None false (Some call) × CallsInOrder (Some call) (starts es) = subst (λ (o : Option Call). CallsInOrder None (and_call o (starts es))) is (any None) in
         subst (λ (o : Option Call). MayStart last e.step.crashed o × AreInOrder (last_call last e.step.crashed o) es) (sym is) (may_any last e.step.crashed call all.0, started_in_order (Some call) es crash.1 all.1)
 
-order_append : (last : Option Call) (xs ys : List Entry) → AreInOrder last xs → AreInOrder (last_of last xs) ys → AreInOrder last (xs ++ ys)
+order_append : (last : Option Call) (xs ys : List TakenStep) → AreInOrder last xs → AreInOrder (last_of last xs) ys → AreInOrder last (xs ++ ys)
 order_append last [] ys h g = g
 order_append last (x ∷ xs) ys h g = (h.0, order_append (last_call last x.step.crashed x.step.start) xs ys h.1 g)
 
-pub mine_order : (last : Option Call) (xs ys : List Entry) → AreInOrder last (xs ++ ys) → AreInOrder (last_of last xs) ys
+pub mine_order : (last : Option Call) (xs ys : List TakenStep) → AreInOrder last (xs ++ ys) → AreInOrder (last_of last xs) ys
 mine_order last [] ys h = h
 mine_order last (x ∷ xs) ys h = mine_order (last_call last x.step.crashed x.step.start) xs ys h.1
 
-glances_order : (last : Option Call) (es : List Entry) → All IsGlance es → AreInOrder last es
+glances_order : (last : Option Call) (es : List TakenStep) → All IsGlance es → AreInOrder last es
 glances_order last [] h = tt
 glances_order last (e ∷ es) h =
     let it = All-head IsGlance e es h in
     subst (λ (u : Bool × Option Call). MayStart last u.0 u.1 × AreInOrder (last_call last u.0 u.1) es) (λ i. (sym (ap (λ s. s.crashed) it.1) i, sym (ap (λ s. s.start) it.1) i)) (tt, glances_order last es (All-tail IsGlance e es h))
 
-pub order_more : (p : ℕ) (es glances : List Entry) → All IsGlance glances → AreInOrder None es → AreInOrder None (es ++ glances)
+pub order_more : (p : ℕ) (es glances : List TakenStep) → All IsGlance glances → AreInOrder None es → AreInOrder None (es ++ glances)
 order_more p es glances are h = order_append None es glances h (glances_order (last_of None es) glances are)
 
 -- the calls of a whole append
@@ -106,8 +106,8 @@ module _ (seq : ℕ) (value : List ℕ) (l : Option Call) where
   within_order done (inl h) = front_order done (Lock ∷ calls_inside h.0 task) h.1 (inside_order h.0)
   within_order done (inr h) = front_order done (Lock ∷ Consistent ∷ Unlock ∷ []) h ruined_order
 
-  cut_order : (mine : List Entry) → (mine ≡ []) ⊎ IsWithin task (starts mine) → CallsInOrder l (starts mine)
-  cut_order mine (inl none) = subst (λ (es : List Entry). CallsInOrder l (starts es)) (sym none) tt
+  cut_order : (mine : List TakenStep) → (mine ≡ []) ⊎ IsWithin task (starts mine) → CallsInOrder l (starts mine)
+  cut_order mine (inl none) = subst (λ (es : List TakenStep). CallsInOrder l (starts es)) (sym none) tt
   cut_order mine (inr h) = within_order (starts mine) h
 
 either_own : (b : Bool) (x : Seated) → own_of (if b then x else fell x).pass ≡ own_of x.pass
@@ -117,12 +117,12 @@ either_own false x = refl
 abbrev pub InOrder : Seated → Type 0
 InOrder x = AreInOrder None (own_of x.pass)
 
-pub own_now : (x y : Seated) (mine : List Entry) → Calls (began (ready x) Lock).pass mine y.pass → own_of y.pass ≡ own_of x.pass ++ mine
+pub own_now : (x y : Seated) (mine : List TakenStep) → Calls (began (ready x) Lock).pass mine y.pass → own_of y.pass ≡ own_of x.pass ++ mine
 own_now x y mine c =
     let z = began (ready x) Lock in
-    ap (λ (p : ℕ). own p y.pass.seen) c.by ∙ ap (own z.pass.by) c.seen ∙ own-append z.pass.by z.pass.seen c.since ∙ ap (λ (l : List Entry). own_of z.pass ++ l) c.mine_are ∙ ap (λ (l : List Entry). l ++ mine) (either_own (is_idle (spot_now x.pass)) x)
+    ap (λ (p : ℕ). own p y.pass.seen) c.by ∙ ap (own z.pass.by) c.seen ∙ own-append z.pass.by z.pass.seen c.since ∙ ap (λ (l : List TakenStep). own_of z.pass ++ l) c.mine_are ∙ ap (λ (l : List TakenStep). l ++ mine) (either_own (is_idle (spot_now x.pass)) x)
 
-orders_calls : (x y : Seated) (c : Bool) (mine : List Entry) → Calls (began (ready x) Lock).pass mine y.pass → FirstCrash c mine → ((other : Option Call) → CallsInOrder other (starts mine)) → InOrder x → InOrder y
+orders_calls : (x y : Seated) (c : Bool) (mine : List TakenStep) → Calls (began (ready x) Lock).pass mine y.pass → FirstCrash c mine → ((other : Option Call) → CallsInOrder other (starts mine)) → InOrder x → InOrder y
 orders_calls x y c mine calls crash any old = subst (AreInOrder None) (sym (own_now x y mine calls)) (order_append None (own_of x.pass) mine old (mine_in_order (last_of None (own_of x.pass)) c mine crash any))
 
 module _ (x y : Seated) (seq : ℕ) (value : List ℕ) (a b c d : ℕ) (old : InOrder x) where

@@ -22,7 +22,7 @@ use Rattle.rmeworld.specs.declared.why.Why.{Why}
 use Rattle.rmeworld.specs.declared.why.Why.TheVariants.{Checking, Ruining, Mending, Working}
 use Rattle.rmeworld.specs.Entered.{is_entry}
 use Rattle.rmeworld.specs.Spot.{Errand, Free, Doing, Spot, Happening, Begins, dead, mended_entered, next_spot, at_lock, settled, only_spot, moved_by, inside_only, begun_from}
-use Rattle.runs.specs.declared.entry.Entry.{Entry}
+use Rattle.runs.specs.declared.entry.TakenStep.{TakenStep}
 use Rattle.runs.specs.declared.setup.Setup.{Setup}
 use Rattle.runs.specs.Ruins.{ReadsRuin, HasReadRuin, last_call, last_of, settles, MayStart, AreInOrder}
 use Rattle.runs.specs.Runs.{before, taken, happenings, spelled, gone, Goes}
@@ -205,7 +205,7 @@ module _ (s : Setup) where
       by_kind (λ (k : Kind) (e : Happening). IsSome (next_spot s.layout s.limit q e) → IsRuin k word v ⊎ StandsAt s.layout last (unwrap_or (next_spot s.layout s.limit q e) q)) p word v (λ some. inr h)
       (λ k some. moves s.layout last q.lock q.mended q.barred s.limit p q q.errand k word v h some) kind
 
-  pub entry_stands : (last : Option Call) (q : Spot) (e : Entry) → StandsAt s.layout last q → MayStart last e.step.crashed e.step.start → Goes s q (happenings e) → ReadsRuin e ⊎ StandsAt s.layout (last_call last e.step.crashed e.step.start) (gone s q (happenings e))
+  pub entry_stands : (last : Option Call) (q : Spot) (e : TakenStep) → StandsAt s.layout last q → MayStart last e.step.crashed e.step.start → Goes s q (happenings e) → ReadsRuin e ⊎ StandsAt s.layout (last_call last e.step.crashed e.step.start) (gone s q (happenings e))
   entry_stands last q e h may goes =
       let hs = before e.step.crashed e.step.start e.by in
       let x = taken e.by e.step.kind e.step.word e.value in
@@ -216,11 +216,11 @@ module _ (s : Setup) where
         | inr stands ↦ inr (subst (StandsAt s.layout (last_call last e.step.crashed e.step.start)) (sym (gone-append s q hs (x ∷ []))) stands)
       ]
 
-  pub later_ruin : (e : Entry) (es : List Entry) → HasReadRuin es → HasReadRuin (e ∷ es)
-  later_ruin e es h = record { front = e ∷ h.front; entry = h.entry; back = h.back; is = ap (λ (l : List Entry). e ∷ l) h.is; reads = h.reads }
+  pub later_ruin : (e : TakenStep) (es : List TakenStep) → HasReadRuin es → HasReadRuin (e ∷ es)
+  later_ruin e es h = record { front = e ∷ h.front; entry = h.entry; back = h.back; is = ap (λ (l : List TakenStep). e ∷ l) h.is; reads = h.reads }
 
   -- a worker's entries, from the first on
-  pub walk : (last : Option Call) (q : Spot) (es : List Entry) → StandsAt s.layout last q → AreInOrder last es → Goes s q (spelled es) → HasReadRuin es ⊎ StandsAt s.layout (last_of last es) (gone s q (spelled es))
+  pub walk : (last : Option Call) (q : Spot) (es : List TakenStep) → StandsAt s.layout last q → AreInOrder last es → Goes s q (spelled es) → HasReadRuin es ⊎ StandsAt s.layout (last_of last es) (gone s q (spelled es))
   walk last q [] h order goes = inr h
   walk last q (e ∷ es) h order goes =
       let last2 = last_call last e.step.crashed e.step.start in

@@ -20,18 +20,18 @@ use Rattle.rmeworld.specs.Spot.{Spot, at_rest, dead, Happening, Begins, Falls, M
 use Rattle.rmeworld.proofs.Holders.{story_front, story_back}
 use Rattle.rmeworld.specs.World.{Scene, at_first, Story, last_scene, onward, Reads, reading, words_after, cells_after, put_cell, own_happenings}
 use Rattle.runs.specs.declared.setup.Setup.{Setup}
-use Rattle.runs.specs.declared.entry.Entry.{Entry}
+use Rattle.runs.specs.declared.entry.TakenStep.{TakenStep}
 use Rattle.runs.specs.Rule.{count_from}
 use Rattle.runs.specs.Runs.{before, taken, happenings, spelled, own, has, IsRun, end_of, gone, spot_of, Goes, word_count, index, InTable, IsBeyond, Shows, stores}
 
-pub own-append : (p : ℕ) (xs ys : List Entry) → own p (xs ++ ys) ≡ own p xs ++ own p ys
-own-append p xs ys = filter-append (λ (e : Entry). e.by == p) xs ys
+pub own-append : (p : ℕ) (xs ys : List TakenStep) → own p (xs ++ ys) ≡ own p xs ++ own p ys
+own-append p xs ys = filter-append (λ (e : TakenStep). e.by == p) xs ys
 
 -- the entry is of p, or it isn't
-pub own_mine : (p : ℕ) (e : Entry) → e.by ≡ p → own p (e ∷ []) ≡ e ∷ []
+pub own_mine : (p : ℕ) (e : TakenStep) → e.by ≡ p → own p (e ∷ []) ≡ e ∷ []
 own_mine p e h = rw (eq-eqb e.by p h)
 
-pub own_other : (p : ℕ) (e : Entry) → e.by ≢ p → own p (e ∷ []) ≡ []
+pub own_other : (p : ℕ) (e : TakenStep) → e.by ≢ p → own p (e ∷ []) ≡ []
 own_other p e h = rw (ne_eqb e.by p h)
 
 -- counting on from j
@@ -42,11 +42,11 @@ pub above_absent : (j k n : ℕ) → j < k → has j (count_from k n) ≡ false
 above_absent j k zero h = refl
 above_absent j k (suc n) h = rw (ne_eqb k j (λ (e : k ≡ j). omega arith)) (above_absent j (suc k) n (omega arith))
 
-pub spelled-append : (xs ys : List Entry) → spelled (xs ++ ys) ≡ spelled xs ++ spelled ys
+pub spelled-append : (xs ys : List TakenStep) → spelled (xs ++ ys) ≡ spelled xs ++ spelled ys
 spelled-append [] ys = refl
 spelled-append (x ∷ xs) ys = ap (λ (l : List Happening). happenings x ++ l) (spelled-append xs ys) ∙ sym (append_assoc (happenings x) (spelled xs) (spelled ys))
 
-pub spelled_snoc : (xs : List Entry) (e : Entry) → spelled (xs ++ e ∷ []) ≡ spelled xs ++ happenings e
+pub spelled_snoc : (xs : List TakenStep) (e : TakenStep) → spelled (xs ++ e ∷ []) ≡ spelled xs ++ happenings e
 spelled_snoc xs e = spelled-append xs (e ∷ []) ∙ ap (λ (l : List Happening). spelled xs ++ l) (append-nil (happenings e))
 
 -- a step is a glance, or a move of its kind
@@ -86,7 +86,7 @@ own_all p q h e true None false is = rw (e, is) refl
 own_all p q h e true (Some call) true is = rw (e, is) refl
 own_all p q h e true (Some call) false is = rw (e, is) refl
 
-pub own_spelled : (p : ℕ) (es : List Entry) → own_happenings p (spelled es) ≡ spelled (own p es)
+pub own_spelled : (p : ℕ) (es : List TakenStep) → own_happenings p (spelled es) ≡ spelled (own p es)
 own_spelled p [] = refl
 own_spelled p (e ∷ es) =
     own_happenings-append p (happenings e) (spelled es)
@@ -118,7 +118,7 @@ module _ (s : Setup) where
           rw is (later ∙ ap (λ (spot : Spot). gone s spot (own_happenings p hs)) here)
 
 -- the first law
-pub spot_in_run : (s : Setup) (es : List Entry) (p : ℕ) → (end_of s es).spots p ≡ spot_of s p es
+pub spot_in_run : (s : Setup) (es : List TakenStep) (p : ℕ) → (end_of s es).spots p ≡ spot_of s p es
 spot_in_run s es p = spot_own s at_first (spelled es) p ∙ ap (gone s at_rest) (own_spelled p es)
 
 module _ (l : Layout) (limit : ℕ) where
@@ -165,7 +165,7 @@ reads_taken w u p word v kind e f =
     by_kind (λ kind h. (is_store kind ≡ false → reading w word ≡ v) → Reads u h) p word v (λ r. reading_same w u word e f ∙ r refl) (λ kind r loads. reading_same w u word e f ∙ r loads) kind
 
 -- the second law
-pub prolongs : (s : Setup) (es : List Entry) (e : Entry) → IsRun s es → e.by < s.layout.procs → Goes s (spot_of s e.by es) (happenings e) → (stores e ≡ false → reading (end_of s es) e.step.word ≡ e.value) → IsRun s (es ++ e ∷ [])
+pub prolongs : (s : Setup) (es : List TakenStep) (e : TakenStep) → IsRun s es → e.by < s.layout.procs → Goes s (spot_of s e.by es) (happenings e) → (stores e ≡ false → reading (end_of s es) e.step.word ≡ e.value) → IsRun s (es ++ e ∷ [])
 prolongs s es e run lt goes reads =
     subst (Story s.layout s.limit at_first) (sym (spelled_snoc es e))
     (story-append s.layout s.limit at_first (spelled es) (happenings e) run
@@ -173,10 +173,10 @@ prolongs s es e run lt goes reads =
     (λ u same cells. reads_taken (end_of s es) u e.by e.step.word e.value e.step.kind same cells reads)))
 
 -- a beginning of a run is a run
-pub legal_front : (s : Setup) (xs ys : List Entry) → IsRun s (xs ++ ys) → IsRun s xs
+pub legal_front : (s : Setup) (xs ys : List TakenStep) → IsRun s (xs ++ ys) → IsRun s xs
 legal_front s xs ys run = story_front s.layout s.limit at_first (spelled xs) (spelled ys) (subst (Story s.layout s.limit at_first) (spelled-append xs ys) run)
 
-pub legal_back : (s : Setup) (xs ys : List Entry) → IsRun s (xs ++ ys) → Story s.layout s.limit (end_of s xs) (spelled ys)
+pub legal_back : (s : Setup) (xs ys : List TakenStep) → IsRun s (xs ++ ys) → Story s.layout s.limit (end_of s xs) (spelled ys)
 legal_back s xs ys run = story_back s.layout s.limit at_first (spelled xs) (spelled ys) (subst (Story s.layout s.limit at_first) (spelled-append xs ys) run)
 
 -- what a step leaves of the words
@@ -199,13 +199,13 @@ module _ (l : Layout) (limit : ℕ) where
   cells_entry w q kind word v true None = by_kind (λ kind h. cells_after l w.cells h ≡ cells_now l w.cells kind word v) q word v refl (λ _. refl) kind
   cells_entry w q kind word v true (Some call) = by_kind (λ kind h. cells_after l w.cells h ≡ cells_now l w.cells kind word v) q word v refl (λ _. refl) kind
 
-scene_snoc : (s : Setup) (es : List Entry) (e : Entry) → end_of s (es ++ e ∷ []) ≡ last_scene s.layout s.limit (end_of s es) (happenings e)
+scene_snoc : (s : Setup) (es : List TakenStep) (e : TakenStep) → end_of s (es ++ e ∷ []) ≡ last_scene s.layout s.limit (end_of s es) (happenings e)
 scene_snoc s es e = ap (last_scene s.layout s.limit at_first) (spelled_snoc es e) ∙ scene-append s.layout s.limit at_first (spelled es) (happenings e)
 
-pub words_snoc : (s : Setup) (es : List Entry) (e : Entry) → (end_of s (es ++ e ∷ [])).words ≡ words_now (end_of s es).words e.step.kind e.step.word e.value
+pub words_snoc : (s : Setup) (es : List TakenStep) (e : TakenStep) → (end_of s (es ++ e ∷ [])).words ≡ words_now (end_of s es).words e.step.kind e.step.word e.value
 words_snoc s es e = ap (λ (w : Scene). w.words) (scene_snoc s es e) ∙ words_entry s.layout s.limit (end_of s es) e.by e.step.kind e.step.word e.value e.step.crashed e.step.start
 
-pub cells_snoc : (s : Setup) (es : List Entry) (e : Entry) → (end_of s (es ++ e ∷ [])).cells ≡ cells_now s.layout (end_of s es).cells e.step.kind e.step.word e.value
+pub cells_snoc : (s : Setup) (es : List TakenStep) (e : TakenStep) → (end_of s (es ++ e ∷ [])).cells ≡ cells_now s.layout (end_of s es).cells e.step.kind e.step.word e.value
 cells_snoc s es e = ap (λ (w : Scene). w.cells) (scene_snoc s es e) ∙ cells_entry s.layout s.limit (end_of s es) e.by e.step.kind e.step.word e.value e.step.crashed e.step.start
 
 put_keeps : (g : Own → ℕ) (words : ℕ → Own) (p : ℕ) (x : Own) (q : ℕ) → g x ≡ g (words p) → g (put words p x q) ≡ g (words q)
@@ -285,14 +285,14 @@ shows_rest s = (length-replicate (word_count s) 0, λ word t. get_or-replicate (
     zero_at (DataAt i) = refl
 
 -- a load leaves the words
-pub shows_load : (s : Setup) (es : List Entry) (e : Entry) (words : List ℕ) → stores e ≡ false → Shows s (end_of s es) words → Shows s (end_of s (es ++ e ∷ [])) words
+pub shows_load : (s : Setup) (es : List TakenStep) (e : TakenStep) (words : List ℕ) → stores e ≡ false → Shows s (end_of s es) words → Shows s (end_of s (es ++ e ∷ [])) words
 shows_load s es e words loads h =
     let same : words_now (end_of s es).words e.step.kind e.step.word e.value ≡ (end_of s es).words = rw loads refl in
     let cells : cells_now s.layout (end_of s es).cells e.step.kind e.step.word e.value ≡ (end_of s es).cells = rw loads refl in
     (h.0, λ word t. h.1 word t ∙ sym (reading_same (end_of s es) (end_of s (es ++ e ∷ [])) word (words_snoc s es e ∙ same) (cells_snoc s es e ∙ cells)))
 
 -- a store changes just its word
-pub shows_store : (s : Setup) (es : List Entry) (e : Entry) (words : List ℕ) → stores e ≡ true → InTable s e.step.word → Shows s (end_of s es) words → Shows s (end_of s (es ++ e ∷ [])) (set words (index s e.step.word) e.value)
+pub shows_store : (s : Setup) (es : List TakenStep) (e : TakenStep) (words : List ℕ) → stores e ≡ true → InTable s e.step.word → Shows s (end_of s es) words → Shows s (end_of s (es ++ e ∷ [])) (set words (index s e.step.word) e.value)
 shows_store s es e words is t h =
     let a = e.step.word in
     let v = e.value in
@@ -338,14 +338,14 @@ beyond_zero s (x ∷ xs) w i h z = beyond_zero s xs (onward s.layout s.limit w x
     after_one (Moves p kind word v) = by (is_store kind) word v
     after_one (Glances p word v) = z
 
-pub reads_beyond : (s : Setup) (es : List Entry) (word : Word) → IsBeyond s word → reading (end_of s es) word ≡ 0
+pub reads_beyond : (s : Setup) (es : List TakenStep) (word : Word) → IsBeyond s word → reading (end_of s es) word ≡ 0
 reads_beyond s es (DataAt i) h = beyond_zero s (spelled es) at_first i h refl
 reads_beyond s es (ChoosingOf p) h = absurd h
 reads_beyond s es (NumberOf p) h = absurd h
 reads_beyond s es (InsideOf p) h = absurd h
 
 -- a step there leaves the words
-pub shows_beyond : (s : Setup) (es : List Entry) (e : Entry) (words : List ℕ) → IsBeyond s e.step.word → Shows s (end_of s es) words → Shows s (end_of s (es ++ e ∷ [])) words
+pub shows_beyond : (s : Setup) (es : List TakenStep) (e : TakenStep) (words : List ℕ) → IsBeyond s e.step.word → Shows s (end_of s es) words → Shows s (end_of s (es ++ e ∷ [])) words
 shows_beyond s es e words t h = by (is_store e.step.kind) refl
   where
     same_words : (word : Word) → IsBeyond s word → (ws : ℕ → Own) (v : ℕ) → write ws word v ≡ ws
@@ -378,7 +378,7 @@ last_entry l limit w q kind word v true None run loads = sym (reading_same w (on
 last_entry l limit w q kind word v true (Some call) run loads =
     sym (reading_same w (onward l limit (onward l limit w (Falls q)) (Begins q call)) word refl refl) ∙ move_read (onward l limit (onward l limit w (Falls q)) (Begins q call)) q word v kind run.1.1.0.2 loads
 
-pub last_reads : (s : Setup) (es : List Entry) (e : Entry) → IsRun s (es ++ e ∷ []) → stores e ≡ false → reading (end_of s es) e.step.word ≡ e.value
+pub last_reads : (s : Setup) (es : List TakenStep) (e : TakenStep) → IsRun s (es ++ e ∷ []) → stores e ≡ false → reading (end_of s es) e.step.word ≡ e.value
 last_reads s es e run loads = last_entry s.layout s.limit (end_of s es) e.by e.step.kind e.step.word e.value e.step.crashed e.step.start (legal_back s es (e ∷ []) run) loads
 
 first_within : (l : Layout) (limit : ℕ) (w : Scene) (q : ℕ) (h : Happening) → who h ≡ q → (c : Bool) (o : Option Call) (rest : List Happening) → Story l limit w ((before c o q ++ h ∷ []) ++ rest) → q < l.procs
@@ -388,11 +388,11 @@ first_within l limit w q h e true None rest run = run.0.0
 first_within l limit w q h e true (Some call) rest run = run.0.0
 
 -- each entry of a run is of one of its processes
-pub run_within : (s : Setup) (xs es : List Entry) → IsRun s (xs ++ es) → ((p : ℕ) → p < s.layout.procs → own p es ≡ []) → es ≡ []
+pub run_within : (s : Setup) (xs es : List TakenStep) → IsRun s (xs ++ es) → ((p : ℕ) → p < s.layout.procs → own p es ≡ []) → es ≡ []
 run_within s xs [] run h = refl
 run_within s xs (e ∷ es) run h =
     let low : e.by < s.layout.procs = first_within s.layout s.limit (end_of s xs) e.by (taken e.by e.step.kind e.step.word e.value) (who_taken e.by e.step.kind e.step.word e.value) e.step.crashed e.step.start (spelled es) (legal_back s xs (e ∷ es) run) in
     absurd (let k = sym (mine e es) ∙ h e.by low in cc)
   where
-    mine : (e : Entry) (es : List Entry) → own e.by (e ∷ es) ≡ e ∷ own e.by es
+    mine : (e : TakenStep) (es : List TakenStep) → own e.by (e ∷ es) ≡ e ∷ own e.by es
     mine e es = rw (eq-eqb e.by e.by refl)

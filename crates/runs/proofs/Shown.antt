@@ -16,11 +16,11 @@ use Rattle.judge.specs.Table.{State, empty, after}
 use Rattle.judge.proofs.Halves.{state_led}
 use Rattle.rmeworld.specs.World.{at_first, deeds}
 use Rattle.rmeworld.proofs.LawfulNow.{Someone, Nobody, find_in}
-use Rattle.rmeworld.proofs.Reaching.{Arrived, reached_arrives, all_after-append}
+use Rattle.rmeworld.proofs.Reaching.{Arrived, origin, arrives, all_after-append}
 use Rattle.rmeworld.proofs.Stories.{before_is, goes_on}
 use Rattle.rmeworld.proofs.Replies.{deeds-append}
 use Rattle.runs.specs.declared.setup.Setup.{Setup}
-use Rattle.runs.specs.declared.entry.Entry.{Entry}
+use Rattle.runs.specs.declared.entry.TakenStep.{TakenStep}
 use Rattle.runs.specs.Runs.{spelled, IsRun, end_of}
 use Rattle.runs.specs.Headline.{deeds_of, shown_by}
 use Rattle.runs.specs.Reading.{cells_of, AreShown, RunsShow, EntriesStandInRuns}
@@ -42,7 +42,7 @@ all_shown s (d ∷ ds) =
     (first.0 ++ rest.0, rest.1 ∙ (ap (λ xs. xs ++ rest.0) first.1 ∙ append_assoc s.mail.shown first.0 rest.0))
 
 -- nor do the later entries of a run
-pub shown_on : (s : Setup) (es later : List Entry) → (more : List Message) × (shown_by s (es ++ later) ≡ shown_by s es ++ more)
+pub shown_on : (s : Setup) (es later : List TakenStep) → (more : List Message) × (shown_by s (es ++ later) ≡ shown_by s es ++ more)
 shown_on s es later =
     let start : State = empty s.layout.procs s.layout.cap in
     let first = deeds_of s es in
@@ -55,15 +55,16 @@ module _ (s : Setup) (layout : IsLayout s.layout) where
   abbrev l : Layout
   l = s.layout
 
-  abbrev Came : List Entry → Type 0
+  abbrev Came : List TakenStep → Type 0
   Came es = Arrived l s.limit (empty l.procs l.cap) (end_of s es) (deeds l s.limit at_first (spelled es))
 
-  came : (es : List Entry) → IsRun s es → Came es
+  came : (es : List TakenStep) → IsRun s es → Came es
   came es run =
-      reached_arrives layout (record { first = at_first; state = empty l.procs l.cap; origin = inl (refl, refl); story = spelled es; told = run; last = refl; done = refl })
+      let new : State = empty l.procs l.cap in
+      arrives l s.limit at_first new (spelled es) layout (origin l s.limit at_first new layout (inl (refl, refl))) run
 
   -- only one is in
-  only : (es : List Entry) (a : Came es) (p : ℕ) → p < l.procs → IsIn (a.now.lock.phase p) → (r : ℕ) → r < l.procs → IsIn (a.now.lock.phase r) → r ≡ p
+  only : (es : List TakenStep) (a : Came es) (p : ℕ) → p < l.procs → IsIn (a.now.lock.phase p) → (r : ℕ) → r < l.procs → IsIn (a.now.lock.phase r) → r ≡ p
   only es a p below i r low j =
       elim (cases_eq r p) [
         | inl same ↦ same
@@ -76,21 +77,21 @@ module _ (s : Setup) (layout : IsLayout s.layout) where
             absurd (omega arith))
       ]
 
-  shaped : (es : List Entry) (a : Came es) → (p : ℕ) × Shape l p (cells_of s es) a.now.mail
+  shaped : (es : List TakenStep) (a : Came es) → (p : ℕ) × Shape l p (cells_of s es) a.now.mail
   shaped es a = by (find_in l.procs a.now.lock.phase)
     where
       by : Someone l.procs a.now.lock.phase ⊎ Nobody l.procs a.now.lock.phase → (p : ℕ) × Shape l p (cells_of s es) a.now.mail
       by (inl h) = (h.0, a.sits.shape h.0 (only es a h.0 h.1 h.2))
       by (inr h) = (0, a.sits.shape 0 (λ r below i. absurd (h r below i)))
 
-  shown_is : (es : List Entry) (a : Came es) → a.now.mail.shown ≡ entries l (cells_of s es) (cells_of s es 2)
+  shown_is : (es : List TakenStep) (a : Came es) → a.now.mail.shown ≡ entries l (cells_of s es) (cells_of s es 2)
   shown_is es a = (shaped es a).1.shown
 
-  shows : (es : List Entry) → IsRun s es → AreShown s es (entries l (cells_of s es) (cells_of s es 2)) × (cells_of s es 2 ≤ l.cap)
+  shows : (es : List TakenStep) → IsRun s es → AreShown s es (entries l (cells_of s es) (cells_of s es 2)) × (cells_of s es 2 ≤ l.cap)
   shows es run = let a = came es run in ((a.now, a.leads, shown_is es a), (shaped es a).1.room)
 
   -- from a point of a run to a later one
-  grown : (es later : List Entry) (a : Came es) (b : Came (es ++ later)) → (more : List Message) × (b.now.mail.shown ≡ a.now.mail.shown ++ more)
+  grown : (es later : List TakenStep) (a : Came es) (b : Came (es ++ later)) → (more : List Message) × (b.now.mail.shown ≡ a.now.mail.shown ++ more)
   grown es later a b =
       let start : State = empty l.procs l.cap in
       let first : List Deed = deeds l s.limit at_first (spelled es) in
@@ -100,7 +101,7 @@ module _ (s : Setup) (layout : IsLayout s.layout) where
       let rest = all_shown a.now then in
       (rest.0, ap (λ (t : State). t.mail.shown) (state_led a.now b.now then leads) ∙ rest.1)
 
-  stands : (es later : List Entry) → IsRun s (es ++ later) → (cells_of s es 2 ≤ cells_of s (es ++ later) 2) × ((a : ℕ) → a < cells_of s es 2 → entry l (cells_of s (es ++ later)) a ≡ entry l (cells_of s es) a)
+  stands : (es later : List TakenStep) → IsRun s (es ++ later) → (cells_of s es 2 ≤ cells_of s (es ++ later) 2) × ((a : ℕ) → a < cells_of s es 2 → entry l (cells_of s (es ++ later)) a ≡ entry l (cells_of s es) a)
   stands es later run =
       let a = came es (legal_front s es later run) in
       let b = came (es ++ later) run in

@@ -10,7 +10,7 @@ use Rattle.rmeworld.specs.declared.answer.Answer.{Answer}
 use Rattle.rmeworld.specs.declared.call.Call.{Call}
 use Rattle.rmeworld.proofs.CallWalks.{calls_take_their_steps}
 use Rattle.runs.specs.declared.setup.Setup.{Setup}
-use Rattle.runs.specs.declared.entry.Entry.{Entry}
+use Rattle.runs.specs.declared.entry.TakenStep.{TakenStep}
 use Rattle.runs.specs.Runs.{before, crash_first, taken, happenings, spelled, own, IsRun, end_of, gone, spot_of}
 use Rattle.runs.specs.Pass.{Pass, Calls}
 use Rattle.runs.specs.Calls.{spot_before, answers_from, blocked_from, answers_of, blocked_of, FirstStart, FirstCrash, AreMoves}
@@ -21,46 +21,46 @@ use Rattle.runs.proofs.Running.{taken_moves}
 use Rattle.runs.proofs.Walked.{OwnMoves, StartsAt, starts_calm, starts_fallen}
 
 -- entries of p as its steps
-abbrev pub steps_of : ℕ → List Entry → List Happening
+abbrev pub steps_of : ℕ → List TakenStep → List Happening
 steps_of p [] = []
 steps_of p (e ∷ es) = Moves p e.step.kind e.step.word e.value ∷ steps_of p es
 
 -- a step of p, no glance, that carries nothing
-abbrev pub IsPlain : ℕ → Entry → Type 0
+abbrev pub IsPlain : ℕ → TakenStep → Type 0
 IsPlain p e = (e.by ≡ p) × (e.step.crashed ≡ false) × (e.step.start ≡ None) × (is_glance e.step.kind ≡ false)
 
-abbrev pub ArePlain : ℕ → List Entry → Type 0
+abbrev pub ArePlain : ℕ → List TakenStep → Type 0
 ArePlain p [] = Unit {0}
 ArePlain p (e ∷ es) = IsPlain p e × ArePlain p es
 
-pub plain_all : (p : ℕ) (es : List Entry) → All (λ (e : Entry). e.by ≡ p) es → All (λ (e : Entry). e.step.crashed ≡ false) es → All (λ (e : Entry). e.step.start ≡ None) es → AreMoves es → ArePlain p es
+pub plain_all : (p : ℕ) (es : List TakenStep) → All (λ (e : TakenStep). e.by ≡ p) es → All (λ (e : TakenStep). e.step.crashed ≡ false) es → All (λ (e : TakenStep). e.step.start ≡ None) es → AreMoves es → ArePlain p es
 plain_all p [] by crashed start moves = tt
 plain_all p (e ∷ es) by crashed start moves = (
-  (All-head (λ (e : Entry). e.by ≡ p) e es by, All-head (λ (e : Entry). e.step.crashed ≡ false) e es crashed, All-head (λ (e : Entry). e.step.start ≡ None) e es start, All-head (λ (e : Entry). is_glance e.step.kind ≡ false) e es moves),
-  plain_all p es (All-tail (λ (e : Entry). e.by ≡ p) e es by) (All-tail (λ (e : Entry). e.step.crashed ≡ false) e es crashed) (All-tail (λ (e : Entry). e.step.start ≡ None) e es start) (All-tail (λ (e : Entry). is_glance e.step.kind ≡ false) e es moves),
+  (All-head (λ (e : TakenStep). e.by ≡ p) e es by, All-head (λ (e : TakenStep). e.step.crashed ≡ false) e es crashed, All-head (λ (e : TakenStep). e.step.start ≡ None) e es start, All-head (λ (e : TakenStep). is_glance e.step.kind ≡ false) e es moves),
+  plain_all p es (All-tail (λ (e : TakenStep). e.by ≡ p) e es by) (All-tail (λ (e : TakenStep). e.step.crashed ≡ false) e es crashed) (All-tail (λ (e : TakenStep). e.step.start ≡ None) e es start) (All-tail (λ (e : TakenStep). is_glance e.step.kind ≡ false) e es moves),
 )
 
-pub own_moves : (p : ℕ) (es : List Entry) → ArePlain p es → OwnMoves p (steps_of p es)
+pub own_moves : (p : ℕ) (es : List TakenStep) → ArePlain p es → OwnMoves p (steps_of p es)
 own_moves p [] plain = tt
 own_moves p (e ∷ es) plain = ((refl, plain.0.3), own_moves p es plain.1)
 
-steps_length : (p : ℕ) (es : List Entry) → length (steps_of p es) ≡ length es
+steps_length : (p : ℕ) (es : List TakenStep) → length (steps_of p es) ≡ length es
 steps_length p [] = refl
 steps_length p (e ∷ es) = ap suc (steps_length p es)
 
 -- the own entries are of the process
-pub own_are : (p : ℕ) (es : List Entry) → All (λ (e : Entry). e.by ≡ p) (own p es)
+pub own_are : (p : ℕ) (es : List TakenStep) → All (λ (e : TakenStep). e.by ≡ p) (own p es)
 own_are p [] = All-nil _
 own_are p (e ∷ es) = go (own_are p es) (e.by == p) refl
   where
-    go : All (λ (e : Entry). e.by ≡ p) (own p es) → (b : Bool) → (e.by == p) ≡ b → All (λ (e : Entry). e.by ≡ p) (own p (e ∷ es))
-    go later true is = rw is (All-cons (λ (e : Entry). e.by ≡ p) e (own p es) (eqb-true e.by p is) later)
+    go : All (λ (e : TakenStep). e.by ≡ p) (own p es) → (b : Bool) → (e.by == p) ≡ b → All (λ (e : TakenStep). e.by ≡ p) (own p (e ∷ es))
+    go later true is = rw is (All-cons (λ (e : TakenStep). e.by ≡ p) e (own p es) (eqb-true e.by p is) later)
     go later false is = rw is later
 
-pub taken_own : (p : ℕ) (e : Entry) → e.by ≡ p → is_glance e.step.kind ≡ false → taken e.by e.step.kind e.step.word e.value ≡ Moves p e.step.kind e.step.word e.value
+pub taken_own : (p : ℕ) (e : TakenStep) → e.by ≡ p → is_glance e.step.kind ≡ false → taken e.by e.step.kind e.step.word e.value ≡ Moves p e.step.kind e.step.word e.value
 taken_own p e by moves = taken_moves e.by e.step.kind e.step.word e.value moves ∙ ap (λ (q : ℕ). Moves q e.step.kind e.step.word e.value) by
 
-pub spelled_plain : (p : ℕ) (es : List Entry) → ArePlain p es → spelled es ≡ steps_of p es
+pub spelled_plain : (p : ℕ) (es : List TakenStep) → ArePlain p es → spelled es ≡ steps_of p es
 spelled_plain p [] plain = refl
 spelled_plain p (e ∷ es) plain =
     let here = taken_own p e plain.0.0 plain.0.3 in
@@ -68,35 +68,35 @@ spelled_plain p (e ∷ es) plain =
     λ i. (before (plain.0.1 i) (plain.0.2 i) (plain.0.0 i) ++ here i ∷ []) ++ later i
 
 module _ (s : Setup) (p : ℕ) where
-  abbrev from : Spot → Entry → Spot
+  abbrev from : Spot → TakenStep → Spot
   from t e = next_or_same s.layout s.limit t (Moves p e.step.kind e.step.word e.value)
 
-  step_leads : (q : Spot) (e : Entry) → e.by ≡ p → is_glance e.step.kind ≡ false → gone s q (happenings e) ≡ from (spot_before s q e) e
+  step_leads : (q : Spot) (e : TakenStep) → e.by ≡ p → is_glance e.step.kind ≡ false → gone s q (happenings e) ≡ from (spot_before s q e) e
   step_leads q e by moves =
       gone-append s q (before e.step.crashed e.step.start e.by) (taken e.by e.step.kind e.step.word e.value ∷ [])
       ∙ ap (λ (h : Happening). next_or_same s.layout s.limit (spot_before s q e) h) (taken_own p e by moves)
 
-  nothing_before : (q : Spot) (e : Entry) → IsPlain p e → spot_before s q e ≡ q
+  nothing_before : (q : Spot) (e : TakenStep) → IsPlain p e → spot_before s q e ≡ q
   nothing_before q e plain = λ i. gone s q (before (plain.1 i) (plain.2 i) e.by)
 
-  pub answers_first : (q : Spot) (e : Entry) (es : List Entry) → e.by ≡ p → is_glance e.step.kind ≡ false → ((t : Spot) → answers_from s t es ≡ answers_in s.layout s.limit t (steps_of p es))
+  pub answers_first : (q : Spot) (e : TakenStep) (es : List TakenStep) → e.by ≡ p → is_glance e.step.kind ≡ false → ((t : Spot) → answers_from s t es ≡ answers_in s.layout s.limit t (steps_of p es))
       → answers_from s q (e ∷ es) ≡ answers_in s.layout s.limit (spot_before s q e) (steps_of p (e ∷ es))
   answers_first q e es by moves later =
       ap (and_answer (answer_at (spot_before s q e) e.step.kind e.value)) (ap (λ (t : Spot). answers_from s t es) (step_leads q e by moves) ∙ later (from (spot_before s q e) e))
 
-  pub answers_plain : (es : List Entry) → ArePlain p es → (q : Spot) → answers_from s q es ≡ answers_in s.layout s.limit q (steps_of p es)
+  pub answers_plain : (es : List TakenStep) → ArePlain p es → (q : Spot) → answers_from s q es ≡ answers_in s.layout s.limit q (steps_of p es)
   answers_plain [] plain q = refl
   answers_plain (e ∷ es) plain q =
       answers_first q e es plain.0.0 plain.0.3 (answers_plain es plain.1) ∙ ap (λ (t : Spot). answers_in s.layout s.limit t (steps_of p (e ∷ es))) (nothing_before q e plain.0)
 
-  blocked_first : (q : Spot) (e : Entry) (es : List Entry) → e.by ≡ p → is_glance e.step.kind ≡ false → ((t : Spot) → blocked_from s t es ≡ blocked_in s.layout s.limit t (steps_of p es))
+  blocked_first : (q : Spot) (e : TakenStep) (es : List TakenStep) → e.by ≡ p → is_glance e.step.kind ≡ false → ((t : Spot) → blocked_from s t es ≡ blocked_in s.layout s.limit t (steps_of p es))
       → blocked_from s q (e ∷ es) ≡ blocked_in s.layout s.limit (spot_before s q e) (steps_of p (e ∷ es))
   blocked_first q e es by moves later =
       let t = spot_before s q e in
       ap (λ (r : ℕ). (if blocked_by r t.lock t.errand e.step.kind e.value then 1 else 0) + blocked_from s (gone s q (happenings e)) es) by
       ∙ ap (λ (n : ℕ). (if blocked_by p t.lock t.errand e.step.kind e.value then 1 else 0) + n) (ap (λ (u : Spot). blocked_from s u es) (step_leads q e by moves) ∙ later (from t e))
 
-  blocked_plain : (es : List Entry) → ArePlain p es → (q : Spot) → blocked_from s q es ≡ blocked_in s.layout s.limit q (steps_of p es)
+  blocked_plain : (es : List TakenStep) → ArePlain p es → (q : Spot) → blocked_from s q es ≡ blocked_in s.layout s.limit q (steps_of p es)
   blocked_plain [] plain q = refl
   blocked_plain (e ∷ es) plain q =
       blocked_first q e es plain.0.0 plain.0.3 (blocked_plain es plain.1) ∙ ap (λ (t : Spot). blocked_in s.layout s.limit t (steps_of p (e ∷ es))) (nothing_before q e plain.0)
@@ -117,18 +117,18 @@ keeps x call (a ∷ []) t blocked steps h = h.1
 keeps x call (a ∷ b ∷ more) t blocked steps h = h
 
 -- steps of a call, from what is known of them
-pub keeps_the_table : (x y : Pass) (call : Call) (answers : List Answer) (blocked : ℕ) (mine : List Entry) → Calls x mine y → FirstCrash x.fallen mine → FirstStart call mine → AreMoves mine → answers_of x mine ≡ answers → blocked_of x mine ≡ blocked → KeepsTable x call answers blocked (length mine)
+pub keeps_the_table : (x y : Pass) (call : Call) (answers : List Answer) (blocked : ℕ) (mine : List TakenStep) → Calls x mine y → FirstCrash x.fallen mine → FirstStart call mine → AreMoves mine → answers_of x mine ≡ answers → blocked_of x mine ≡ blocked → KeepsTable x call answers blocked (length mine)
 keeps_the_table x y call answers blocked [] calls crash started moved answered blocks = absurd started
 keeps_the_table x y call answers blocked (e ∷ es) calls crash started moved answered blocks =
     let s : Setup = x.setup in
     let p : ℕ = x.by in
     let q : Spot = spot_of s p x.seen in
-    let by = subst (All (λ (e : Entry). e.by ≡ p)) calls.mine_are (own_are p calls.since) in
-    let mine : e.by ≡ p = All-head (λ (e : Entry). e.by ≡ p) e es by in
-    let move : is_glance e.step.kind ≡ false = All-head (λ (e : Entry). is_glance e.step.kind ≡ false) e es moved in
-    let plain : ArePlain p es = plain_all p es (All-tail (λ (e : Entry). e.by ≡ p) e es by) crash.1 started.1 (All-tail (λ (e : Entry). is_glance e.step.kind ≡ false) e es moved) in
+    let by = subst (All (λ (e : TakenStep). e.by ≡ p)) calls.mine_are (own_are p calls.since) in
+    let mine : e.by ≡ p = All-head (λ (e : TakenStep). e.by ≡ p) e es by in
+    let move : is_glance e.step.kind ≡ false = All-head (λ (e : TakenStep). is_glance e.step.kind ≡ false) e es moved in
+    let plain : ArePlain p es = plain_all p es (All-tail (λ (e : TakenStep). e.by ≡ p) e es by) crash.1 started.1 (All-tail (λ (e : TakenStep). is_glance e.step.kind ≡ false) e es moved) in
     let ms : List Happening = steps_of p (e ∷ es) in
-    let run : IsRun s (x.seen ++ calls.since) = subst (λ (t : Setup × List Entry). IsRun t.0 t.1) (λ i. (calls.setup i, calls.seen i)) calls.run in
+    let run : IsRun s (x.seen ++ calls.since) = subst (λ (t : Setup × List TakenStep). IsRun t.0 t.1) (λ i. (calls.setup i, calls.seen i)) calls.run in
     let first = taken_own p e mine move in
     let later = spelled_plain p es plain in
     let are : spelled (e ∷ es) ≡ (before x.fallen (Some call) p ++ Moves p e.step.kind e.step.word e.value ∷ []) ++ steps_of p es = λ i. (before (crash.0 i) (started.0 i) (mine i) ++ first i ∷ []) ++ later i in

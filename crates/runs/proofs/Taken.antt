@@ -10,7 +10,7 @@ use Rattle.rmeworld.specs.declared.outcome.Outcome.{Outcome}
 use Rattle.rmeworld.specs.Answered.{answer_at, blocked_by}
 use Rattle.rmeworld.specs.Spot.{Spot, Moves, next_spot}
 use Rattle.runs.specs.declared.setup.Setup.{Setup}
-use Rattle.runs.specs.declared.entry.Entry.{Entry}
+use Rattle.runs.specs.declared.entry.TakenStep.{TakenStep}
 use Rattle.runs.specs.Runs.{before, happenings, spelled, gone, spot_of}
 use Rattle.runs.specs.Pass.{Pass, spot_now, moved_spot, next_entry, Advances}
 use Rattle.runs.specs.Running.{Seated, many_more, TakesStep}
@@ -32,18 +32,18 @@ use Rattle.runs.proofs.Leads.{gone-append, spot_after, spot_moves}
 use Rattle.runs.proofs.Running.{taken_moves, next_moves}
 use Rattle.runs.proofs.Goes.{SpotTo, spot_step, blocked_waits}
 
-pub takes_sizes : (x y : Pass) (mine : List Entry) → Takes x mine y → (y.setup ≡ x.setup) × (y.by ≡ x.by)
+pub takes_sizes : (x y : Pass) (mine : List TakenStep) → Takes x mine y → (y.setup ≡ x.setup) × (y.by ≡ x.by)
 takes_sizes x y [] h = (ap (λ (p : Pass). p.setup) h, ap (λ (p : Pass). p.by) h)
 takes_sizes x y (e ∷ es) h = let later = takes_sizes h.0 y es h.3 in let a = h.2.adds in (later.0 ∙ a.setup, later.1 ∙ a.by)
 
-pub takes_spot : (x y : Pass) (mine : List Entry) → Takes x mine y → spot_of y.setup y.by y.seen ≡ gone x.setup (spot_of x.setup x.by x.seen) (spelled mine)
+pub takes_spot : (x y : Pass) (mine : List TakenStep) → Takes x mine y → spot_of y.setup y.by y.seen ≡ gone x.setup (spot_of x.setup x.by x.seen) (spelled mine)
 takes_spot x y [] h = ap (λ (p : Pass). spot_of p.setup p.by p.seen) h
 takes_spot x y (e ∷ es) h =
     let z = h.0 in
-    let here : spot_of z.setup z.by z.seen ≡ gone x.setup (spot_of x.setup x.by x.seen) (happenings e) = spot_after x z (next_entry x e.step.kind e.step.word e.value) refl h.2.adds ∙ ap (λ (f : Entry). gone x.setup (spot_of x.setup x.by x.seen) (happenings f)) (sym h.1) in
+    let here : spot_of z.setup z.by z.seen ≡ gone x.setup (spot_of x.setup x.by x.seen) (happenings e) = spot_after x z (next_entry x e.step.kind e.step.word e.value) refl h.2.adds ∙ ap (λ (f : TakenStep). gone x.setup (spot_of x.setup x.by x.seen) (happenings f)) (sym h.1) in
     takes_spot z y es h.3 ∙ ap (λ (t : Setup × Spot). gone t.0 t.1 (spelled es)) (λ i. (h.2.adds.setup i, here i)) ∙ sym (gone-append x.setup (spot_of x.setup x.by x.seen) (happenings e) (spelled es))
 
-pub takes_snoc : (x y z : Pass) (mine : List Entry) (kind : Kind) (word : Word) (v : ℕ) → Takes x mine y → Advances y kind word v z → is_glance kind ≡ false → Takes x (mine ++ next_entry y kind word v ∷ []) z
+pub takes_snoc : (x y z : Pass) (mine : List TakenStep) (kind : Kind) (word : Word) (v : ℕ) → Takes x mine y → Advances y kind word v z → is_glance kind ≡ false → Takes x (mine ++ next_entry y kind word v ∷ []) z
 takes_snoc x y z [] kind word v h a move = subst (λ (p : Pass). Takes p (next_entry y kind word v ∷ []) z) h (z, refl, a, refl, move)
 takes_snoc x y z (e ∷ es) kind word v h a move = (h.0, h.1, h.2, takes_snoc h.0 y z es kind word v h.3 a move, h.4)
 
@@ -51,13 +51,13 @@ pub and_append : (o : Option Answer) (xs ys : List Answer) → and_answer o (xs 
 and_append None xs ys = refl
 and_append (Some a) xs ys = refl
 
-answers_snoc : (s : Setup) (q : Spot) (es : List Entry) (e : Entry) → answers_from s q (es ++ e ∷ []) ≡ answers_from s q es ++ and_answer (answer_at (spot_before s (gone s q (spelled es)) e) e.step.kind e.value) []
+answers_snoc : (s : Setup) (q : Spot) (es : List TakenStep) (e : TakenStep) → answers_from s q (es ++ e ∷ []) ≡ answers_from s q es ++ and_answer (answer_at (spot_before s (gone s q (spelled es)) e) e.step.kind e.value) []
 answers_snoc s q [] e = refl
 answers_snoc s q (x ∷ xs) e =
     ap (and_answer (answer_at (spot_before s q x) x.step.kind x.value)) (answers_snoc s (gone s q (happenings x)) xs e ∙ ap (λ (r : Spot). answers_from s (gone s q (happenings x)) xs ++ and_answer (answer_at (spot_before s r e) e.step.kind e.value) []) (sym (gone-append s q (happenings x) (spelled xs))))
     ∙ and_append (answer_at (spot_before s q x) x.step.kind x.value) (answers_from s (gone s q (happenings x)) xs) (and_answer (answer_at (spot_before s (gone s q (spelled (x ∷ xs))) e) e.step.kind e.value) [])
 
-blocked_snoc : (s : Setup) (q : Spot) (es : List Entry) (e : Entry) → blocked_from s q (es ++ e ∷ []) ≡ blocked_from s q es + (if is_blocked_at (spot_before s (gone s q (spelled es)) e) e then 1 else 0)
+blocked_snoc : (s : Setup) (q : Spot) (es : List TakenStep) (e : TakenStep) → blocked_from s q (es ++ e ∷ []) ≡ blocked_from s q es + (if is_blocked_at (spot_before s (gone s q (spelled es)) e) e then 1 else 0)
 blocked_snoc s q [] e = omega arith
 blocked_snoc s q (x ∷ xs) e =
     let later = blocked_snoc s (gone s q (happenings x)) xs e ∙ ap (λ (r : Spot). blocked_from s (gone s q (happenings x)) xs + (if is_blocked_at (spot_before s r e) e then 1 else 0)) (sym (gone-append s q (happenings x) (spelled xs))) in
@@ -68,15 +68,15 @@ blocked_snoc s q (x ∷ xs) e =
     assoc a b c = omega arith
 
 -- the spot at the next step of a pass
-at_now : (x y : Pass) (mine : List Entry) (kind : Kind) (word : Word) (v : ℕ) → Takes x mine y → spot_before x.setup (gone x.setup (spot_of x.setup x.by x.seen) (spelled mine)) (next_entry y kind word v) ≡ spot_now y
+at_now : (x y : Pass) (mine : List TakenStep) (kind : Kind) (word : Word) (v : ℕ) → Takes x mine y → spot_before x.setup (gone x.setup (spot_of x.setup x.by x.seen) (spelled mine)) (next_entry y kind word v) ≡ spot_now y
 at_now x y mine kind word v h = ap (λ (t : Setup × Spot). gone t.0 t.1 (before y.fallen y.start y.by)) (λ i. (sym (takes_sizes x y mine h).0 i, sym (takes_spot x y mine h) i))
 
 none_before : (m : ℕ) → 0 + m ≡ m
 none_before m = omega arith
 
 -- one step more
-module _ (x y z : Seated) (mine : List Entry) (o : Outcome) (g : Going x mine y) (s : TakesStep y o z) where
-  abbrev pub last : Entry
+module _ (x y z : Seated) (mine : List TakenStep) (o : Outcome) (g : Going x mine y) (s : TakesStep y o z) where
+  abbrev pub last : TakenStep
   last = next_entry y.pass (kind_of s.access) (word_of s.access) (carried s.access s.value)
 
   pub steps_more : z.steps ≡ many_more (length (mine ++ last ∷ [])) x.steps
@@ -146,21 +146,21 @@ blocked_is_lock : (n limit p : ℕ) (call : Call) (s : Place) (c : Bool) (e : Er
 blocked_is_lock n limit p call s c Free kind v u h = blocked_lock n limit p call c s kind v u h
 blocked_is_lock n limit p call s c (Doing why left) kind v u h = absurd (cc)
 
-pub length_snoc : (mine : List Entry) (e : Entry) → length (mine ++ e ∷ []) ≡ suc (length mine)
+pub length_snoc : (mine : List TakenStep) (e : TakenStep) → length (mine ++ e ∷ []) ≡ suc (length mine)
 length_snoc mine e = let l = length-append mine (e ∷ []) in omega arith
 
 not_both : (b : Bool) (o : Option Answer) (a : Answer) → (b ≡ true → o ≡ None) → o ≡ Some a → b ≡ false
 not_both true o a h e = absurd (let k = sym (h refl) ∙ e in cc)
 not_both false o a h e = refl
 
-module _ (x y z : Seated) (mine : List Entry) (o : Outcome) (g : Going x mine y) (s : TakesStep y o z) where
+module _ (x y z : Seated) (mine : List TakenStep) (o : Outcome) (g : Going x mine y) (s : TakesStep y o z) where
   silent : o.progress.blocked ≡ true → o.answer ≡ None
   silent h =
       let q = spot_now y.pass in
       let b : blocked_by y.pass.by q.lock q.errand (kind_of s.access) (carried s.access s.value) ≡ true = ap (λ (u : Outcome). u.progress.blocked) (sym s.told) ∙ h in
       ap (λ (u : Outcome). u.answer) s.told ∙ blocked_silent y.pass.by q.lock q.mended q.barred q.errand (kind_of s.access) (carried s.access s.value) b
 
-  abbrev pub more : List Entry
+  abbrev pub more : List TakenStep
   more = mine ++ last x y z mine o g s ∷ []
 
   pub ran_answered : (a : Answer) → o.answer ≡ Some a → Ran x (Some a) z more

@@ -2,7 +2,7 @@
 use Rattle.std.proofs.Common.{◌≡◌, ℕ, ◌==◌, ◌||◌, Bool, true, false, List, [], ◌∷◌, ◌++◌, All, refl, sym, subst, inl, inr, eqb-true}
 use Rattle.std.proofs.lemmas.Bool.{cases_eq}
 use Rattle.std.proofs.lemmas.List.Elements.{All-nil, All-cons, All-head, All-tail, All-weaker}
-use Rattle.runs.specs.declared.entry.Entry.{Entry}
+use Rattle.runs.specs.declared.entry.TakenStep.{TakenStep}
 use Rattle.runs.specs.Gathering.{IsGlance, IsTold, IsWhole, has_member}
 use Rattle.runs.specs.Pass.{own_of}
 use Rattle.runs.specs.Rule.{Begins}
@@ -22,7 +22,7 @@ member_at P p (x ∷ xs) h all = go (x.pass.by == p) refl (member_at P p xs)
     go true is later = (x, eqb-true x.pass.by p is, All-head P x xs all)
     go false is later = later (subst (λ (b : Bool). (b || has_member p xs) ≡ true) is h) (All-tail P x xs all)
 
-module _ (Q : ℕ → List Entry → Type 0) (more : (p : ℕ) (es glances : List Entry) → All IsGlance glances → Q p es → Q p (es ++ glances)) (first : Seated) (others : List Seated) (count : ℕ) (run : List Entry) (told : IsTold first others count run) where
+module _ (Q : ℕ → List TakenStep → Type 0) (more : (p : ℕ) (es glances : List TakenStep) → All IsGlance glances → Q p es → Q p (es ++ glances)) (first : Seated) (others : List Seated) (count : ℕ) (run : List TakenStep) (told : IsTold first others count run) where
   abbrev pub Keeps : Seated → Type 0
   Keeps x = Q x.pass.by (own_of x.pass)
 

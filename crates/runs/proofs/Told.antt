@@ -25,7 +25,7 @@ use Rattle.rmeworld.specs.Answered.{by_lock, by_reply, by_script, answer_by, ans
 use Rattle.rmeworld.specs.Refused.{is_idle}
 use Rattle.rmeworld.specs.Spot.{Errand, Free, Doing, Spot, Happening, Moves, at_rest, next_spot, moved_by, only_spot, settled}
 use Rattle.rmeworld.specs.CallWalk.{and_answer}
-use Rattle.runs.specs.declared.entry.Entry.{Entry}
+use Rattle.runs.specs.declared.entry.TakenStep.{TakenStep}
 use Rattle.runs.specs.declared.lock_fault.LockFault.{LockFault}
 use Rattle.runs.specs.declared.lock_fault.LockFault.TheVariants.{NotYet, NumbersSpent, NotRecoverable}
 use Rattle.runs.specs.declared.setup.Setup.{Setup}
@@ -98,7 +98,7 @@ module _ (l : Layout) (last : Option Call) (s : Place) (b c : Bool) (limit p : �
 
 module _ (s : Setup) where
   -- an entry that answers so
-  entry_told : (last : Option Call) (q : Spot) (e : Entry) → StandsAt s.layout last q → AreInOrder last (e ∷ []) → Goes s q (happenings e) → is_glance e.step.kind ≡ false → answer_at (spot_before s q e) e.step.kind e.value ≡ Some RuinedAnswer → ReadsRuin e
+  entry_told : (last : Option Call) (q : Spot) (e : TakenStep) → StandsAt s.layout last q → AreInOrder last (e ∷ []) → Goes s q (happenings e) → is_glance e.step.kind ≡ false → answer_at (spot_before s q e) e.step.kind e.value ≡ Some RuinedAnswer → ReadsRuin e
   entry_told last q e h order goes move a =
       let hs = before e.step.crashed e.step.start e.by in
       let x = taken e.by e.step.kind e.step.word e.value in
@@ -107,14 +107,14 @@ module _ (s : Setup) where
       let some : IsSome (next_spot s.layout s.limit t (Moves e.by e.step.kind e.step.word e.value)) = subst (λ (y : Happening). IsSome (next_spot s.layout s.limit t y)) (taken_moves e.by e.step.kind e.step.word e.value move) (goes_back s q hs (x ∷ []) goes).0 in
       ruin_told s.layout (last_call last e.step.crashed e.step.start) t.lock t.mended t.barred s.limit e.by t.errand e.step.kind e.step.word e.value first some a
 
-  pub told_ruin : (last : Option Call) (q : Spot) (es : List Entry) (told rest : List Answer) → StandsAt s.layout last q → AreInOrder last es → Goes s q (spelled es) → AreMoves es → answers_from s q es ≡ told ++ RuinedAnswer ∷ rest → HasReadRuin es
+  pub told_ruin : (last : Option Call) (q : Spot) (es : List TakenStep) (told rest : List Answer) → StandsAt s.layout last q → AreInOrder last es → Goes s q (spelled es) → AreMoves es → answers_from s q es ≡ told ++ RuinedAnswer ∷ rest → HasReadRuin es
   told_ruin last q [] [] rest h order goes moves a = absurd (cc)
   told_ruin last q [] (t ∷ ts) rest h order goes moves a = absurd (let k : [] ≡ t ∷ (ts ++ RuinedAnswer ∷ rest) = a in cc)
   told_ruin last q (e ∷ es) told rest h order goes moves a = go (answer_at (spot_before s q e) e.step.kind e.value) refl told a (λ more k.
       next (λ stands.
-      told_ruin (last_call last e.step.crashed e.step.start) (gone s q (happenings e)) es more rest stands order.1 (goes_back s q (happenings e) (spelled es) goes) (All-tail (λ (f : Entry). is_glance f.step.kind ≡ false) e es moves) k))
+      told_ruin (last_call last e.step.crashed e.step.start) (gone s q (happenings e)) es more rest stands order.1 (goes_back s q (happenings e) (spelled es) goes) (All-tail (λ (f : TakenStep). is_glance f.step.kind ≡ false) e es moves) k))
     where
-      M : Entry → Type 0
+      M : TakenStep → Type 0
       M f = is_glance f.step.kind ≡ false
 
       here_goes : Goes s q (happenings e)
@@ -139,24 +139,24 @@ module _ (s : Setup) where
           let whole : d ∷ others ≡ f ∷ (fs ++ RuinedAnswer ∷ rest) = subst (λ (o : Option Answer). and_answer o others ≡ f ∷ (fs ++ RuinedAnswer ∷ rest)) some k in
           later fs (let same : others ≡ fs ++ RuinedAnswer ∷ rest = cc in same)
 
-  left_ruin : (xs ys : List Entry) → HasReadRuin xs → HasReadRuin (xs ++ ys)
-  left_ruin xs ys h = record { front = h.front; entry = h.entry; back = h.back ++ ys; is = ap (λ (l : List Entry). l ++ ys) h.is ∙ append_assoc h.front (h.entry ∷ h.back) ys; reads = h.reads }
+  left_ruin : (xs ys : List TakenStep) → HasReadRuin xs → HasReadRuin (xs ++ ys)
+  left_ruin xs ys h = record { front = h.front; entry = h.entry; back = h.back ++ ys; is = ap (λ (l : List TakenStep). l ++ ys) h.is ∙ append_assoc h.front (h.entry ∷ h.back) ys; reads = h.reads }
 
-  right_ruin : (xs ys : List Entry) → HasReadRuin ys → HasReadRuin (xs ++ ys)
-  right_ruin xs ys h = record { front = xs ++ h.front; entry = h.entry; back = h.back; is = ap (λ (l : List Entry). xs ++ l) h.is ∙ sym (append_assoc xs h.front (h.entry ∷ h.back)); reads = h.reads }
+  right_ruin : (xs ys : List TakenStep) → HasReadRuin ys → HasReadRuin (xs ++ ys)
+  right_ruin xs ys h = record { front = xs ++ h.front; entry = h.entry; back = h.back; is = ap (λ (l : List TakenStep). xs ++ l) h.is ∙ sym (append_assoc xs h.front (h.entry ∷ h.back)); reads = h.reads }
 
 either_sizes : (b : Bool) (x : Seated) → ((if b then x else fell x).pass.setup ≡ x.pass.setup) × ((if b then x else fell x).pass.by ≡ x.pass.by) × ((if b then x else fell x).pass.seen ≡ x.pass.seen)
 either_sizes true x = (refl, refl, refl)
 either_sizes false x = (refl, refl, refl)
 
 -- calls of which one answers so
-served_told : (x y : Seated) (order : List Call) (answers told rest : List Answer) (blocked : ℕ) (mine : List Entry) → ServedAll (began (ready x) Lock) order answers blocked y mine → AreInOrder None (own_of x.pass) → AreInOrder None (own_of x.pass ++ mine) → answers ≡ told ++ RuinedAnswer ∷ rest
+served_told : (x y : Seated) (order : List Call) (answers told rest : List Answer) (blocked : ℕ) (mine : List TakenStep) → ServedAll (began (ready x) Lock) order answers blocked y mine → AreInOrder None (own_of x.pass) → AreInOrder None (own_of x.pass ++ mine) → answers ≡ told ++ RuinedAnswer ∷ rest
     → HasReadRuin (own_of y.pass)
 served_told x y order answers told rest blocked mine served old all is =
     let z = began (ready x) Lock in
     let s = z.pass.setup in
     let own_y = own_now x y mine served.calls in
-    let own_z = ap (λ (u : ℕ × List Entry). own u.0 u.1) (λ i. (sizes.1 i, sizes.2 i)) in
+    let own_z = ap (λ (u : ℕ × List TakenStep). own u.0 u.1) (λ i. (sizes.1 i, sizes.2 i)) in
     let run : IsRun s y.pass.seen = subst (λ (u : Setup). IsRun u y.pass.seen) served.calls.setup served.calls.run in
     let goes : Goes s at_rest (spelled (own_of x.pass) ++ spelled mine) = subst (Goes s at_rest) (ap spelled own_y ∙ spelled-append (own_of x.pass) mine) (run_goes s y.pass.seen y.pass.by run) in
     subst HasReadRuin (sym own_y) (elim (walk s None at_rest (own_of x.pass) (refl, λ e. absurd (cc)) old (goes_front s at_rest (spelled (own_of x.pass)) (spelled mine) goes)) [
@@ -164,7 +164,7 @@ served_told x y order answers told rest blocked mine served old all is =
       | inr stands ↦
           right_ruin s (own_of x.pass) mine
           (told_ruin s (last_of None (own_of x.pass)) (gone s at_rest (spelled (own_of x.pass))) mine told rest stands (mine_order None (own_of x.pass) mine all) (goes_back s at_rest (spelled (own_of x.pass)) (spelled mine) goes) served.moves
-          (subst (λ (es : List Entry). answers_from s (gone s at_rest (spelled es)) mine ≡ told ++ RuinedAnswer ∷ rest) own_z (served.answered ∙ is)))
+          (subst (λ (es : List TakenStep). answers_from s (gone s at_rest (spelled es)) mine ≡ told ++ RuinedAnswer ∷ rest) own_z (served.answered ∙ is)))
     ])
   where
     sizes : ((began (ready x) Lock).pass.setup ≡ x.pass.setup) × ((began (ready x) Lock).pass.by ≡ x.pass.by) × ((began (ready x) Lock).pass.seen ≡ x.pass.seen)
@@ -193,6 +193,6 @@ module _ (x y : Seated) (seq : ℕ) (value : List ℕ) (a b c d : ℕ) (old : Ar
   append_told (Ok reply) e is ruined h = absurd (cc)
   append_told (Err f) e is ruined h = fails_told h.0 f (let same : f ≡ e = cc in same ∙ ruined) h.1
 
-pub faulted : (why : LockFault) (es : List Entry) → (why ≡ NumbersSpent) ⊎ (why ≡ NotRecoverable) → (why ≡ NotRecoverable → HasReadRuin es) → (why ≡ NumbersSpent) ⊎ ((why ≡ NotRecoverable) × HasReadRuin es)
+pub faulted : (why : LockFault) (es : List TakenStep) → (why ≡ NumbersSpent) ⊎ (why ≡ NotRecoverable) → (why ≡ NotRecoverable → HasReadRuin es) → (why ≡ NumbersSpent) ⊎ ((why ≡ NotRecoverable) × HasReadRuin es)
 faulted why es (inl spent) read = inl spent
 faulted why es (inr ruined) read = inr (ruined, read ruined)

@@ -7,7 +7,7 @@ use Rattle.rmeworld.specs.Answered.{answer_at}
 use Rattle.rmeworld.specs.Spot.{Spot}
 use Rattle.rmeworld.specs.CallWalk.{and_answer}
 use Rattle.runs.specs.declared.setup.Setup.{Setup}
-use Rattle.runs.specs.declared.entry.Entry.{Entry}
+use Rattle.runs.specs.declared.entry.TakenStep.{TakenStep}
 use Rattle.runs.specs.Runs.{happenings, spelled, gone, spot_of}
 use Rattle.runs.specs.Pass.{Pass, IsPass}
 use Rattle.runs.specs.Running.{Seated, many_more, fell}
@@ -16,11 +16,11 @@ use Rattle.runs.proofs.Leads.{gone-append}
 use Rattle.runs.proofs.Taken.{takes_sizes, takes_spot, and_append}
 use Rattle.runs.proofs.Called.{served_of}
 
-takes-append : (x y z : Pass) (a b : List Entry) → Takes x a y → Takes y b z → Takes x (a ++ b) z
+takes-append : (x y z : Pass) (a b : List TakenStep) → Takes x a y → Takes y b z → Takes x (a ++ b) z
 takes-append x y z [] b h k = subst (λ (p : Pass). Takes p b z) h k
 takes-append x y z (e ∷ es) b h k = (h.0, h.1, h.2, takes-append h.0 y z es b h.3 k, h.4)
 
-pub answers-append : (s : Setup) (q : Spot) (a b : List Entry) → answers_from s q (a ++ b) ≡ answers_from s q a ++ answers_from s (gone s q (spelled a)) b
+pub answers-append : (s : Setup) (q : Spot) (a b : List TakenStep) → answers_from s q (a ++ b) ≡ answers_from s q a ++ answers_from s (gone s q (spelled a)) b
 answers-append s q [] b = refl
 answers-append s q (x ∷ xs) b =
     ap (and_answer (answer_at (spot_before s q x) x.step.kind x.value)) (answers-append s (gone s q (happenings x)) xs b ∙ ap (λ (r : Spot). answers_from s (gone s q (happenings x)) xs ++ answers_from s r b) (sym (gone-append s q (happenings x) (spelled xs))))
@@ -32,7 +32,7 @@ none_before m = omega arith
 assoc : (a b c : ℕ) → a + (b + c) ≡ (a + b) + c
 assoc a b c = omega arith
 
-pub blocked-append : (s : Setup) (q : Spot) (a b : List Entry) → blocked_from s q (a ++ b) ≡ blocked_from s q a + blocked_from s (gone s q (spelled a)) b
+pub blocked-append : (s : Setup) (q : Spot) (a b : List TakenStep) → blocked_from s q (a ++ b) ≡ blocked_from s q a + blocked_from s (gone s q (spelled a)) b
 blocked-append s q [] b = none_before (blocked_from s q b)
 blocked-append s q (x ∷ xs) b =
     let later = blocked-append s (gone s q (happenings x)) xs b ∙ ap (λ (r : Spot). blocked_from s (gone s q (happenings x)) xs + blocked_from s r b) (sym (gone-append s q (happenings x) (spelled xs))) in
@@ -43,16 +43,16 @@ pub many_add : (j k c : ℕ) → many_more k (many_more j c) ≡ many_more (j + 
 many_add j zero c = ap (λ (m : ℕ). many_more m c) (let e : j ≡ j + 0 = omega arith in e)
 many_add j (suc k) c = ap one_more (many_add j k c) ∙ ap (λ (m : ℕ). many_more m c) (let e : suc (j + k) ≡ j + suc k = omega arith in e)
 
-pub many_append : (a b : List Entry) (c : ℕ) → many_more (length b) (many_more (length a) c) ≡ many_more (length (a ++ b)) c
+pub many_append : (a b : List TakenStep) (c : ℕ) → many_more (length b) (many_more (length a) c) ≡ many_more (length (a ++ b)) c
 many_append a b c = many_add (length a) (length b) c ∙ ap (λ (m : ℕ). many_more m c) (sym (length-append a b))
 
-pub many_fell : (a b : List Entry) (c : ℕ) → many_more (length b + 1) (many_more (length a) c) ≡ many_more (length (a ++ b) + 1) c
+pub many_fell : (a b : List TakenStep) (c : ℕ) → many_more (length b + 1) (many_more (length a) c) ≡ many_more (length (a ++ b) + 1) c
 many_fell a b c = many_add (length a) (length b + 1) c ∙ ap (λ (m : ℕ). many_more m c) (let l = length-append a b in let e : length a + (length b + 1) ≡ length (a ++ b) + 1 = omega arith in e)
 
 pub turning_first : (x : Seated) → Turning x [] 0 x
 turning_first x = record { takes = refl; answers = refl; blocked = refl; steps = refl }
 
-module _ (x y z : Seated) (a b : List Entry) (k : ℕ) (t : Turning x a k y) where
+module _ (x y z : Seated) (a b : List TakenStep) (k : ℕ) (t : Turning x a k y) where
   later_answers : answers_of x.pass (a ++ b) ≡ answers_of y.pass b
   later_answers =
       answers-append x.pass.setup (spot_of x.pass.setup x.pass.by x.pass.seen) a b ∙ ap (λ (l : List Answer). l ++ answers_from x.pass.setup (gone x.pass.setup (spot_of x.pass.setup x.pass.by x.pass.seen) (spelled a)) b) t.answers
@@ -87,6 +87,6 @@ module _ (x y z : Seated) (a b : List Entry) (k : ℕ) (t : Turning x a k y) whe
   pub turned_ran_cut : {o : Option Answer} → (u : Seated) → Ran y o z b → u ≡ fell z → CutOff x (a ++ b) u
   turned_ran_cut {o} u r e = record { last = z; takes = takes-append x.pass y.pass z.pass a b t.takes r.takes; steps = later_steps r.steps; crash = e }
 
-pub turned_out : (x y : Seated) (mine : List Entry) (k : ℕ) (call : Call) → IsPass x.pass → x.pass.start ≡ Some call → Turning x mine (k + 1) y → Served x call [] (k + 1) y mine
+pub turned_out : (x y : Seated) (mine : List TakenStep) (k : ℕ) (call : Call) → IsPass x.pass → x.pass.start ≡ Some call → Turning x mine (k + 1) y → Served x call [] (k + 1) y mine
 turned_out x y mine k call pass start t =
     served_of x y call [] (k + 1) mine pass start t.takes t.answers t.blocked t.steps (λ none. let bad : 0 ≡ k + 1 = sym (ap (blocked_of x.pass) none) ∙ t.blocked in omega arith)

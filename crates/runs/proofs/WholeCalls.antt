@@ -12,7 +12,7 @@ use Rattle.runs.specs.declared.lock_fault.LockFault.{LockFault}
 use Rattle.runs.specs.declared.lock_fault.LockFault.TheVariants as fault
 use Rattle.runs.specs.declared.entry_kind.Entry.{Entry as Entering}
 use Rattle.runs.specs.declared.entry_kind.Entry.TheVariants as entering
-use Rattle.runs.specs.declared.entry.Entry.{Entry}
+use Rattle.runs.specs.declared.entry.TakenStep.{TakenStep}
 use Rattle.runs.specs.declared.setup.Setup.{Setup}
 use Rattle.runs.specs.Pass.{IsPass, spot_now}
 use Rattle.runs.specs.Running.{Seated, fell, began, behind}
@@ -152,10 +152,10 @@ module _ (x y : Seated) (turns : ℕ) (task : Call) (a0 a1 f0 f1 : ℕ) (may : r
       inr (may, inl (is, cut_more (began (ready x) call.Lock) y a0 a1 f0 f1 (λ (order : List Call). order ≡ call.Lock ∷ []) (IsWithin task) h (λ done k. subst (IsWithin task) (sym k) (within_lock task))))
 
 -- a call that was accepted, and its steps
-pub cut_from : (y w z : Seated) (task : Call) (n : List Entry) → w ≡ behind y task → IsPass w.pass → CutOff w n z → Crashes y task z n
+pub cut_from : (y w z : Seated) (task : Call) (n : List TakenStep) → w ≡ behind y task → IsPass w.pass → CutOff w n z → Crashes y task z n
 cut_from y w z task n e pass h = cut_behind y z task n (subst (λ (u : Seated). IsPass u.pass) e pass) (subst (λ (u : Seated). CutOff u n z) e h)
 
-pub ran_from : (y w z : Seated) (task : Call) (a : Answer) (n : List Entry) → w ≡ behind y task → IsPass w.pass → {o : Option Answer} → o ≡ Some a → Ran w o z n → ServedAll y (task ∷ []) (a ∷ []) 0 z n
+pub ran_from : (y w z : Seated) (task : Call) (a : Answer) (n : List TakenStep) → w ≡ behind y task → IsPass w.pass → {o : Option Answer} → o ≡ Some a → Ran w o z n → ServedAll y (task ∷ []) (a ∷ []) 0 z n
 ran_from y w z task a n e pass {o} is h =
     ran_behind y z task a n (subst (λ (u : Seated). IsPass u.pass) e pass) (subst (λ (t : Seated × Option Answer). Ran t.0 t.1 z n) (λ i. (e i, is i)) h)
 

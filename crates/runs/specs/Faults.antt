@@ -7,7 +7,7 @@ use Rattle.rmeworld.specs.declared.call.Call.TheVariants.{Consistent, Lock}
 use Rattle.rmeworld.specs.declared.answer.Answer.{Answer}
 use Rattle.rmeworld.specs.declared.answer.Answer.TheVariants.{Clean, OwnerDied, NumbersSpent as SpentAnswer, NotRecoverable as RuinedAnswer}
 use Rattle.rmeworld.specs.Refused.{start_refusal, is_idle}
-use Rattle.runs.specs.declared.entry.Entry.{Entry}
+use Rattle.runs.specs.declared.entry.TakenStep.{TakenStep}
 use Rattle.runs.specs.declared.lock_fault.LockFault.{LockFault}
 use Rattle.runs.specs.declared.lock_fault.LockFault.TheVariants.{Crashed, NotYet, NumbersSpent, NotRecoverable, AlreadyIn, NotOwner, NotInconsistent, BadIndex}
 use Rattle.runs.specs.declared.entry_kind.Entry.{Entry as Entering}
@@ -33,7 +33,7 @@ Refused x call y asked asked_now fallen fallen_now e = ((refusal : Refusal) × (
 
 -- cut off by a crash, at the asking that fell
 abbrev pub Cut : Seated → Call → Seated → (asked asked_now fallen fallen_now : ℕ) → LockFault → Type 0
-Cut x call y asked asked_now fallen fallen_now e = (e ≡ Crashed) × (refusal_now x call ≡ None) × ((mine : List Entry) × Crashes (began x call) call y mine × Fell (length mine + 1) asked asked_now fallen fallen_now)
+Cut x call y asked asked_now fallen fallen_now e = (e ≡ Crashed) × (refusal_now x call ≡ None) × ((mine : List TakenStep) × Crashes (began x call) call y mine × Fell (length mine + 1) asked asked_now fallen fallen_now)
 
 abbrev pub Fails : Seated → Call → Seated → (asked asked_now fallen fallen_now : ℕ) → LockFault → Type 0
 Fails x call y asked asked_now fallen fallen_now e = Refused x call y asked asked_now fallen fallen_now e ⊎ Cut x call y asked asked_now fallen fallen_now e
@@ -44,19 +44,19 @@ ready x = if is_idle (spot_now x.pass) then x else fell x
 
 -- a crash while calls are under way
 abbrev pub CutBy : Seated → (List Call → Type 0) → Seated → (asked asked_now fallen fallen_now : ℕ) → Type 0
-CutBy x Begun y asked asked_now fallen fallen_now = (mine : List Entry) × CrashesIn x Begun y mine × Fell (length mine + 1) asked asked_now fallen fallen_now
+CutBy x Begun y asked asked_now fallen fallen_now = (mine : List TakenStep) × CrashesIn x Begun y mine × Fell (length mine + 1) asked asked_now fallen fallen_now
 
 -- a crash while a call is under way
 abbrev pub CutIn : Seated → Call → Seated → (asked asked_now fallen fallen_now : ℕ) → Type 0
-CutIn x call y asked asked_now fallen fallen_now = (mine : List Entry) × Crashes x call y mine × Fell (length mine + 1) asked asked_now fallen fallen_now
+CutIn x call y asked asked_now fallen fallen_now = (mine : List TakenStep) × Crashes x call y mine × Fell (length mine + 1) asked asked_now fallen fallen_now
 
 -- calls with their answers, and so many askings beside those of their steps
 abbrev pub AnsweredBy : ℕ → Seated → List Call → List Answer → ℕ → Seated → (asked asked_now fallen fallen_now : ℕ) → Type 0
-AnsweredBy more x order answers blocked y asked asked_now fallen fallen_now = (mine : List Entry) × ServedAll x order answers blocked y mine × Calm (length mine + more) asked asked_now fallen fallen_now
+AnsweredBy more x order answers blocked y asked asked_now fallen fallen_now = (mine : List TakenStep) × ServedAll x order answers blocked y mine × Calm (length mine + more) asked asked_now fallen fallen_now
 
 -- an answer of a call that was blocked some times
 abbrev pub AnsweredIn : Seated → Call → List Answer → ℕ → Seated → (asked asked_now fallen fallen_now : ℕ) → Type 0
-AnsweredIn x call answers blocked y asked asked_now fallen fallen_now = (mine : List Entry) × Served x call answers blocked y mine × Calm (length mine + 1) asked asked_now fallen fallen_now
+AnsweredIn x call answers blocked y asked asked_now fallen fallen_now = (mine : List TakenStep) × Served x call answers blocked y mine × Calm (length mine + 1) asked asked_now fallen fallen_now
 
 -- how a lock ends that may be blocked so often, from right after its start, with so many askings beside those of its steps: with
 -- an answer after no more blocked readings, or with none after one more

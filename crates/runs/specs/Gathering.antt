@@ -7,7 +7,7 @@ use Rattle.redomail.specs.Layout.{size}
 use Rattle.rmeworld.specs.declared.image.Image.{Image}
 use Rattle.rmeworld.specs.World.{Scene, reading}
 use Rattle.runs.specs.declared.setup.Setup.{Setup}
-use Rattle.runs.specs.declared.entry.Entry.{Entry}
+use Rattle.runs.specs.declared.entry.TakenStep.{TakenStep}
 use Rattle.runs.specs.declared.entry.View.{View}
 use Rattle.runs.specs.declared.entry.Known.{Known}
 use Rattle.runs.specs.Runs.{own, has, IsRun, end_of}
@@ -43,18 +43,18 @@ image_at s w =
       width = s.layout.width;
     }
 
-abbrev pub IsGlance : Entry → Type 0
+abbrev pub IsGlance : TakenStep → Type 0
 IsGlance e = (word : Word) × (e.step ≡ glanced word)
 
 -- the pass of x begins the run, and has all entries of its process, which isn't the first member's
-pub record IsWhole (first : Seated) (run : List Entry) (x : Seated) : Type 0 where
+pub record IsWhole (first : Seated) (run : List TakenStep) (x : Seated) : Type 0 where
   pub begins : Begins x.pass.seen run
   pub own_is : x.pass.by ≢ first.pass.by → own x.pass.by run ≡ own x.pass.by x.pass.seen
 
 -- The pass of each member begins the run, which has of each process just the entries that its member's pass has; but for the
 -- process of the first member, whose seat took so many glances more.
-pub record IsTold (first : Seated) (others : List Seated) (count : ℕ) (run : List Entry) : Type 0 where
-  pub glances : List Entry
+pub record IsTold (first : Seated) (others : List Seated) (count : ℕ) (run : List TakenStep) : Type 0 where
+  pub glances : List TakenStep
   pub are_glances : All IsGlance glances
   pub count_is : length glances ≡ count
   pub begins : Begins first.pass.seen run
@@ -68,7 +68,7 @@ pub record Gathers (xs : List Seated) (image : Image) : Type 0 where
   pub others : List Seated
   pub are : xs ≡ first ∷ others
   pub all : (p : ℕ) → p < first.pass.setup.layout.procs → has_member p xs ≡ true
-  pub run : List Entry
+  pub run : List TakenStep
   pub legal : IsRun first.pass.setup run
   pub told : IsTold first others (length others) run
   pub words : image ≡ image_at first.pass.setup (end_of first.pass.setup run)
@@ -82,7 +82,7 @@ answers_of first (x ∷ xs) = answers_of first xs ++ x.pass.by ∷ []
 pub record Knows (first : Seated) (others : List Seated) (count : ℕ) (k : Known) : Type 0 where
   pub setup : k.view.setup ≡ first.pass.setup
   pub answers : k.view.answers ≡ answers_of first others
-  pub tells : (run : List Entry) → IsIn run k.view → All (IsIn run) k.told → IsTold first others count run
+  pub tells : (run : List TakenStep) → IsIn run k.view → All (IsIn run) k.told → IsTold first others count run
 
 -- a glance of the seat, and then a joining
 abbrev pub Absorbs : Known → Pass → Known → Type 0

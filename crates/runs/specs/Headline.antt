@@ -22,28 +22,28 @@ use Rattle.rmeworld.specs.Law.{Sits}
 use Rattle.rmeworld.specs.Spot.{Spot, Doing}
 use Rattle.rmeworld.specs.World.{at_first, deeds}
 use Rattle.runs.specs.declared.setup.Setup.{Setup}
-use Rattle.runs.specs.declared.entry.Entry.{Entry}
+use Rattle.runs.specs.declared.entry.TakenStep.{TakenStep}
 use Rattle.runs.specs.Runs.{IsRun, spelled, end_of, spot_of}
 use Rattle.runs.specs.Calls.{spot_before}
 
 -- the deeds of a run
-abbrev pub deeds_of : Setup → List Entry → List Deed
+abbrev pub deeds_of : Setup → List TakenStep → List Deed
 deeds_of s es = deeds s.layout s.limit at_first (spelled es)
 
 -- the abstract lock and the mailbox list after them
-abbrev pub judged_by : Setup → List Entry → State
+abbrev pub judged_by : Setup → List TakenStep → State
 judged_by s es = all_after (empty s.layout.procs s.layout.cap) (deeds_of s es)
 
 -- the messages that a run has shown
-abbrev pub shown_by : Setup → List Entry → List Message
+abbrev pub shown_by : Setup → List TakenStep → List Message
 shown_by s es = (judged_by s es).mail.shown
 
 -- where the process of the entry e stands right before its step, after these entries
-abbrev pub spot_at : Setup → List Entry → Entry → Spot
+abbrev pub spot_at : Setup → List TakenStep → TakenStep → Spot
 spot_at s es e = spot_before s (spot_of s e.by es) e
 
 -- the step of e ends an append with this number, with this reply
-pub record EndsAppend (s : Setup) (es : List Entry) (e : Entry) (seq : ℕ) (reply : Reply) : Type 0 where
+pub record EndsAppend (s : Setup) (es : List TakenStep) (e : TakenStep) (seq : ℕ) (reply : Reply) : Type 0 where
   pub value : List ℕ
   pub left : Script Reply
   pub step : is_glance e.step.kind ≡ false
@@ -51,15 +51,15 @@ pub record EndsAppend (s : Setup) (es : List Entry) (e : Entry) (seq : ℕ) (rep
   pub answer : answer_at (spot_at s es e) e.step.kind e.value ≡ Some (Mail reply)
 
 -- an append that is answered Stored or Already has its number among its sender's messages shown, then and there
-abbrev pub AnsweredIsShown : Setup → List Entry → Type 0
+abbrev pub AnsweredIsShown : Setup → List TakenStep → Type 0
 AnsweredIsShown s es =
-    (front : List Entry) (e : Entry) (back : List Entry) (seq : ℕ) (reply : Reply) → es ≡ (front ++ e ∷ []) ++ back → EndsAppend s front e seq reply
+    (front : List TakenStep) (e : TakenStep) (back : List TakenStep) (seq : ℕ) (reply : Reply) → es ≡ (front ++ e ∷ []) ++ back → EndsAppend s front e seq reply
     → (reply ≡ Stored) ⊎ (reply ≡ Already) → IsAmong e.by seq (shown_by s (front ++ e ∷ []))
 
 -- No two inside, one that crashed inside is the next to enter, first come first served, each sender's messages once and in
 -- order (`plain`); the judge's whole table allows the deeds one after another (`legal`); the lock words and the data words
 -- at the end are such as outlive a crash of everything.
-pub record IsSoundRun (s : Setup) (es : List Entry) : Type 0 where
+pub record IsSoundRun (s : Setup) (es : List TakenStep) : Type 0 where
   pub legal : IsLegal s.layout.procs s.layout.cap (deeds_of s es)
   pub plain : IsPlain (deeds_of s es)
   pub lock_words : IsLawful s.layout.procs s.limit (end_of s es).words
@@ -67,4 +67,4 @@ pub record IsSoundRun (s : Setup) (es : List Entry) : Type 0 where
   pub answered : AnsweredIsShown s es
 
 abbrev pub EveryRunIsSound : Type 0
-EveryRunIsSound = (s : Setup) (es : List Entry) → IsLayout s.layout → IsRun s es → IsSoundRun s es
+EveryRunIsSound = (s : Setup) (es : List TakenStep) → IsLayout s.layout → IsRun s es → IsSoundRun s es

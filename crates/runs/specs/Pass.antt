@@ -9,7 +9,7 @@ use Rattle.rmeworld.specs.Spot.{Spot, next_spot}
 use Rattle.rmeworld.specs.Stand.{IsSize}
 use Rattle.runs.specs.declared.setup.Setup.{Setup}
 use Rattle.runs.specs.declared.entry.Step.{Step}
-use Rattle.runs.specs.declared.entry.Entry.{Entry}
+use Rattle.runs.specs.declared.entry.TakenStep.{TakenStep}
 use Rattle.runs.specs.declared.entry.View.{View}
 use Rattle.runs.specs.declared.entry.Known.{Known}
 use Rattle.runs.specs.Runs.{own, IsRun, before, taken, gone, spot_of, Goes, word_count}
@@ -23,13 +23,13 @@ pub record Pass : Type 0 where
   pub by : ℕ
   pub fallen : Bool
   pub start : Option Call
-  pub seen : List Entry
+  pub seen : List TakenStep
 
 abbrev pub view_of : Pass → View
 view_of x = record { setup = x.setup; answers = x.by ∷ []; seen = x.seen }
 
 -- a seat of one process, into which no other was joined
-abbrev pub alone : Setup → ℕ → List Entry → Known
+abbrev pub alone : Setup → ℕ → List TakenStep → Known
 alone s p seen = record { view = record { setup = s; answers = p ∷ []; seen = seen }; told = [] }
 
 -- the seat that answers for the processes from p on, before any step
@@ -41,21 +41,21 @@ abbrev pub fresh : TableId → Setup → ℕ → Pass
 fresh t s p = record { table = t; setup = s; by = p; fallen = false; start = None; seen = [] }
 
 -- the caller's own entries
-abbrev pub own_of : Pass → List Entry
+abbrev pub own_of : Pass → List TakenStep
 own_of x = own x.by x.seen
 
 -- what the next step carries
 abbrev pub owed : Pass → Kind → Word → Step
 owed x kind word = record { crashed = x.fallen; start = x.start; kind = kind; word = word }
 
-abbrev pub next_entry : Pass → Kind → Word → ℕ → Entry
+abbrev pub next_entry : Pass → Kind → Word → ℕ → TakenStep
 next_entry x kind word value = record { by = x.by; step = owed x kind word; value = value }
 
 -- a glance carries nothing: the next other step does
 abbrev pub glanced : Word → Step
 glanced word = record { crashed = false; start = None; kind = Glance; word = word }
 
-abbrev pub glance_entry : Pass → Word → ℕ → Entry
+abbrev pub glance_entry : Pass → Word → ℕ → TakenStep
 glance_entry x word value = record { by = x.by; step = glanced word; value = value }
 
 -- the spot of the process once its crash and its start, if there are, have come
@@ -76,15 +76,15 @@ pub record IsPass (x : Pass) : Type 0 where
   pub goes : Goes x.setup (spot_of x.setup x.by x.seen) (before x.fallen x.start x.by)
 
 -- es ends with the last of xs
-abbrev pub EndsWith : List Entry → List Entry → Type 0
-EndsWith xs es = (front : List Entry) (e : Entry) → xs ≡ front ++ e ∷ [] → (start : List Entry) × (es ≡ start ++ e ∷ [])
+abbrev pub EndsWith : List TakenStep → List TakenStep → Type 0
+EndsWith xs es = (front : List TakenStep) (e : TakenStep) → xs ≡ front ++ e ∷ [] → (start : List TakenStep) × (es ≡ start ++ e ∷ [])
 
 -- one step: the run so far begins with all that was seen and ends with the step, and of this process it has no other step more
-pub record Adds (x : Pass) (e : Entry) (y : Pass) : Type 0 where
+pub record Adds (x : Pass) (e : TakenStep) (y : Pass) : Type 0 where
   pub table : y.table ≡ x.table
   pub setup : y.setup ≡ x.setup
   pub by : y.by ≡ x.by
-  pub between : List Entry
+  pub between : List TakenStep
   pub seen : y.seen ≡ (x.seen ++ between) ++ e ∷ []
   pub apart : own x.by between ≡ []
   pub run : IsRun y.setup y.seen
@@ -103,11 +103,11 @@ pub record Looks (x : Pass) (word : Word) (value : ℕ) (y : Pass) : Type 0 wher
 
 -- several steps: the run so far begins with all that was seen and ends with the last of them, and of this process it has just
 -- these more
-pub record Calls (x : Pass) (mine : List Entry) (y : Pass) : Type 0 where
+pub record Calls (x : Pass) (mine : List TakenStep) (y : Pass) : Type 0 where
   pub table : y.table ≡ x.table
   pub setup : y.setup ≡ x.setup
   pub by : y.by ≡ x.by
-  pub since : List Entry
+  pub since : List TakenStep
   pub seen : y.seen ≡ x.seen ++ since
   pub mine_are : own x.by since ≡ mine
   pub last : EndsWith mine y.seen

@@ -4,19 +4,19 @@ use Rattle.rmecore.specs.declared.word.Word.TheVariants.{Data as DataAt}
 use Rattle.redomail.specs.Layout.{IsLayout}
 use Rattle.rmeworld.specs.declared.call.Call.{Call}
 use Rattle.rmeworld.specs.declared.call.Call.TheVariants.{Lock, Unlock, Consistent, Append}
-use Rattle.runs.specs.declared.entry.Entry.{Entry}
+use Rattle.runs.specs.declared.entry.TakenStep.{TakenStep}
 use Rattle.runs.specs.declared.setup.Setup.{Setup}
 use Rattle.runs.specs.Reading.{cells_of}
 use Rattle.runs.specs.Runs.{own, stores, IsRun}
 
 -- a load of data word 0 that finds the lock ruined
-abbrev pub ReadsRuin : Entry → Type 0
+abbrev pub ReadsRuin : TakenStep → Type 0
 ReadsRuin e = (stores e ≡ false) × (e.step.word ≡ DataAt 0) × (e.value ≡ 1)
 
-pub record HasReadRuin (es : List Entry) : Type 0 where
-  pub front : List Entry
-  pub entry : Entry
-  pub back : List Entry
+pub record HasReadRuin (es : List TakenStep) : Type 0 where
+  pub front : List TakenStep
+  pub entry : TakenStep
+  pub back : List TakenStep
   pub is : es ≡ front ++ entry ∷ back
   pub reads : ReadsRuin entry
 
@@ -26,7 +26,7 @@ last_call last crashed (Some call) = Some call
 last_call last true None = None
 last_call last false None = last
 
-abbrev pub last_of : Option Call → List Entry → Option Call
+abbrev pub last_of : Option Call → List TakenStep → Option Call
 last_of last [] = last
 last_of last (e ∷ es) = last_of (last_call last e.step.crashed e.step.start) es
 
@@ -45,10 +45,10 @@ MayStart last crashed (Some (Append seq value)) = Unit {0}
 MayStart last crashed (Some Unlock) = (crashed ≡ false) × (settles last ≡ true)
 MayStart last crashed _ = ⊥
 
-abbrev pub AreInOrder : Option Call → List Entry → Type 0
+abbrev pub AreInOrder : Option Call → List TakenStep → Type 0
 AreInOrder last [] = Unit {0}
 AreInOrder last (e ∷ es) = MayStart last e.step.crashed e.step.start × AreInOrder (last_call last e.step.crashed e.step.start) es
 
 -- In a run whose processes all start their calls in this order, nobody ruins the lock, however often they crash.
 abbrev pub NobodyRuins : Type 0
-NobodyRuins = (s : Setup) (es : List Entry) → IsLayout s.layout → IsRun s es → ((p : ℕ) → p < s.layout.procs → AreInOrder None (own p es)) → cells_of s es 0 ≡ 0
+NobodyRuins = (s : Setup) (es : List TakenStep) → IsLayout s.layout → IsRun s es → ((p : ℕ) → p < s.layout.procs → AreInOrder None (own p es)) → cells_of s es 0 ≡ 0

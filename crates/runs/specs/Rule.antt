@@ -8,7 +8,7 @@ use Rattle.rmecore.specs.declared.kind.Kind.TheVariants.{Glance}
 use Rattle.rmecore.specs.declared.word.Word.TheVariants.{Choosing as ChoosingOf}
 use Rattle.runs.specs.declared.setup.Setup.{Setup}
 use Rattle.runs.specs.declared.entry.Step.{Step}
-use Rattle.runs.specs.declared.entry.Entry.{Entry}
+use Rattle.runs.specs.declared.entry.TakenStep.{TakenStep}
 use Rattle.runs.specs.declared.entry.View.{View}
 use Rattle.runs.specs.declared.entry.Known.{Known}
 use Rattle.runs.specs.Runs.{own, has, spot_of, happenings, IsRun, end_of, Goes, index, InTable, IsBeyond, Shows}
@@ -39,7 +39,7 @@ abbrev pub without_first : Known → Known
 without_first k = record { view = record { setup = k.view.setup; answers = rest_of k.view.answers; seen = k.view.seen }; told = [] }
 
 -- the longer of two beginnings of one run
-abbrev pub longer : List Entry → List Entry → List Entry
+abbrev pub longer : List TakenStep → List TakenStep → List TakenStep
 longer xs ys = if ltb (length xs) (length ys) then ys else xs
 
 abbrev pub joined_view : View → View → View
@@ -53,20 +53,20 @@ abbrev pub spent_known : Known
 spent_known = record { view = record { setup = record { layout = record { procs = 0; cap = 0; width = 0 }; limit = 0 }; answers = []; seen = [] }; told = [] }
 
 -- es begins with xs
-abbrev pub Begins : List Entry → List Entry → Type 0
-Begins xs es = (rest : List Entry) × (es ≡ xs ++ rest)
+abbrev pub Begins : List TakenStep → List TakenStep → Type 0
+Begins xs es = (rest : List TakenStep) × (es ≡ xs ++ rest)
 
 -- what the rule says of a process and the seat i that answers for it
-pub record IsAnswered (s : Setup) (log : List Entry) (owner : ℕ → ℕ) (i : ℕ) (v : View) (p : ℕ) : Type 0 where
+pub record IsAnswered (s : Setup) (log : List TakenStep) (owner : ℕ → ℕ) (i : ℕ) (v : View) (p : ℕ) : Type 0 where
   pub setup : v.setup ≡ s
   pub within : p < s.layout.procs
   pub seat : owner p ≡ i
   pub own_is : own p log ≡ own p v.seen
 
-abbrev pub Fits : Setup → List Entry → (ℕ → ℕ) → ℕ → View → Type 0
+abbrev pub Fits : Setup → List TakenStep → (ℕ → ℕ) → ℕ → View → Type 0
 Fits s log owner i v = Begins v.seen log × ((p : ℕ) → has p v.answers ≡ true → IsAnswered s log owner i v p)
 
-abbrev pub AllFit : Setup → List Entry → (ℕ → ℕ) → ℕ → Known → Type 0
+abbrev pub AllFit : Setup → List TakenStep → (ℕ → ℕ) → ℕ → Known → Type 0
 AllFit s log owner i k = Fits s log owner i k.view × All (Fits s log owner i) k.told
 
 -- some seat answers for p
@@ -74,25 +74,25 @@ abbrev pub IsMember : List Known → (ℕ → ℕ) → ℕ → Type 0
 IsMember views owner p = (k : Known) × (get_elem? views (owner p) ≡ some k) × (has p k.view.answers ≡ true)
 
 -- the pass o is a beginning of the run so far, and has all entries of its processes
-pub record IsIn (log : List Entry) (o : View) : Type 0 where
+pub record IsIn (log : List TakenStep) (o : View) : Type 0 where
   pub begins : Begins o.seen log
   pub own_are : (p : ℕ) → has p o.answers ≡ true → own p log ≡ own p o.seen
 
 -- one run, whose words are these; each pass is a beginning of it, with all entries of its processes; each process has a seat
-pub record IsKept (s : Setup) (log : List Entry) (owner : ℕ → ℕ) (words : List ℕ) (views : List Known) : Type 0 where
+pub record IsKept (s : Setup) (log : List TakenStep) (owner : ℕ → ℕ) (words : List ℕ) (views : List Known) : Type 0 where
   pub run : IsRun s log
   pub shows : Shows s (end_of s log) words
   pub fits : (i : ℕ) (k : Known) → get_elem? views i ≡ some k → AllFit s log owner i k
   pub members : (p : ℕ) → p < s.layout.procs → IsMember views owner p
 
 abbrev pub Kept : Setup → State (Unit {0}) Known → Type 0
-Kept s state = (log : List Entry) × (owner : ℕ → ℕ) × IsKept s log owner state.words state.views
+Kept s state = (log : List TakenStep) × (owner : ℕ → ℕ) × IsKept s log owner state.words state.views
 
 -- the process that steps with a seat
 abbrev pub stepper : View → ℕ
 stepper v = slice_index v.answers 0
 
-abbrev pub entry_of : View → Step → ℕ → Entry
+abbrev pub entry_of : View → Step → ℕ → TakenStep
 entry_of v step value = record { by = stepper v; step = step; value = value }
 
 -- what a step tells: the run so far begins with all that was seen, and ends with this step. In between no process of this
@@ -101,7 +101,7 @@ pub record Did (step : Step) (k : Known) (found : ℕ) (l : Known) : Type 0 wher
   pub setup : l.view.setup ≡ k.view.setup
   pub answers : l.view.answers ≡ k.view.answers
   pub none_told : l.told ≡ []
-  pub between : List Entry
+  pub between : List TakenStep
   pub seen : l.view.seen ≡ (k.view.seen ++ between) ++ entry_of k.view step found ∷ []
   pub apart : (p : ℕ) → has p k.view.answers ≡ true → own p between ≡ []
   pub run : IsRun l.view.setup l.view.seen

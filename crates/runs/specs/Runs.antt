@@ -10,7 +10,7 @@ use Rattle.rmeworld.specs.declared.call.Call.{Call}
 use Rattle.rmeworld.specs.Spot.{Spot, at_rest, Happening, Begins, Falls, Moves, Glances, next_spot}
 use Rattle.rmeworld.specs.World.{Scene, at_first, Story, last_scene, reading, spot_after}
 use Rattle.runs.specs.declared.setup.Setup.{Setup}
-use Rattle.runs.specs.declared.entry.Entry.{Entry}
+use Rattle.runs.specs.declared.entry.TakenStep.{TakenStep}
 
 abbrev pub crash_first : Bool → ℕ → List Happening
 crash_first true p = Falls p ∷ []
@@ -29,27 +29,27 @@ abbrev pub taken : ℕ → Kind → Word → ℕ → Happening
 taken p Looks word v = Glances p word v
 taken p kind word v = Moves p kind word v
 
-abbrev pub happenings : Entry → List Happening
+abbrev pub happenings : TakenStep → List Happening
 happenings e = before e.step.crashed e.step.start e.by ++ taken e.by e.step.kind e.step.word e.value ∷ []
 
 -- a run, spelled out
-abbrev pub spelled : List Entry → List Happening
+abbrev pub spelled : List TakenStep → List Happening
 spelled [] = []
 spelled (e ∷ es) = happenings e ++ spelled es
 
 -- the entries of one process
-abbrev pub own : ℕ → List Entry → List Entry
-own p es = filter (λ (e : Entry). e.by == p) es
+abbrev pub own : ℕ → List TakenStep → List TakenStep
+own p es = filter (λ (e : TakenStep). e.by == p) es
 
 abbrev pub has : ℕ → List ℕ → Bool
 has p [] = false
 has p (q ∷ qs) = (q == p) || has p qs
 
-abbrev pub IsRun : Setup → List Entry → Type 0
+abbrev pub IsRun : Setup → List TakenStep → Type 0
 IsRun s es = Story s.layout s.limit at_first (spelled es)
 
 -- the world that a run leaves
-abbrev pub end_of : Setup → List Entry → Scene
+abbrev pub end_of : Setup → List TakenStep → Scene
 end_of s es = last_scene s.layout s.limit at_first (spelled es)
 
 -- where a process stands after these happenings of its own. One that may not come leaves it where it is
@@ -57,7 +57,7 @@ abbrev pub gone : Setup → Spot → List Happening → Spot
 gone s spot hs = spot_after s.layout s.limit spot hs
 
 -- the spot of process p, from its own entries
-abbrev pub spot_of : Setup → ℕ → List Entry → Spot
+abbrev pub spot_of : Setup → ℕ → List TakenStep → Spot
 spot_of s p es = gone s at_rest (spelled (own p es))
 
 -- a process may do this from its spot, one thing after the other
@@ -91,5 +91,5 @@ IsBeyond s word = ⊥
 abbrev pub Shows : Setup → Scene → List ℕ → Type 0
 Shows s w words = (length words ≡ word_count s) × ((word : Word) → InTable s word → slice_index words (index s word) ≡ reading w word)
 
-abbrev pub stores : Entry → Bool
+abbrev pub stores : TakenStep → Bool
 stores e = is_store e.step.kind

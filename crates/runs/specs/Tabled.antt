@@ -8,7 +8,7 @@ use Rattle.rmeworld.specs.declared.call.Call.{Call}
 use Rattle.rmeworld.specs.declared.call.Call.TheVariants.{Lock}
 use Rattle.rmeworld.specs.OwnSteps.{own_steps, most_steps}
 use Rattle.rmeworld.specs.Spot.{Spot}
-use Rattle.runs.specs.declared.entry.Entry.{Entry}
+use Rattle.runs.specs.declared.entry.TakenStep.{TakenStep}
 use Rattle.runs.specs.declared.lock_fault.LockFault.{LockFault}
 use Rattle.runs.specs.declared.lock_fault.LockFault.TheVariants.{NotYet, NumbersSpent, NotRecoverable}
 use Rattle.runs.specs.Runs.{crash_first, end_of, gone, own, spot_of}
@@ -38,7 +38,7 @@ KeepsTable x call (a ∷ b ∷ more) blocked steps = ⊥
 -- each call of a member, whatever the others do meanwhile
 abbrev pub CallsKeepTheTable : Type 0
 CallsKeepTheTable =
-    (x : Seated) (call : Call) (answers : List Answer) (blocked : ℕ) (y : Seated) (mine : List Entry) → Served x call answers blocked y mine → KeepsTable x.pass call answers blocked (length mine)
+    (x : Seated) (call : Call) (answers : List Answer) (blocked : ℕ) (y : Seated) (mine : List TakenStep) → Served x call answers blocked y mine → KeepsTable x.pass call answers blocked (length mine)
 
 -- the blocked readings of a process between two of its passes
 abbrev pub blocked_since : Pass → Pass → ℕ

@@ -1,4 +1,4 @@
-//! What a run of the table is made of. No value of `Entry`, `View` or `Known` is ever made: they stand in proofs alone.
+//! What a run of the table is made of. No value of `TakenStep`, `View` or `Known` is ever made: they stand in proofs alone.
 
 use crate::setup::Setup;
 use rmecore::{Kind, Word};
@@ -17,7 +17,7 @@ pub struct Step {
 
 /// One step of one process, with the value that it read or wrote.
 #[derive(Clone, Copy)]
-pub struct Entry {
+pub struct TakenStep {
     pub by: u64,
     pub step: Step,
     pub value: u64,
@@ -27,7 +27,7 @@ pub struct Entry {
 pub struct View {
     pub setup: Setup,
     pub answers: LinkedList<u64>,
-    pub seen: LinkedList<Entry>,
+    pub seen: LinkedList<TakenStep>,
 }
 
 /// What a seat knows: its pass, and those that were joined into it since its last step.

@@ -1,6 +1,6 @@
 use Rattle.std.proofs.Common.{◌≡◌, IsNone}
 use Rattle.one_lock.specs.Member.{Goes, AskedEach, CountsOn}
-use Rattle.one_lock.specs.Answers.{IsUnderWay}
+use Rattle.one_lock.proofs.Answered.{IsUnderWay}
 use Rattle.one_lock.proofs.member.Member.pursue.Given as goal
 
 abbrev pub invariant-loop : goal.invariant-loop
@@ -8,4 +8,4 @@ invariant-loop g l =
     Goes l.initial.self l.self × CountsOn l.initial.self l.self × AskedEach l.initial.self l.self (g.P.CrashPlan.asked l.initial.plan) (g.P.CrashPlan.asked l.plan)
     × (g.P.CrashPlan.fallen l.plan ≡ g.P.CrashPlan.fallen l.initial.plan) × (IsNone l.fn.turns → IsNone l.left)
     × (l.self.standing ≡ l.initial.self.standing)
-    × IsUnderWay l.initial.self.process l.initial.self.standing l.fn.call l.opening
+    × IsUnderWay l.initial.self.process l.initial.self.standing l.fn.call l.fn.turns l.left l.initial.self.steps l.self.steps l.opening

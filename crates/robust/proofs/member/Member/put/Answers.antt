@@ -2,7 +2,7 @@ use Rattle.std.proofs.Common.{rules, ◌≡◌, [], ◌∷◌, Some, subst}
 use Rattle.rmeworld.specs.declared.answer.Answer.{Answer}
 use Rattle.rmeworld.specs.declared.answer.Answer.TheVariants.{Mail}
 use Rattle.rmeworld.specs.declared.call.Call.TheVariants.{Put}
-use Rattle.runs.specs.declared.entry.Entry.{Entry}
+use Rattle.runs.specs.declared.entry.TakenStep.{TakenStep}
 use Rattle.runs.specs.Board.{last_put}
 use Rattle.runs.specs.Running.{Seated, began}
 use Rattle.runs.specs.Calls.{Served}
@@ -15,5 +15,5 @@ returns-clause-last g c =
     let i = c.args.i in
     let r = c.in_ok-call.ensures.answered in
     let is : c.in_ok-call.field-0 ≡ Mail c.in-Mail.field-0 = search rules in
-    subst (λ (u : Seated). (e : Entry) × (last_put u.pass.setup i c.call.new.self.pass.seen ≡ Some e) × (e.by ≡ u.pass.by) × (e.value ≡ c.args.value)) c.self.view_is
+    subst (λ (u : Seated). (e : TakenStep) × (last_put u.pass.setup i c.call.new.self.pass.seen ≡ Some e) × (e.by ≡ u.pass.by) × (e.value ≡ c.args.value)) c.self.view_is
     (has_put x c.call.new.self i c.args.value c.in-Mail.field-0 r.0 c.self.invariant c.in_ok-call.ensures.accepted (subst (λ (a : Answer). Served (began x (Put i c.args.value)) (Put i c.args.value) (a ∷ []) 0 c.call.new.self r.0) is r.1))

@@ -1,6 +1,6 @@
 use Rattle.std.proofs.Common.{◌≡◌, ◌-◌, List, length, false}
 use Rattle.rmeworld.specs.Refused.{is_idle}
-use Rattle.runs.specs.declared.entry.Entry.{Entry}
+use Rattle.runs.specs.declared.entry.TakenStep.{TakenStep}
 use Rattle.runs.specs.Pass.{spot_now}
 use Rattle.runs.specs.Running.{many_more}
 use Rattle.runs.specs.Calls.{Going}
@@ -10,7 +10,7 @@ use Rattle.robust.proofs.runner.Runner.run.Given as goal
 
 abbrev pub invariant-loop-turn : goal.invariant-loop-turn
 invariant-loop-turn g l = record {
-  so_far : ((mine : List Entry) × Going l.fn.self mine l.self × (g.C.CrashPlan.asked l.plan ≡ many_more (length mine) (g.C.CrashPlan.asked l.fn.plan)));
+  so_far : ((mine : List TakenStep) × Going l.fn.self mine l.self × (g.C.CrashPlan.asked l.plan ≡ many_more (length mine) (g.C.CrashPlan.asked l.fn.plan)));
   fallen : g.C.CrashPlan.fallen l.plan ≡ g.C.CrashPlan.fallen l.fn.plan;
   under : IsUnder l.fn.call (spot_now l.self.pass);
   busy : is_idle (spot_now l.self.pass) ≡ false;

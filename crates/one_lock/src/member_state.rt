@@ -2,7 +2,7 @@
 
 /// Where a member stands between its calls.
 #[derive(Clone, Copy, Debug, PartialEq, Eq)]
-pub enum Standing {
+pub enum MemberState {
     /// Out of the section, with its private memory.
     Out,
     /// Without its private memory, as after a crash, or without a use for it, as after `NotYet`: the next call that takes
@@ -14,7 +14,7 @@ pub enum Standing {
     Unmended,
 }
 
-impl Standing {
+impl MemberState {
     ghost use Rattle.std.specs.Prelude.{◌≡◌};
     ghost use Rattle.one_lock.specs.Member.{is_in as is_in_section, is_lost as has_lost};
 
@@ -22,13 +22,13 @@ impl Standing {
     pub fn is_in(self) -> bool
         ensures { result ≡ is_in_section self }
     {
-        matches!(self, Standing::Mended | Standing::Unmended)
+        matches!(self, MemberState::Mended | MemberState::Unmended)
     }
 
     /// Whether it has lost its private memory.
     pub fn is_lost(self) -> bool
         ensures { result ≡ has_lost self }
     {
-        self == Standing::Lost
+        self == MemberState::Lost
     }
 }

@@ -5,7 +5,7 @@ use Rattle.runs.proofs.Begun.{begun_now}
 use Rattle.runs.specs.Pass.{Pass, spot_now}
 use Rattle.runs.specs.Running.{Seated, IsRunBy}
 use Rattle.runs.proofs.Running.{run_by_start, start_same, keeps_start}
-use Rattle.robust.proofs.runner.Runner.go_on.Goals as goal
+use Rattle.robust.proofs.runner.Runner.begin_behind.Goals as goal
 
 pub invariant_of-self-2 : goal.invariant_of-self-2
 invariant_of-self-2 c =

@@ -1,0 +1,12 @@
+use Rattle.std.proofs.Common.{ℕ, subst}
+use Rattle.rmecore.specs.declared.kind.Kind.TheVariants.{Drop}
+use Rattle.rmecore.specs.declared.word.Word.TheVariants.{Number}
+use Rattle.runs.specs.Pass.{Advances}
+use Rattle.robust.proofs.Straight.{dropped}
+use Rattle.robust.proofs.fast_path.drop_number.Goals as goal
+
+pub returns-clause-comes : goal.returns-clause-comes
+returns-clause-comes c =
+    let w = c.args.walker.now in
+    let adv = subst (λ (q : ℕ). Advances w Drop (Number q) 0 c.store.new.self) c.by-own.ensures.is c.store.ensures in
+    dropped w _ c.store.new.self c.requires.at adv

@@ -1,0 +1,12 @@
+use Rattle.std.proofs.Common.{ℕ, subst}
+use Rattle.rmecore.specs.declared.kind.Kind.TheVariants.{Mark}
+use Rattle.rmecore.specs.declared.word.Word.TheVariants.{Inside}
+use Rattle.runs.specs.Pass.{Advances}
+use Rattle.robust.proofs.Straight.{marked}
+use Rattle.robust.proofs.fast_path.mark.Goals as goal
+
+pub returns-clause-comes : goal.returns-clause-comes
+returns-clause-comes c =
+    let w = c.args.walker.now in
+    let adv = subst (λ (q : ℕ). Advances w Mark (Inside q) 1 c.store_clear.new.self) c.by-own.ensures.is c.store_clear.ensures in
+    marked w c.store_clear.new.self c.args.number _ c.requires.at adv

@@ -1,0 +1,12 @@
+use Rattle.std.proofs.Common.{ℕ, subst}
+use Rattle.rmecore.specs.declared.kind.Kind.TheVariants.{Open}
+use Rattle.rmecore.specs.declared.word.Word.TheVariants.{Choosing}
+use Rattle.runs.specs.Pass.{Advances}
+use Rattle.robust.proofs.Straight.{opened}
+use Rattle.robust.proofs.fast_path.open.Goals as goal
+
+pub returns-clause-comes : goal.returns-clause-comes
+returns-clause-comes c =
+    let w = c.args.walker.now in
+    let adv = subst (λ (q : ℕ). Advances w Open (Choosing q) 1 c.store_clear.new.self) c.by-own.ensures.is c.store_clear.ensures in
+    opened w _ c.store_clear.new.self c.requires.at adv

@@ -1,0 +1,14 @@
+use Rattle.std.proofs.Common.{◌≡◌, ◌≤◌}
+use Rattle.rmecore.specs.Place.{Door, above}
+use Rattle.runs.specs.Pass.{spot_now}
+use Rattle.robust.specs.FastPath.{free_spot, IsClear, IsSame, Unanswered}
+use Rattle.robust.proofs.fast_path.peek_others.Given as goal
+
+abbrev pub invariant-loop-j : goal.invariant-loop-j
+invariant-loop-j l = record {
+  at : spot_now l.walker ≡ free_spot (Door (above l.fn.walker.setup.layout.procs l.fn.walker.by l.j) l.greatest) (spot_now l.fn.walker).mended;
+  unanswered : Unanswered l.fn.walker l.taken 0 l.walker;
+  clear : IsClear l.walker;
+  same : IsSame l.fn.walker l.walker;
+  few : l.taken ≤ l.j;
+}

@@ -1,0 +1,12 @@
+use Rattle.std.proofs.Common.{ℕ, subst}
+use Rattle.rmecore.specs.declared.kind.Kind.TheVariants.{Reread}
+use Rattle.rmecore.specs.declared.word.Word.TheVariants.{Choosing}
+use Rattle.runs.specs.Pass.{Advances}
+use Rattle.robust.proofs.Straight.{choosing_read}
+use Rattle.robust.proofs.fast_path.read_choosing.Goals as goal
+
+pub returns-clause-comes : goal.returns-clause-comes
+returns-clause-comes c =
+    let w = c.args.walker.now in
+    let adv = subst (λ (q : ℕ). Advances w Reread (Choosing q) c.load.result c.load.new.self) c.by-own.ensures.is c.load.ensures in
+    choosing_read w _ c.load.new.self c.load.result c.requires.at adv

@@ -1,0 +1,12 @@
+use Rattle.std.proofs.Common.{ℕ, subst}
+use Rattle.rmecore.specs.declared.kind.Kind.TheVariants.{Shut}
+use Rattle.rmecore.specs.declared.word.Word.TheVariants.{Choosing}
+use Rattle.runs.specs.Pass.{Advances}
+use Rattle.robust.proofs.Straight.{shut_again}
+use Rattle.robust.proofs.fast_path.shut.Goals as goal
+
+pub returns-clause-comes : goal.returns-clause-comes
+returns-clause-comes c =
+    let w = c.args.walker.now in
+    let adv = subst (λ (q : ℕ). Advances w Shut (Choosing q) 0 c.store_clear.new.self) c.by-own.ensures.is c.store_clear.ensures in
+    shut_again w _ c.store_clear.new.self c.args.number c.requires.at adv

@@ -1,0 +1,78 @@
+use Rattle.std.proofs.Common.{◌≡◌, ℕ, ◌+◌, ◌≤◌, [], ◌∷◌, None, refl, sym, ap, ◌∙◌, arith}
+use Rattle.rmecore.specs.Place.{Place, Reread, Opening, Door, Shutting, Wait, Unmarking, above, others, relocked}
+use Rattle.rmecore.specs.declared.core_call.CoreCall.TheVariants.{Lock}
+use Rattle.rmecore.proofs.Scans.{above_past}
+use Rattle.runs.specs.Pass.{Pass}
+use Rattle.robust.specs.FastPath.{Way}
+use Rattle.robust.proofs.Straight.{way_first, way_on, way_more, way_to, way_begun, relocked_none, relocked_some, above_short}
+use Rattle.robust.proofs.fast_path.through_doorway.Goals as goal
+
+pub returns-then-number-ne0-clause-way : goal.returns-then-number-ne0-clause-way
+returns-then-number-ne0-clause-way c =
+    let x = c.args.walker.now in
+    let r1 = c.read_choosing-choosing in
+    let r2 = c.read_number-number in
+    way_on x r1.new.walker r2.new.walker 1 (Reread Lock (r1.result ∷ [])) (way_first x r1.new.walker (Reread Lock (r1.result ∷ [])) r1.ensures.comes r1.ensures.clear r1.ensures.same) (Reread Lock (r1.result ∷ r2.result ∷ [])) r2.ensures.comes r2.ensures.clear r2.ensures.same
+
+pub returns-then-inside-ne0-clause-way : goal.returns-then-inside-ne0-clause-way
+returns-then-inside-ne0-clause-way c =
+    let x = c.args.walker.now in
+    let r1 = c.read_choosing-choosing in
+    let r2 = c.read_number-number in
+    let r3 = c.read_inside-inside in
+    let w1 : Way x 1 r1.new.walker (Reread Lock (r1.result ∷ [])) = way_first x r1.new.walker (Reread Lock (r1.result ∷ [])) r1.ensures.comes r1.ensures.clear r1.ensures.same in
+    let w2 : Way x 2 r2.new.walker (Reread Lock (r1.result ∷ r2.result ∷ [])) = way_on x r1.new.walker r2.new.walker 1 (Reread Lock (r1.result ∷ [])) w1 (Reread Lock (r1.result ∷ r2.result ∷ [])) r2.ensures.comes r2.ensures.clear r2.ensures.same in
+    let y = r2.new.walker in
+    let w3 : Way x 3 r3.new.walker (relocked y.setup.layout.procs y.by 0 0 r3.result) = way_on x y r3.new.walker 2 (Reread Lock (r1.result ∷ r2.result ∷ [])) w2 (relocked y.setup.layout.procs y.by 0 0 r3.result) r3.ensures.comes r3.ensures.clear r3.ensures.same in
+    way_to x r3.new.walker 3 3 (relocked y.setup.layout.procs y.by 0 0 r3.result) (Unmarking Lock) refl (relocked_some y.setup.layout.procs y.by r3.result c.if-inside-ne0.true) w3
+
+pub returns-then-greatest-limit-clause-way : goal.returns-then-greatest-limit-clause-way
+returns-then-greatest-limit-clause-way c =
+    let x = c.args.walker.now in
+    let r1 = c.read_choosing-choosing in
+    let r2 = c.read_number-number in
+    let r3 = c.read_inside-inside in
+    let w1 : Way x 1 r1.new.walker (Reread Lock (r1.result ∷ [])) = way_first x r1.new.walker (Reread Lock (r1.result ∷ [])) r1.ensures.comes r1.ensures.clear r1.ensures.same in
+    let w2 : Way x 2 r2.new.walker (Reread Lock (r1.result ∷ r2.result ∷ [])) = way_on x r1.new.walker r2.new.walker 1 (Reread Lock (r1.result ∷ [])) w1 (Reread Lock (r1.result ∷ r2.result ∷ [])) r2.ensures.comes r2.ensures.clear r2.ensures.same in
+    let y = r2.new.walker in
+    let w3 : Way x 3 r3.new.walker (relocked y.setup.layout.procs y.by 0 0 r3.result) = way_on x y r3.new.walker 2 (Reread Lock (r1.result ∷ r2.result ∷ [])) w2 (relocked y.setup.layout.procs y.by 0 0 r3.result) r3.ensures.comes r3.ensures.clear r3.ensures.same in
+    let z = r3.new.walker in
+    let o = c.open in
+    let w4 : Way x 4 o.new.walker (Door (others z.setup.layout.procs z.by) 0) = way_on x z o.new.walker 3 (relocked y.setup.layout.procs y.by 0 0 r3.result) w3 (Door (others z.setup.layout.procs z.by) 0) o.ensures.comes o.ensures.clear o.ensures.same in
+    let p = c.peek_others-greatest in
+    let w5 : Way x (4 + p.result.1) p.new.walker (Door [] p.result.0) = way_more x o.new.walker p.new.walker 4 (Door (others z.setup.layout.procs z.by) 0) w4 p.result.1 (Door [] p.result.0) p.ensures.at p.ensures.unanswered p.ensures.clear p.ensures.same in
+    let e : 4 + p.result.1 ≡ p.result.1 + 4 = omega arith in
+    let past : x.setup.layout.procs ≤ c.procs-procs.result = (let is = c.procs-procs.ensures.is in omega arith) in
+    way_to x p.new.walker (4 + p.result.1) (p.result.1 + 4) (Door [] p.result.0) (Door (above x.setup.layout.procs x.by c.procs-procs.result) p.result.0) e (ap (λ js. Door js p.result.0) (sym (above_past x.setup.layout.procs x.by c.procs-procs.result past))) w5
+
+pub returns-clause-way : goal.returns-clause-way
+returns-clause-way c =
+    let x = c.args.walker.now in
+    let r1 = c.read_choosing-choosing in
+    let r2 = c.read_number-number in
+    let r3 = c.read_inside-inside in
+    let w1 : Way x 1 r1.new.walker (Reread Lock (r1.result ∷ [])) = way_first x r1.new.walker (Reread Lock (r1.result ∷ [])) r1.ensures.comes r1.ensures.clear r1.ensures.same in
+    let w2 : Way x 2 r2.new.walker (Reread Lock (r1.result ∷ r2.result ∷ [])) = way_on x r1.new.walker r2.new.walker 1 (Reread Lock (r1.result ∷ [])) w1 (Reread Lock (r1.result ∷ r2.result ∷ [])) r2.ensures.comes r2.ensures.clear r2.ensures.same in
+    let y = r2.new.walker in
+    let w3 : Way x 3 r3.new.walker (relocked y.setup.layout.procs y.by 0 0 r3.result) = way_on x y r3.new.walker 2 (Reread Lock (r1.result ∷ r2.result ∷ [])) w2 (relocked y.setup.layout.procs y.by 0 0 r3.result) r3.ensures.comes r3.ensures.clear r3.ensures.same in
+    let z = r3.new.walker in
+    let o = c.open in
+    let w4 : Way x 4 o.new.walker (Door (others z.setup.layout.procs z.by) 0) = way_on x z o.new.walker 3 (relocked y.setup.layout.procs y.by 0 0 r3.result) w3 (Door (others z.setup.layout.procs z.by) 0) o.ensures.comes o.ensures.clear o.ensures.same in
+    let p = c.peek_others-greatest in
+    let w5 : Way x (4 + p.result.1) p.new.walker (Door [] p.result.0) = way_more x o.new.walker p.new.walker 4 (Door (others z.setup.layout.procs z.by) 0) w4 p.result.1 (Door [] p.result.0) p.ensures.at p.ensures.unanswered p.ensures.clear p.ensures.same in
+    let t = c.take in
+    let w6 : Way x (4 + p.result.1 + 1) t.new.walker (Shutting Lock (p.result.0 + 1)) = way_on x p.new.walker t.new.walker (4 + p.result.1) (Door [] p.result.0) w5 (Shutting Lock (p.result.0 + 1)) t.ensures.comes t.ensures.clear t.ensures.same in
+    let s = c.shut in
+    let u = t.new.walker in
+    let w7 : Way x (4 + p.result.1 + 1 + 1) s.new.walker (Wait (p.result.0 + 1) (others u.setup.layout.procs u.by) None) = way_on x u s.new.walker (4 + p.result.1 + 1) (Shutting Lock (p.result.0 + 1)) w6 (Wait (p.result.0 + 1) (others u.setup.layout.procs u.by) None) s.ensures.comes s.ensures.clear s.ensures.same in
+    let e : 4 + p.result.1 + 1 + 1 ≡ p.result.1 + 6 = omega arith in
+    way_to x s.new.walker (4 + p.result.1 + 1 + 1) (p.result.1 + 6) (Wait (p.result.0 + 1) (others u.setup.layout.procs u.by) None) (Wait (p.result.0 + 1) (above x.setup.layout.procs x.by 0) None) e (λ i. Wait (p.result.0 + 1) (above (w6.3.0 i).layout.procs (w6.3.1 i) 0) None) w7
+
+pub returns-clause-begun : goal.returns-clause-begun
+returns-clause-begun c =
+    let x = c.args.walker.now in
+    let w = returns-clause-way c in
+    let p = c.peek_others-greatest in
+    let short = above_short x.setup.layout.procs x.by 0 in
+    let most = c.procs-procs.ensures.pass.size.layout.few in
+    way_begun x c.shut.new.walker (p.result.1 + 6) (Wait (p.result.0 + 1) (above x.setup.layout.procs x.by 0) None) w refl refl tt (omega arith)

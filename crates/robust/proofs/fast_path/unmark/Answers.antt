@@ -1,0 +1,12 @@
+use Rattle.std.proofs.Common.{ℕ, subst}
+use Rattle.rmecore.specs.declared.kind.Kind.TheVariants.{Mark}
+use Rattle.rmecore.specs.declared.word.Word.TheVariants.{Inside}
+use Rattle.runs.specs.Pass.{Advances}
+use Rattle.robust.proofs.Straight.{unmarked}
+use Rattle.robust.proofs.fast_path.unmark.Goals as goal
+
+pub returns-clause-advances : goal.returns-clause-advances
+returns-clause-advances c = subst (λ (q : ℕ). Advances c.args.walker.now Mark (Inside q) 0 c.store_clear.new.self) c.by-own.ensures.is c.store_clear.ensures
+
+pub returns-clause-at : goal.returns-clause-at
+returns-clause-at c = unmarked c.args.walker.now _ c.store_clear.new.self c.requires.at (returns-clause-advances c)

@@ -1,0 +1,420 @@
+//! The fast path of a lock and of an unlock, for plans that never fall: loops over the words alone, proved to be the run of
+//! their steps. The machine is told its place once, behind them.
+ghost use Rattle.std.specs.Prelude.{◌≡◌, ◌≢◌, ℕ, ◌+◌, ◌<◌, ◌≤◌, max, [], ◌∷◌, true, false, ◌==◌, ◌||◌, None, if◌then◌else◌};
+ghost use Rattle.rmecore.specs.Place.{Rest, Reread, Opening, Door, Shutting, Wait, Leaving, Unmarking, others, is_before, relocked};
+ghost use Rattle.rmecore.specs.declared.core_call.CoreCall.TheVariants.{Lock, Unlock};
+ghost use Rattle.rmecore.specs.Machine.{place_of};
+ghost use Rattle.rmecore.specs.declared.stage.Stage.{Stage as StageOf};
+ghost use Rattle.rmeworld.specs.Refused.{is_waiting};
+ghost use Rattle.rmeworld.specs.Stand.{spot_of as standing_at};
+ghost use Rattle.rmeworld.specs.declared.errand.Errand.TheVariants as Errand;
+ghost use Rattle.rmeworld.specs.declared.call.Call.TheVariants as CallOf;
+ghost use Rattle.rmeworld.specs.declared.answer.Answer.TheVariants as Answer;
+ghost use Rattle.rmecore.specs.declared.kind.Kind.TheVariants.{Get as Gets, Mark as Marks};
+ghost use Rattle.rmecore.specs.declared.word.Word.TheVariants.{Data as DataAt, Inside as InsideOf};
+ghost use Rattle.runs.specs.Pass.{Advances, IsPass, spot_now};
+ghost use Rattle.runs.specs.Under.{Begun};
+ghost use Rattle.robust.specs.FastPath.{free_spot, IsClear, IsSame, Unanswered, Comes, Way, waits_at, EndsIn, checking_spot, checked_spot};
+
+use crate::walker::Walker;
+use rmecore::{CoreCall, Kind, Stage, Word};
+use rmeworld::Process;
+
+/// How far a wait has come: from which index on nobody was passed, whether the first of those was looked at, how many steps
+/// that took, and whether the last of them was blocked.
+#[derive(Clone, Copy)]
+pub struct Passed {
+    pub next: u64,
+    pub looked: bool,
+    pub taken: u64,
+    pub is_blocked: bool,
+}
+
+/// Rereads the own choosing.
+fn read_choosing(walker: &mut Walker) -> u64
+    requires at { spot_now walker.old ≡ free_spot (Reread Lock []) (spot_now walker.old).mended }
+    ensures comes { Comes walker.old walker.new (Reread Lock (result ∷ [])) }
+    ensures clear { IsClear walker.new }
+    ensures same { IsSame walker.old walker.new }
+{
+    let own = walker.by();
+    walker.load(Kind::Reread, Word::Choosing(own))
+}
+
+/// Rereads the own number.
+fn read_number(walker: &mut Walker, choosing: u64) -> u64
+    requires clear { IsClear walker.old }
+    requires at { spot_now walker.old ≡ free_spot (Reread Lock (choosing ∷ [])) (spot_now walker.old).mended }
+    ensures comes { Comes walker.old walker.new (Reread Lock (choosing ∷ result ∷ [])) }
+    ensures clear { IsClear walker.new }
+    ensures same { IsSame walker.old walker.new }
+{
+    let _ = choosing;
+    let own = walker.by();
+    walker.load_clear(Kind::Reread, Word::Number(own))
+}
+
+/// Rereads the own inside, where the other two words are 0.
+fn read_inside(walker: &mut Walker) -> u64
+    requires clear { IsClear walker.old }
+    requires at { spot_now walker.old ≡ free_spot (Reread Lock (0 ∷ 0 ∷ [])) (spot_now walker.old).mended }
+    ensures comes { Comes walker.old walker.new (relocked walker.old.setup.layout.procs walker.old.by 0 0 result) }
+    ensures clear { IsClear walker.new }
+    ensures same { IsSame walker.old walker.new }
+{
+    let own = walker.by();
+    walker.load_clear(Kind::Reread, Word::Inside(own))
+}
+
+/// Opens the doorway.
+fn open(walker: &mut Walker)
+    requires clear { IsClear walker.old }
+    requires at { spot_now walker.old ≡ free_spot Opening (spot_now walker.old).mended }
+    ensures comes { Comes walker.old walker.new (Door (others walker.old.setup.layout.procs walker.old.by) 0) }
+    ensures clear { IsClear walker.new }
+    ensures same { IsSame walker.old walker.new }
+{
+    let own = walker.by();
+    walker.store_clear(Kind::Open, Word::Choosing(own), 1);
+}
+
+/// Takes the number behind the greatest.
+fn take(walker: &mut Walker, greatest: u64)
+    requires clear { IsClear walker.old }
+    requires below { greatest < walker.old.setup.limit }
+    requires at { spot_now walker.old ≡ free_spot (Door [] greatest) (spot_now walker.old).mended }
+    ensures comes { Comes walker.old walker.new (Shutting Lock (greatest + 1)) }
+    ensures clear { IsClear walker.new }
+    ensures same { IsSame walker.old walker.new }
+{
+    let own = walker.by();
+    walker.store_clear(Kind::Take, Word::Number(own), greatest + 1);
+}
+
+/// Closes the doorway behind a number.
+fn shut(walker: &mut Walker, number: u64)
+    requires clear { IsClear walker.old }
+    requires at { spot_now walker.old ≡ free_spot (Shutting Lock number) (spot_now walker.old).mended }
+    ensures comes { Comes walker.old walker.new (Wait number (others walker.old.setup.layout.procs walker.old.by) None) }
+    ensures clear { IsClear walker.new }
+    ensures same { IsSame walker.old walker.new }
+{
+    let _ = number;
+    let own = walker.by();
+    walker.store_clear(Kind::Shut, Word::Choosing(own), 0);
+}
+
+/// The greater of two numbers.
+fn greater(a: u64, b: u64) -> u64
+    ensures { result ≡ max a b }
+{
+    if a < b { b } else { a }
+}
+
+/// Reads the numbers of all others, in the doorway. Tells the greatest, and how many steps that were.
+fn peek_others(walker: &mut Walker) -> (u64, u64)
+    requires clear { IsClear walker.old }
+    requires at { spot_now walker.old ≡ free_spot (Door (others walker.old.setup.layout.procs walker.old.by) 0) (spot_now walker.old).mended }
+    ensures at { spot_now walker.new ≡ free_spot (Door [] result.0) (spot_now walker.old).mended }
+    ensures unanswered { Unanswered walker.old result.1 0 walker.new }
+    ensures few { result.1 ≤ 64 }
+    ensures clear { IsClear walker.new }
+    ensures same { IsSame walker.old walker.new }
+{
+    let own = walker.by();
+    let procs = walker.procs();
+    let mut greatest = 0;
+    let mut taken = 0;
+    for j in 0..procs {
+        if j != own {
+            let number = walker.load_clear(Kind::Peek, Word::Number(j));
+            greatest = greater(greatest, number);
+            taken += 1;
+        }
+    }
+    (greatest, taken)
+}
+
+/// Whether a waiter with this number goes past process `j`, whose number was read.
+fn passes(number: u64, own: u64, value: u64, j: u64) -> bool
+    ensures { result ≡ ((value == 0) || is_before number own value j) }
+{
+    value == 0 || (number, own) < (value, j)
+}
+
+/// Looks at process `j`: whether it is in no doorway.
+fn look(walker: &mut Walker, number: u64, j: u64) -> bool
+    requires clear { IsClear walker.old }
+    requires other { (j < walker.old.setup.layout.procs) × (j ≢ walker.old.by) }
+    requires at { spot_now walker.old ≡ waits_at walker.old number j false }
+    ensures at { spot_now walker.new ≡ waits_at walker.old number j result }
+    ensures unanswered { Unanswered walker.old 1 (if result then 0 else 1) walker.new }
+    ensures clear { IsClear walker.new }
+    ensures same { IsSame walker.old walker.new }
+{
+    let _pass = walker.by();
+    let value = walker.load_clear(Kind::Look, Word::Choosing(j));
+    value == 0
+}
+
+/// Weighs the number of process `j`: whether the waiter goes past it.
+fn weigh(walker: &mut Walker, number: u64, j: u64) -> bool
+    requires clear { IsClear walker.old }
+    requires other { (j < walker.old.setup.layout.procs) × (j ≢ walker.old.by) }
+    requires at { spot_now walker.old ≡ waits_at walker.old number j true }
+    ensures passed { result ≡ true → spot_now walker.new ≡ waits_at walker.old number (j + 1) false }
+    ensures stays { result ≡ false → spot_now walker.new ≡ waits_at walker.old number j true }
+    ensures unanswered { Unanswered walker.old 1 (if result then 0 else 1) walker.new }
+    ensures clear { IsClear walker.new }
+    ensures same { IsSame walker.old walker.new }
+{
+    let own = walker.by();
+    let value = walker.load_clear(Kind::Weigh, Word::Number(j));
+    passes(number, own, value, j)
+}
+
+/// Looks at the others from an index on and weighs their numbers, up to the last or to a blocked reading.
+fn pass_others(walker: &mut Walker, number: u64, from: u64) -> Passed
+    requires from { from ≤ 64 }
+    requires clear { IsClear walker.old }
+    requires at { spot_now walker.old ≡ waits_at walker.old number from false }
+    ensures at { spot_now walker.new ≡ waits_at walker.old number result.next result.looked }
+    ensures passed { result.is_blocked ≡ false → spot_now walker.new ≡ free_spot (Wait number [] None) (spot_now walker.old).mended }
+    ensures unanswered { Unanswered walker.old result.taken (if result.is_blocked then 1 else 0) walker.new }
+    ensures few { result.taken ≤ 130 }
+    ensures next { result.next ≤ 64 }
+    ensures clear { IsClear walker.new }
+    ensures same { IsSame walker.old walker.new }
+{
+    let own = walker.by();
+    let procs = walker.procs();
+    let mut taken = 0;
+    for j in from..procs {
+        if j != own {
+            if !look(walker, number, j) {
+                return Passed {
+                    next: j,
+                    looked: false,
+                    taken: taken + 1,
+                    is_blocked: true,
+                };
+            }
+            if !weigh(walker, number, j) {
+                return Passed {
+                    next: j,
+                    looked: true,
+                    taken: taken + 2,
+                    is_blocked: true,
+                };
+            }
+            taken += 2;
+        }
+    }
+    Passed {
+        next: from.max(procs),
+        looked: false,
+        taken,
+        is_blocked: false,
+    }
+}
+
+/// From right behind the start of a lock into the line, as far as the process's words are all 0 and a number is left. Tells
+/// where it stands then, and how many steps that were.
+fn through_doorway(walker: &mut Walker) -> (Stage, u64)
+    requires at { spot_now walker.old ≡ free_spot (Reread Lock []) (spot_now walker.old).mended }
+    ensures way { Way walker.old result.1 walker.new (place_of walker.old.setup.layout.procs walker.old.by result.0) }
+    ensures few { result.1 ≤ 70 }
+    ensures begun { Begun CallOf.Lock walker.old.setup.layout.procs (spot_now walker.new) }
+{
+    let procs = walker.procs();
+    let limit = walker.limit();
+    let choosing = read_choosing(walker);
+    if choosing != 0 {
+        let call = CoreCall::Lock;
+        return (Stage::ReadingNumber { call, choosing }, 1);
+    }
+    let number = read_number(walker, choosing);
+    if number != 0 {
+        let call = CoreCall::Lock;
+        return (
+            Stage::ReadingInside {
+                call,
+                choosing,
+                number,
+            },
+            2,
+        );
+    }
+    let inside = read_inside(walker);
+    if inside != 0 {
+        let call = CoreCall::Lock;
+        return (Stage::Unmarking { call }, 3);
+    }
+    open(walker);
+    let (greatest, peeks) = peek_others(walker);
+    if greatest >= limit {
+        return (
+            Stage::Door {
+                next: procs,
+                greatest,
+            },
+            peeks + 4,
+        );
+    }
+    take(walker, greatest);
+    shut(walker, greatest + 1);
+    let stage = Stage::Wait {
+        number: greatest + 1,
+        next: 0,
+        looked: false,
+    };
+    (stage, peeks + 6)
+}
+
+/// From right behind the start of a lock past the others in the line, as far as nothing is in the way. Tells where it stands
+/// then, how many steps that were, and whether the last of them was blocked.
+pub fn stand_in_line(walker: &mut Walker) -> (Stage, u64, bool)
+    requires at { spot_now walker.old ≡ free_spot (Reread Lock []) (spot_now walker.old).mended }
+    ensures at { spot_now walker.new ≡ free_spot (place_of walker.old.setup.layout.procs walker.old.by result.0) (spot_now walker.old).mended }
+    ensures unanswered { Unanswered walker.old result.1 (if result.2 then 1 else 0) walker.new }
+    ensures few { result.1 ≤ 200 }
+    ensures waits { result.2 ≡ true → is_waiting (spot_now walker.new).lock ≡ true }
+    ensures clear { IsClear walker.new }
+    ensures same { IsSame walker.old walker.new }
+    ensures begun { Begun CallOf.Lock walker.old.setup.layout.procs (spot_now walker.new) }
+{
+    let (stage, taken) = through_doorway(walker);
+    let _pass = walker.by();
+    match stage {
+        Stage::Wait {
+            number,
+            next,
+            looked: false,
+        } if next <= 64 => {
+            let passed = pass_others(walker, number, next);
+            let there = Stage::Wait {
+                number,
+                next: passed.next,
+                looked: passed.looked,
+            };
+            (there, taken + passed.taken, passed.is_blocked)
+        }
+        _ => (stage, taken, false),
+    }
+}
+
+/// Enters, past all others.
+pub fn mark(walker: &mut Walker, number: u64)
+    requires clear { IsClear walker.old }
+    requires at { spot_now walker.old ≡ free_spot (Wait number [] None) (spot_now walker.old).mended }
+    ensures comes { (spot_now walker.new ≡ checking_spot walker.old) × Unanswered walker.old 1 0 walker.new }
+    ensures clear { IsClear walker.new }
+    ensures same { IsSame walker.old walker.new }
+{
+    let _ = number;
+    let own = walker.by();
+    walker.store_clear(Kind::Mark, Word::Inside(own), 1);
+}
+
+/// Asks whether the lock is ruined.
+pub fn check(walker: &mut Walker) -> u64
+    requires clear { IsClear walker.old }
+    requires at { spot_now walker.old ≡ checking_spot walker.old }
+    ensures advances { Advances walker.old Gets (DataAt 0) result walker.new }
+    ensures at { spot_now walker.new ≡ checked_spot (result == 1) }
+{
+    let _pass = walker.by();
+    walker.load_clear(Kind::Get, Word::Data(0))
+}
+
+/// How far the fast path of a lock has led: to a place outside the section, where the last step was blocked or where the
+/// general way goes on; into the section; or out again, since the lock is ruined.
+#[derive(Clone, Copy)]
+pub enum Reached {
+    Blocked(Stage),
+    Stands(Stage),
+    Clean,
+    Ruined,
+}
+
+/// From right behind the start of a lock into the section, as far as nothing is in the way. Tells how many steps that were.
+pub fn enter(walker: &mut Walker) -> (Reached, u64)
+    requires at { spot_now walker.old ≡ free_spot (Reread Lock []) (spot_now walker.old).mended }
+    ensures blocked { (stage : StageOf) → result.0 ≡ Reached.Blocked stage → (spot_now walker.new ≡ free_spot (place_of walker.old.setup.layout.procs walker.old.by stage) (spot_now walker.old).mended) × Unanswered walker.old result.1 1 walker.new × Begun CallOf.Lock walker.old.setup.layout.procs (spot_now walker.new) × (is_waiting (spot_now walker.new).lock ≡ true) }
+    ensures stands { (stage : StageOf) → result.0 ≡ Reached.Stands stage → (spot_now walker.new ≡ free_spot (place_of walker.old.setup.layout.procs walker.old.by stage) (spot_now walker.old).mended) × Unanswered walker.old result.1 0 walker.new × Begun CallOf.Lock walker.old.setup.layout.procs (spot_now walker.new) }
+    ensures clean { result.0 ≡ Reached.Clean → (spot_now walker.new ≡ checked_spot false) × EndsIn walker.old result.1 Answer.Clean walker.new }
+    ensures ruined { result.0 ≡ Reached.Ruined → (spot_now walker.new ≡ checked_spot true) × Unanswered walker.old result.1 0 walker.new }
+    ensures same { IsSame walker.old walker.new }
+{
+    let procs = walker.procs();
+    let (stage, taken, is_blocked) = stand_in_line(walker);
+    if is_blocked {
+        return (Reached::Blocked(stage), taken);
+    }
+    match stage {
+        Stage::Wait {
+            number,
+            next,
+            looked: false,
+        } if next >= procs => {
+            mark(walker, number);
+            let ruined = check(walker);
+            if ruined == 1 {
+                (Reached::Ruined, taken + 2)
+            } else {
+                (Reached::Clean, taken + 2)
+            }
+        }
+        _ => (Reached::Stands(stage), taken),
+    }
+}
+
+/// The process is turned away from a ruined lock.
+pub fn bar(process: &mut Process)
+    requires free { process.old.errand ≡ Errand.Free }
+    requires barred { process.old.barred ≡ false }
+    ensures at { standing_at process.new ≡ checked_spot true }
+    ensures same { (process.new.layout ≡ process.old.layout) × (process.new.limit ≡ process.old.limit) × (process.new.index ≡ process.old.index) }
+{
+    let next = process.layout().procs;
+    process.seam_stand(Stage::Wait {
+        number: 1,
+        next,
+        looked: false,
+    });
+    process.feed(1);
+    process.feed(1);
+}
+
+/// Gives up the own number, right behind the start of an unlock.
+fn drop_number(walker: &mut Walker)
+    requires at { spot_now walker.old ≡ free_spot Leaving (spot_now walker.old).mended }
+    ensures comes { Comes walker.old walker.new (Unmarking Unlock) }
+    ensures clear { IsClear walker.new }
+    ensures same { IsSame walker.old walker.new }
+{
+    let own = walker.by();
+    walker.store(Kind::Drop, Word::Number(own), 0);
+}
+
+/// Takes the own mark away.
+fn unmark(walker: &mut Walker)
+    requires clear { IsClear walker.old }
+    requires at { spot_now walker.old ≡ free_spot (Unmarking Unlock) (spot_now walker.old).mended }
+    ensures advances { Advances walker.old Marks (InsideOf walker.old.by) 0 walker.new }
+    ensures at { spot_now walker.new ≡ free_spot Rest (spot_now walker.old).mended }
+{
+    let own = walker.by();
+    walker.store_clear(Kind::Mark, Word::Inside(own), 0);
+}
+
+/// From right behind the start of an unlock out of the section, in two steps.
+pub fn leave(walker: &mut Walker)
+    requires at { spot_now walker.old ≡ free_spot Leaving (spot_now walker.old).mended }
+    ensures at { spot_now walker.new ≡ free_spot Rest (spot_now walker.old).mended }
+    ensures ends { EndsIn walker.old 2 Answer.Unlocked walker.new }
+    ensures same { IsSame walker.old walker.new }
+{
+    drop_number(walker);
+    unmark(walker);
+}

@@ -35,6 +35,11 @@ impl Progress {
         self.gave_up.load(Ordering::SeqCst) > 0
     }
 
+    /// The worker asked just so often, and told of this answer behind its last asking; of none where it is 0.
+    pub fn has_told_at(&self, answer: u64, askings: u64) -> bool {
+        self.has_told(answer, askings) && self.askings.load(Ordering::SeqCst) == askings
+    }
+
     /// The worker asked at least so often, and told of this answer behind its last asking; of none where it is 0.
     pub fn has_told(&self, answer: u64, least_askings: u64) -> bool {
         let askings = self.askings.load(Ordering::SeqCst);

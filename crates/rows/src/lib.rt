@@ -3,6 +3,8 @@
 #![tactic(auto)]
 
 #[cfg(test)]
+mod asked;
+#[cfg(test)]
 mod calls;
 #[cfg(test)]
 mod counted;
@@ -18,6 +20,8 @@ mod kit;
 mod labs;
 #[cfg(test)]
 mod members;
+#[cfg(test)]
+mod noting;
 #[cfg(test)]
 mod plain;
 #[cfg(test)]

@@ -8,6 +8,7 @@ mod memory;
 mod replays;
 mod scarce;
 mod texts;
+mod trace_memory;
 mod variants;
 mod words;
 

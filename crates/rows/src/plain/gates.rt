@@ -5,6 +5,8 @@ ghost use Rattle.std.specs.Thread.{IsSend, IsSync};
 
 use super::two;
 use crate::gated::{Gated, Progress, Until, meeting};
+use crate::labs::are_all_sent;
+use crate::noting::{ALONE, Noting};
 use one_lock::{Entry, Member, run_lab};
 use plans::{CrashPlan, Never};
 use redomail::{Message, Reply};
@@ -35,7 +37,7 @@ fn both_at_once(rt: HostRuntime) -> Result<(), Fail> {
     gates.push(second)?;
     let lab = run_lab(&rt, rt.alloc(), TWO, gates)?;
     assert!(rt; !zero.has_given_up() && !one.has_given_up());
-    assert!(rt; zero.has_told(1, 12) && one.has_told(1, 20));
+    assert!(rt; zero.has_told_at(1, 27) && one.has_told(1, 20));
     let messages = [message(0, 1)?, message(1, 1_000_001)?];
     assert!(rt; lab.messages.as_slice() == messages.as_slice());
     Ok(())
@@ -60,7 +62,7 @@ fn numbers_spent(rt: HostRuntime) -> Result<(), Fail> {
     spec.limit = 1;
     let fault = run_lab(&rt, rt.alloc(), spec, gates).err();
     assert!(rt; !zero.has_given_up() && !one.has_given_up());
-    assert!(rt; zero.has_told(1, 12) && one.has_told(0, 7));
+    assert!(rt; zero.has_told_at(1, 27) && one.has_told_at(0, 7));
     let spent = LockFault::NumbersSpent;
     assert!(rt; fault == Some(LabFault::Member { p: 1, fault: spent }));
     Ok(())
@@ -70,6 +72,7 @@ fn numbers_spent(rt: HostRuntime) -> Result<(), Fail> {
 fn waits_for_the_other<R: Abort + Threads + Wait + Sync>(
     rt: &R,
     alloc: Global,
+    spec: Spec,
     p: u64,
 ) -> Result<(), Fail> {
     let zero = Progress::new(alloc)?;
@@ -78,17 +81,48 @@ fn waits_for_the_other<R: Abort + Threads + Wait + Sync>(
     let mut gates = Vec::new(alloc);
     gates.push(Gated::new(first, Until::Answer(1), &zero, &one)?)?;
     gates.push(Gated::new(second, Until::Answer(1), &one, &zero)?)?;
-    let lab = run_lab(rt, alloc, TWO, gates)?;
+    let lab = run_lab(rt, alloc, spec, gates)?;
     assert_eq!(rt; lab.messages.len(), 2);
     assert!(rt; !zero.has_given_up() && !one.has_given_up(), "worker {p}");
-    assert!(rt; zero.has_told(1, 12) && one.has_told(1, 12), "worker {p}");
+    assert!(rt;
+        zero.has_told_at(1, 27) && one.has_told_at(1, 27),
+        "worker {p}"
+    );
     Ok(())
 }
 
 #[test]
 fn two_workers_at_once(rt: HostRuntime) -> Result<(), Fail> {
-    waits_for_the_other(&rt, rt.alloc(), 0)?;
-    waits_for_the_other(&rt, rt.alloc(), 1)?;
+    waits_for_the_other(&rt, rt.alloc(), TWO, 0)?;
+    waits_for_the_other(&rt, rt.alloc(), TWO, 1)?;
+    Ok(())
+}
+
+#[test]
+fn numbers_enough(rt: HostRuntime) -> Result<(), Fail> {
+    let mut spec = TWO;
+    spec.limit = 2;
+    let (first, second, zero, one) = meeting(rt.alloc(), 20)?;
+    let mut gates = Vec::new(rt.alloc());
+    gates.push(first)?;
+    gates.push(second)?;
+    let lab = run_lab(&rt, rt.alloc(), spec, gates)?;
+    assert_eq!(rt; lab.messages.len(), 2);
+    assert!(rt; !zero.has_given_up() && !one.has_given_up());
+    spec.limit = 1;
+    waits_for_the_other(&rt, rt.alloc(), spec, 0)?;
+    waits_for_the_other(&rt, rt.alloc(), spec, 1)?;
+    Ok(())
+}
+
+#[test]
+fn answers_told(rt: HostRuntime) -> Result<(), Fail> {
+    let (gate, notes) = Noting::new(rt.alloc())?;
+    let mut gates = Vec::new(rt.alloc());
+    gates.push(gate)?;
+    let lab = run_lab(&rt, rt.alloc(), ALONE, gates)?;
+    are_all_sent(&rt, ALONE, lab.messages.as_slice());
+    assert!(rt; notes.are_right());
     Ok(())
 }
 

@@ -1,0 +1,42 @@
+//! `replay`: reads a schedule from standard input and prints its report, as `rmelab replay` does for the right lock. It stands
+//! on the simulated side alone, so that a first proved report takes few minutes.
+#![tactic(auto)]
+
+use schedule::{FromReader, ReplayFault, ToWriter, replay};
+use std::alloc::Global;
+use std::io::{self, BufReader, BufWriter};
+use std::process::ExitCode;
+
+/// Replays what standard input gives to standard output.
+fn report<R: Input + Print>(rt: &R, alloc: Global) -> Result<(), ReplayFault> {
+    let Ok(reader) = BufReader::new(alloc, rt.reader()) else {
+        return Err(ReplayFault::OutOfMemory);
+    };
+    let Ok(writer) = BufWriter::new(alloc, io::writer(rt)) else {
+        return Err(ReplayFault::OutOfMemory);
+    };
+    replay(
+        alloc,
+        &mut FromReader::new(reader),
+        &mut ToWriter::new(writer),
+    )?;
+    Ok(())
+}
+
+/// The exit status of `rmelab`: 2 for a fault of the input, 3 for one of a device or of memory.
+fn status(fault: ReplayFault) -> u8 {
+    match fault {
+        ReplayFault::Text { .. } | ReplayFault::Refused { .. } => 2,
+        ReplayFault::Read | ReplayFault::Write | ReplayFault::OutOfMemory => 3,
+    }
+}
+
+fn main(rt: HostRuntime) -> ExitCode {
+    match report(&rt, rt.alloc()) {
+        Ok(()) => ExitCode::from(0),
+        Err(fault) => {
+            let _ = eprintln!(&rt; "{fault}");
+            ExitCode::from(status(fault))
+        }
+    }
+}

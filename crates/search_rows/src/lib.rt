@@ -1,0 +1,8 @@
+//! The worked rows of the search: a small space, with its shortest path known beforehand.
+#![tactic(auto)]
+
+pub mod jugs;
+#[cfg(test)]
+mod searches;
+
+pub use jugs::Jugs;

@@ -24,9 +24,10 @@ pub trait CrashPlan {
         false
     }
 
-    /// So many askings at once: of a plan that never falls they are counted as if it were asked so often.
+    /// So many askings at once, counted as if it were asked so often, whether it falls at any of them or not. A process calls
+    /// it of a plan that never falls alone, since nobody is told at which of them it fell.
     fn count_askings(&mut self, askings: u64)
-        ensures asked { calm self.old ≡ true → asked self.new ≡ so_many_more askings (asked self.old) }
+        ensures asked { asked self.new ≡ so_many_more askings (asked self.old) }
         ensures fallen { calm self.old ≡ true → fallen self.new ≡ fallen self.old }
         ensures calm { calm self.old ≡ true → calm self.new ≡ true }
     {

@@ -1,58 +1,103 @@
 -- In every run of a world what is not refused is the definition's, and is told so.
-use Rattle.std.proofs.Common.{◌≡◌, ℕ, false, List, [], ◌∷◌, ◌++◌, Option, Some, None, refl, sym, ap, subst, inl, inr}
+use Rattle.std.proofs.Common.{◌≡◌, ℕ, false, List, [], ◌∷◌, ◌++◌, length, Option, Some, None, refl, sym, ap, subst, inl, inr}
 use Rattle.rmecore.specs.Machine.{kind_of}
 use Rattle.rmecore.specs.Paid.{is_glance}
 use Rattle.rmecore.specs.declared.access.Access.{Access}
 use Rattle.rmecore.specs.declared.refusal.Refusal.{Refusal}
-use Rattle.redomail.specs.declared.deed.Deed.{Deed}
+use Rattle.rmecore.specs.Simulated.{own_at}
+use Rattle.redomail.specs.declared.layout.Layout.{Layout}
+use Rattle.redomail.specs.Layout.{words_of}
+use Rattle.judge.specs.Legal.{Leads, IsLegal}
+use Rattle.judge.specs.Starts.{state_of}
+use Rattle.judge.specs.Table.{State}
+use Rattle.judge.specs.declared.start.Start.{Start}
+use Rattle.rmeworld.specs.declared.image.Image.{Image}
+use Rattle.rmeworld.specs.ImageRules.{layout_of, IsLawfulImage}
+use Rattle.rmeworld.specs.ImageStart.{IsStartOf}
+use Rattle.rmeworld.specs.Reached.{crashed_scene, IsOrigin}
 use Rattle.rmeworld.specs.declared.call.Call.{Call}
 use Rattle.rmeworld.specs.Acts.{Act, Starts, Steps, Crashes, unless}
 use Rattle.rmeworld.specs.Answered.{answer_at, done_by}
 use Rattle.rmeworld.specs.Errands.{errand_of}
-use Rattle.rmeworld.specs.Replayed.{start_refusal, started, advance_refusal, stepped, advanced, crash_refusal, crashed, value_of, list_of, stepped_if, advanced_if}
+use Rattle.rmeworld.specs.Replayed.{start_refusal, started, advance_refusal, stepped, advanced, crash_refusal, crashed, value_of, list_of, stepped_by, stepped_if, advanced_by, advanced_if}
 use Rattle.rmeworld.specs.Spot.{Begins, Falls, outer, outer_by}
 use Rattle.rmeworld.specs.Stand.{Stand}
 use Rattle.rmeworld.specs.World.{Scene, at_first, event_deeds}
 use Rattle.rmeworld.specs.WorldRuns.{acted, run_of, IsFirst, IsRun}
-use Rattle.rmeworld.specs.WorldState.{WorldState, stand_at, spot_at, scene_of, Takes, happening_of, ChoosesLeast}
-use Rattle.rmeworld.proofs.Beginning.{follows_new, follows_image}
+use Rattle.rmeworld.specs.WorldState.{WorldState, stand_at, spot_at, scene_of, Takes, happening_of, ChoosesLeast, new_world, new_refusal, image_world}
+use Rattle.rmeworld.proofs.Beginning.{follows_new, follows_image, follows_legal, image_origin}
 use Rattle.rmeworld.proofs.Following.{Follows, Stepping, below_if, start_is, step_is, follows_started, follows_advanced, follows_crashed}
 use Rattle.rmeworld.proofs.WorldSteps.{step_takes, crash_takes}
 use Rattle.rmeworld.proofs.WorldTallies.{no_glance}
 
+-- the world follows a story from this scene, in these sizes, and its history is the story's deeds
+record Goes (l : Layout) (limit : ℕ) (first : Scene) (s : WorldState) : Type 0 where
+  pub layout : s.layout ≡ l
+  pub limited : s.limit ≡ limit
+  pub follows : Follows first s s.history
+
+new_goes : (l : Layout) (limit : ℕ) → new_refusal l limit ≡ None → Goes l limit at_first (new_world l limit)
+new_goes l limit may = record { layout = refl; limited = refl; follows = follows_new l limit may }
+
+image_goes : (i : Image) → IsLawfulImage i → Goes (layout_of i) i.limit (crashed_scene (length i.lock) (own_at i.lock) (words_of i.cells)) (image_world i)
+image_goes i lawful = record { layout = refl; limited = refl; follows = follows_image i lawful }
+
+module _ (l : Layout) (limit : ℕ) (first : Scene) where
+  advanced_goes : (s : WorldState) (p : ℕ) → Goes l limit first s → advance_refusal s p ≡ None → Goes l limit first (advanced s p)
+  advanced_goes s p h may =
+      let is = step_is s p h.follows may in
+      let a : Access = is.access in
+      let follows : Follows first (advanced_by s p a) (s.history ++ list_of (stepped_by s p a).deed) =
+      subst (λ o. Follows first (advanced_if s p o) (s.history ++ list_of (stepped_if s p o).deed)) is.step.next (follows_advanced s p h.follows may) in
+      subst (λ o. Goes l limit first (advanced_if s p o)) (sym is.step.next)
+      (record { layout = h.layout; limited = h.limited; follows = subst (λ ds. Follows first (advanced_by s p a) (s.history ++ ds)) is.one follows })
+
+  act_goes : (s : WorldState) (act : Act) → Goes l limit first s → Goes l limit first (acted s act)
+  act_goes s (Starts p call) h = by (start_refusal s p call) refl
+    where
+      by : (o : Option Refusal) → start_refusal s p call ≡ o → Goes l limit first (unless o s (started s p call))
+      by None may = record { layout = h.layout; limited = h.limited; follows = follows_started s p call h.follows may }
+      by (Some r) refused = h
+  act_goes s (Steps p) h = by (advance_refusal s p) refl
+    where
+      by : (o : Option Refusal) → advance_refusal s p ≡ o → Goes l limit first (unless o s (advanced s p))
+      by None may = advanced_goes s p h may
+      by (Some r) refused = h
+  act_goes s (Crashes p) h = by (crash_refusal s p) refl
+    where
+      by : (o : Option Refusal) → crash_refusal s p ≡ o → Goes l limit first (unless o s (crashed s p))
+      by None may = record { layout = h.layout; limited = h.limited; follows = follows_crashed s p h.follows may }
+      by (Some r) refused = h
+
+  acts_go : (s : WorldState) (acts : List Act) → Goes l limit first s → Goes l limit first (run_of s acts)
+  acts_go s [] h = h
+  acts_go s (act ∷ acts) h = acts_go (acted s act) acts (act_goes s act h)
+
+  -- from an origin of the judge its history is legal
+  legal : (state : State) (s : WorldState) → IsOrigin l limit first state → Goes l limit first s → (t : State) × Leads state s.history t
+  legal state s begins h =
+      follows_legal first state s s.history (subst (λ x. IsOrigin x s.limit first state) (sym h.layout) (subst (λ x. IsOrigin l x first state) (sym h.limited) begins)) h.follows
+
+pub legal_from_new : (l : Layout) (limit : ℕ) (acts : List Act) → new_refusal l limit ≡ None → IsLegal l.procs l.cap (run_of (new_world l limit) acts).history
+legal_from_new l limit acts may = legal l limit at_first _ _ (inl (refl, refl)) (acts_go l limit at_first _ acts (new_goes l limit may))
+
+pub legal_from_image : (i : Image) (s : Start) (acts : List Act) → IsLawfulImage i → IsStartOf i s → (t : State) × Leads (state_of s) (run_of (image_world i) acts).history t
+legal_from_image i s acts lawful start =
+    legal (layout_of i) i.limit _ _ _ (image_origin i s lawful start) (acts_go (layout_of i) i.limit _ _ acts (image_goes i lawful))
+
 -- the world follows some story
-pub record Follow (s : WorldState) : Type 0 where
+record Follow (s : WorldState) : Type 0 where
   pub first : Scene
-  pub history : List Deed
-  pub follows : Follows first s history
+  pub follows : Follows first s s.history
 
-first_follows : (s : WorldState) → IsFirst s → Follow s
-first_follows s (inl h) = subst Follow (sym h.3) (record { first = at_first; history = []; follows = follows_new h.0 h.1 h.2 })
-first_follows s (inr h) = subst Follow (sym h.2) (record { first = _; history = []; follows = follows_image h.0 h.1 })
+first_follows : (s : WorldState) (acts : List Act) → IsFirst s → Follow (run_of s acts)
+first_follows s acts (inl h) =
+    subst (λ x. Follow (run_of x acts)) (sym h.3) (record { first = at_first; follows = (acts_go h.0 h.1 at_first _ acts (new_goes h.0 h.1 h.2)).follows })
+first_follows s acts (inr h) =
+    subst (λ x. Follow (run_of x acts)) (sym h.2) (record { first = _; follows = (acts_go (layout_of h.0) h.0.limit _ _ acts (image_goes h.0 h.1)).follows })
 
-act_follows : (s : WorldState) (act : Act) → Follow s → Follow (acted s act)
-act_follows s (Starts p call) h = by (start_refusal s p call) refl
-  where
-    by : (o : Option Refusal) → start_refusal s p call ≡ o → Follow (unless o s (started s p call))
-    by None may = record { first = h.first; history = h.history; follows = follows_started s p call h.follows may }
-    by (Some r) refused = h
-act_follows s (Steps p) h = by (advance_refusal s p) refl
-  where
-    by : (o : Option Refusal) → advance_refusal s p ≡ o → Follow (unless o s (advanced s p))
-    by None may = record { first = h.first; history = h.history ++ list_of (stepped s p).deed; follows = follows_advanced s p h.follows may }
-    by (Some r) refused = h
-act_follows s (Crashes p) h = by (crash_refusal s p) refl
-  where
-    by : (o : Option Refusal) → crash_refusal s p ≡ o → Follow (unless o s (crashed s p))
-    by None may = record { first = h.first; history = _; follows = follows_crashed s p h.follows may }
-    by (Some r) refused = h
-
-acts_follow : (s : WorldState) (acts : List Act) → Follow s → Follow (run_of s acts)
-acts_follow s [] h = h
-acts_follow s (act ∷ acts) h = acts_follow (acted s act) acts (act_follows s act h)
-
-pub run_follows : (s : WorldState) → IsRun s → Follow s
-run_follows s run = subst Follow run.is (acts_follow run.first run.acts (first_follows run.first run.begins))
+run_follows : (s : WorldState) → IsRun s → Follow s
+run_follows s run = subst Follow run.is (first_follows run.first run.acts run.begins)
 
 pub a_start : (s : WorldState) (p : ℕ) (call : Call) → IsRun s → start_refusal s p call ≡ None → Takes s (Begins p call) (started s p call)
 a_start s p call run may = (start_is s p call (run_follows s run).follows may).3

@@ -7,7 +7,7 @@ use Rattle.rmecore.specs.declared.phase.Phase.{Phase}
 use Rattle.rmecore.specs.declared.phase.Phase.TheVariants.{Out, Door, Ready, Inside, DeadIn}
 use Rattle.redomail.specs.Content.{HeadsHold}
 use Rattle.redomail.specs.Layout.{Words, words_of, size}
-use Rattle.redomail.specs.Shape.{Shape, ListRule, RecordRule, bit}
+use Rattle.redomail.specs.Shape.{Shape, RecordRule, bit}
 use Rattle.redomail.specs.declared.deed.Deed.{Deed}
 use Rattle.redomail.specs.declared.layout.Layout.{Layout}
 use Rattle.judge.specs.Table.{State}

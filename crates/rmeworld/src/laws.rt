@@ -5,8 +5,11 @@ ghost use Rattle.std.specs.Prelude.{◌≡◌, ℕ, false, List, [], ◌∷◌, 
 ghost use Rattle.rmecore.specs.Paid.{is_glance};
 ghost use Rattle.rmecore.specs.Simulated.{own_at};
 ghost use Rattle.redomail.specs.Layout.{words_of};
+ghost use Rattle.judge.specs.Legal.{Leads, IsLegal};
 ghost use Rattle.judge.specs.Starts.{state_of};
+ghost use Rattle.judge.specs.Table.{State};
 ghost use Rattle.rmeworld.specs.declared.call.Call.{Call as CallOf};
+ghost use Rattle.rmeworld.specs.Acts.{Act};
 ghost use Rattle.rmeworld.specs.Answered.{answer_at, done_by};
 ghost use Rattle.rmeworld.specs.ImageRules.{layout_of, IsLawfulImage};
 ghost use Rattle.rmeworld.specs.ImageStart.{IsStartOf};
@@ -18,8 +21,8 @@ ghost use Rattle.rmeworld.specs.Replayed.{start_refusal, started, advance_refusa
 ghost use Rattle.rmeworld.specs.Sent.{EveryDeedWasAsked, EveryMessageWasSent, EveryCloseWasAsked, EveryRuinWasAsked, RepliesTell, StoredIsShown};
 ghost use Rattle.rmeworld.specs.Spot.{Happening, Begins, Falls, outer};
 ghost use Rattle.rmeworld.specs.World.{Scene, at_first, Can, onward, Story, last_scene, event_deeds, deeds, own_happenings, spot_after};
-ghost use Rattle.rmeworld.specs.WorldRuns.{IsRun};
-ghost use Rattle.rmeworld.specs.WorldState.{WorldState, spot_at, scene_of, Takes, happening_of, ChoosesLeast, new_world, image_world};
+ghost use Rattle.rmeworld.specs.WorldRuns.{run_of, IsRun};
+ghost use Rattle.rmeworld.specs.WorldState.{WorldState, spot_at, scene_of, Takes, happening_of, ChoosesLeast, new_world, new_refusal, image_world};
 
 use crate::image::Image;
 use judge::Start;
@@ -79,6 +82,13 @@ pub fn worlds_keep_to_the_definition()
     ensures answers { (s : WorldState) (p : ℕ) → IsRun s → advance_refusal s p ≡ None → (stepped s p).answer ≡ answer_at (spot_at s.processes p) (stepped s p).happened.kind (stepped s p).happened.value }
     ensures crashes { (s : WorldState) (p : ℕ) → IsRun s → crash_refusal s p ≡ None → Takes s (Falls p) (crashed s p) }
     ensures told { (s : WorldState) (p : ℕ) → crash_deed p ∷ [] ≡ event_deeds s.layout (scene_of s) (Falls p) }
+{}
+
+/// The history of a world is legal from where the world began. Of a new world that is a judge that has heard nothing; of the
+/// world of a lawful image, one that starts from the image's start. Memory is not asked: an act that is refused adds nothing.
+pub fn histories_are_legal()
+    ensures new { (l : Layout) (limit : ℕ) (acts : List Act) → new_refusal l limit ≡ None → IsLegal l.procs l.cap (run_of (new_world l limit) acts).history }
+    ensures later { (i : Image) (s : Start) (acts : List Act) → IsLawfulImage i → IsStartOf i s → (t : State) × Leads (state_of s) (run_of (image_world i) acts).history t }
 {}
 
 /// Only a process that is inside puts a data word. So from its Enter on, crashes and re-entries or not, no other puts one

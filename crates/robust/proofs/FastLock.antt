@@ -6,7 +6,8 @@ use Rattle.redomail.specs.declared.layout.Layout.{Layout}
 use Rattle.redomail.specs.declared.task.Task.TheVariants.{Check}
 use Rattle.redomail.specs.Left.{begun}
 use Rattle.plans.specs.Plans.{so_many_more}
-use Rattle.rmeworld.specs.declared.answer.Answer.TheVariants.{Clean, Unlocked}
+use Rattle.rmeworld.specs.declared.answer.Answer.{Answer}
+use Rattle.rmeworld.specs.declared.answer.Answer.TheVariants.{Unlocked}
 use Rattle.rmeworld.specs.declared.call.Call.TheVariants.{Unlock}
 use Rattle.rmeworld.specs.declared.errand.Errand.{Errand as Chore}
 use Rattle.rmeworld.specs.declared.errand.Errand.TheVariants.{Free as IsFree, Asking, Doing as Does}
@@ -47,8 +48,8 @@ module _ (x z : Pass) (k s0 s1 a0 a1 f0 f1 : ℕ) (small : s0 ≤ 2 ^ 64 - 1) (s
   pub fast_blocked : Unanswered x k 1 z → (mine : List TakenStep) × Ran (seat x s0) None (seat z s1) mine × Calm (length mine) a0 a1 f0 f1
   fast_blocked p = (p.mine, record { takes = p.takes; answers = p.answers; blocked = p.blocked; steps = counted p.mine p.long }, calm p.mine p.long)
 
-  pub fast_ran : EndsIn x k Clean z → (mine : List TakenStep) × Ran (seat x s0) (Some Clean) (seat z s1) mine × Calm (length mine) a0 a1 f0 f1
-  fast_ran p = (p.mine, record { takes = p.takes; answers = p.answers; blocked = p.blocked; steps = counted p.mine p.long }, calm p.mine p.long)
+  pub fast_answered : (a : Answer) → EndsIn x k a z → (mine : List TakenStep) × Ran (seat x s0) (Some a) (seat z s1) mine × Calm (length mine) a0 a1 f0 f1
+  fast_answered a p = (p.mine, record { takes = p.takes; answers = p.answers; blocked = p.blocked; steps = counted p.mine p.long }, calm p.mine p.long)
 
 -- who is barred from a ruined lock
 module _ (l : Layout) (limit p : ℕ) (b : Bool) where

@@ -106,7 +106,7 @@ module _ (x y z : Pass) (k : ℕ) (p : Unanswered x k 0 y) (t : Place) (b : Bool
       sym run.spot ∙ ap (λ (w : Place). standing_at (lock_moved (stand_of y t b) w)) to
       ∙ (λ i. record { lock = u; mended = kept i; barred = false; errand = errand_of (if none i then Does Checking (begun y.setup.layout y.by Check) else IsFree) })
 
-takes-append : (x y z : Pass) (a b : List TakenStep) → Takes x a y → Takes y b z → Takes x (a ++ b) z
+pub takes-append : (x y z : Pass) (a b : List TakenStep) → Takes x a y → Takes y b z → Takes x (a ++ b) z
 takes-append x y z [] b h k = subst (λ (p : Pass). Takes p b z) h k
 takes-append x y z (e ∷ es) b h k = (h.0, h.1, h.2, takes-append h.0 y z es b h.3 k, h.4)
 

@@ -27,7 +27,7 @@ use Rattle.one_lock.specs.declared.lab.ending.Ending.TheVariants.{AllSent, Fault
 use Rattle.runs.specs.Gathering.{Gathers, IsGlance, has_member, image_at}
 use Rattle.runs.specs.Headline.{judged_by, shown_by}
 use Rattle.one_lock.specs.Endings.{fault_by}
-use Rattle.robust.specs.LabFaults.{IsFirstFault, EndsSo, EndsLab}
+use Rattle.robust.specs.LabFaults.{IsFirstFault, EndsSo, EndsLab, WasSpent}
 use Rattle.runs.specs.Reading.{cells_of, RunsShow, LoadsTell}
 use Rattle.runs.specs.Ruins.{AreInOrder, NobodyRuins}
 use Rattle.runs.specs.Rule.{Begins as Starts}
@@ -186,7 +186,13 @@ lab_ends s ended image cause layout setups worked f g lawful was closes shows lo
 
     by : (e : Ending) → EndsSo s x e → fault_by x.pass.by e ≡ Some cause → EndsLab s cause
     by AllSent h is = absurd (cc)
-    by (Fault why) (inl spent) is = subst (EndsLab s) (same_fault (Member x.pass.by why) cause is) (below, spent)
+    by (Fault why) (inl spent) is =
+        let split : g.run ≡ x.pass.seen ++ starts.0 = starts.1 in
+        let front : IsRun z x.pass.seen = legal_front z x.pass.seen starts.0 (subst (IsRun z) split legal) in
+        let sends : (q : ℕ) → q < s.procs → AreSending s.width s.messages q (own q x.pass.seen) = λ q low.
+        (let F : TakenStep → Type 0 = λ e. OfStart (IsSending s.width s.messages q) e.step.start in
+        all_left F (own q x.pass.seen) (own q starts.0) (subst (All F) (ap (own q) split ∙ own-append q x.pass.seen starts.0) (sending q low))) in
+        subst (EndsLab s) (same_fault (Member x.pass.by why) cause is) (below, spent.0, (x.pass.seen, front, sends, subst (λ (u : Setup). WasSpent u (own x.pass.by x.pass.seen)) setup spent.1))
     by (Fault why) (inr ruin) is = absurd (none_read z x.pass.seen starts.0 x.pass.by layout (subst (IsRun z) starts.1 legal) (λ p low. subst (λ (es : List TakenStep). AreInOrder None (own p es)) starts.1 (ordered p low)) loads nobody ruin.1)
     by (Refused reply) h is =
         let at = h.1.3 in

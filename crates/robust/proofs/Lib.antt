@@ -5,6 +5,7 @@ pub mod Failing
 pub mod Numbered
 pub mod AllSent
 pub mod LabEnds
+pub mod Spent
 pub mod Unruined
 pub mod Working
 pub mod Worked
@@ -13,3 +14,4 @@ pub mod Peeks
 pub mod Waits
 pub mod Straight
 pub mod FastLock
+pub mod FastAppend

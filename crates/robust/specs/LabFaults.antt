@@ -3,7 +3,11 @@ use Rattle.std.specs.Prelude.{◌≡◌, ℕ, ◌*◌, ◌<◌, ◌≤◌, ◌�
 use Rattle.redomail.specs.declared.reply.Reply.{Reply}
 use Rattle.redomail.specs.declared.reply.Reply.TheVariants.{Full, Closed}
 use Rattle.rmeworld.specs.Sent.{ReplyTells}
+use Rattle.rmeworld.specs.declared.answer.Answer.{Answer}
+use Rattle.rmeworld.specs.declared.answer.Answer.TheVariants.{NumbersSpent as SpentAnswer}
+use Rattle.rmeworld.specs.Spot.{at_rest}
 use Rattle.runs.specs.declared.entry.TakenStep.{TakenStep}
+use Rattle.runs.specs.declared.setup.Setup.{Setup}
 use Rattle.runs.specs.declared.lock_fault.LockFault.TheVariants as fault
 use Rattle.one_lock.specs.declared.lab.lab_fault.LabFault.{LabFault}
 use Rattle.one_lock.specs.declared.lab.lab_fault.LabFault.TheVariants.{BadSpec, OutOfMemory, Member, Reply as Replied}
@@ -12,11 +16,13 @@ use Rattle.robust.specs.declared.lab.worker.Done.{Done}
 use Rattle.one_lock.specs.declared.lab.ending.Ending.{Ending}
 use Rattle.one_lock.specs.declared.lab.ending.Ending.TheVariants.{AllSent, Fault, Refused}
 use Rattle.one_lock.specs.Endings.{fault_by}
+use Rattle.runs.specs.Calls.{answers_from}
 use Rattle.runs.specs.Headline.{judged_by}
 use Rattle.runs.specs.Pass.{own_of}
 use Rattle.runs.specs.Ruins.{HasReadRuin}
 use Rattle.runs.specs.Running.{Seated}
-use Rattle.robust.specs.Sending.{HasShown}
+use Rattle.runs.specs.Runs.{own, IsRun}
+use Rattle.robust.specs.Sending.{AreSending, HasShown}
 
 -- the fault is that of the first of these workers that has ended early
 pub record IsFirstFault (ended : List Done) (cause : LabFault) : Type 0 where
@@ -35,16 +41,27 @@ pub record RefusedAt (x : Seated) (seq : ℕ) (reply : Reply) : Type 0 where
   pub seen : x.pass.seen ≡ front ++ later
   pub tells : ReplyTells x.pass.setup.layout x.pass.by seq reply (judged_by x.pass.setup front).mail
 
--- How a worker ends: its last message is shown; or it is out of numbers, or has read that the lock is ruined; or one of its messages
--- was answered Full or Closed.
+-- one of these entries of a process was answered that no number is left: it read the limit in its doorway
+abbrev pub WasSpent : Setup → List TakenStep → Type 0
+WasSpent z es = (front : List Answer) × (back : List Answer) × (answers_from z at_rest es ≡ front ++ SpentAnswer ∷ back)
+
+-- How a worker ends: its last message is shown; or it was answered that no number is left, or has read that the lock is ruined; or one
+-- of its messages was answered Full or Closed.
 abbrev pub EndsSo : Spec → Seated → Ending → Type 0
 EndsSo s x AllSent = HasShown s.messages x
-EndsSo s x (Fault why) = (why ≡ fault.NumbersSpent) ⊎ ((why ≡ fault.NotRecoverable) × HasReadRuin (own_of x.pass))
+EndsSo s x (Fault why) = ((why ≡ fault.NumbersSpent) × WasSpent x.pass.setup (own_of x.pass)) ⊎ ((why ≡ fault.NotRecoverable) × HasReadRuin (own_of x.pass))
 EndsSo s x (Refused reply) = ((reply ≡ Full) ⊎ (reply ≡ Closed)) × ((seq : ℕ) × (1 ≤ seq) × (seq ≤ s.messages) × RefusedAt x seq reply)
 
--- What may end a lab early: want of memory; a worker that is out of numbers; or a mailbox with less room than messages.
+-- the sizes of a lab's arena
+abbrev pub setup_of : Spec → Setup
+setup_of s = record { layout = record { procs = s.procs; cap = s.cap; width = s.width }; limit = s.limit }
+
+-- What may end a lab early: want of memory; a worker that was answered that no number is left, in a run of such workers; or a
+-- mailbox with less room than messages.
 abbrev pub EndsLab : Spec → LabFault → Type 0
 EndsLab s BadSpec = ⊥
 EndsLab s OutOfMemory = Unit {0}
-EndsLab s (Member p why) = (p < s.procs) × (why ≡ fault.NumbersSpent)
+EndsLab s (Member p why) =
+    (p < s.procs) × (why ≡ fault.NumbersSpent)
+    × ((es : List TakenStep) × IsRun (setup_of s) es × ((q : ℕ) → q < s.procs → AreSending s.width s.messages q (own q es)) × WasSpent (setup_of s) (own p es))
 EndsLab s (Replied p reply) = (p < s.procs) × (reply ≡ Full) × (s.cap < s.procs * s.messages)

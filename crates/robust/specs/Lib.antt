@@ -22,4 +22,5 @@ pub mod Working
 pub mod Sending
 pub mod LabFaults
 pub mod Worked
+pub mod FastAppend
 pub mod FastPath

@@ -1,6 +1,6 @@
 //! The fast path of a lock and of an unlock, for plans that never fall: loops over the words alone, proved to be the run of
 //! their steps. The machine is told its place once, behind them.
-ghost use Rattle.std.specs.Prelude.{◌≡◌, ◌≢◌, ℕ, ◌+◌, ◌<◌, ◌≤◌, max, [], ◌∷◌, true, false, ◌==◌, ◌||◌, None, if◌then◌else◌};
+ghost use Rattle.std.specs.Prelude.{◌≡◌, ◌≢◌, ℕ, ◌+◌, ◌<◌, ◌≤◌, max, [], ◌∷◌, true, false, ◌==◌, ◌||◌, None, IfSome, if◌then◌else◌};
 ghost use Rattle.rmecore.specs.Place.{Rest, Reread, Opening, Door, Shutting, Wait, Leaving, Unmarking, others, is_before, relocked};
 ghost use Rattle.rmecore.specs.declared.core_call.CoreCall.TheVariants.{Lock, Unlock};
 ghost use Rattle.rmecore.specs.Machine.{place_of};
@@ -218,6 +218,39 @@ fn pass_others(walker: &mut Walker, number: u64, from: u64) -> Passed
     }
 }
 
+/// Rereads the own words, as far as they are 0: with none there all three are. Else it tells where it stands then, and how many
+/// steps that were.
+fn reread_own(walker: &mut Walker) -> Option<(Stage, u64)>
+    requires at { spot_now walker.old ≡ free_spot (Reread Lock []) (spot_now walker.old).mended }
+    ensures stands { IfSome result (λ r. Way walker.old r.1 walker.new (place_of walker.old.setup.layout.procs walker.old.by r.0)) }
+    ensures few { IfSome result (λ r. r.1 ≤ 3) }
+    ensures begun { IfSome result (λ r. Begun CallOf.Lock walker.old.setup.layout.procs (spot_now walker.new)) }
+    ensures rests { result ≡ None → Way walker.old 3 walker.new Opening }
+{
+    let _pass = walker.by();
+    let call = CoreCall::Lock;
+    let choosing = read_choosing(walker);
+    if choosing != 0 {
+        return Some((Stage::ReadingNumber { call, choosing }, 1));
+    }
+    let number = read_number(walker, choosing);
+    if number != 0 {
+        return Some((
+            Stage::ReadingInside {
+                call,
+                choosing,
+                number,
+            },
+            2,
+        ));
+    }
+    let inside = read_inside(walker);
+    if inside != 0 {
+        return Some((Stage::Unmarking { call }, 3));
+    }
+    None
+}
+
 /// From right behind the start of a lock into the line, as far as the process's words are all 0 and a number is left. Tells
 /// where it stands then, and how many steps that were.
 fn through_doorway(walker: &mut Walker) -> (Stage, u64)
@@ -228,27 +261,8 @@ fn through_doorway(walker: &mut Walker) -> (Stage, u64)
 {
     let procs = walker.procs();
     let limit = walker.limit();
-    let choosing = read_choosing(walker);
-    if choosing != 0 {
-        let call = CoreCall::Lock;
-        return (Stage::ReadingNumber { call, choosing }, 1);
-    }
-    let number = read_number(walker, choosing);
-    if number != 0 {
-        let call = CoreCall::Lock;
-        return (
-            Stage::ReadingInside {
-                call,
-                choosing,
-                number,
-            },
-            2,
-        );
-    }
-    let inside = read_inside(walker);
-    if inside != 0 {
-        let call = CoreCall::Lock;
-        return (Stage::Unmarking { call }, 3);
+    if let Some(stands) = reread_own(walker) {
+        return stands;
     }
     open(walker);
     let (greatest, peeks) = peek_others(walker);

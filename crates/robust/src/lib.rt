@@ -3,6 +3,7 @@
 
 pub mod arena;
 mod drive;
+mod fast_append;
 mod fast_path;
 pub mod gathering;
 pub mod lab;

@@ -43,6 +43,7 @@ impl Runner {
     }
 
     /// Starts a lock, as `set_out` does.
+    #[inline(always)]
     pub fn set_out_lock(&mut self) -> Result<(), LockFault>
         requires idle { self.old.pass.start ≡ None }
         ensures out { OnOk result ((self.new ≡ began (ready self.old) Lock) × Begun Lock self.new.pass.setup.layout.procs (spot_now self.new.pass) × IsPass self.new.pass) }
@@ -91,6 +92,7 @@ impl Runner {
 
     /// Takes the steps of a lock up to its answer, however often it is blocked. The asking before the answer is left to the
     /// caller.
+    #[inline(always)]
     pub fn take_all<R: Wait, C: CrashPlan>(
         &mut self,
         rt: &R,

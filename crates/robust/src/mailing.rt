@@ -21,9 +21,15 @@ use runs::LockFault;
 use std::sync::Wait;
 
 impl Member {
-    /// Stores a message with this number, from 1. It gives up once it is blocked more often than it was given turns; the
-    /// member keeps its place in the line. Where it answers Stored or Already, the message is shown; Full, Closed and
-    /// OutOfOrder tell what held of the mailbox at one moment of the call.
+    /// Stores a message with this number, from 1, unless the process is blocked once more than it was given turns
+    /// (docs/mailbox.md, Append; its lock is docs/model.md, Lock). Where it answers Stored or Already, the message is shown;
+    /// Full, Closed and OutOfOrder tell what held of the mailbox at one moment of the call.
+    ///
+    /// `BadWidth`: the value has not as many words as the arena's values; send one that has. `AlreadyIn`: the process is in the
+    /// section; unlock first. `Crashed`: the message may be stored or not; send it again with the same number, which answers
+    /// Already where it is. `NotYet`: the process still waits, with its place kept; send again to wait on, or `withdraw`.
+    /// `NumbersSpent`: another held the last number, nothing is stored; send again once it has left. `NotRecoverable` (POSIX:
+    /// ENOTRECOVERABLE): the lock is ruined, nothing is stored and nobody will store any more; `read_from` still reads.
     pub fn append_within<C: CrashPlan>(
         &mut self,
         seq: u64,
@@ -53,8 +59,13 @@ impl Member {
             .mail_within(plan, &Call::Append { seq, value }, turns)
     }
 
-    /// Closes the mailbox. It gives up once it is blocked more often than it was given turns; the member keeps its place in
-    /// the line.
+    /// Closes the mailbox, unless the process is blocked once more than it was given turns (docs/mailbox.md, Close). From then on
+    /// each new message is answered Closed.
+    ///
+    /// `AlreadyIn`: the process is in the section; unlock first. `Crashed`: the mailbox may be closed or not; close it again,
+    /// which answers AlreadyClosed where it is. `NotYet`: the process still waits, with its place kept; close again to wait on,
+    /// or `withdraw`. `NumbersSpent`: another held the last number, the mailbox is as it was; close again once it has left.
+    /// `NotRecoverable` (POSIX: ENOTRECOVERABLE): the lock is ruined, and nobody will store any more.
     pub fn close_within<C: CrashPlan>(
         &mut self,
         plan: &mut C,
@@ -72,8 +83,11 @@ impl Member {
         self.runner.mail_within(plan, &Call::Close, turns)
     }
 
-    /// Stores a message with this number, from 1, and waits for as long as it has to. Where it answers Stored or Already, the
-    /// message is shown; Full, Closed and OutOfOrder tell what held of the mailbox at one moment of the call.
+    /// Stores a message with this number, from 1, and waits for as long as it has to (docs/mailbox.md, Append). Where it answers
+    /// Stored or Already, the message is shown; Full, Closed and OutOfOrder tell what held of the mailbox at one moment of the
+    /// call.
+    ///
+    /// `BadWidth`, `AlreadyIn`, `Crashed`, `NumbersSpent` and `NotRecoverable` as at `append_within`; never `NotYet`.
     pub fn append<R: Wait, C: CrashPlan>(
         &mut self,
         rt: &R,
@@ -100,7 +114,9 @@ impl Member {
         self.runner.mail(rt, plan, &Call::Append { seq, value })
     }
 
-    /// Closes the mailbox, and waits for as long as it has to.
+    /// Closes the mailbox, and waits for as long as it has to (docs/mailbox.md, Close).
+    ///
+    /// `AlreadyIn`, `Crashed`, `NumbersSpent` and `NotRecoverable` as at `close_within`; never `NotYet`.
     pub fn close<R: Wait, C: CrashPlan>(&mut self, rt: &R, plan: &mut C) -> Result<Reply, LockFault>
         ensures accepted { OnOk result (refusal_now (ready self.old) Call.Lock ≡ None) }
         ensures replied { IfOk result (λ reply. (turns : ℕ) × WholeEnds (began (ready self.old) Call.Lock) turns Call.Close (Ok reply) self.new (C.asked plan.old) (C.asked plan.new) (C.fallen plan.old) (C.fallen plan.new)) }

@@ -254,7 +254,7 @@ impl Member {
         ensures few { OnOk result (self.new.steps ≤ 3 * self.old.pass.setup.layout.procs + 8 + turns) }
         ensures few_out { IfErr result (λ e. e ≢ LockFault.AlreadyIn → self.new.steps ≤ 3 * self.old.pass.setup.layout.procs + 8 + turns) }
     {
-        self.runner.set_out(&Call::Lock)?;
+        self.runner.set_out_lock()?;
         match self.runner.wait_turns(plan, turns)? {
             Some(answer) => entered(answer),
             None => Err(LockFault::NotYet),

@@ -10,22 +10,24 @@ ghost use Rattle.runs.specs.Runs.{InTable, IsBeyond};
 ghost use Rattle.rmecore.specs.Place.{Inside};
 ghost use Rattle.rmeworld.specs.OwnSteps.{most_steps};
 ghost use Rattle.rmeworld.specs.declared.answer.Answer.TheVariants.{Unlocked};
-ghost use Rattle.rmeworld.specs.declared.call.Call.TheVariants.{Lock, Unlock};
+ghost use Rattle.rmeworld.specs.declared.call.Call.TheVariants.{Append, Lock, Unlock};
 ghost use Rattle.runs.specs.declared.entry.TakenStep.{TakenStep};
 ghost use Rattle.runs.specs.Calls.{Ran, Going, Still, Calm};
 ghost use Rattle.runs.specs.Faults.{refusal_now, AnsweredIn};
 ghost use Rattle.runs.specs.Tabled.{table_steps};
-ghost use Rattle.runs.specs.Under.{Begun};
+ghost use Rattle.runs.specs.Under.{Begun, Fits, Leaves};
 ghost use Rattle.plans.specs.Plans.{so_many_more};
 ghost use Rattle.robust.specs.FastPath.{free_spot};
+ghost use Rattle.robust.specs.FastAppend.{HasFastWay};
 ghost use Rattle.robust.specs.Working.{seat_of};
 ghost use Rattle.runs.specs.Pass.{Advances, Looks, IsPass, fresh, spot_now, moved_spot};
 
+use crate::fast_append::append;
 use crate::fast_path::{Reached, bar, enter, leave};
 use crate::walker::Walker;
 use plans::CrashPlan;
 use redomail::Layout;
-use rmecore::{Access, CoreCall, Kind, Refusal, Stage, Word};
+use rmecore::{Access, Body, CoreCall, Kind, Refusal, Stage, Word};
 use rmeworld::{Answer, Call, Outcome, Process};
 use runs::{LockFault, Setup};
 use std::marker::Model;
@@ -276,6 +278,73 @@ impl Runner {
         self.process.seam_stand(Stage::Rest);
         self.steps = 2;
         count_calm(plan, 3);
+    }
+
+    /// Whether a call behind another one has a fast path: an append or an unlock of a holder with nothing to mend, where the
+    /// plan never falls.
+    pub fn has_fast_way<C: CrashPlan>(&self, plan: &C, call: &Call) -> bool
+        ensures clean { result ≡ true → spot_now self.now.pass ≡ free_spot Inside true }
+        ensures calm { result ≡ true → C.calm plan.now ≡ true }
+        ensures call { result ≡ true → HasFastWay call.now }
+    {
+        match call {
+            Call::Append { .. } | Call::Unlock => self.process.is_clean() && plan.is_calm(),
+            _ => false,
+        }
+    }
+
+    /// The fast path of an append: its gets and puts. The machine stands where it stood.
+    fn fast_append<C: CrashPlan>(&mut self, plan: &mut C, seq: u64, value: &Body) -> Answer
+        requires idle { self.old.pass.start ≡ None }
+        requires accepted { refusal_now self.old (Append seq value.now) ≡ None }
+        requires clean { spot_now self.old.pass ≡ free_spot Inside true }
+        requires calm { C.calm plan.old ≡ true }
+        ensures ran { (mine : List TakenStep) × Ran (behind self.old (Append seq value.now)) (Some result) self.new mine × Calm (length mine) (C.asked plan.old) (C.asked plan.new) (C.fallen plan.old) (C.fallen plan.new) }
+        ensures pass { IsPass (behind self.old (Append seq value.now)).pass }
+        ensures leaves { Fits (Append seq value.now) result × Leaves (Append seq value.now) result (spot_now self.new.pass) }
+    {
+        self.walker.begin(Call::Append { seq, value: *value });
+        let _pass = self.walker.by();
+        let (reply, taken) = append(&mut self.walker, seq, value);
+        self.steps = self.steps.saturating_add(taken);
+        count_calm(plan, taken);
+        Answer::Mail(reply)
+    }
+
+    /// The fast path of an unlock behind another call: two stores.
+    fn fast_leave<C: CrashPlan>(&mut self, plan: &mut C) -> Answer
+        requires idle { self.old.pass.start ≡ None }
+        requires clean { spot_now self.old.pass ≡ free_spot Inside true }
+        requires calm { C.calm plan.old ≡ true }
+        ensures ran { (mine : List TakenStep) × Ran (behind self.old Unlock) (Some result) self.new mine × Calm (length mine) (C.asked plan.old) (C.asked plan.new) (C.fallen plan.old) (C.fallen plan.new) }
+        ensures pass { IsPass (behind self.old Unlock).pass }
+        ensures leaves { Fits Unlock result × Leaves Unlock result (spot_now self.new.pass) }
+    {
+        self.walker.begin(Call::Unlock);
+        let _pass = self.walker.by();
+        leave(&mut self.walker);
+        self.process.seam_stand(Stage::Rest);
+        self.steps = self.steps.saturating_add(2);
+        count_calm(plan, 2);
+        Answer::Unlocked
+    }
+
+    /// The fast path of a call behind another one. The askings before its steps are counted behind them.
+    pub fn fast_call<C: CrashPlan>(&mut self, plan: &mut C, call: &Call) -> Answer
+        requires idle { self.old.pass.start ≡ None }
+        requires accepted { refusal_now self.old call.now ≡ None }
+        requires clean { spot_now self.old.pass ≡ free_spot Inside true }
+        requires calm { C.calm plan.old ≡ true }
+        requires call { HasFastWay call.now }
+        ensures ran { (mine : List TakenStep) × Ran (behind self.old call.now) (Some result) self.new mine × Calm (length mine) (C.asked plan.old) (C.asked plan.new) (C.fallen plan.old) (C.fallen plan.new) }
+        ensures pass { IsPass (behind self.old call.now).pass }
+        ensures leaves { Fits call.now result × Leaves call.now result (spot_now self.new.pass) }
+    {
+        match *call {
+            Call::Append { seq, value } => self.fast_append(plan, seq, &value),
+            Call::Unlock => self.fast_leave(plan),
+            _ => unreachable!(),
+        }
     }
 
     /// Starts a lock, where the process is neither inside nor in a call. Elsewhere nothing changes.

@@ -34,6 +34,9 @@ impl Runner {
         ensures cut { OnErr result (CutIn self.old call.now self.new (C.asked plan.old) (C.asked plan.new) (C.fallen plan.old) (C.fallen plan.new)) }
         ensures few { CountsAtMost (most_steps self.old.pass.setup.layout call.now) self.old self.new }
     {
+        if self.has_fast_way(plan, call) {
+            return Ok(self.fast_call(plan, call));
+        }
         match self.begin_behind(call) {
             Ok(()) => match self.run(plan, call)? {
                 Some(answer) => Ok(answer),
@@ -173,7 +176,7 @@ impl Runner {
         ensures few { OnOk result (self.new.steps ≤ most_whole self.old.pass.setup.layout task.now + turns) }
         ensures few_out { IfErr result (λ e. e ≢ LockFault.AlreadyIn → self.new.steps ≤ most_whole self.old.pass.setup.layout task.now + turns) }
     {
-        self.set_out(&Call::Lock)?;
+        self.set_out_lock()?;
         match self.take_turns(plan, turns) {
             Ok(answer) => self.finish(plan, answer, task),
             Err(fault) => Err(fault),
@@ -197,7 +200,7 @@ impl Runner {
         ensures patient { IfErr result (λ e. e ≢ LockFault.NotYet) }
         ensures idle { self.new.pass.start ≡ None }
     {
-        self.set_out(&Call::Lock)?;
+        self.set_out_lock()?;
         match self.take_all(rt, plan) {
             Ok(answer) => self.finish(plan, Some(answer), task),
             Err(fault) => Err(fault),

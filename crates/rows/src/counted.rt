@@ -27,13 +27,24 @@ impl<P: CrashPlan> CrashPlan for Counted<P> {
 
     ghost fallen = { λ c. P.fallen c.plan };
 
+    ghost calm = { λ c. P.calm c.plan };
+
+    fn is_calm(&self) -> bool {
+        self.plan.is_calm()
+    }
+
+    fn count_askings(&mut self, askings: u64) {
+        self.askings = self.askings.saturating_add(askings);
+        self.plan.count_askings(askings);
+    }
+
     fn falls(&mut self) -> bool {
         self.askings = self.askings.saturating_add(1);
         self.plan.falls()
     }
 }
 
-/// A plan that never falls, and counts.
+/// A plan that never falls and says so, and counts: a member goes the fast ways.
 pub fn never() -> Counted<Never> {
     Counted::new(Never::new())
 }
@@ -41,4 +52,9 @@ pub fn never() -> Counted<Never> {
 /// A plan that falls at one asking, and counts.
 pub fn at(place: u64) -> Counted<At> {
     Counted::new(At::new(place))
+}
+
+/// A plan that never falls and doesn't say so, and counts: a member goes step by step through its machine.
+pub fn stepwise() -> Counted<At> {
+    Counted::new(At::new(0))
 }

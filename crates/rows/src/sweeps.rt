@@ -3,7 +3,7 @@
 ghost use Rattle.std.specs.Prelude.{◌≡◌};
 ghost use Rattle.robust.specs.Working.{seat_of};
 
-use super::counted::{Counted, at, never};
+use super::counted::{Counted, at, never, stepwise};
 use super::kit::{answered_after, are, blocked_after, body, gathered, shows, two};
 use plans::{Both, CrashPlan};
 use redomail::Reply;
@@ -32,22 +32,25 @@ fn both_stand(rt: &impl Abort, alloc: Global, one: Member, mut other: Member)
     assert!(rt; shows(rt, alloc, &image, &[(0, 1, 5), (1, 1, 9)]));
 }
 
+/// An append that is sent again after a crash at asking k.
+fn sent_again<C: CrashPlan>(rt: &impl Abort, alloc: Global, k: u64, plan: &mut Counted<C>) {
+    let (mut one, other) = two(rt, alloc, 10, 4);
+    cut(rt, &mut one, &mut at(k));
+    let (reply, steps) = answered_after(k);
+    let again = one.append_within(1, body(rt, 5), plan, 0);
+    assert!(rt; again == Ok(reply), "at {k}");
+    assert!(rt;
+        one.steps() == steps && plan.taken() == steps.saturating_add(1),
+        "at {k}"
+    );
+    both_stand(rt, alloc, one, other);
+}
+
 #[test]
 fn crash_sweep(rt: HostRuntime) -> Result<(), Fail> {
     for k in 1..28 {
-        let (mut one, other) = two(&rt, rt.alloc(), 10, 4);
-        cut(&rt, &mut one, &mut at(k));
-        let (reply, steps) = answered_after(k);
-        let mut plan = never();
-        assert!(rt;
-            one.append_within(1, body(&rt, 5), &mut plan, 0) == Ok(reply),
-            "at {k}"
-        );
-        assert!(rt;
-            one.steps() == steps && plan.taken() == steps.saturating_add(1),
-            "at {k}"
-        );
-        both_stand(&rt, rt.alloc(), one, other);
+        sent_again(&rt, rt.alloc(), k, &mut never());
+        sent_again(&rt, rt.alloc(), k, &mut stepwise());
     }
     Ok(())
 }
@@ -76,22 +79,27 @@ fn crash_pairs(rt: HostRuntime) -> Result<(), Fail> {
     Ok(())
 }
 
+/// A lock of member 1 after a crash of member 0 at asking k.
+fn meets_a_crash<C: CrashPlan>(rt: &impl Abort, alloc: Global, k: u64, plan: &mut Counted<C>) {
+    let (mut one, mut other) = two(rt, alloc, 10, 4);
+    cut(rt, &mut one, &mut at(k));
+    let entered = other.lock_within(plan, 0);
+    match blocked_after(k) {
+        Some(steps) => {
+            assert!(rt; entered == Err(LockFault::NotYet), "at {k}");
+            assert!(rt; other.steps() == steps, "at {k}");
+        }
+        None => assert!(rt; entered == Ok(Entry::Clean), "at {k}"),
+    }
+    assert!(rt; plan.taken() == other.steps().saturating_add(1), "at {k}");
+    gathered(rt, alloc, one, other);
+}
+
 #[test]
 fn blocked_by_a_crash(rt: HostRuntime) -> Result<(), Fail> {
     for k in 1..28 {
-        let (mut one, mut other) = two(&rt, rt.alloc(), 10, 4);
-        cut(&rt, &mut one, &mut at(k));
-        let mut plan = never();
-        let entered = other.lock_within(&mut plan, 0);
-        match blocked_after(k) {
-            Some(steps) => {
-                assert!(rt; entered == Err(LockFault::NotYet), "at {k}");
-                assert_eq!(rt; other.steps(), steps, "at {k}");
-            }
-            None => assert!(rt; entered == Ok(Entry::Clean), "at {k}"),
-        }
-        assert!(rt; plan.taken() == other.steps().saturating_add(1), "at {k}");
-        gathered(&rt, rt.alloc(), one, other);
+        meets_a_crash(&rt, rt.alloc(), k, &mut never());
+        meets_a_crash(&rt, rt.alloc(), k, &mut stepwise());
     }
     Ok(())
 }

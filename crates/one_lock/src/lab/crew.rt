@@ -1,6 +1,6 @@
 //! The workers of the lab over the plain reference.
 
-ghost use Rattle.std.specs.Prelude.{◌≡◌, ◌≢◌, ◌≤◌, ◌⊎◌, ◌↔◌, Some, All, IsNone, IsTrue, IfOk, IfErr, IfSome, false, length, map, vec_len};
+ghost use Rattle.std.specs.Prelude.{◌≡◌, ◌≢◌, ◌≤◌, ◌⊎◌, ◌↔◌, Some, All, IsNone, IsTrue, IfOk, IfErr, OnOk, IfSome, false, length, map, vec_len};
 ghost use Rattle.std.specs.Thread.{IsSend, IsSync};
 ghost use Rattle.one_lock.specs.Endings.{HaveAllSent, WantedMemory, IsOfLeast, MayEnd};
 ghost use Rattle.one_lock.specs.Member.{is_in};
@@ -73,7 +73,7 @@ fn work<L: Ledger, G: Gate + Drop, R: Wait>(
     Done { member, ending }
 }
 
-/// Sends one message until it is answered.
+/// Sends one message until it is answered. Last of all the gate hears of the answer.
 fn send<L: Ledger, G: Gate, R: Wait>(
     rt: &R,
     member: &mut Member<L>,
@@ -84,6 +84,7 @@ fn send<L: Ledger, G: Gate, R: Wait>(
     requires { CanSend (length value) member.old }
     ensures place { place_of member.new ≡ place_of member.old }
     ensures ready { is_in member.new.standing ≡ false }
+    ensures told { OnOk result ((asking : G) × G.heard asking seq gate.new) }
     ensures faults { IfErr result (λ why. (why ≡ LockFault.NumbersSpent) ⊎ (why ≡ LockFault.NotRecoverable) ⊎ (why ≡ LockFault.OutOfMemory)) }
 {
     for _ in rt.forever() {

@@ -1,12 +1,13 @@
 //! A worker of the lab over the running lock.
 
-ghost use Rattle.std.specs.Prelude.{◌≡◌, ◌≤◌, ◌⊎◌, ℕ, None, IfOk, IfErr, length};
+ghost use Rattle.std.specs.Prelude.{◌≡◌, ◌≤◌, ◌⊎◌, ℕ, None, IfOk, IfErr, OnOk, length};
 ghost use Rattle.rmeworld.specs.declared.call.Call.TheVariants.{Lock, Append};
 ghost use Rattle.runs.specs.Faults.{refusal_now, ready};
 ghost use Rattle.runs.specs.Pass.{own_of};
 ghost use Rattle.runs.specs.Ruins.{AreInOrder, HasReadRuin};
 ghost use Rattle.runs.specs.Telling.{ToldIn};
 ghost use Rattle.runs.specs.Under.{Appends};
+ghost use Rattle.robust.specs.LabFaults.{WasSpent};
 ghost use Rattle.robust.specs.Worked.{HasWorked, sizes_of};
 ghost use Rattle.robust.specs.Sending.{IsNew, IsSending, SendsOnly, HasShown};
 ghost use Rattle.robust.specs.Working.{seat_of};
@@ -70,7 +71,7 @@ pub fn work<G: Gate + Drop, R: Wait>(rt: &R, mut member: Member, mut gate: G, sp
     Done { member, ending }
 }
 
-/// Sends one message until it is answered.
+/// Sends one message until it is answered. Last of all the gate hears of the answer.
 fn send<G: Gate, R: Wait>(
     rt: &R,
     member: &mut Member,
@@ -86,9 +87,11 @@ fn send<G: Gate, R: Wait>(
     ensures faults { IfErr result (λ why. (why ≡ LockFault.NumbersSpent) ⊎ (why ≡ LockFault.NotRecoverable)) }
     ensures ordered { AreInOrder None (own_of member.old.pass) → AreInOrder None (own_of member.new.pass) }
     ensures ruin { IfErr result (λ why. AreInOrder None (own_of member.old.pass) → why ≡ LockFault.NotRecoverable → HasReadRuin (own_of member.new.pass)) }
+    ensures spent { IfErr result (λ why. why ≡ LockFault.NumbersSpent → WasSpent member.new.pass.setup (own_of member.new.pass)) }
     ensures seat { seat_of member.new ≡ seat_of member.old }
     ensures only { (width k : ℕ) → IsSending width k member.old.pass.by (Append seq value) → SendsOnly width k member.old → SendsOnly width k member.new }
     ensures shown { IfOk result (λ reply. (reply ≡ Reply.Stored) ⊎ (reply ≡ Reply.Already) → HasShown seq member.new) }
+    ensures told { OnOk result ((asking : G) × G.heard asking seq gate.new) }
 {
     for _ in rt.forever() {
         match member.append(rt, seq, value, gate) {

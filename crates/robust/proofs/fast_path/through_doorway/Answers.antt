@@ -3,42 +3,19 @@ use Rattle.rmecore.specs.Place.{Place, Reread, Opening, Door, Shutting, Wait, Un
 use Rattle.rmecore.specs.declared.core_call.CoreCall.TheVariants.{Lock}
 use Rattle.rmecore.proofs.Scans.{above_past}
 use Rattle.runs.specs.Pass.{Pass}
+use Rattle.runs.proofs.Taken.{none_of}
 use Rattle.robust.specs.FastPath.{Way}
 use Rattle.robust.proofs.Straight.{way_first, way_on, way_more, way_to, way_begun, relocked_none, relocked_some, above_short}
 use Rattle.robust.proofs.fast_path.through_doorway.Goals as goal
 
-pub returns-then-number-ne0-clause-way : goal.returns-then-number-ne0-clause-way
-returns-then-number-ne0-clause-way c =
-    let x = c.args.walker.now in
-    let r1 = c.read_choosing-choosing in
-    let r2 = c.read_number-number in
-    way_on x r1.new.walker r2.new.walker 1 (Reread Lock (r1.result ∷ [])) (way_first x r1.new.walker (Reread Lock (r1.result ∷ [])) r1.ensures.comes r1.ensures.clear r1.ensures.same) (Reread Lock (r1.result ∷ r2.result ∷ [])) r2.ensures.comes r2.ensures.clear r2.ensures.same
-
-pub returns-then-inside-ne0-clause-way : goal.returns-then-inside-ne0-clause-way
-returns-then-inside-ne0-clause-way c =
-    let x = c.args.walker.now in
-    let r1 = c.read_choosing-choosing in
-    let r2 = c.read_number-number in
-    let r3 = c.read_inside-inside in
-    let w1 : Way x 1 r1.new.walker (Reread Lock (r1.result ∷ [])) = way_first x r1.new.walker (Reread Lock (r1.result ∷ [])) r1.ensures.comes r1.ensures.clear r1.ensures.same in
-    let w2 : Way x 2 r2.new.walker (Reread Lock (r1.result ∷ r2.result ∷ [])) = way_on x r1.new.walker r2.new.walker 1 (Reread Lock (r1.result ∷ [])) w1 (Reread Lock (r1.result ∷ r2.result ∷ [])) r2.ensures.comes r2.ensures.clear r2.ensures.same in
-    let y = r2.new.walker in
-    let w3 : Way x 3 r3.new.walker (relocked y.setup.layout.procs y.by 0 0 r3.result) = way_on x y r3.new.walker 2 (Reread Lock (r1.result ∷ r2.result ∷ [])) w2 (relocked y.setup.layout.procs y.by 0 0 r3.result) r3.ensures.comes r3.ensures.clear r3.ensures.same in
-    way_to x r3.new.walker 3 3 (relocked y.setup.layout.procs y.by 0 0 r3.result) (Unmarking Lock) refl (relocked_some y.setup.layout.procs y.by r3.result c.if-inside-ne0.true) w3
-
 pub returns-then-greatest-limit-clause-way : goal.returns-then-greatest-limit-clause-way
 returns-then-greatest-limit-clause-way c =
     let x = c.args.walker.now in
-    let r1 = c.read_choosing-choosing in
-    let r2 = c.read_number-number in
-    let r3 = c.read_inside-inside in
-    let w1 : Way x 1 r1.new.walker (Reread Lock (r1.result ∷ [])) = way_first x r1.new.walker (Reread Lock (r1.result ∷ [])) r1.ensures.comes r1.ensures.clear r1.ensures.same in
-    let w2 : Way x 2 r2.new.walker (Reread Lock (r1.result ∷ r2.result ∷ [])) = way_on x r1.new.walker r2.new.walker 1 (Reread Lock (r1.result ∷ [])) w1 (Reread Lock (r1.result ∷ r2.result ∷ [])) r2.ensures.comes r2.ensures.clear r2.ensures.same in
-    let y = r2.new.walker in
-    let w3 : Way x 3 r3.new.walker (relocked y.setup.layout.procs y.by 0 0 r3.result) = way_on x y r3.new.walker 2 (Reread Lock (r1.result ∷ r2.result ∷ [])) w2 (relocked y.setup.layout.procs y.by 0 0 r3.result) r3.ensures.comes r3.ensures.clear r3.ensures.same in
-    let z = r3.new.walker in
+    let r = c.reread_own in
+    let w3 : Way x 3 r.new.walker Opening = r.ensures.rests (none_of r.result c.in_default.not-Some) in
+    let z = r.new.walker in
     let o = c.open in
-    let w4 : Way x 4 o.new.walker (Door (others z.setup.layout.procs z.by) 0) = way_on x z o.new.walker 3 (relocked y.setup.layout.procs y.by 0 0 r3.result) w3 (Door (others z.setup.layout.procs z.by) 0) o.ensures.comes o.ensures.clear o.ensures.same in
+    let w4 : Way x 4 o.new.walker (Door (others z.setup.layout.procs z.by) 0) = way_on x z o.new.walker 3 Opening w3 (Door (others z.setup.layout.procs z.by) 0) o.ensures.comes o.ensures.clear o.ensures.same in
     let p = c.peek_others-greatest in
     let w5 : Way x (4 + p.result.1) p.new.walker (Door [] p.result.0) = way_more x o.new.walker p.new.walker 4 (Door (others z.setup.layout.procs z.by) 0) w4 p.result.1 (Door [] p.result.0) p.ensures.at p.ensures.unanswered p.ensures.clear p.ensures.same in
     let e : 4 + p.result.1 ≡ p.result.1 + 4 = omega arith in
@@ -48,16 +25,11 @@ returns-then-greatest-limit-clause-way c =
 pub returns-clause-way : goal.returns-clause-way
 returns-clause-way c =
     let x = c.args.walker.now in
-    let r1 = c.read_choosing-choosing in
-    let r2 = c.read_number-number in
-    let r3 = c.read_inside-inside in
-    let w1 : Way x 1 r1.new.walker (Reread Lock (r1.result ∷ [])) = way_first x r1.new.walker (Reread Lock (r1.result ∷ [])) r1.ensures.comes r1.ensures.clear r1.ensures.same in
-    let w2 : Way x 2 r2.new.walker (Reread Lock (r1.result ∷ r2.result ∷ [])) = way_on x r1.new.walker r2.new.walker 1 (Reread Lock (r1.result ∷ [])) w1 (Reread Lock (r1.result ∷ r2.result ∷ [])) r2.ensures.comes r2.ensures.clear r2.ensures.same in
-    let y = r2.new.walker in
-    let w3 : Way x 3 r3.new.walker (relocked y.setup.layout.procs y.by 0 0 r3.result) = way_on x y r3.new.walker 2 (Reread Lock (r1.result ∷ r2.result ∷ [])) w2 (relocked y.setup.layout.procs y.by 0 0 r3.result) r3.ensures.comes r3.ensures.clear r3.ensures.same in
-    let z = r3.new.walker in
+    let r = c.reread_own in
+    let w3 : Way x 3 r.new.walker Opening = r.ensures.rests (none_of r.result c.in_default.not-Some) in
+    let z = r.new.walker in
     let o = c.open in
-    let w4 : Way x 4 o.new.walker (Door (others z.setup.layout.procs z.by) 0) = way_on x z o.new.walker 3 (relocked y.setup.layout.procs y.by 0 0 r3.result) w3 (Door (others z.setup.layout.procs z.by) 0) o.ensures.comes o.ensures.clear o.ensures.same in
+    let w4 : Way x 4 o.new.walker (Door (others z.setup.layout.procs z.by) 0) = way_on x z o.new.walker 3 Opening w3 (Door (others z.setup.layout.procs z.by) 0) o.ensures.comes o.ensures.clear o.ensures.same in
     let p = c.peek_others-greatest in
     let w5 : Way x (4 + p.result.1) p.new.walker (Door [] p.result.0) = way_more x o.new.walker p.new.walker 4 (Door (others z.setup.layout.procs z.by) 0) w4 p.result.1 (Door [] p.result.0) p.ensures.at p.ensures.unanswered p.ensures.clear p.ensures.same in
     let t = c.take in

@@ -7,6 +7,7 @@ use Rattle.runs.specs.Headline.{shown_by}
 use Rattle.robust.proofs.Failing.{append_left, append_faults, append_grows, grown_on, told_from}
 use Rattle.runs.proofs.Ordered.{orders_append}
 use Rattle.robust.proofs.Sending.{sends_append}
+use Rattle.robust.proofs.Spent.{append_spent}
 use Rattle.runs.proofs.Told.{append_told}
 use Rattle.robust.proofs.Working.{sent_seat, fits_seat}
 use Rattle.robust.proofs.lab.worker.send.Goals as goal
@@ -36,11 +37,13 @@ returns-then-not-is_crash g c = record {
   only = λ width k fits old.
       sends_append width k c.loop.member c.append.new.self c.args.seq c.args.value _ _ _ _ (fits_seat width k c.loop.member c.args.member.now c.args.seq c.args.value c.loop.invariant.seat fits) (c.loop.invariant.only width k fits old) c.append.result c.append.ensures.replied c.append.ensures.fails;
   shown = tt;
+  told = tt;
   out = (let no = append_left c.loop.member c.append.new.self c.args.seq c.args.value _ _ _ _ c.append.result c.append.ensures.fails (c.requires.width ∙ ap (λ (s : TableId × Setup × ℕ). s.1.layout.width) (sym c.loop.invariant.seat)) c.loop.invariant.out in c.append.ensures.out no.0 no.1);
   kind = tt;
   tells = tt;
   ordered = λ old. orders_append c.loop.member c.append.new.self c.args.seq c.args.value _ _ _ _ (c.loop.invariant.ordered old) c.append.result c.append.ensures.replied c.append.ensures.fails;
   ruin = λ old is. append_told c.loop.member c.append.new.self c.args.seq c.args.value _ _ _ _ (c.loop.invariant.ordered old) (orders_append c.loop.member c.append.new.self c.args.seq c.args.value _ _ _ _ (c.loop.invariant.ordered old) c.append.result c.append.ensures.replied c.append.ensures.fails) c.append.result c.in-Err.fault c.in-Err.is is c.append.ensures.fails;
+  spent = λ is. append_spent c.loop.member c.append.new.self c.args.seq c.args.value _ _ _ _ c.append.result c.in-Err.fault c.in-Err.is is c.append.ensures.fails;
   faults = append_faults c.loop.member c.append.new.self c.args.seq c.args.value _ _ _ _ c.append.result c.in-Err.fault c.in-Err.is c.append.ensures.fails (c.requires.width ∙ ap (λ (s : TableId × Setup × ℕ). s.1.layout.width) (sym c.loop.invariant.seat)) c.loop.invariant.out (λ e. absurd (let k : false ≡ true = c.if-not-is_crash.ensures.1 e in cc)) c.append.ensures.patient;
 }
 

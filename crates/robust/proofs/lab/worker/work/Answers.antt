@@ -3,7 +3,7 @@ use Rattle.atomic_table.specs.Seated.{TableId}
 use Rattle.runs.specs.declared.setup.Setup.{Setup}
 use Rattle.robust.specs.Sending.{HasShown}
 use Rattle.robust.proofs.Failing.{refused}
-use Rattle.runs.proofs.Told.{faulted}
+use Rattle.robust.proofs.Spent.{faulted}
 use Rattle.robust.proofs.Working.{sends_value}
 use Rattle.robust.proofs.lab.worker.work.Goals as goal
 
@@ -19,7 +19,7 @@ pub returns-in-Err-clause-worked : goal.returns-in-Err-clause-worked
 returns-in-Err-clause-worked g c =
     let i = c.loop-seq.invariant in
     let fits = sends_value c.loop-seq.member c.args.member c.number-p.result c.loop-seq.seq c.args.spec.width c.args.spec.messages c.value_sent-value.result i.seat c.number-p.ensures.is c.loop-seq-test.true c.value_sent-value.ensures.words in
-    (c.send.ensures.only c.args.spec.width c.args.spec.messages fits i.only, faulted _ _ c.in-Err.ensures.faults (c.in-Err.ensures.ruin i.ordered), c.send.ensures.ordered i.ordered)
+    (c.send.ensures.only c.args.spec.width c.args.spec.messages fits i.only, faulted _ _ _ c.in-Err.ensures.faults c.in-Err.ensures.spent (c.in-Err.ensures.ruin i.ordered), c.send.ensures.ordered i.ordered)
 
 pub loop-seq-preserved : goal.loop-seq-preserved
 loop-seq-preserved g c =

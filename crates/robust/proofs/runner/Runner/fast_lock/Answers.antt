@@ -7,7 +7,7 @@ use Rattle.runs.specs.Pass.{spot_now}
 use Rattle.runs.specs.Running.{Seated}
 use Rattle.runs.specs.Calls.{Ran, Going, Calm}
 use Rattle.robust.proofs.FreeSteps.{seat}
-use Rattle.robust.proofs.FastLock.{fast_going, fast_blocked, fast_ran}
+use Rattle.robust.proofs.FastLock.{fast_going, fast_blocked, fast_answered}
 use Rattle.robust.proofs.runner.Runner.fast_lock.Goals as goal
 
 pub returns-in-Stands-clause-on : goal.returns-in-Stands-clause-on
@@ -55,4 +55,4 @@ returns-in-Clean-clause-ran g c =
     let small : w.steps ≤ 2 ^ 64 - 1 = omega arith in
     let h = c.enter-reached.ensures.clean c.in-Clean.is in
     subst (λ (u : Seated). (mine : List TakenStep) × Ran u (Some Clean) (seat z c.saturating_add-self-inside.result) mine × Calm (length mine) (g.C.CrashPlan.asked c.args.plan.now) (g.C.CrashPlan.asked c.count_calm.new.plan) (g.C.CrashPlan.fallen c.args.plan.now) (g.C.CrashPlan.fallen c.count_calm.new.plan)) c.self.view_is
-    (fast_ran w.walker z k w.steps c.saturating_add-self-inside.result _ _ _ _ small c.saturating_add-self-inside.ensures c.count_calm.ensures.asked c.count_calm.ensures.fallen h.1)
+    (fast_answered w.walker z k w.steps c.saturating_add-self-inside.result _ _ _ _ small c.saturating_add-self-inside.ensures c.count_calm.ensures.asked c.count_calm.ensures.fallen Clean h.1)

@@ -1,0 +1,68 @@
+-- A worker that ends for want of numbers was answered so at one of its own steps.
+use Rattle.std.proofs.Common.{◌≡◌, ◌⊎◌, ℕ, Bool, true, false, if◌then◌else◌, List, [], ◌∷◌, ◌++◌, Result, Ok, Err, IfErr, refl, sym, ap, ◌∙◌, subst, inl, inr}
+use Rattle.rmeworld.specs.declared.answer.Answer.{Answer}
+use Rattle.rmeworld.specs.declared.answer.Answer.TheVariants.{NumbersSpent as SpentAnswer}
+use Rattle.rmeworld.specs.declared.call.Call.{Call}
+use Rattle.rmeworld.specs.declared.call.Call.TheVariants.{Lock, Append}
+use Rattle.rmeworld.specs.Refused.{is_idle}
+use Rattle.rmeworld.specs.Spot.{at_rest}
+use Rattle.redomail.specs.declared.reply.Reply.{Reply}
+use Rattle.runs.specs.declared.entry.TakenStep.{TakenStep}
+use Rattle.runs.specs.declared.lock_fault.LockFault.{LockFault}
+use Rattle.runs.specs.declared.lock_fault.LockFault.TheVariants.{NotYet, NumbersSpent, NotRecoverable}
+use Rattle.runs.specs.declared.setup.Setup.{Setup}
+use Rattle.runs.specs.Calls.{ServedAll, answers_from}
+use Rattle.runs.specs.Faults.{ready}
+use Rattle.runs.specs.Pass.{spot_now, own_of}
+use Rattle.runs.specs.Ruins.{HasReadRuin}
+use Rattle.runs.specs.Running.{Seated, began, fell}
+use Rattle.runs.specs.Runs.{own, spelled, gone}
+use Rattle.runs.specs.Whole.{AppendFails, Comes, WholeEnds}
+use Rattle.runs.proofs.Ordered.{own_now}
+use Rattle.runs.proofs.Turned.{answers-append}
+use Rattle.robust.specs.LabFaults.{WasSpent}
+
+either_same : (b : Bool) (x : Seated) → ((if b then x else fell x).pass.setup ≡ x.pass.setup) × (own_of (if b then x else fell x).pass ≡ own_of x.pass)
+either_same true x = (refl, refl)
+either_same false x = (refl, refl)
+
+-- a call that is answered so
+served_spent : (x y : Seated) (order : List Call) (answers : List Answer) (blocked : ℕ) (mine : List TakenStep) → ServedAll (began (ready x) Lock) order answers blocked y mine → answers ≡ SpentAnswer ∷ [] → WasSpent y.pass.setup (own_of y.pass)
+served_spent x y order answers blocked mine served is = subst (WasSpent s) (sym own_y) (answers_from s at_rest (own_of x.pass), [], answers-append s at_rest (own_of x.pass) mine ∙ ap (λ (l : List Answer). answers_from s at_rest (own_of x.pass) ++ l) here)
+  where
+    s : Setup
+    s = y.pass.setup
+
+    own_y : own_of y.pass ≡ own_of x.pass ++ mine
+    own_y = own_now x y mine served.calls
+
+    was : (((began (ready x) Lock).pass.setup ≡ x.pass.setup) × (own_of (began (ready x) Lock).pass ≡ own_of x.pass))
+    was = either_same (is_idle (spot_now x.pass)) x
+
+    here : answers_from y.pass.setup (gone y.pass.setup at_rest (spelled (own_of x.pass))) mine ≡ SpentAnswer ∷ []
+    here = subst (λ (t : Setup × List TakenStep). answers_from t.0 (gone t.0 at_rest (spelled t.1)) mine ≡ SpentAnswer ∷ []) (λ i. (sym served.calls.setup i, was.1 i)) (served.answered ∙ is)
+
+module _ (x y : Seated) (seq : ℕ) (value : List ℕ) (a b c d : ℕ) where
+  whole_spent : (turns : ℕ) (e : LockFault) → e ≡ NumbersSpent → WholeEnds (began (ready x) Lock) turns (Append seq value) (Err e) y a b c d → WasSpent y.pass.setup (own_of y.pass)
+  whole_spent turns e is h = by h.3
+    where
+      by : Comes turns (Append seq value) (Err e) h.0 h.1 h.2 → WasSpent y.pass.setup (own_of y.pass)
+      by (inl k) = absurd (let late : NotYet ≡ NumbersSpent = sym k.0 ∙ is in cc)
+      by (inr (few, inl k)) = served_spent x y h.0 h.1 h.2 h.4.0 h.4.1 k.2
+      by (inr (few, inr (inl k))) = absurd (let ruined : NotRecoverable ≡ NumbersSpent = sym k.0 ∙ is in cc)
+      by (inr (few, inr (inr k))) = absurd (let ruined : NotRecoverable ≡ NumbersSpent = sym k.0 ∙ is in cc)
+
+  fails_spent : (turns : ℕ) (e : LockFault) → e ≡ NumbersSpent → AppendFails x turns seq value y a b c d e → WasSpent y.pass.setup (own_of y.pass)
+  fails_spent turns e is (inl h) = absurd (let k = h.0 in cc)
+  fails_spent turns e is (inr (wide, inl h)) = absurd (let k = h.0 in cc)
+  fails_spent turns e is (inr (wide, inr (may, inl h))) = absurd (let k = h.0 in cc)
+  fails_spent turns e is (inr (wide, inr (may, inr h))) = whole_spent turns e is h
+
+  pub append_spent : (r : Result Reply LockFault) (e : LockFault) → r ≡ Err e → e ≡ NumbersSpent → IfErr r (λ e. (turns : ℕ) × AppendFails x turns seq value y a b c d e) → WasSpent y.pass.setup (own_of y.pass)
+  append_spent (Ok reply) e is spent h = absurd (cc)
+  append_spent (Err f) e is spent h = fails_spent h.0 f (let same : f ≡ e = cc in same ∙ spent) h.1
+
+pub faulted : (why : LockFault) (z : Setup) (es : List TakenStep) → (why ≡ NumbersSpent) ⊎ (why ≡ NotRecoverable) → (why ≡ NumbersSpent → WasSpent z es) → (why ≡ NotRecoverable → HasReadRuin es)
+    → ((why ≡ NumbersSpent) × WasSpent z es) ⊎ ((why ≡ NotRecoverable) × HasReadRuin es)
+faulted why z es (inl spent) told read = inl (spent, told spent)
+faulted why z es (inr ruined) told read = inr (ruined, read ruined)

@@ -1,0 +1,13 @@
+use Rattle.std.proofs.Common.{◌≡◌, ◌+◌}
+use Rattle.runs.specs.Pass.{spot_now}
+use Rattle.robust.specs.FastPath.{IsClear, IsSame, Unanswered}
+use Rattle.robust.specs.FastAppend.{stored_so_far}
+use Rattle.robust.proofs.fast_append.put_row.Given as goal
+
+abbrev pub invariant-loop-j : goal.invariant-loop-j
+invariant-loop-j l = record {
+  at : spot_now l.walker ≡ stored_so_far l.fn.walker l.fn.entry.at l.fn.entry.seq l.fn.entry.value (l.fn.step + l.j);
+  unanswered : Unanswered l.fn.walker l.j 0 l.walker;
+  clear : IsClear l.walker;
+  same : IsSame l.fn.walker l.walker;
+}

@@ -1,40 +1,60 @@
--- How a command ends: what its exit status says of what was read, and what it has written.
-use Rattle.std.specs.Prelude.{◌≡◌, ◌≢◌, ◌⊎◌, ℕ, ◌-◌, ◌*◌, ◌^◌, min, Bool, false, List, [], ◌∷◌, length, codes, None, is_some, Result, Ok, Err}
+-- How a command ends: what its status, or its fault, says of what was read, what it has written, and what is to be saved.
+use Rattle.std.specs.Prelude.{◌≡◌, ◌≢◌, ◌⊎◌, ℕ, ◌-◌, ◌*◌, ◌^◌, ◌≤◌, min, Bool, false, List, [], ◌∷◌, length, codes, Option, None, is_some, IfSome, Vec, Result, Ok, Err, IfOk}
+use Rattle.std.specs.declared.alloc.Global.{Global}
 use Rattle.crashlab.specs.declared.variant.Variant.{Variant}
 use Rattle.crashlab.specs.declared.variant.Variant.TheVariants.{Right}
 use Rattle.crashlab.specs.Hunts.{IsFound}
 use Rattle.rmeworld.specs.declared.image.Image.{Image}
+use Rattle.rmeworld.specs.ImageText.{image_line}
+use Rattle.rmeworld.specs.Replayed.{image_of}
+use Rattle.rmecore.specs.declared.refusal.Refusal.{Refusal}
+use Rattle.judge.specs.Table.{State}
 use Rattle.one_lock.specs.declared.lab.spec.Spec.{Spec}
 use Rattle.schedule.specs.declared.replay_fault.ReplayFault.{ReplayFault}
 use Rattle.schedule.specs.declared.verdict.Verdict.{Verdict}
 use Rattle.schedule.specs.Plays.{Tape, Writes}
 use Rattle.schedule.specs.Reports.{verdict_line}
-use Rattle.schedule.specs.Schedules.{Scheduled, spelling}
+use Rattle.schedule.specs.Schedules.{Scheduled, schedule_at, spelling}
 use Rattle.schedule.specs.Texts.{line_of, parts_of}
 use Rattle.schedule.specs.Trials.{trace_answer}
-use Rattle.schedule.specs.Wholes.{Reading, WasRead, ReplaysSource}
+use Rattle.schedule.specs.Runs.{Part, deeds_of}
+use Rattle.schedule.specs.Verdicts.{verdict_on}
+use Rattle.schedule.specs.Wholes.{Reading, WasRead, ReplaysSource, world_run}
 use Rattle.laboratory.specs.declared.order.Command.{Command}
 use Rattle.laboratory.specs.declared.order.Command.TheVariants.{Replay, Run, Hunt, Judge}
 use Rattle.laboratory.specs.declared.order.HuntOrder.{HuntOrder}
 use Rattle.laboratory.specs.declared.order.ReplayOrder.{ReplayOrder}
 use Rattle.laboratory.specs.declared.order.RunOrder.{RunOrder}
 use Rattle.laboratory.specs.Sizes.{HuntFits, RunFits}
-use Rattle.laboratory.specs.Statuses.{status_told}
+use Rattle.laboratory.specs.declared.ending.Ending.{Ending}
+use Rattle.laboratory.specs.declared.fault.Fault.{Fault}
+use Rattle.laboratory.specs.declared.fault.Fault.TheVariants.{BadSize}
+use Rattle.laboratory.specs.Statuses.{outcome, outcome_told, status_after, status_ended}
 
 -- what is printed of a trace: the line of its verdict, or nothing after a fault
 abbrev pub line_told : Result Verdict ReplayFault → List ℕ
 line_told (Ok verdict) = verdict_line verdict
 line_told (Err fault) = []
 
--- a trace was read to its end: the status is that of the answer to its text, whose line was written
-pub record TellsTrace (old new : Reading) (before now : Tape) (status : ℕ) : Type 0 where
+-- a trace was read to its end: the outcome is that of the answer to its text, whose line was written
+pub record TellsTrace (old new : Reading) (before now : Tape) (end : Result Ending Fault) : Type 0 where
   pub text : List ℕ
   pub read : WasRead old new text
-  pub status_is : status ≡ status_told (trace_answer (parts_of text))
+  pub outcome_is : outcome end ≡ outcome_told (trace_answer (parts_of text))
   pub line : Writes before now (line_told (trace_answer (parts_of text)))
 
-abbrev pub JudgeEnds : Reading → Reading → Tape → Tape → ℕ → Type 0
-JudgeEnds old new before now status = (status ≡ 3) ⊎ TellsTrace old new before now status
+-- a device, memory or a member of a lab failed
+abbrev pub IsBroken : Result Ending Fault → Type 0
+IsBroken end = status_ended end ≡ 3
+
+-- a command has come to its end without a fault: whether an image is handed out to be saved, and no write has failed
+pub record IsEnded (saves : Bool) (before now : ℕ) (ending : Ending) : Type 0 where
+  pub few : ending.status ≤ 1
+  pub saved : is_some ending.save ≡ saves
+  pub whole : now ≡ before
+
+abbrev pub JudgeEnds : Reading → Reading → Tape → Tape → Result Ending Fault → Type 0
+JudgeEnds old new before now end = IsBroken end ⊎ TellsTrace old new before now end
 
 -- a schedule that finds a wrong variant out was written
 pub record TellsFind (variant : Variant) (before now : Tape) : Type 0 where
@@ -43,26 +63,55 @@ pub record TellsFind (variant : Variant) (before now : Tape) : Type 0 where
   pub found : IsFound variant schedule
   pub text : Writes before now (spelling schedule)
 
-abbrev pub HuntEnds : HuntOrder → Tape → Tape → ℕ → Type 0
-HuntEnds order before now status =
-    (status ≡ 0) × Writes before now (line_of (codes "nothing" ∷ codes "found" ∷ []))
-    ⊎ (status ≡ 1) × TellsFind order.variant before now
-    ⊎ (status ≡ 2) × (HuntFits order → ⊥)
-    ⊎ (status ≡ 3)
+abbrev pub HuntEnds : HuntOrder → Tape → Tape → Result Ending Fault → Type 0
+HuntEnds order before now end =
+    (outcome end ≡ Ok 0) × Writes before now (line_of (codes "nothing" ∷ codes "found" ∷ []))
+    ⊎ (outcome end ≡ Ok 1) × TellsFind order.variant before now
+    ⊎ (outcome end ≡ Err BadSize) × (HuntFits order → ⊥)
+    ⊎ IsBroken end
 
 -- just the report of a schedule on the right lock is asked for
 abbrev pub IsPlainReplay : ReplayOrder → Bool → Type 0
 IsPlainReplay order pictured = (pictured ≡ false) × (order.variant ≡ Right) × (order.json ≡ false) × (order.save ≡ None)
 
 -- the report of the schedule that was read was written, or why not is told
-abbrev pub TellsReplay : Reading → Reading → Tape → Tape → ℕ → Type 0
-TellsReplay old new before now status =
-    (answer : Result Verdict ReplayFault) × ReplaysSource old new before now answer × (status ≡ status_told answer)
+abbrev pub TellsReplay : Reading → Reading → Tape → Tape → Result Ending Fault → Type 0
+TellsReplay old new before now end =
+    (answer : Result Verdict ReplayFault) × ReplaysSource old new before now answer × (outcome end ≡ outcome_told answer)
+
+-- the right lock is asked for, from its beginning
+abbrev pub IsNew : ReplayOrder → Bool → Type 0
+IsNew order pictured = (pictured ≡ false) × (order.variant ≡ Right)
+
+-- these bytes are the image that the run of a schedule on a new world leaves
+abbrev pub IsLast : Scheduled → List ℕ → Type 0
+IsLast schedule bytes = bytes ≡ image_line (image_of (world_run schedule).left)
+
+-- what is to be saved, if anything, is the last image of the schedule that was read
+pub record SavesLast (old new : Reading) (save : Option (Vec ℕ Global)) : Type 0 where
+  pub text : List ℕ
+  pub read : WasRead old new text
+  pub schedule : Scheduled
+  pub spelled : schedule_at text ≡ Ok schedule
+  pub last : IfSome save (λ image. IsLast schedule image.items)
+
+-- a schedule was played to its verdict, from a state of the judge table on
+pub record IsPlayed {S : Type 0} (start : State) (run : Part S (ℕ × Refusal)) (left : S) (before now : ℕ) (verdict : Verdict) : Type 0 where
+  pub verdict_is : verdict ≡ verdict_on start (deeds_of run.told)
+  pub left_is : left ≡ run.left
+  pub whole : now ≡ before
+
+-- and the command is ended: what is to be saved is the image of the machine as the run leaves it
+pub record IsReplayed {S : Type 0} (start : State) (run : Part S (ℕ × Refusal)) (picture_of : S → Image) (saves : Bool) (before now : ℕ) (ending : Ending) : Type 0 where
+  pub status_is : ending.status ≡ status_after (verdict_on start (deeds_of run.told))
+  pub last : IfSome ending.save (λ text. text.items ≡ image_line (picture_of run.left))
+  pub ended : IsEnded saves before now ending
 
 -- whatever is asked for beside, nothing finds the right lock out
-abbrev pub ReplayEnds : ReplayOrder → Bool → Reading → Reading → Tape → Tape → ℕ → Type 0
-ReplayEnds order pictured old new before now status =
-    (status ≡ 1 → order.variant ≢ Right) × (IsPlainReplay order pictured → TellsReplay old new before now status)
+abbrev pub ReplayEnds : ReplayOrder → Bool → Reading → Reading → Tape → Tape → Result Ending Fault → Type 0
+ReplayEnds order pictured old new before now end =
+    (status_ended end ≡ 1 → order.variant ≢ Right) × (IsPlainReplay order pictured → TellsReplay old new before now end)
+    × (IsNew order pictured → IfOk end (λ ending. SavesLast old new ending.save))
 
 -- the lab that a run is made in: room for each message, and numbers enough
 abbrev pub lab_for : RunOrder → Spec
@@ -76,20 +125,20 @@ lab_for order =
     }
 
 -- 2 tells sizes out of their ranges
-abbrev pub RunEnds : RunOrder → ℕ → Type 0
-RunEnds order status = status ≡ 2 → RunFits order → ⊥
+abbrev pub RunEnds : RunOrder → Result Ending Fault → Type 0
+RunEnds order end = status_ended end ≡ 2 → RunFits order → ⊥
 
 -- by the command, and whether an image is given; by how far its input was read and what it has written, before and now
-abbrev pub CommandEnds : Command → Bool → Reading → Reading → Tape → Tape → ℕ → Type 0
-CommandEnds (Replay order) pictured old new before now status = ReplayEnds order pictured old new before now status
-CommandEnds (Run order) pictured old new before now status = RunEnds order status
-CommandEnds (Hunt order) pictured old new before now status = HuntEnds order before now status
-CommandEnds (Judge file) pictured old new before now status = JudgeEnds old new before now status
+abbrev pub CommandEnds : Command → Bool → Reading → Reading → Tape → Tape → Result Ending Fault → Type 0
+CommandEnds (Replay order) pictured old new before now end = ReplayEnds order pictured old new before now end
+CommandEnds (Run order) pictured old new before now end = RunEnds order end
+CommandEnds (Hunt order) pictured old new before now end = HuntEnds order before now end
+CommandEnds (Judge file) pictured old new before now end = JudgeEnds old new before now end
 
--- an image is to be saved
-abbrev pub asks_to_save : Command → Bool
-asks_to_save (Replay order) = is_some order.save
-asks_to_save command = false
+-- the schedule's header names the image's sizes, and its width or a greater one
+abbrev pub CanFit : Image → Scheduled → Type 0
+CanFit image schedule =
+    (length image.lock ≡ schedule.procs) × (image.limit ≡ schedule.limit) × (image.cap ≡ schedule.cap) × (image.width ≤ schedule.width)
 
 -- the image has the sizes that the schedule's header names
 abbrev pub IsFitting : Image → Scheduled → Type 0

@@ -1,5 +1,5 @@
 -- Exit statuses: 0 is fine, 1 a verdict against, 2 a fault of the input, 3 one of a device, of memory or of a member.
-use Rattle.std.specs.Prelude.{ℕ, Result, Ok, Err}
+use Rattle.std.specs.Prelude.{ℕ, Option, Some, None, Result, Ok, Err}
 use Rattle.crashlab.specs.declared.hunt_fault.HuntFault.{HuntFault}
 use Rattle.crashlab.specs.declared.hunt_fault.HuntFault.TheVariants as of_hunt
 use Rattle.one_lock.specs.declared.lab.lab_fault.LabFault.{LabFault}
@@ -10,10 +10,14 @@ use Rattle.schedule.specs.declared.replay_fault.ReplayFault.{ReplayFault}
 use Rattle.schedule.specs.declared.replay_fault.ReplayFault.TheVariants as of_replay
 use Rattle.schedule.specs.declared.verdict.Verdict.{Verdict}
 use Rattle.schedule.specs.declared.verdict.Verdict.TheVariants.{Fine, Against}
+use Rattle.rmecore.specs.declared.refusal.Refusal.{Refusal}
+use Rattle.rmecore.specs.declared.refusal.Refusal.TheVariants.{BadImage}
 use Rattle.schedule.specs.Numbers.{number_of as number_of_line}
 use Rattle.laboratory.specs.declared.ending.Ending.{Ending}
+use Rattle.laboratory.specs.declared.folder.FileFault.{FileFault}
+use Rattle.laboratory.specs.declared.folder.FileFault.TheVariants as of_file
 use Rattle.laboratory.specs.declared.fault.Fault.{Fault}
-use Rattle.laboratory.specs.declared.fault.Fault.TheVariants.{Text, Refused, BadSize, Read, Write, OutOfMemory, Member}
+use Rattle.laboratory.specs.declared.fault.Fault.TheVariants.{Text, Refused, Image, BadSize, Read, Write, OutOfMemory, Member}
 
 -- 3 for a fault of a device, of memory or of a member, 2 for one of the input
 abbrev pub status_of : Fault → ℕ
@@ -35,6 +39,30 @@ fault_of_replay of_replay.Read = Read
 fault_of_replay of_replay.Write = Write
 fault_of_replay of_replay.OutOfMemory = OutOfMemory
 
+-- for that of a replay to a page in memory, which takes no more only for want of memory
+abbrev pub fault_on_page : ReplayFault → Fault
+fault_on_page of_replay.Write = OutOfMemory
+fault_on_page fault = fault_of_replay fault
+
+-- for the refusal of a header, by its number: it is told at line 1
+abbrev pub fault_of_header : Option ℕ → Fault
+fault_of_header None = OutOfMemory
+fault_of_header (Some number) = Refused 1 number
+
+-- for the refusal of an image's text
+abbrev pub fault_of_image : Refusal → Fault
+fault_of_image (BadImage rule) = Image rule
+fault_of_image _ = OutOfMemory
+
+-- for that of a file that is opened, or written
+abbrev pub fault_of_opening : FileFault → Fault
+fault_of_opening of_file.Failed = Read
+fault_of_opening of_file.OutOfMemory = OutOfMemory
+
+abbrev pub fault_of_saving : FileFault → Fault
+fault_of_saving of_file.Failed = Write
+fault_of_saving of_file.OutOfMemory = OutOfMemory
+
 -- for that of a text
 abbrev pub fault_of_text : TextFault → Fault
 fault_of_text (of_text.At line fault) = Text line (number_of_line fault)
@@ -52,12 +80,17 @@ fault_of_lab of_lab.OutOfMemory = OutOfMemory
 fault_of_lab (of_lab.Member p fault) = Member p
 fault_of_lab (of_lab.Reply p reply) = Member p
 
--- the status after a replay or the judging of a trace
-abbrev pub status_told : Result Verdict ReplayFault → ℕ
-status_told (Ok verdict) = status_after verdict
-status_told (Err fault) = status_of (fault_of_replay fault)
-
 -- the status of a command that has ended so
 abbrev pub status_ended : Result Ending Fault → ℕ
 status_ended (Ok ending) = ending.status
 status_ended (Err fault) = status_of fault
+
+-- a status, or the fault that is told
+abbrev pub outcome : Result Ending Fault → Result ℕ Fault
+outcome (Ok ending) = Ok ending.status
+outcome (Err fault) = Err fault
+
+-- that of a replay, or of the judging of a trace
+abbrev pub outcome_told : Result Verdict ReplayFault → Result ℕ Fault
+outcome_told (Ok verdict) = Ok (status_after verdict)
+outcome_told (Err fault) = Err (fault_of_replay fault)

@@ -1,14 +1,17 @@
 //! The commands, over a reader and two writers.
 
-ghost use Rattle.std.specs.Prelude.{◌≡◌, None, IfErr, IfOk, OnOk, is_some, false};
+ghost use Rattle.std.specs.Prelude.{◌≡◌, Result, IfErr, IfOk, OnOk, is_some, false};
 ghost use Rattle.schedule.specs.Plays.{tape, Writes};
 ghost use Rattle.schedule.specs.Schedules.{spelling};
 ghost use Rattle.schedule.specs.Wholes.{reading};
-ghost use Rattle.laboratory.specs.Commands.{asks_to_save, CommandEnds, HuntEnds, JudgeEnds};
-ghost use Rattle.laboratory.specs.Statuses.{status_ended, status_of};
+ghost use Rattle.laboratory.specs.Commands.{CommandEnds, HuntEnds, IsEnded, JudgeEnds};
+ghost use Rattle.laboratory.specs.FilesNamed.{save_of};
+ghost use Rattle.laboratory.specs.Programs.{Closes};
+ghost use Rattle.laboratory.specs.Statuses.{status_of};
 
 use crate::ending::{Ending, status_after_verdict};
 use crate::fault::Fault;
+use crate::line::told;
 use crate::order::{Command, HuntOrder};
 use crate::replaying::replay_order;
 use crate::running::run_order;
@@ -21,8 +24,8 @@ use std::thread::Threads;
 
 /// The verdict line of a trace.
 fn judge_order<R: Source, W: Sink>(alloc: Global, r: &mut R, w: &mut W) -> Result<Ending, Fault>
-    ensures ends { JudgeEnds (reading (R.given r.old) (R.ended r.old) (R.failures r.old)) (reading (R.given r.new) (R.ended r.new) (R.failures r.new)) (tape (W.taken w.old) (W.failures w.old)) (tape (W.taken w.new) (W.failures w.new)) (status_ended result) }
-    ensures unsaved { IfOk result (λ ending. ending.save ≡ None) }
+    ensures ends { JudgeEnds (reading (R.given r.old) (R.ended r.old) (R.failures r.old)) (reading (R.given r.new) (R.ended r.new) (R.failures r.new)) (tape (W.taken w.old) (W.failures w.old)) (tape (W.taken w.new) (W.failures w.new)) result }
+    ensures ended { IfOk result (IsEnded false (W.failures w.old) (W.failures w.new)) }
 {
     let verdict = judge_trace(alloc, r)?;
     let mut line = Vec::new(alloc);
@@ -50,8 +53,8 @@ fn write_found<W: Sink>(alloc: Global, schedule: &Schedule, w: &mut W) -> Result
 
 /// The schedule that a hunt finds, or that it finds none.
 fn hunt_order<W: Sink>(alloc: Global, order: &HuntOrder, w: &mut W) -> Result<Ending, Fault>
-    ensures ends { HuntEnds order.now (tape (W.taken w.old) (W.failures w.old)) (tape (W.taken w.new) (W.failures w.new)) (status_ended result) }
-    ensures unsaved { IfOk result (λ ending. ending.save ≡ None) }
+    ensures ends { HuntEnds order.now (tape (W.taken w.old) (W.failures w.old)) (tape (W.taken w.new) (W.failures w.new)) result }
+    ensures ended { IfOk result (IsEnded false (W.failures w.old) (W.failures w.new)) }
 {
     match hunt(alloc, order.variant, order.seed, order.rounds, order.steps)? {
         Some(schedule) => {
@@ -69,17 +72,28 @@ fn hunt_order<W: Sink>(alloc: Global, order: &HuntOrder, w: &mut W) -> Result<En
     }
 }
 
-/// Writes the one line of a fault.
-fn tell<E: Sink>(alloc: Global, fault: Fault, e: &mut E) -> Result<(), Fault> {
-    let line = format!(in alloc; "{fault}\n")?;
-    if write_all(e, line.as_bytes()).is_err() {
-        return Err(Fault::Write);
+/// Does what a command says, or says why not: it reads the schedule or the trace from `r`, and writes what it prints to
+/// `w`. The image is the text of the file that `--image` names.
+pub fn ended<T: Threads + Wait + Sync, R: Source, W: Sink>(
+    rt: &T,
+    alloc: Global,
+    command: &Command,
+    image: Option<&[u8]>,
+    r: &mut R,
+    w: &mut W,
+) -> Result<Ending, Fault>
+    ensures ends { CommandEnds command.now (is_some image.entry) (reading (R.given r.old) (R.ended r.old) (R.failures r.old)) (reading (R.given r.new) (R.ended r.new) (R.failures r.new)) (tape (W.taken w.old) (W.failures w.old)) (tape (W.taken w.new) (W.failures w.new)) result }
+    ensures ended { IfOk result (IsEnded (is_some (save_of command.now)) (W.failures w.old) (W.failures w.new)) }
+{
+    match command {
+        Command::Replay(order) => replay_order(alloc, order, image, r, w),
+        Command::Judge(_) => judge_order(alloc, r, w),
+        Command::Hunt(order) => hunt_order(alloc, order, w),
+        Command::Run(order) => run_order(rt, alloc, order, w),
     }
-    Ok(())
 }
 
-/// Does what a command says: it reads the schedule or the trace from `r`, writes what it prints to `w`, and the one line of
-/// a fault to `e`. The image is the text of the file that `--image` names.
+/// Does what a command says over a reader, a writer for what is printed, and one for the one line of a fault.
 pub fn command<T: Threads + Wait + Sync, R: Source, W: Sink, E: Sink>(
     rt: &T,
     alloc: Global,
@@ -89,23 +103,14 @@ pub fn command<T: Threads + Wait + Sync, R: Source, W: Sink, E: Sink>(
     w: &mut W,
     e: &mut E,
 ) -> Ending
-    ensures ends { CommandEnds command.now (is_some image.entry) (reading (R.given r.old) (R.ended r.old) (R.failures r.old)) (reading (R.given r.new) (R.ended r.new) (R.failures r.new)) (tape (W.taken w.old) (W.failures w.old)) (tape (W.taken w.new) (W.failures w.new)) result.status }
-    ensures unsaved { asks_to_save command.now ≡ false → result.save ≡ None }
+    ensures ends { (end : Result Ending Fault) × CommandEnds command.now (is_some image.entry) (reading (R.given r.old) (R.ended r.old) (R.failures r.old)) (reading (R.given r.new) (R.ended r.new) (R.failures r.new)) (tape (W.taken w.old) (W.failures w.old)) (tape (W.taken w.new) (W.failures w.new)) end × Closes (tape (E.taken e.old) (E.failures e.old)) (tape (E.taken e.new) (E.failures e.new)) end result.status }
+    ensures unsaved { is_some (save_of command.now) ≡ false → is_some result.save ≡ false }
 {
-    let ended = match command {
-        Command::Replay(order) => replay_order(alloc, order, image, r, w),
-        Command::Judge(_) => judge_order(alloc, r, w),
-        Command::Hunt(order) => hunt_order(alloc, order, w),
-        Command::Run(order) => run_order(rt, alloc, order, w),
-    };
-    match ended {
+    match ended(rt, alloc, command, image, r, w) {
         Ok(ending) => ending,
-        Err(fault) => {
-            let _ = tell(alloc, fault, e);
-            Ending {
-                status: fault.status(),
-                save: None,
-            }
-        }
+        Err(fault) => Ending {
+            status: told(fault, e),
+            save: None,
+        },
     }
 }

@@ -1,6 +1,6 @@
 //! How a command ends.
 
-ghost use Rattle.std.specs.Prelude.{◌≡◌};
+ghost use Rattle.std.specs.Prelude.{◌≡◌, ◌≤◌};
 ghost use Rattle.laboratory.specs.Statuses.{status_after};
 
 use schedule::Verdict;
@@ -14,7 +14,8 @@ pub struct Ending {
 
 /// The exit status after a verdict: 0 where it is fine, 1 where it is against.
 pub fn status_after_verdict(verdict: Verdict) -> u8
-    ensures { result ≡ status_after verdict }
+    ensures told { result ≡ status_after verdict }
+    ensures few { result ≤ 1 }
 {
     match verdict {
         Verdict::Fine => 0,

@@ -1,9 +1,10 @@
 //! Why a command came to no verdict.
 
-ghost use Rattle.std.specs.Prelude.{◌≡◌};
+ghost use Rattle.std.specs.Prelude.{◌≡◌, ◌≤◌};
 ghost use Rattle.laboratory.specs.declared.fault.Fault.TheVariants.{OutOfMemory};
 ghost use Rattle.laboratory.specs.Statuses.{fault_of_hunt, fault_of_lab, fault_of_replay, fault_of_text};
 
+use crate::line::line_of;
 use crashlab::HuntFault;
 use robust::LabFault;
 use schedule::{OutOfMemory as NoMemory, ReplayFault, TextFault};
@@ -36,7 +37,8 @@ impl Fault {
 
     /// The exit status: 2 for a fault of the input, 3 for one of a device, of memory or of a member.
     pub fn status(self) -> u8
-        ensures { result ≡ status_of self }
+        ensures told { result ≡ status_of self }
+        ensures least { 2 ≤ result }
     {
         match self {
             Fault::Text { .. }
@@ -124,30 +126,9 @@ impl From<NoMemory> for Fault {
     }
 }
 
-/// What is told of a line of the text.
-fn tell_line<W: fmt::Write>(
-    f: &mut fmt::Formatter<W>,
-    line: u64,
-    cause: &str,
-    number: u64,
-) -> fmt::Result {
-    write!(f, "rmelab: line {line}: {cause} {number}")
-}
-
 impl fmt::Display for Fault {
     fn fmt<W: fmt::Write>(&self, f: &mut fmt::Formatter<W>) -> fmt::Result {
-        let text = match self {
-            Fault::Text { line, number } => return tell_line(f, *line, "fault", *number),
-            Fault::Refused { line, number } => return tell_line(f, *line, "refused", *number),
-            Fault::Image { rule } => return write!(f, "rmelab: image: rule {rule}"),
-            Fault::Member { p } => return write!(f, "rmelab: member {p} failed"),
-            Fault::BadVariant => "rmelab: bad variant",
-            Fault::BadSize => "rmelab: bad size",
-            Fault::Read => "rmelab: read failed",
-            Fault::Write => "rmelab: write failed",
-            Fault::OutOfMemory => "rmelab: out of memory",
-        };
-        f.write_str(text)
+        f.write_str(line_of(*self).as_str().trim_end())
     }
 }
 

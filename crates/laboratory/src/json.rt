@@ -3,6 +3,15 @@
 use serde_json::{Map, Value};
 use std::alloc::{AllocError, Global};
 
+/// The characters of a report: each byte is the one with its number.
+fn characters_of(alloc: Global, report: &[u8]) -> Result<String, AllocError> {
+    let mut text = String::new(alloc);
+    for byte in report {
+        text.push(char::from(*byte))?;
+    }
+    Ok(text)
+}
+
 /// The lines of a text without their line feeds, as strings.
 fn lines_of(alloc: Global, report: &str) -> Result<Vec<Value>, AllocError> {
     let mut lines = Vec::new(alloc);
@@ -26,8 +35,9 @@ fn spelled(alloc: Global, report: &str) -> Result<Vec<u8>, AllocError> {
 }
 
 /// One object with the one member `report`, the list of the report's lines, and LF.
-pub fn json_report(alloc: Global, report: &str) -> Result<Vec<u8>, AllocError> {
-    let mut text = spelled(alloc, report)?;
+pub fn json_report(alloc: Global, report: &[u8]) -> Result<Vec<u8>, AllocError> {
+    let report = characters_of(alloc, report)?;
+    let mut text = spelled(alloc, &report)?;
     text.push(b'\n')?;
     Ok(text)
 }

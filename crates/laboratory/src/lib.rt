@@ -3,11 +3,15 @@
 #![tactic(auto)]
 
 pub mod command;
+pub mod disk;
 pub mod ending;
 pub mod fault;
+pub mod folder;
 mod json;
+pub mod line;
 pub mod order;
 mod parser;
+pub mod program;
 pub mod replaying;
 pub mod running;
 pub mod tally;

@@ -1,5 +1,7 @@
 //! What the program is asked to do.
 
+ghost use Rattle.std.specs.Prelude.{◌≡◌, option_copied};
+
 use crashlab::Variant;
 
 /// `replay`: a schedule is run, and its report is printed.
@@ -52,27 +54,35 @@ pub enum Command {
 }
 
 impl Command {
+    ghost use Rattle.laboratory.specs.FilesNamed.{image_of, input_of, save_of};
+
     /// The file that the command reads; none is standard input.
-    pub fn input_file(&self) -> Option<&str> {
+    pub fn input_file(&self) -> Option<&String>
+        ensures { option_copied result ≡ input_of self.now }
+    {
         match self {
-            Command::Replay(order) => order.file.as_deref(),
-            Command::Judge(file) => file.as_deref(),
+            Command::Replay(order) => order.file.as_ref(),
+            Command::Judge(file) => file.as_ref(),
             _ => None,
         }
     }
 
     /// The file of the image that the command begins with.
-    pub fn image_file(&self) -> Option<&str> {
+    pub fn image_file(&self) -> Option<&String>
+        ensures { option_copied result ≡ image_of self.now }
+    {
         match self {
-            Command::Replay(order) => order.image.as_deref(),
+            Command::Replay(order) => order.image.as_ref(),
             _ => None,
         }
     }
 
     /// The file that the command saves an image to.
-    pub fn save_file(&self) -> Option<&str> {
+    pub fn save_file(&self) -> Option<&String>
+        ensures { option_copied result ≡ save_of self.now }
+    {
         match self {
-            Command::Replay(order) => order.save.as_deref(),
+            Command::Replay(order) => order.save.as_ref(),
             _ => None,
         }
     }

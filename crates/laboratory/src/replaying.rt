@@ -1,17 +1,19 @@
 //! The command `replay`.
 
-ghost use Rattle.std.specs.Prelude.{◌≡◌, [], IfOk, IfSome, None, is_some, true, false};
+ghost use Rattle.std.specs.Prelude.{◌≡◌, ◌≤◌, ℕ, List, [], Ok, Err, IfOk, IfSome, None, is_some, true, false};
 ghost use Rattle.judge.specs.Stands.{Keeps, StandsAfter};
 ghost use Rattle.judge.specs.Starts.{IsStart};
 ghost use Rattle.judge.specs.Table.{empty, State};
+ghost use Rattle.rmecore.specs.Refused.{number_of};
 ghost use Rattle.rmeworld.specs.ImageRules.{IsLawfulImage};
 ghost use Rattle.rmeworld.specs.ImageStart.{IsStartOf};
+ghost use Rattle.rmeworld.specs.ImageText.{image_line};
 ghost use Rattle.schedule.specs.Plays.{tape};
-ghost use Rattle.schedule.specs.Runs.{behaviour, deeds_of, run_on};
-ghost use Rattle.schedule.specs.Verdicts.{verdict_on};
-ghost use Rattle.schedule.specs.Wholes.{reading};
-ghost use Rattle.laboratory.specs.Commands.{IsFitting, ReplayEnds};
-ghost use Rattle.laboratory.specs.Statuses.{status_after, status_ended};
+ghost use Rattle.schedule.specs.Runs.{behaviour, run_on};
+ghost use Rattle.schedule.specs.Schedules.{schedule_at};
+ghost use Rattle.schedule.specs.Wholes.{reading, WasRead};
+ghost use Rattle.laboratory.specs.Commands.{CanFit, IsEnded, IsFitting, IsLast, IsPlayed, IsReplayed, ReplayEnds, TellsReplay};
+ghost use Rattle.laboratory.specs.Statuses.{fault_of_header, fault_of_image, fault_on_page};
 
 use crate::ending::{Ending, status_after_verdict};
 use crate::fault::Fault;
@@ -24,11 +26,16 @@ use rmeworld::{Image, Machine, World, read_image, start_of, widen, write_image};
 use schedule::device::write_all;
 use schedule::head::Head;
 use schedule::laws::worlds_are_never_found_out;
-use schedule::{Page, Schedule, Sink, Source, Verdict, read_schedule, replay, replay_on};
+use schedule::pieces::read_all;
+use schedule::{
+    Page, ReplayFault, Schedule, Sink, Source, Verdict, read_schedule, replay, replay_on,
+};
 use std::alloc::Global;
 
 /// What the first line of a schedule is refused with, where the world or the image can't be had.
-fn refused_header(refusal: Refusal) -> Fault {
+fn refused_header(refusal: Refusal) -> Fault
+    ensures { result ≡ fault_of_header (number_of refusal) }
+{
     match refusal.number() {
         Some(number) => Fault::Refused { line: 1, number },
         None => Fault::OutOfMemory,
@@ -36,10 +43,41 @@ fn refused_header(refusal: Refusal) -> Fault {
 }
 
 /// The rule that an image breaks, or want of memory.
-fn refused_image(refusal: Refusal) -> Fault {
+fn refused_image(refusal: Refusal) -> Fault
+    ensures { result ≡ fault_of_image refusal }
+{
     match refusal {
         Refusal::BadImage { rule } => Fault::Image { rule },
         _ => Fault::OutOfMemory,
+    }
+}
+
+/// The fault of a replay to a page in memory: where the page takes no more, memory is wanted.
+fn on_page(fault: ReplayFault) -> Fault
+    ensures { result ≡ fault_on_page fault }
+{
+    match fault {
+        ReplayFault::Write => Fault::OutOfMemory,
+        other => Fault::from(other),
+    }
+}
+
+/// Plays the schedule to a page in memory, and writes its lines as one JSON object.
+fn play_object<M: Machine, W: Sink>(
+    alloc: Global,
+    machine: &mut M,
+    judge: &mut Judge,
+    schedule: &Schedule,
+    w: &mut W,
+) -> Result<Verdict, Fault>
+    ensures { (start : State) → Keeps judge.old start → IfOk result (IsPlayed start (run_on (behaviour M.start_refusal M.started M.advance_refusal M.stepped M.advanced M.crash_refusal M.crash_deed M.crashed) 2 machine.old schedule.now.lines) machine.new (W.failures w.old) (W.failures w.new)) }
+{
+    let mut page = Page::new(alloc);
+    let verdict = replay_on(alloc, machine, judge, schedule, &mut page).map_err(on_page)?;
+    let object = json_report(alloc, page.as_slice())?;
+    match write_all(w, &object) {
+        Ok(()) => Ok(verdict),
+        Err(_) => Err(Fault::Write),
     }
 }
 
@@ -52,27 +90,18 @@ fn play<M: Machine, W: Sink>(
     json: bool,
     w: &mut W,
 ) -> Result<Verdict, Fault>
-    ensures { (start : State) → Keeps judge.old start → IfOk result (λ verdict. verdict ≡ verdict_on start (deeds_of (run_on (behaviour M.start_refusal M.started M.advance_refusal M.stepped M.advanced M.crash_refusal M.crash_deed M.crashed) 2 machine.old schedule.now.lines).told)) }
+    ensures { (start : State) → Keeps judge.old start → IfOk result (IsPlayed start (run_on (behaviour M.start_refusal M.started M.advance_refusal M.stepped M.advanced M.crash_refusal M.crash_deed M.crashed) 2 machine.old schedule.now.lines) machine.new (W.failures w.old) (W.failures w.new)) }
 {
-    if !json {
-        return Ok(replay_on(alloc, machine, judge, schedule, w)?);
+    if json {
+        return play_object(alloc, machine, judge, schedule, w);
     }
-    let mut page = Page::new(alloc);
-    let verdict = replay_on(alloc, machine, judge, schedule, &mut page)?;
-    let Ok(report) = str::from_utf8(page.as_slice()) else {
-        return Err(Fault::Write);
-    };
-    let object = json_report(alloc, report)?;
-    if write_all(w, &object).is_err() {
-        return Err(Fault::Write);
-    }
-    Ok(verdict)
+    Ok(replay_on(alloc, machine, judge, schedule, w)?)
 }
 
 /// The last image as text, where it is to be saved.
 fn saved<M: Machine>(alloc: Global, machine: &M, save: bool) -> Result<Option<Vec<u8>>, Fault>
-    ensures some { save ≡ true → IfOk result (λ text. is_some text ≡ true) }
-    ensures none { save ≡ false → IfOk result (λ text. text ≡ None) }
+    ensures asked { IfOk result (λ text. is_some text ≡ save) }
+    ensures last { IfOk result (λ text. IfSome text (λ image. image.items ≡ image_line (M.image_of machine.now))) }
 {
     if !save {
         return Ok(None);
@@ -95,9 +124,7 @@ fn replay_machine<M: Machine, W: Sink>(
     order: &ReplayOrder,
     w: &mut W,
 ) -> Result<Ending, Fault>
-    ensures status { (start : State) → Keeps judge.old start → IfOk result (λ ending. ending.status ≡ status_after (verdict_on start (deeds_of (run_on (behaviour M.start_refusal M.started M.advance_refusal M.stepped M.advanced M.crash_refusal M.crash_deed M.crashed) 2 machine.old schedule.now.lines).told))) }
-    ensures saved { is_some order.now.save ≡ true → IfOk result (λ ending. is_some ending.save ≡ true) }
-    ensures unsaved { is_some order.now.save ≡ false → IfOk result (λ ending. ending.save ≡ None) }
+    ensures { (start : State) → Keeps judge.old start → IfOk result (IsReplayed start (run_on (behaviour M.start_refusal M.started M.advance_refusal M.stepped M.advanced M.crash_refusal M.crash_deed M.crashed) 2 machine.old schedule.now.lines) M.image_of (is_some order.now.save) (W.failures w.old) (W.failures w.new)) }
 {
     let verdict = play(alloc, machine, judge, schedule, order.json, w)?;
     let save = saved(alloc, machine, order.save.is_some())?;
@@ -123,8 +150,8 @@ fn replay_new<W: Sink>(
     w: &mut W,
 ) -> Result<Ending, Fault>
     ensures fine { IfOk result (λ ending. ending.status ≡ 0) }
-    ensures saved { is_some order.now.save ≡ true → IfOk result (λ ending. is_some ending.save ≡ true) }
-    ensures unsaved { is_some order.now.save ≡ false → IfOk result (λ ending. ending.save ≡ None) }
+    ensures last { IfOk result (λ ending. IfSome ending.save (λ image. IsLast schedule.now image.items)) }
+    ensures ended { IfOk result (IsEnded (is_some order.now.save) (W.failures w.old) (W.failures w.new)) }
 {
     worlds_are_never_found_out();
     let head = schedule.head();
@@ -141,6 +168,7 @@ fn fitting(alloc: Global, image: Image, schedule: &Schedule) -> Result<Image, Fa
     requires lawful { IsLawfulImage image }
     ensures lawful { IfOk result IsLawfulImage }
     ensures fits { IfOk result (λ fitted. IsFitting fitted schedule.now) }
+    ensures misfit { (CanFit image schedule.now → ⊥) → result ≡ Err (Fault.Refused 1 9) }
 {
     let head = schedule.head();
     let same = image.lock.as_slice().len() as u64 == head.procs
@@ -165,8 +193,7 @@ fn replay_image<W: Sink>(
 ) -> Result<Ending, Fault>
     requires { IsLawfulImage image }
     ensures fine { IfOk result (λ ending. ending.status ≡ 0) }
-    ensures saved { is_some order.now.save ≡ true → IfOk result (λ ending. is_some ending.save ≡ true) }
-    ensures unsaved { is_some order.now.save ≡ false → IfOk result (λ ending. ending.save ≡ None) }
+    ensures ended { IfOk result (IsEnded (is_some order.now.save) (W.failures w.old) (W.failures w.new)) }
 {
     let image = fitting(alloc, image, schedule)?;
     match start_of(alloc, &image) {
@@ -188,8 +215,7 @@ fn replay_started<W: Sink>(
     requires begins { IsStartOf image.now start.now }
     requires judged { IsStart start.now }
     ensures fine { IfOk result (λ ending. ending.status ≡ 0) }
-    ensures saved { is_some order.now.save ≡ true → IfOk result (λ ending. is_some ending.save ≡ true) }
-    ensures unsaved { is_some order.now.save ≡ false → IfOk result (λ ending. ending.save ≡ None) }
+    ensures ended { IfOk result (IsEnded (is_some order.now.save) (W.failures w.old) (W.failures w.new)) }
 {
     worlds_are_never_found_out();
     let mut world = match World::from_image(alloc, image) {
@@ -207,8 +233,7 @@ fn replay_variant<W: Sink>(
     order: &ReplayOrder,
     w: &mut W,
 ) -> Result<Ending, Fault>
-    ensures saved { is_some order.now.save ≡ true → IfOk result (λ ending. is_some ending.save ≡ true) }
-    ensures unsaved { is_some order.now.save ≡ false → IfOk result (λ ending. ending.save ≡ None) }
+    ensures ended { IfOk result (IsEnded (is_some order.now.save) (W.failures w.old) (W.failures w.new)) }
 {
     let Head {
         procs,
@@ -222,20 +247,6 @@ fn replay_variant<W: Sink>(
     };
     let mut judge = new_judge(alloc, schedule)?;
     replay_machine(alloc, &mut world, &mut judge, schedule, order, w)
-}
-
-/// All bytes of the reader.
-fn read_text<R: Source>(alloc: Global, r: &mut R) -> Result<Vec<u8>, Fault> {
-    let mut text = Vec::new(alloc);
-    let mut piece = [0u8; 4096];
-    for _ in 0..u64::MAX {
-        match r.read(&mut piece) {
-            Ok(0) => return Ok(text),
-            Ok(n) => text.extend_from_slice(&piece[..n])?,
-            Err(_) => return Err(Fault::Read),
-        }
-    }
-    Err(Fault::Read)
 }
 
 /// The image that this text spells, where there is one.
@@ -253,8 +264,10 @@ fn image_read(alloc: Global, text: Option<&[u8]>) -> Result<Option<Image>, Fault
 }
 
 /// The schedule that the reader gives.
-fn schedule_read<R: Source>(alloc: Global, r: &mut R) -> Result<Schedule, Fault> {
-    let text = read_text(alloc, r)?;
+fn schedule_read<R: Source>(alloc: Global, r: &mut R) -> Result<Schedule, Fault>
+    ensures { IfOk result (λ schedule. (text : List ℕ) × WasRead (reading (R.given r.old) (R.ended r.old) (R.failures r.old)) (reading (R.given r.new) (R.ended r.new) (R.failures r.new)) text × (schedule_at text ≡ Ok schedule)) }
+{
+    let text = read_all(alloc, r)?;
     Ok(read_schedule(alloc, &text)?)
 }
 
@@ -268,14 +281,28 @@ fn replay_schedule<W: Sink>(
 ) -> Result<Ending, Fault>
     requires { IfSome image IsLawfulImage }
     ensures fine { order.now.variant ≡ Variant.Right → IfOk result (λ ending. ending.status ≡ 0) }
-    ensures saved { is_some order.now.save ≡ true → IfOk result (λ ending. is_some ending.save ≡ true) }
-    ensures unsaved { is_some order.now.save ≡ false → IfOk result (λ ending. ending.save ≡ None) }
+    ensures last { order.now.variant ≡ Variant.Right → is_some image ≡ false → IfOk result (λ ending. IfSome ending.save (λ image. IsLast schedule.now image.items)) }
+    ensures ended { IfOk result (IsEnded (is_some order.now.save) (W.failures w.old) (W.failures w.new)) }
 {
     match (image, order.variant) {
         (Some(image), _) => replay_image(alloc, image, schedule, order, w),
         (None, Variant::Right) => replay_new(alloc, schedule, order, w),
         (None, _) => replay_variant(alloc, schedule, order, w),
     }
+}
+
+/// Replays on a new world of the right lock, to the writer.
+#[tactic(auto, using(crate::proofs::Replays::replayed_whole))]
+fn replay_plain<R: Source, W: Sink>(alloc: Global, r: &mut R, w: &mut W) -> Result<Ending, Fault>
+    ensures tells { TellsReplay (reading (R.given r.old) (R.ended r.old) (R.failures r.old)) (reading (R.given r.new) (R.ended r.new) (R.failures r.new)) (tape (W.taken w.old) (W.failures w.old)) (tape (W.taken w.new) (W.failures w.new)) result }
+    ensures fine { IfOk result (λ ending. (ending.status ≡ 0) × (ending.save ≡ None)) }
+    ensures ended { IfOk result (IsEnded false (W.failures w.old) (W.failures w.new)) }
+{
+    let verdict = replay(alloc, r, w)?;
+    Ok(Ending {
+        status: status_after_verdict(verdict),
+        save: None,
+    })
 }
 
 /// Runs `replay`: the image is read first, then the schedule; then it is played to its verdict.
@@ -286,19 +313,15 @@ pub fn replay_order<R: Source, W: Sink>(
     r: &mut R,
     w: &mut W,
 ) -> Result<Ending, Fault>
-    ensures ends { ReplayEnds order.now (is_some image.entry) (reading (R.given r.old) (R.ended r.old) (R.failures r.old)) (reading (R.given r.new) (R.ended r.new) (R.failures r.new)) (tape (W.taken w.old) (W.failures w.old)) (tape (W.taken w.new) (W.failures w.new)) (status_ended result) }
-    ensures saved { is_some order.now.save ≡ true → IfOk result (λ ending. is_some ending.save ≡ true) }
-    ensures unsaved { is_some order.now.save ≡ false → IfOk result (λ ending. ending.save ≡ None) }
+    ensures ends { ReplayEnds order.now (is_some image.entry) (reading (R.given r.old) (R.ended r.old) (R.failures r.old)) (reading (R.given r.new) (R.ended r.new) (R.failures r.new)) (tape (W.taken w.old) (W.failures w.old)) (tape (W.taken w.new) (W.failures w.new)) result }
+    ensures ended { IfOk result (IsEnded (is_some order.now.save) (W.failures w.old) (W.failures w.new)) }
 {
     let plain = order.variant == Variant::Right && !order.json && order.save.is_none();
     if image.is_none() && plain {
-        let verdict = replay(alloc, r, w)?;
-        return Ok(Ending {
-            status: status_after_verdict(verdict),
-            save: None,
-        });
+        return replay_plain(alloc, r, w);
     }
     let image = image_read(alloc, image)?;
     let schedule = schedule_read(alloc, r)?;
-    replay_schedule(alloc, order, image, &schedule, w)
+    let ending = replay_schedule(alloc, order, image, &schedule, w)?;
+    Ok(ending)
 }

@@ -1,8 +1,10 @@
 //! The command `run`.
 
-ghost use Rattle.std.specs.Prelude.{◌≡◌, ◌⊎◌, ◌↔◌, All, None, IfErr, IfOk, vec_len};
-ghost use Rattle.laboratory.specs.Commands.{lab_for, RunEnds};
-ghost use Rattle.laboratory.specs.Statuses.{status_ended, status_of};
+ghost use Rattle.std.specs.Prelude.{◌≡◌, ◌⊎◌, ◌↔◌, All, false, IfErr, IfOk, OnOk, vec_len};
+ghost use Rattle.laboratory.specs.Commands.{IsEnded, lab_for, RunEnds};
+ghost use Rattle.laboratory.specs.Gates.{gates_for};
+ghost use Rattle.laboratory.specs.Sizes.{RunFits};
+ghost use Rattle.laboratory.specs.Statuses.{status_of};
 ghost use Rattle.laboratory.specs.Tallies.{IsFine};
 
 use crate::ending::Ending;
@@ -35,8 +37,10 @@ fn spec_of(order: &RunOrder) -> Spec
 }
 
 /// The crashes of each sender.
+#[tactic(auto, using(crate::proofs::Gates::gates_more))]
 pub fn gates_of(alloc: Global, order: &RunOrder) -> Result<Vec<Seeded>, AllocError>
-    ensures { IfOk result (λ gates. vec_len gates ≡ order.now.procs) }
+    ensures each { IfOk result (λ gates. gates.items ≡ gates_for order.now) }
+    ensures count { IfOk result (λ gates. vec_len gates ≡ order.now.procs) }
 {
     let mut gates = Vec::new(alloc);
     for p in 0..order.procs {
@@ -83,7 +87,7 @@ fn counted<T: Threads + Wait + Sync>(
     alloc: Global,
     order: &RunOrder,
 ) -> Result<IndexMap<u64, Tally>, Fault>
-    ensures { IfErr result (λ fault. RunEnds order.now (status_of fault)) }
+    ensures { IfErr result (λ fault. status_of fault ≡ 2 → RunFits order.now → ⊥) }
 {
     let gates = gates_of(alloc, order)?;
     let result = run_lab(rt, alloc, spec_of(order), gates)?;
@@ -96,7 +100,8 @@ fn write_lines<W: Sink>(
     tallies: &IndexMap<u64, Tally>,
     w: &mut W,
 ) -> Result<(), Fault>
-    ensures { IfErr result (λ fault. status_of fault ≡ 3) }
+    ensures failed { IfErr result (λ fault. status_of fault ≡ 3) }
+    ensures whole { OnOk result (W.failures w.new ≡ W.failures w.old) }
 {
     let text = lines_of(alloc, tallies)?;
     if write_all(w, text.as_bytes()).is_err() {
@@ -112,8 +117,8 @@ pub fn run_order<T: Threads + Wait + Sync, W: Sink>(
     order: &RunOrder,
     w: &mut W,
 ) -> Result<Ending, Fault>
-    ensures ends { RunEnds order.now (status_ended result) }
-    ensures unsaved { IfOk result (λ ending. ending.save ≡ None) }
+    ensures ends { RunEnds order.now result }
+    ensures ended { IfOk result (IsEnded false (W.failures w.old) (W.failures w.new)) }
 {
     let tallies = counted(rt, alloc, order)?;
     write_lines(alloc, &tallies, w)?;

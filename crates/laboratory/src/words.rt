@@ -9,22 +9,39 @@ use clap::error::ErrorKind;
 use clap::{ArgMatches, Error};
 use crashlab::Variant;
 use std::alloc::{AllocError, Global};
+use std::io;
+use std::rt::Env;
 
 /// Why the words are no command, in the order in which it is found.
 #[derive(Debug, Drop)]
 pub enum WordsFault {
-    /// What `clap` says, on standard error with status 2, or its help, on standard output with status 0.
-    Refused { text: String, status: u8 },
+    /// The help that is asked for, to be printed; the status is 0.
+    Help { text: String },
+    /// What `clap` says against them, to be told; the status is 2.
+    Refused { text: String },
     /// No such variant, or one other than `right` together with an image.
     BadVariant,
     /// A number of `run` or `hunt` outside its range.
     BadSize,
+    /// A word is no text.
+    Unreadable,
     OutOfMemory,
 }
 
 impl From<AllocError> for WordsFault {
     fn from(_e: AllocError) -> WordsFault {
         WordsFault::OutOfMemory
+    }
+}
+
+/// The words that the process was given, of which the first is the program's name.
+pub fn words_given<R: Env + Alloc<A = Global>>(rt: &R) -> Result<Vec<String>, WordsFault> {
+    match std::env::args(rt) {
+        Ok(words) => Ok(words.collect(rt.alloc())?),
+        Err(error) => match error.kind() {
+            io::ErrorKind::OutOfMemory => Err(WordsFault::OutOfMemory),
+            _ => Err(WordsFault::Unreadable),
+        },
     }
 }
 
@@ -57,19 +74,21 @@ fn number_of(matches: &ArgMatches<'_>, name: &str) -> u64 {
     matches.get_one::<u64>(name).unwrap_or(0)
 }
 
+/// The variant that is asked for, or the one of this name.
+fn variant_of(matches: &ArgMatches<'_>, without: &str) -> Result<Variant, WordsFault> {
+    let name = matches.get_str("variant").unwrap_or(without);
+    variant_named(name).ok_or(WordsFault::BadVariant)
+}
+
 fn replay_words(alloc: Global, matches: &ArgMatches<'_>) -> Result<ReplayOrder, WordsFault> {
-    let variant = variant_named(matches.get_str("variant").unwrap_or("right"));
-    let image = text_of(alloc, matches, "image")?;
-    let Some(variant) = variant else {
-        return Err(WordsFault::BadVariant);
-    };
-    if variant != Variant::Right && image.is_some() {
+    let variant = variant_of(matches, "right")?;
+    if variant != Variant::Right && matches.get_str("image").is_some() {
         return Err(WordsFault::BadVariant);
     }
     Ok(ReplayOrder {
         json: matches.get_flag("json"),
         variant,
-        image,
+        image: text_of(alloc, matches, "image")?,
         save: text_of(alloc, matches, "save")?,
         file: text_of(alloc, matches, "FILE")?,
     })
@@ -92,11 +111,8 @@ fn hunt_of(order: HuntOrder) -> Result<HuntOrder, WordsFault>
 fn hunt_words(matches: &ArgMatches<'_>) -> Result<HuntOrder, WordsFault>
     ensures { IfOk result HuntFits }
 {
-    let Some(variant) = variant_named(matches.get_str("variant").unwrap_or("")) else {
-        return Err(WordsFault::BadVariant);
-    };
     hunt_of(HuntOrder {
-        variant,
+        variant: variant_of(matches, "")?,
         seed: number_of(matches, "seed"),
         rounds: number_of(matches, "rounds"),
         steps: number_of(matches, "steps"),
@@ -149,8 +165,11 @@ fn refused(alloc: Global, error: &Error) -> Result<WordsFault, AllocError> {
         return Ok(WordsFault::OutOfMemory);
     }
     let text = format!(in alloc; "{error}")?;
-    let status = if error.use_stderr() { 2 } else { 0 };
-    Ok(WordsFault::Refused { text, status })
+    if error.use_stderr() {
+        Ok(WordsFault::Refused { text })
+    } else {
+        Ok(WordsFault::Help { text })
+    }
 }
 
 /// Reads the words of a command line, of which the first is the program's name. What `clap` refuses is found first, then

@@ -1,5 +1,5 @@
-//! The worked rows of schedules, reports and traces, of wrong variants, of hunts and of the program's commands. Tests alone:
-//! each names public functions of `schedule`, `crashlab` or `laboratory`.
+//! The worked rows of schedules, reports and traces, of wrong variants and of hunts. Tests alone:
+//! each names public functions of `schedule` or `crashlab`.
 #![tactic(auto)]
 
 #[cfg(test)]
@@ -16,8 +16,6 @@ mod kit;
 mod lock;
 #[cfg(test)]
 mod mailbox;
-#[cfg(test)]
-mod program;
 #[cfg(test)]
 mod refusals;
 #[cfg(test)]

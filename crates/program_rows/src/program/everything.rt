@@ -1,8 +1,9 @@
 //! The longest worked row: 64 processes, two of them in the line, and then each crashes. What it saves is gone on from.
 
-use super::{Printed, ran};
+use super::invocation::Printed;
+use super::ran;
 use std::alloc::Global;
-use std::process::Abort;
+use std::process::{Abort, ExitCode};
 use std::test::Fail;
 
 /// The sizes of this row, as the first line of a schedule.
@@ -60,14 +61,10 @@ fn image_of_everything(alloc: Global) -> Result<String, Fail> {
 }
 
 /// The run printed this report and nothing else, and saved this image.
-fn comes_to(rt: &impl Abort, printed: &Printed, report: &str, image: &str) {
-    assert_eq!(rt; printed.out.as_slice(), report.as_bytes());
-    assert!(rt; printed.err.as_slice().is_empty() && printed.status == 0);
-    let saved = match &printed.save {
-        Some(saved) => saved.as_slice(),
-        None => b"",
-    };
-    assert_eq!(rt; saved, image.as_bytes());
+fn comes_to(rt: &impl Abort, found: &Printed, report: &str, image: &str) {
+    assert_eq!(rt; str::from_utf8(&found.out), Ok(report));
+    assert!(rt; found.err.is_empty() && found.code == ExitCode::from(0));
+    assert_eq!(rt; str::from_utf8(&found.save), Ok(image));
 }
 
 #[test]
@@ -75,16 +72,15 @@ fn crash_of_everything(rt: HostRuntime) -> Result<(), Fail> {
     let alloc = rt.alloc();
     let image = image_of_everything(alloc)?;
     let schedule = everything(alloc)?;
-    let printed = ran(&rt, alloc, "rmelab replay --save a.json", None, &schedule)?;
-    comes_to(&rt, &printed, &report_of_everything(alloc)?, &image);
+    let found = ran(&rt, alloc, "rmelab replay --save a.json", "", &schedule)?;
+    comes_to(&rt, &found, &report_of_everything(alloc)?, &image);
     // 1 has read its words again, and has its number still: no word changes
     let mut schedule = String::from_str(alloc, HEADER)?;
     schedule.push_str("lock 1\nstep 1 5\nlock 0\nstep 0 4\n")?;
     let mut report = String::from_str(alloc, "reenter 0\nanswer 0 owner-died\n")?;
     add_standing(alloc, &mut report)?;
     let line = "rmelab replay --image a.json --save b.json";
-    let saved = printed.save.ok_or("an image")?;
-    let printed = ran(&rt, alloc, line, Some(&saved), &schedule)?;
-    comes_to(&rt, &printed, &report, &image);
+    let found = ran(&rt, alloc, line, &image, &schedule)?;
+    comes_to(&rt, &found, &report, &image);
     Ok(())
 }

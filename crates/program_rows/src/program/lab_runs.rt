@@ -19,15 +19,13 @@ total 200
 #[test]
 fn four_senders(rt: HostRuntime) -> Result<(), Fail> {
     let line = "rmelab run --procs 4 --messages 50 --crash 20 --seed 7";
-    prints(&rt, rt.alloc(), line, "", FOUR, "", 0)?;
-    Ok(())
+    prints(&rt, rt.alloc(), line, "", FOUR, "", 0)
 }
 
 #[test]
 fn four_senders_of_wide_messages(rt: HostRuntime) -> Result<(), Fail> {
     let line = "rmelab run --procs 4 --messages 50 --crash 20 --seed 7 --width 8";
-    prints(&rt, rt.alloc(), line, "", FOUR, "", 0)?;
-    Ok(())
+    prints(&rt, rt.alloc(), line, "", FOUR, "", 0)
 }
 
 /// The crashes of sender p are drawn from the seed and p.

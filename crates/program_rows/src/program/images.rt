@@ -1,5 +1,6 @@
 //! Replays that save an image, and replays that go on from one.
 
+use super::invocation::{all_come_to, invoked};
 use super::{prints, ran};
 use std::alloc::Global;
 use std::process::Abort;
@@ -35,20 +36,19 @@ const WIDE_MENDED: (&str, &str) = (
 );
 
 /// Replays a schedule from an image, and compares what it prints.
-fn goes_on(
+fn goes_on<'a>(
     rt: &(impl Abort + Threads + Wait + Sync),
     alloc: Global,
-    image: &str,
-    input: &str,
-    out: &str,
-    err: &str,
+    image: &'a str,
+    input: &'a str,
+    out: &'a str,
+    err: &'a str,
 ) -> Result<(), Fail> {
-    let line = "rmelab replay --image a.json";
-    let printed = ran(rt, alloc, line, Some(image.as_bytes()), input)?;
-    assert_eq!(rt; printed.out.as_slice(), out.as_bytes());
-    assert_eq!(rt; printed.err.as_slice(), err.as_bytes());
-    assert_eq!(rt; printed.status, if err.is_empty() { 0 } else { 2 });
-    Ok(())
+    let status = if err.is_empty() { 0 } else { 2 };
+    let row = invoked("rmelab replay --image a.json", input, out)
+        .beside(("a.json", image))
+        .ends(status, err);
+    all_come_to(rt, alloc, &[row])
 }
 
 /// Replays a schedule, and compares the image that it saves.
@@ -58,12 +58,8 @@ fn saves(
     schedule: &str,
     image: &str,
 ) -> Result<(), Fail> {
-    let printed = ran(rt, alloc, "rmelab replay --save a.json", None, schedule)?;
-    let text = match &printed.save {
-        Some(text) => text.as_slice(),
-        None => b"",
-    };
-    assert_eq!(rt; text, image.as_bytes());
+    let found = ran(rt, alloc, "rmelab replay --save a.json", "", schedule)?;
+    assert_eq!(rt; str::from_utf8(&found.save), Ok(image));
     Ok(())
 }
 
@@ -72,13 +68,6 @@ fn images_saved(rt: HostRuntime) -> Result<(), Fail> {
     saves(&rt, rt.alloc(), SMALLEST, SMALLEST_IMAGE)?;
     saves(&rt, rt.alloc(), TORN, TORN_IMAGE)?;
     saves(&rt, rt.alloc(), WIDE_TORN, WIDE_TORN_IMAGE)
-}
-
-#[test]
-fn nothing_saved(rt: HostRuntime) -> Result<(), Fail> {
-    let printed = ran(&rt, rt.alloc(), "rmelab replay", None, SMALLEST)?;
-    assert_eq!(rt; printed.save.is_none(), true);
-    Ok(())
 }
 
 #[test]
@@ -114,29 +103,18 @@ fn images_and_headers(rt: HostRuntime) -> Result<(), Fail> {
     goes_on(&rt, alloc, "[]", "", "", "rmelab: image: rule 1\n")
 }
 
+/// A line that is refused leaves no part of an object.
 #[test]
 fn json_reports(rt: HostRuntime) -> Result<(), Fail> {
-    let object =
-        "{\"report\":[\"begin 0\",\"ready 0\",\"enter 0\",\"answer 0 clean\",\"words 0 0 1 1\",\"mail 0 closed 0 ruined 0\",\"verdict fine\"]}\n";
-    prints(
-        &rt,
-        rt.alloc(),
-        "rmelab replay --json",
-        SMALLEST,
-        object,
-        "",
-        0,
-    )?;
     let refused = "rme 1 procs 1 limit 10 cap 1\nlock 0\nstep 0 8\nconsistent 0\n";
-    let line = "rmelab: line 4: refused 10\n";
+    let told = "rmelab: line 4: refused 10\n";
     prints(
         &rt,
         rt.alloc(),
         "rmelab replay --json",
         refused,
         "",
-        line,
+        told,
         2,
-    )?;
-    Ok(())
+    )
 }

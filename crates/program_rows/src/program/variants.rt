@@ -1,6 +1,7 @@
 //! Replays under variants, traces, and hunts.
 
 use super::{prints, ran};
+use std::process::ExitCode;
 use std::test::Fail;
 
 const RENUMBERED: (&str, &str) = (
@@ -17,39 +18,19 @@ const UNLOOKED: (&str, &str, &str) = (
 #[test]
 fn between_two_words(rt: HostRuntime) -> Result<(), Fail> {
     let (schedule, report) = RENUMBERED;
-    prints(
-        &rt,
-        rt.alloc(),
-        "rmelab replay --variant renumber",
-        schedule,
-        report,
-        "",
-        1,
-    )?;
-    Ok(())
+    let line = "rmelab replay --variant renumber";
+    prints(&rt, rt.alloc(), line, schedule, report, "", 1)
 }
 
 #[test]
 fn wrong_variant(rt: HostRuntime) -> Result<(), Fail> {
     let (schedule, against, fine) = UNLOOKED;
-    prints(
-        &rt,
-        rt.alloc(),
-        "rmelab replay --variant no-look",
-        schedule,
-        against,
-        "",
-        1,
-    )?;
-    prints(
-        &rt,
-        rt.alloc(),
-        "rmelab replay --variant right",
-        schedule,
-        fine,
-        "",
-        0,
-    )?;
+    for (line, report, status) in [
+        ("rmelab replay --variant no-look", against, 1),
+        ("rmelab replay --variant right", fine, 0),
+    ] {
+        prints(&rt, rt.alloc(), line, schedule, report, "", status)?;
+    }
     Ok(())
 }
 
@@ -119,20 +100,20 @@ fn hunt_seeds(rt: HostRuntime) -> Result<(), Fail> {
         let line = format!(in alloc;
             "rmelab hunt --variant {variant} --seed 1 --rounds 10000 --steps 1000"
         )?;
-        let found = ran(&rt, alloc, &line, None, "")?;
-        assert_eq!(rt; found.status, 1, "{variant}");
-        let Ok(schedule) = str::from_utf8(found.out.as_slice()) else {
+        let found = ran(&rt, alloc, &line, "", "")?;
+        assert!(rt; found.code == ExitCode::from(1), "{variant}");
+        let Ok(schedule) = str::from_utf8(&found.out) else {
             panic!(&rt; "no text");
         };
         let line = format!(in alloc; "rmelab replay --variant {variant}")?;
-        let wrong = ran(&rt, alloc, &line, None, schedule)?;
-        assert_eq!(rt; wrong.status, 1, "{variant}");
-        let right = ran(&rt, alloc, "rmelab replay", None, schedule)?;
-        assert!(rt; right.status == 0 || right.status == 2, "{variant}");
+        let wrong = ran(&rt, alloc, &line, "", schedule)?;
+        assert!(rt; wrong.code == ExitCode::from(1), "{variant}");
+        let right = ran(&rt, alloc, "rmelab replay", "", schedule)?;
+        let fine = right.code == ExitCode::from(0) || right.code == ExitCode::from(2);
+        assert!(rt; fine, "{variant}");
     }
     let line = "rmelab hunt --variant right --seed 1 --rounds 100 --steps 1000";
-    prints(&rt, alloc, line, "", "nothing found\n", "", 0)?;
-    Ok(())
+    prints(&rt, alloc, line, "", "nothing found\n", "", 0)
 }
 
 /// The schedule that `bench/lab`, a program by hand, draws by the same rule.
@@ -150,6 +131,5 @@ step 0\nstep 1\n";
 #[test]
 fn moves_of_a_hunt(rt: HostRuntime) -> Result<(), Fail> {
     let line = "rmelab hunt --variant no-look --seed 70 --rounds 10000 --steps 1000";
-    prints(&rt, rt.alloc(), line, "", DRAWN, "", 1)?;
-    Ok(())
+    prints(&rt, rt.alloc(), line, "", DRAWN, "", 1)
 }

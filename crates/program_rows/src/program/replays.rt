@@ -1,7 +1,11 @@
 //! Schedules, their reports, and what is refused behind a beginning of one.
 
 use super::prints;
+use std::alloc::Global;
+use std::process::Abort;
+use std::sync::Wait;
 use std::test::Fail;
+use std::thread::Threads;
 
 const FIRST_STEPS_1: (&str, &str, &str) = (
     "rme 1 procs 1 limit 1 cap 1\nlock 0\nstep 0\nstep 0 3\n",
@@ -93,172 +97,55 @@ const HOSTILE_TEXT_1: (&str, &str, &str) = (
     "rmelab: line 4: refused 13\n",
 );
 
+/// Each schedule is replayed to this report, and this is told.
+fn replay<'a>(
+    rt: &(impl Abort + Threads + Wait + Sync),
+    alloc: Global,
+    rows: &[(&'a str, &'a str, &'a str)],
+) -> Result<(), Fail> {
+    for row in rows {
+        let (schedule, report, told) = *row;
+        let status = if told.is_empty() { 0 } else { 2 };
+        prints(rt, alloc, "rmelab replay", schedule, report, told, status)?;
+    }
+    Ok(())
+}
+
 #[test]
 fn first_steps(rt: HostRuntime) -> Result<(), Fail> {
-    prints(
-        &rt,
-        rt.alloc(),
-        "rmelab replay",
-        FIRST_STEPS_1.0,
-        FIRST_STEPS_1.1,
-        FIRST_STEPS_1.2,
-        0,
-    )?;
-    prints(
-        &rt,
-        rt.alloc(),
-        "rmelab replay",
-        FIRST_STEPS_2.0,
-        FIRST_STEPS_2.1,
-        FIRST_STEPS_2.2,
-        2,
-    )?;
-    prints(
-        &rt,
-        rt.alloc(),
-        "rmelab replay",
-        FIRST_STEPS_3.0,
-        FIRST_STEPS_3.1,
-        FIRST_STEPS_3.2,
-        2,
-    )?;
-    prints(
-        &rt,
-        rt.alloc(),
-        "rmelab replay",
-        FIRST_STEPS_4.0,
-        FIRST_STEPS_4.1,
-        FIRST_STEPS_4.2,
-        2,
-    )?;
-    Ok(())
+    let rows = [FIRST_STEPS_1, FIRST_STEPS_2, FIRST_STEPS_3, FIRST_STEPS_4];
+    replay(&rt, rt.alloc(), &rows)
 }
 
 #[test]
 fn ruined(rt: HostRuntime) -> Result<(), Fail> {
-    prints(
-        &rt,
-        rt.alloc(),
-        "rmelab replay",
-        RUINED_1.0,
-        RUINED_1.1,
-        RUINED_1.2,
-        0,
-    )?;
-    Ok(())
+    replay(&rt, rt.alloc(), &[RUINED_1])
 }
 
 #[test]
 fn refusals(rt: HostRuntime) -> Result<(), Fail> {
-    prints(
-        &rt,
-        rt.alloc(),
-        "rmelab replay",
-        REFUSALS_1.0,
-        REFUSALS_1.1,
-        REFUSALS_1.2,
-        2,
-    )?;
-    prints(
-        &rt,
-        rt.alloc(),
-        "rmelab replay",
-        REFUSALS_2.0,
-        REFUSALS_2.1,
-        REFUSALS_2.2,
-        2,
-    )?;
-    prints(
-        &rt,
-        rt.alloc(),
-        "rmelab replay",
-        REFUSALS_3.0,
-        REFUSALS_3.1,
-        REFUSALS_3.2,
-        2,
-    )?;
-    Ok(())
+    let rows = [REFUSALS_1, REFUSALS_2, REFUSALS_3];
+    replay(&rt, rt.alloc(), &rows)
 }
 
 #[test]
 fn withdraw_refused(rt: HostRuntime) -> Result<(), Fail> {
-    prints(
-        &rt,
-        rt.alloc(),
-        "rmelab replay",
-        WITHDRAW_REFUSED_1.0,
-        WITHDRAW_REFUSED_1.1,
-        WITHDRAW_REFUSED_1.2,
-        2,
-    )?;
-    prints(
-        &rt,
-        rt.alloc(),
-        "rmelab replay",
-        WITHDRAW_REFUSED_2.0,
-        WITHDRAW_REFUSED_2.1,
-        WITHDRAW_REFUSED_2.2,
-        2,
-    )?;
-    prints(
-        &rt,
-        rt.alloc(),
-        "rmelab replay",
-        WITHDRAW_REFUSED_3.0,
-        WITHDRAW_REFUSED_3.1,
-        WITHDRAW_REFUSED_3.2,
-        2,
-    )?;
-    Ok(())
+    let rows = [WITHDRAW_REFUSED_1, WITHDRAW_REFUSED_2, WITHDRAW_REFUSED_3];
+    replay(&rt, rt.alloc(), &rows)
 }
 
 #[test]
 fn torn_after_the_commit(rt: HostRuntime) -> Result<(), Fail> {
-    prints(
-        &rt,
-        rt.alloc(),
-        "rmelab replay",
-        TORN_AFTER_THE_COMMIT_1.0,
-        TORN_AFTER_THE_COMMIT_1.1,
-        TORN_AFTER_THE_COMMIT_1.2,
-        0,
-    )?;
-    Ok(())
+    replay(&rt, rt.alloc(), &[TORN_AFTER_THE_COMMIT_1])
 }
 
 #[test]
 fn wide_torn(rt: HostRuntime) -> Result<(), Fail> {
-    prints(
-        &rt,
-        rt.alloc(),
-        "rmelab replay",
-        WIDE_TORN_1.0,
-        WIDE_TORN_1.1,
-        WIDE_TORN_1.2,
-        0,
-    )?;
-    prints(
-        &rt,
-        rt.alloc(),
-        "rmelab replay",
-        WIDE_TORN_2.0,
-        WIDE_TORN_2.1,
-        WIDE_TORN_2.2,
-        0,
-    )?;
-    Ok(())
+    let rows = [WIDE_TORN_1, WIDE_TORN_2];
+    replay(&rt, rt.alloc(), &rows)
 }
 
 #[test]
 fn hostile_text(rt: HostRuntime) -> Result<(), Fail> {
-    prints(
-        &rt,
-        rt.alloc(),
-        "rmelab replay",
-        HOSTILE_TEXT_1.0,
-        HOSTILE_TEXT_1.1,
-        HOSTILE_TEXT_1.2,
-        2,
-    )?;
-    Ok(())
+    replay(&rt, rt.alloc(), &[HOSTILE_TEXT_1])
 }

@@ -1,0 +1,18 @@
+use Rattle.std.proofs.Common.{is_some, subst, sym}
+use Rattle.schedule.specs.Plays.{tape}
+use Rattle.schedule.specs.Wholes.{reading}
+use Rattle.laboratory.specs.Commands.{CommandEnds}
+use Rattle.laboratory.proofs.command.ended.Goals as goal
+
+-- a replay ends as `replay_order` says
+pub returns-in-Replay-clause-ends : goal.returns-in-Replay-clause-ends
+returns-in-Replay-clause-ends g c =
+    subst
+    (λ command. CommandEnds command (is_some c.args.image)
+    (reading (g.R.Source.given c.args.r.now) (g.R.Source.ended c.args.r.now) (g.R.Source.failures c.args.r.now))
+    (reading (g.R.Source.given c.replay_order.new.r) (g.R.Source.ended c.replay_order.new.r) (g.R.Source.failures c.replay_order.new.r))
+    (tape (g.W.Sink.taken c.args.w.now) (g.W.Sink.failures c.args.w.now))
+    (tape (g.W.Sink.taken c.replay_order.new.w) (g.W.Sink.failures c.replay_order.new.w))
+    c.replay_order.result)
+    (sym c.in-Replay.is)
+    c.replay_order.ensures.ends

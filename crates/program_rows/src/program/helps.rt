@@ -1,0 +1,163 @@
+//! What `clap` prints: the help of the program and of each command, and what is wrong with words.
+
+use super::invocation::{all_come_to, invoked};
+use std::test::Fail;
+
+const HELP: &str = "A laboratory of recoverable first-come first-served locks
+
+Usage: rmelab <COMMAND>
+
+Commands:
+  replay  Runs a schedule of steps and crashes, and prints its report
+  run     Runs senders on threads, with drawn crashes, and counts what came through
+  hunt    Draws schedules until a variant of the lock goes wrong
+  judge   Judges a trace of deeds, and prints the verdict
+  help    Print this message or the help of the given subcommand(s)
+
+Options:
+  -h, --help  Print help
+
+Exit status: 0 fine, 1 a verdict against, a schedule found, or a message twice or out of order, 2 a fault of the input, 3 a fault of a device, of memory or of a member.
+";
+
+const REPLAY: &str = "Runs a schedule of steps and crashes, and prints its report
+
+Usage: rmelab replay [OPTIONS] [FILE]
+
+Arguments:
+  [FILE]  The schedule; without it, standard input is read
+
+Options:
+      --json          Print one JSON object of the report's lines
+      --variant <V>   right, no-look, no-ties, renumber, exit-on-crash, count-up or last-skipped
+      --image <FILE>  Begin with the words of this image, every process crashed
+      --save <FILE>   Write the last image to this file
+  -h, --help          Print help
+
+In: a schedule, as `rme 1 procs 2 limit 10 cap 1`, then lines such as `lock 0`, `step 0 5`, `crash 0`, each ended by a line feed.
+Out: its report: the deeds and answers of each step, the last words, the mailbox and the verdict.
+Exit status: 0 where the verdict is fine, 1 where it is against, 2 after a fault of the words, the schedule or the image, 3 after one of a device or of memory.
+
+Example: rmelab replay examples/tie.rme
+";
+
+const RUN: &str = "Runs senders on threads, with drawn crashes, and counts what came through
+
+Usage: rmelab run [OPTIONS] --procs <N> --messages <M> --crash <C> --seed <S>
+
+Options:
+      --procs <N>     1 to 16 senders
+      --messages <M>  1 to 4096 messages of each
+      --crash <C>     0 to 50 crashes in 1000 askings
+      --seed <S>      The seed of the crashes
+      --width <W>     1 to 8 words a message; 1 without it
+  -h, --help          Print help
+
+In: nothing. Each sender sends its messages through one running lock, on a thread of its own, and sends a message again after each crash.
+Out: what stands in the mailbox of each sender, as `sender 0 messages 50 twice 0 order yes`, and the total.
+Exit status: 0 where each message stands once and in its order, 1 where not, 2 after a fault of the words, 3 after one of a device, of memory or of a sender.
+
+Example: rmelab run --procs 4 --messages 50 --crash 20 --seed 7
+";
+
+const HUNT: &str = "Draws schedules until a variant of the lock goes wrong
+
+Usage: rmelab hunt --variant <V> --seed <S> --rounds <R> --steps <K>
+
+Options:
+      --variant <V>  right, no-look, no-ties, renumber, exit-on-crash, count-up or last-skipped
+      --seed <S>     The seed of the moves
+      --rounds <R>   1 to 10000 rounds
+      --steps <K>    1 to 10000 moves a round
+  -h, --help         Print help
+
+In: nothing.
+Out: the schedule found, which `rmelab replay --variant V` replays to its fault, or `nothing found`.
+Exit status: 0 where nothing was found, 1 where a schedule was, 2 after a fault of the words, 3 after one of a device or of memory.
+
+Example: rmelab hunt --variant no-look --seed 1 --rounds 10000 --steps 1000
+";
+
+const JUDGE: &str = "Judges a trace of deeds, and prints the verdict
+
+Usage: rmelab judge [FILE]
+
+Arguments:
+  [FILE]  The trace; without it, standard input is read
+
+Options:
+  -h, --help  Print help
+
+In: a trace, as `trace 1 procs 2 cap 1`, then deeds such as `begin 0`, `ready 0`, `enter 0`.
+Out: the verdict line.
+Exit status: 0 where the verdict is fine, 1 where it is against, 2 after a fault of the words or the trace, 3 after one of a device or of memory.
+
+Example: rmelab judge examples/overtaken.trace
+";
+
+const SEEDLESS_RUN: &str = "error: the following required arguments were not provided:
+  --seed <S>
+
+Usage: rmelab run --procs <N> --messages <M> --crash <C> --seed <S>
+
+For more information, try '--help'.
+";
+
+const SEEDLESS_HUNT: &str = "error: the following required arguments were not provided:
+  --seed <S>
+
+Usage: rmelab hunt --variant <V> --seed <S> --rounds <R> --steps <K>
+
+For more information, try '--help'.
+";
+
+const NO_COMMAND: &str = "error: 'rmelab' requires a subcommand but one was not provided
+  [subcommands: replay, run, hunt, judge, help]
+
+Usage: rmelab <COMMAND>
+
+For more information, try '--help'.
+";
+
+const NO_NUMBER: &str = "error: invalid value 'x' for '--rounds <R>': invalid digit found in string
+
+For more information, try '--help'.
+";
+
+const TWO_FILES: &str = "error: unexpected argument 'b' found
+
+Usage: rmelab replay [OPTIONS] [FILE]
+
+For more information, try '--help'.
+";
+
+#[test]
+fn helps(rt: HostRuntime) -> Result<(), Fail> {
+    let rows = [
+        invoked("rmelab --help", "", HELP),
+        invoked("rmelab replay --help", "", REPLAY),
+        invoked("rmelab run --help", "", RUN),
+        invoked("rmelab hunt --help", "", HUNT),
+        invoked("rmelab judge --help", "", JUDGE),
+        invoked("rmelab help", "", HELP),
+        invoked("rmelab help judge", "", JUDGE),
+    ];
+    all_come_to(&rt, rt.alloc(), &rows)
+}
+
+#[test]
+fn wrong_words(rt: HostRuntime) -> Result<(), Fail> {
+    let rows = [
+        invoked("rmelab run --procs 1 --messages 1 --crash 0", "", "").ends(2, SEEDLESS_RUN),
+        invoked("rmelab hunt --variant right --rounds 1 --steps 1", "", "").ends(2, SEEDLESS_HUNT),
+        invoked("rmelab replay a b", "", "").ends(2, TWO_FILES),
+        invoked("rmelab", "", "").ends(2, NO_COMMAND),
+        invoked(
+            "rmelab hunt --variant right --seed 1 --rounds x --steps 1",
+            "",
+            "",
+        )
+        .ends(2, NO_NUMBER),
+    ];
+    all_come_to(&rt, rt.alloc(), &rows)
+}

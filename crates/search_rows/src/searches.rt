@@ -1,7 +1,7 @@
 //! Searches of the jugs.
 
 use crate::jugs::{Jugs, Pour};
-use explore::{Found, SearchFault, search};
+use explore::{Found, SearchFault, Unwatched, search};
 use std::alloc::Global;
 use std::test::Fail;
 
@@ -17,7 +17,7 @@ fn pour_until(
         big: 0,
         wanted,
     };
-    search(alloc, start, most_moves, most_states)
+    search(alloc, start, most_moves, most_states, &mut Unwatched)
 }
 
 #[test]
@@ -43,7 +43,7 @@ fn five_moves_are_too_few_for_four_litres(rt: HostRuntime) -> Result<(), Fail> {
 
 #[test]
 fn seven_litres_are_nowhere_among_sixteen_states(rt: HostRuntime) -> Result<(), Fail> {
-    assert_eq!(rt; pour_until(rt.alloc(), 7, 100, 16), Ok(Found::Nowhere));
+    assert_eq!(rt; pour_until(rt.alloc(), 7, 100, 16), Ok(Found::Nowhere(16)));
     assert_eq!(rt;
         pour_until(rt.alloc(), 7, 100, 15),
         Err(SearchFault::TooManyStates)

@@ -1,0 +1,83 @@
+-- A step of the lock's part, in the numbers of C.
+use Rattle.std.proofs.Common.{◌≡◌, ℕ, Bool, true, false, nat_lt, if◌then◌else◌, List, [], ◌∷◌, Option, Some, None, IfSome, is_none, refl, sym, inl, inr}
+use Rattle.std.proofs.lemmas.Bool.{cases_Bool}
+use Rattle.rmecore.specs.Place.{Place, Rest, Dead, Reread, Opening, Door, Shutting, Wait, Inside, Leaving, Withdrawing, Unmarking, above}
+use Rattle.rmecore.specs.Machine.{first, place_of, access, word_of, InLock}
+use Rattle.rmecore.specs.Refused.{is_idle}
+use Rattle.rmecore.specs.declared.access.Access.{Access}
+use Rattle.rmecore.specs.declared.stage.Stage.{Stage}
+use Rattle.rmecore.specs.declared.stage.Stage.TheVariants.{Rest as AtRest, Dead as AtDead, ReadingChoosing, ReadingNumber, ReadingInside, Opening as AtOpening, Door as AtDoor, Shutting as AtShutting, Wait as AtWait, Inside as AtInside, Leaving as AtLeaving, Withdrawing as AtWithdrawing, Unmarking as AtUnmarking}
+use Rattle.rmecore.specs.declared.word.Word.{Word}
+use Rattle.rmecore.specs.declared.word.Word.TheVariants.{Choosing, Number, Inside as InsideOf, Data}
+use Rattle.redomail.specs.declared.layout.Layout.{Layout}
+use Rattle.redomail.specs.declared.task.Task.TheVariants.{Check}
+use Rattle.redomail.specs.Left.{begun}
+use Rattle.rmeworld.specs.declared.errand.Errand.TheVariants.{Free as IsFree, Doing as Does}
+use Rattle.rmeworld.specs.declared.why.Why.TheVariants.{Checking}
+use Rattle.rmeworld.specs.Entered.{is_entry}
+use Rattle.rmeworld.specs.Stand.{InWords}
+use Rattle.rme_c.specs.declared.position.Position.TheVariants.{Lock}
+use Rattle.rme_c.specs.declared.process.RmeProcess.{RmeProcess}
+use Rattle.rme_c.specs.Positions.{landing, lock_at, errand_at, Fits}
+
+entered_inside : (s t : Place) → is_entry s t ≡ true → t ≡ Inside
+entered_inside s Inside e = refl
+entered_inside s Rest e = cc
+entered_inside s Dead e = cc
+entered_inside s (Reread call seen) e = cc
+entered_inside s Opening e = cc
+entered_inside s (Door unread m) e = cc
+entered_inside s (Shutting call k) e = cc
+entered_inside s (Wait k unpassed looked) e = cc
+entered_inside s Leaving e = cc
+entered_inside s Withdrawing e = cc
+entered_inside s (Unmarking call) e = cc
+
+pub lands : (n p : ℕ) (s t : Place) (to : Stage) (checks : Bool) → checks ≡ is_entry s t → place_of n p to ≡ t → lock_at n p (landing checks to) ≡ t
+lands n p s t to true e place = sym (entered_inside s t (sym e))
+lands n p s t to false e place = place
+
+pub has_errand : (l : Layout) (p : ℕ) (words : List ℕ) (s t : Place) (to : Stage) (checks : Bool) → checks ≡ is_entry s t
+    → errand_at l p words (landing checks to) ≡ (if is_entry s t then Does Checking (begun l p Check) else IsFree)
+has_errand l p words s t to true e = rw (← e) refl
+has_errand l p words s t to false e = rw (← e) refl
+
+in_words : (n : ℕ) (word : Word) → InLock n word → InWords n word
+in_words n (Choosing q) h = h
+in_words n (Number q) h = h
+in_words n (InsideOf q) h = h
+in_words n (Data i) h = tt
+
+pub words_of : (n : ℕ) (o : Option Access) → IfSome o (λ a. InLock n (word_of a)) → IfSome o (λ a. InWords n (word_of a))
+words_of n None h = tt
+words_of n (Some a) h = in_words n (word_of a) h
+
+door_wants : (limit p m : ℕ) (js : List ℕ) → is_none (access limit p (Door js m)) ≡ false
+door_wants limit p m [] = elim (cases_Bool (nat_lt m limit)) [ inl e ↦ rw e refl | inr e ↦ rw e refl ]
+door_wants limit p m (j ∷ js) = refl
+
+wait_wants : (limit p k : ℕ) (js : List ℕ) (looked : Bool) → is_none (access limit p (Wait k js (if looked then first js else None))) ≡ false
+wait_wants limit p k [] false = refl
+wait_wants limit p k [] true = refl
+wait_wants limit p k (j ∷ js) false = refl
+wait_wants limit p k (j ∷ js) true = refl
+
+-- no step comes next just where no call is under way
+pub idle_access : (limit n p : ℕ) (t : Stage) → is_idle (place_of n p t) ≡ is_none (access limit p (place_of n p t))
+idle_access limit n p AtRest = refl
+idle_access limit n p AtDead = refl
+idle_access limit n p (ReadingChoosing call) = refl
+idle_access limit n p (ReadingNumber call c) = refl
+idle_access limit n p (ReadingInside call c k) = refl
+idle_access limit n p AtOpening = refl
+idle_access limit n p (AtDoor i m) = sym (door_wants limit p m (above n p i))
+idle_access limit n p (AtShutting call k) = refl
+idle_access limit n p (AtWait k i looked) = sym (wait_wants limit p k (above n p i) looked)
+idle_access limit n p AtInside = refl
+idle_access limit n p AtLeaving = refl
+idle_access limit n p AtWithdrawing = refl
+idle_access limit n p (AtUnmarking call) = refl
+
+pub lands_well : (p : RmeProcess) (n : ℕ) (from to : Stage) (checks : Bool) → Fits p (Lock from) → Fits (record p { unmended = n }) (landing checks to)
+lands_well p n from to true h = (h.0, (h.1, tt))
+lands_well p n from to false h = h

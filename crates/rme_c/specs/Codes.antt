@@ -1,0 +1,90 @@
+-- The numbers that stand for accesses, answers and refusals on the side of C.
+use Rattle.std.specs.Prelude.{ℕ, ◌+◌, ◌*◌, Bool, Option, Some, None, true, false, unwrap_or}
+use Rattle.rmecore.specs.declared.access.Access.{Access}
+use Rattle.rmecore.specs.declared.access.Access.TheVariants.{Load, Store}
+use Rattle.rmecore.specs.declared.word.Word.{Word}
+use Rattle.rmecore.specs.declared.word.Word.TheVariants as word
+use Rattle.rmecore.specs.declared.found.Found.{Found}
+use Rattle.rmecore.specs.declared.found.Found.TheVariants as found
+use Rattle.rmecore.specs.declared.refusal.Refusal.{Refusal}
+use Rattle.rmecore.specs.Refused.{number_of}
+use Rattle.redomail.specs.declared.reply.Reply.{Reply}
+use Rattle.redomail.specs.declared.reply.Reply.TheVariants as reply
+use Rattle.redomail.specs.Layout.{held}
+use Rattle.rmeworld.specs.declared.answer.Answer.{Answer}
+use Rattle.rmeworld.specs.declared.answer.Answer.TheVariants as answer
+use Rattle.rmeworld.specs.declared.outcome.Outcome.{Outcome}
+use Rattle.rmeworld.specs.Stand.{Stand, next_access, outcome}
+use Rattle.rme_c.specs.declared.process.RmeAccess.{RmeAccess}
+
+-- where a word stands in the block of n processes: three lock words each, then the data words
+abbrev pub place : ℕ → Word → ℕ
+place n (word.Choosing p) = 3 * p
+place n (word.Number p) = 3 * p + 1
+place n (word.Inside p) = 3 * p + 2
+place n (word.Data i) = held (3 * n + i)
+
+-- a load, or a store of a value
+abbrev pub wanted : ℕ → Access → RmeAccess
+wanted n (Load kind word) = record { store = 0; place = place n word; value = 0 }
+wanted n (Store kind word v) = record { store = 1; place = place n word; value = v }
+
+abbrev pub found_code : Found → ℕ
+found_code found.Idle = 23
+found_code found.Left = 24
+found_code found.Doorway = 25
+found_code found.Waiting = 26
+found_code found.Inside = 27
+
+abbrev pub reply_code : Reply → ℕ
+reply_code reply.Stored = 28
+reply_code reply.Already = 29
+reply_code reply.OutOfOrder = 30
+reply_code reply.Full = 31
+reply_code reply.Closed = 32
+reply_code reply.ClosedNow = 33
+reply_code reply.AlreadyClosed = 34
+reply_code (reply.Mended true) = 35
+reply_code (reply.Mended false) = 36
+reply_code (reply.Word v) = 37
+reply_code reply.Done = 38
+reply_code (reply.Ruined b) = 39
+
+abbrev pub answer_code : Answer → ℕ
+answer_code answer.Clean = 17
+answer_code answer.OwnerDied = 18
+answer_code answer.NumbersSpent = 19
+answer_code answer.NotRecoverable = 20
+answer_code answer.Unlocked = 21
+answer_code answer.Withdrawn = 22
+answer_code (answer.Found f) = found_code f
+answer_code (answer.Mail r) = reply_code r
+
+-- the board word that is answered
+abbrev pub answer_word : Answer → ℕ
+answer_word (answer.Mail (reply.Word v)) = v
+answer_word _ = 0
+
+-- 0 where nothing is refused, else the number of the refusal. Want of memory has 16
+abbrev pub refusal_code : Option Refusal → ℕ
+refusal_code None = 0
+refusal_code (Some r) = unwrap_or (number_of r) 16
+
+-- what a step was: an answer, 16 where it was blocked, 0 where its call goes on, and 7 where there was no step
+abbrev pub told_as : Option Answer → Bool → ℕ
+told_as (Some a) blocked = answer_code a
+told_as None true = 16
+told_as None false = 0
+
+abbrev pub told_by : Option Access → Outcome → ℕ
+told_by None o = 7
+told_by (Some a) o = told_as o.answer o.progress.blocked
+
+abbrev pub told : Stand → ℕ → ℕ
+told s v = told_by (next_access s) (outcome s (next_access s) v)
+
+-- what is shown behind a step: the next access, or the board word that is answered
+abbrev pub shown : ℕ → Option Answer → Option Access → RmeAccess
+shown n (Some a) next = record { store = 0; place = 0; value = answer_word a }
+shown n None (Some a) = wanted n a
+shown n None None = record { store = 0; place = 0; value = 0 }

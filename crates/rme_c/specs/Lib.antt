@@ -1,0 +1,5 @@
+pub mod Chores
+pub mod Codes
+pub mod Positions
+pub mod Starts
+pub mod Steps

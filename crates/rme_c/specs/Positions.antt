@@ -1,0 +1,141 @@
+-- What the numbers of a process in C stand for.
+use Rattle.std.specs.Prelude.{ℕ, ◌+◌, ◌*◌, ◌<◌, ◌≤◌, Bool, true, false, not, ◌&&◌, ◌==◌, nat_lt, nat_le, if◌then◌else◌, List, Option, Some, None}
+use Rattle.rmecore.specs.declared.core_call.CoreCall.{CoreCall}
+use Rattle.rmecore.specs.declared.core_call.CoreCall.TheVariants.{Lock, Recover, Unlock, Withdraw}
+use Rattle.rmecore.specs.declared.stage.Stage.{Stage}
+use Rattle.rmecore.specs.declared.stage.Stage.TheVariants as stage
+use Rattle.rmecore.specs.Machine.{place_of}
+use Rattle.rmecore.specs.Place.{Place, Dead, Inside}
+use Rattle.redomail.specs.declared.layout.Layout.{Layout}
+use Rattle.rmeworld.specs.declared.errand.Errand.{Errand}
+use Rattle.rmeworld.specs.declared.errand.Errand.TheVariants as errand
+use Rattle.rmeworld.specs.Stand.{Stand}
+use Rattle.rme_c.specs.declared.chore.Chore.{Chore}
+use Rattle.rme_c.specs.declared.chore.Chore.TheVariants as chore
+use Rattle.rme_c.specs.declared.position.Position.{Position}
+use Rattle.rme_c.specs.declared.position.Position.TheVariants as position
+use Rattle.rme_c.specs.declared.process.RmePosition.{RmePosition}
+use Rattle.rme_c.specs.declared.process.RmeProcess.{RmeProcess}
+use Rattle.rme_c.specs.Chores.{FitsChore, errand_of}
+
+-- the call of the lock's part
+abbrev pub call_of : ℕ → CoreCall
+call_of n = if n == 0 then Lock else if n == 1 then Recover else if n == 2 then Unlock else Withdraw
+
+-- the stage of the lock's part
+abbrev pub stage_of : RmePosition → Option Stage
+stage_of q =
+    if q.at == 0 then Some stage.Rest
+    else if q.at == 1 then Some stage.Dead
+    else if q.at == 2 then Some (stage.ReadingChoosing (call_of q.third))
+    else if q.at == 3 then Some (stage.ReadingNumber (call_of q.third) q.second)
+    else if q.at == 4 then Some (stage.ReadingInside (call_of q.third) q.second q.first)
+    else if q.at == 5 then Some stage.Opening
+    else if q.at == 6 then Some (stage.Door q.third q.first)
+    else if q.at == 7 then Some (stage.Shutting (call_of q.third) q.first)
+    else if q.at == 8 then Some (stage.Wait q.first q.third false)
+    else if q.at == 9 then Some (stage.Wait q.first q.third true)
+    else if q.at == 10 then Some stage.Inside
+    else if q.at == 11 then Some stage.Leaving
+    else if q.at == 12 then Some stage.Withdrawing
+    else if q.at == 13 then Some (stage.Unmarking (call_of q.third))
+    else None
+
+-- the sizes that the mailbox is held to
+abbrev pub is_layout : Layout → Bool
+is_layout l = nat_le l.procs 64 && (nat_le l.cap 65536 && (nat_le 1 l.width && nat_le l.width 8))
+
+-- a chore that needs no sizes
+abbrev pub short_chore : RmePosition → Option Chore
+short_chore q =
+    if q.at == 16 then Some chore.Checking
+    else if q.at == 17 then Some chore.Ruining
+    else if q.at == 18 then Some chore.Closing
+    else if q.at == 19 then Some chore.Close
+    else None
+
+-- a chore that mends
+abbrev pub mending_chore : Layout → RmePosition → Option Chore
+mending_chore l q =
+    if q.at == 20 then Some chore.Asking
+    else if q.at == 21 then Some chore.Armed
+    else if q.at == 22 then Some chore.At
+    else if q.at == 23 then Some (chore.Seq q.first)
+    else if q.at == 24 then (if nat_lt q.third l.width then Some (chore.Value q.first q.second q.third) else None)
+    else if q.at == 25 then (if nat_lt q.third (8 + 2 * l.width) then Some (chore.Redo q.first q.second q.third) else None)
+    else None
+
+-- a chore of an append or of the board
+abbrev pub working_chore : Layout → RmePosition → Option Chore
+working_chore l q =
+    if q.at == 26 then Some (chore.Closed q.second)
+    else if q.at == 27 then Some (chore.Count q.second q.third)
+    else if q.at == 28 then Some (chore.Last q.second q.third q.first)
+    else if q.at == 29 then (if nat_lt q.third (8 + 2 * l.width) then Some (chore.Store q.first q.second q.third) else None)
+    else if q.at == 30 then (if nat_lt q.first 4 then Some (chore.Getting q.first) else None)
+    else if q.at == 31 then (if nat_lt q.first 4 then Some (chore.Putting q.first q.second) else None)
+    else None
+
+abbrev pub first_of : Option Chore → Option Chore → Option Chore
+first_of None c = c
+first_of (Some c) _ = Some c
+
+abbrev pub chore_of : Layout → RmePosition → Option Chore
+chore_of l q = first_of (short_chore q) (if is_layout l then first_of (mending_chore l q) (working_chore l q) else None)
+
+abbrev pub by_parts : Option Stage → Option Chore → Position
+by_parts (Some t) c = position.Lock t
+by_parts None (Some c) = position.Within c
+by_parts None None = position.Lost
+
+abbrev pub layout_of : RmeProcess → Layout
+layout_of p = record { procs = p.procs; cap = p.cap; width = p.width }
+
+-- the process is one of its world's
+abbrev pub is_placed : RmeProcess → Bool
+is_placed p = nat_lt p.index p.procs && nat_le p.procs 64
+
+-- where it stands
+abbrev pub position_of : RmeProcess → Position
+position_of p = if is_placed p then by_parts (stage_of p.position) (chore_of (layout_of p) p.position) else position.Lost
+
+-- what a position needs of the sizes of the mailbox
+abbrev pub FitsAt : Layout → Position → Type 0
+FitsAt l (position.Within c) = FitsChore l c
+FitsAt l _ = Unit {0}
+
+abbrev pub Fits : RmeProcess → Position → Type 0
+Fits p position.Lost = Unit {0}
+Fits p (position.Lock t) = (p.index < p.procs) × (p.procs ≤ 64)
+Fits p (position.Within c) = (p.index < p.procs) × ((p.procs ≤ 64) × FitsChore (layout_of p) c)
+
+-- where a step of the lock's part leads: behind an entry by a lock the ruin check comes next
+abbrev pub landing : Bool → Stage → Position
+landing true t = position.Within chore.Checking
+landing false t = position.Lock t
+
+abbrev pub lock_at : ℕ → ℕ → Position → Place
+lock_at n p position.Lost = Dead
+lock_at n p (position.Lock t) = place_of n p t
+lock_at n p (position.Within c) = Inside
+
+abbrev pub errand_at : Layout → ℕ → List ℕ → Position → Errand
+errand_at l p words (position.Within c) = errand_of l p words c
+errand_at l p words _ = errand.Free
+
+-- the process of a world that these numbers are, at this position
+abbrev pub stand_at : RmeProcess → Position → Stand
+stand_at p x =
+    record {
+      layout = layout_of p;
+      limit = p.limit;
+      index = p.index;
+      lock = lock_at p.procs p.index x;
+      mended = p.unmended == 0;
+      barred = not (p.barred == 0);
+      errand = errand_at (layout_of p) p.index p.value x;
+    }
+
+-- the process of a world that these numbers are
+abbrev pub stand_of : RmeProcess → Stand
+stand_of p = stand_at p (position_of p)

@@ -1,0 +1,167 @@
+//! The numbers of accesses, answers and refusals.
+
+ghost use Rattle.std.specs.Prelude.{◌≡◌, ◌≤◌, IfSome};
+ghost use Rattle.rmecore.specs.Machine.{word_of};
+ghost use Rattle.rmeworld.specs.Stand.{InWords};
+ghost use Rattle.rme_c.specs.Codes.{place as place_at, wanted as wanted_by, found_code as code_of_found, reply_code as code_of_reply, answer_code as code_of_answer, answer_word as word_of_answer, refusal_code as code_of_refusal, told_as, shown as shown_by};
+
+use crate::process::RmeAccess;
+use redomail::Reply;
+use rmecore::{Access, Found, Refusal, Word};
+use rmeworld::Answer;
+
+/// What `store` says of a load and of a store.
+const LOAD: u64 = 0;
+
+const STORE: u64 = 1;
+
+/// What a step was for its call.
+#[derive(Clone, Copy)]
+pub struct Told {
+    pub answer: Option<Answer>,
+    /// A look or a weigh after which the process stands where it stood.
+    pub blocked: bool,
+}
+
+/// A step after which the call goes on.
+pub const GOES_ON: Told = Told {
+    answer: None,
+    blocked: false,
+};
+
+/// Where a word stands in the block. What lies far beyond it stands at the greatest number.
+#[inline(always)]
+fn place(procs: u64, word: Word) -> u64
+    requires procs { procs ≤ 64 }
+    requires word { InWords procs word }
+    ensures { result ≡ place_at procs word }
+{
+    match word {
+        Word::Choosing(p) => 3 * p,
+        Word::Number(p) => 3 * p + 1,
+        Word::Inside(p) => 3 * p + 2,
+        Word::Data(i) => i.saturating_add(3 * procs),
+    }
+}
+
+/// A load or store as C takes it.
+#[inline(always)]
+pub fn wanted(procs: u64, access: Access) -> RmeAccess
+    requires procs { procs ≤ 64 }
+    requires word { InWords procs (word_of access) }
+    ensures { result ≡ wanted_by procs access }
+{
+    match access {
+        Access::Load(_, word) => RmeAccess {
+            store: LOAD,
+            place: place(procs, word),
+            value: 0,
+        },
+        Access::Store(_, word, value) => RmeAccess {
+            store: STORE,
+            place: place(procs, word),
+            value,
+        },
+    }
+}
+
+fn found_code(found: Found) -> u64
+    ensures { result ≡ code_of_found found }
+{
+    match found {
+        Found::Idle => 23,
+        Found::Left => 24,
+        Found::Doorway => 25,
+        Found::Waiting => 26,
+        Found::Inside => 27,
+    }
+}
+
+fn reply_code(reply: Reply) -> u64
+    ensures { result ≡ code_of_reply reply }
+{
+    match reply {
+        Reply::Stored => 28,
+        Reply::Already => 29,
+        Reply::OutOfOrder => 30,
+        Reply::Full => 31,
+        Reply::Closed => 32,
+        Reply::ClosedNow => 33,
+        Reply::AlreadyClosed => 34,
+        Reply::Mended(true) => 35,
+        Reply::Mended(false) => 36,
+        Reply::Word(_) => 37,
+        Reply::Done => 38,
+        Reply::Ruined(_) => 39,
+    }
+}
+
+/// The number of an answer.
+fn answer_code(answer: Answer) -> u64
+    ensures { result ≡ code_of_answer answer }
+{
+    match answer {
+        Answer::Clean => 17,
+        Answer::OwnerDied => 18,
+        Answer::NumbersSpent => 19,
+        Answer::NotRecoverable => 20,
+        Answer::Unlocked => 21,
+        Answer::Withdrawn => 22,
+        Answer::Found(found) => found_code(found),
+        Answer::Mail(reply) => reply_code(reply),
+    }
+}
+
+/// The board word that is answered.
+fn answer_word(answer: Answer) -> u64
+    ensures { result ≡ word_of_answer answer }
+{
+    match answer {
+        Answer::Mail(Reply::Word(v)) => v,
+        _ => 0,
+    }
+}
+
+/// What a step was, as a number.
+#[inline(always)]
+pub fn code(told: Told) -> u64
+    ensures { result ≡ told_as told.answer told.blocked }
+{
+    match told.answer {
+        Some(answer) => answer_code(answer),
+        None if told.blocked => 16,
+        None => 0,
+    }
+}
+
+/// What is shown behind a step.
+#[inline(always)]
+pub fn shown(procs: u64, answer: Option<Answer>, next: Option<Access>) -> RmeAccess
+    requires procs { procs ≤ 64 }
+    requires word { IfSome next (λ a. InWords procs (word_of a)) }
+    ensures { result ≡ shown_by procs answer next }
+{
+    match (answer, next) {
+        (Some(answer), _) => RmeAccess {
+            store: 0,
+            place: 0,
+            value: answer_word(answer),
+        },
+        (None, Some(access)) => wanted(procs, access),
+        (None, None) => RmeAccess {
+            store: 0,
+            place: 0,
+            value: 0,
+        },
+    }
+}
+
+/// The number of a refusal.
+pub fn refusal_code(refusal: Option<Refusal>) -> u64
+    ensures { result ≡ code_of_refusal refusal }
+{
+    match refusal {
+        Some(refusal) => refusal.number().unwrap_or(16),
+        None => 0,
+    }
+}

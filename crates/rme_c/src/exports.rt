@@ -1,0 +1,180 @@
+//! What C calls.
+
+ghost use Rattle.std.specs.Prelude.{◌≡◌, ◌≢◌, ◌+◌, ◌*◌, ◌<◌, ◌≤◌, ◌↔◌, IfSome, None, is_none, if◌then◌else◌, length};
+ghost use Rattle.rmecore.specs.Machine.{word_of};
+ghost use Rattle.redomail.specs.Layout.{held, size};
+ghost use Rattle.rmeworld.specs.Stand.{resting, crashed, started, stepped, next_access, outcome, InWords};
+ghost use Rattle.rme_c.specs.Codes.{refusal_code as code_of_refusal, told as told_of, wanted as wanted_of, shown as shown_of};
+ghost use Rattle.rme_c.specs.Positions.{stand_at, stand_of, Fits};
+ghost use Rattle.rme_c.specs.Starts.{size_cause, call_by, start_cause};
+ghost use Rattle.rme_c.specs.Steps.{IsStep};
+
+use crate::answers::{GOES_ON, Told, code, refusal_code, shown, wanted};
+use crate::lock_part::{lock_next, lock_step};
+use crate::position::{Position, is_idle, position_now, stand};
+use crate::process::{RmeAccess, RmeCall, RmePosition, RmeProcess};
+use crate::starts::{size_refusal, start};
+use crate::steps::{chore_next, chore_step};
+use redomail::Layout;
+use rmecore::Access;
+
+/// How many words the shared block of a world has: three lock words a process, then the data words. 0 for sizes of no
+/// world.
+#[tactic(auto, unfolding(redomail::specs::Layout::place_at))]
+#[unsafe(no_mangle)]
+pub extern "C" fn rme_words(procs: u64, cap: u64, width: u64) -> u64
+    ensures some { 0 < result → result ≡ 3 * procs + size (record { procs = procs; cap = cap; width = width }) }
+    ensures sized { size_cause (record { procs = procs; cap = cap; width = width }) 1 0 ≡ None ↔ (0 < result) }
+{
+    match size_refusal(Layout { procs, cap, width }, 1, 0) {
+        Some(_) => 0,
+        None => 3 * procs + 10 + width + procs + (2 + width) * cap,
+    }
+}
+
+/// A process at rest, or the number of the refusal where its world's sizes are none's. Nothing changes then.
+#[unsafe(no_mangle)]
+pub extern "C" fn rme_init(
+    p: &mut RmeProcess,
+    procs: u64,
+    cap: u64,
+    width: u64,
+    limit: u64,
+    index: u64,
+) -> u64
+    ensures status { result ≡ code_of_refusal (size_cause (record { procs = procs; cap = cap; width = width }) limit index) }
+    ensures made { result ≡ 0 → stand_of p.new ≡ resting (record { procs = procs; cap = cap; width = width }) limit index }
+    ensures steps { result ≡ 0 → p.new.steps ≡ 0 }
+    ensures refused { result ≢ 0 → p.new ≡ p.old }
+{
+    let layout = Layout { procs, cap, width };
+    let refused = size_refusal(layout, limit, index);
+    if refused.is_none() {
+        *p = RmeProcess {
+            procs,
+            cap,
+            width,
+            limit,
+            index,
+            position: RmePosition {
+                at: 0,
+                first: 0,
+                second: 0,
+                third: 0,
+            },
+            unmended: 0,
+            barred: 0,
+            steps: 0,
+            value: [0; 8],
+        };
+    }
+    refusal_code(refused)
+}
+
+/// The private memory is lost.
+#[unsafe(no_mangle)]
+pub extern "C" fn rme_crash(p: &mut RmeProcess)
+    ensures { stand_of p.new ≡ crashed (stand_of p.old) }
+{
+    p.unmended = 0;
+    p.barred = 0;
+    p.position = RmePosition {
+        at: 1,
+        first: 0,
+        second: 0,
+        third: 0,
+    };
+}
+
+/// Starts a call, or answers the number of the refusal: of the sizes, of the call's code (13), of the start. Nothing changes
+/// then.
+#[unsafe(no_mangle)]
+pub extern "C" fn rme_start(p: &mut RmeProcess, call: &RmeCall) -> u64
+    ensures status { result ≡ code_of_refusal (start_cause (stand_of p.old) call.now) }
+    ensures started { result ≡ 0 → IfSome (call_by p.old.width call.now) (λ c. stand_of p.new ≡ started (stand_of p.old) c) }
+    ensures steps { result ≡ 0 → p.new.steps ≡ 0 }
+    ensures refused { result ≢ 0 → p.new ≡ p.old }
+{
+    refusal_code(start(p, call))
+}
+
+/// The step that comes next at a position.
+#[inline(always)]
+fn next_at(p: &RmeProcess, position: Position) -> Option<Access>
+    requires { Fits p.now position }
+    ensures next { result ≡ next_access (stand_at p.now position) }
+    ensures word { IfSome result (λ a. InWords p.now.procs (word_of a)) }
+    ensures placed { IfSome result (λ _. p.now.procs ≤ 64) }
+{
+    match position {
+        Position::Lost => None,
+        Position::Lock(stage) => lock_next(p, stage),
+        Position::Within(chore) => Some(chore_next(p, chore)),
+    }
+}
+
+/// Takes the step that comes next at a position.
+#[inline(always)]
+fn step_at(p: &mut RmeProcess, position: Position, value: u64) -> (Position, Told)
+    requires fits { Fits p.old position }
+    requires eight { length p.old.value ≡ 8 }
+    ensures step { IsStep p.old position value p.new result.0 result.1 }
+    ensures same { p.new ≡ record p.old { unmended = p.new.unmended; barred = p.new.barred; value = p.new.value } }
+{
+    match position {
+        Position::Lost => (position, GOES_ON),
+        Position::Lock(stage) => lock_step(p, stage, value),
+        Position::Within(chore) => chore_step(p, chore, value),
+    }
+}
+
+/// The load or store that comes next. It answers 7, and shows nothing, where no call is under way.
+#[unsafe(no_mangle)]
+pub extern "C" fn rme_next(p: &RmeProcess, next: &mut RmeAccess) -> u64
+    ensures status { result ≡ if is_none (next_access (stand_of p.now)) then 7 else 0 }
+    ensures access { IfSome (next_access (stand_of p.now)) (λ a. next.new ≡ wanted_of p.now.procs a) }
+    ensures idle { next_access (stand_of p.now) ≡ None → next.new ≡ next.old }
+{
+    match next_at(p, position_now(p)) {
+        Some(access) => {
+            *next = wanted(p.procs, access);
+            0
+        }
+        None => 7,
+    }
+}
+
+/// Takes the step that comes next, with the value that it read, and answers what it was: 0 where the call goes on, 16 where
+/// it was blocked, from 17 on the answer that ends the call, 7 where no call is under way. It shows the next access with it,
+/// or the board word that is answered.
+#[unsafe(no_mangle)]
+pub extern "C" fn rme_feed(p: &mut RmeProcess, value: u64, next: &mut RmeAccess) -> u64
+    ensures exact { stand_of p.new ≡ stepped (stand_of p.old) value }
+    ensures told { result ≡ told_of (stand_of p.old) value }
+    ensures next { next.new ≡ shown_of p.old.procs (outcome (stand_of p.old) (next_access (stand_of p.old)) value).answer (next_access (stand_of p.new)) }
+    ensures steps { p.new.steps ≡ if is_none (next_access (stand_of p.old)) then p.old.steps else held (p.old.steps + 1) }
+{
+    let _whole = *p;
+    let here = position_now(p);
+    if is_idle(p, here) {
+        *next = RmeAccess {
+            store: 0,
+            place: 0,
+            value: 0,
+        };
+        return 7;
+    }
+    let (to, told) = step_at(p, here, value);
+    stand(p, to);
+    p.steps = p.steps.saturating_add(1);
+    *next = shown(p.procs, told.answer, next_at(p, to));
+    code(told)
+}
+
+/// The own steps of the last call that was started, held at the greatest number.
+#[unsafe(no_mangle)]
+pub extern "C" fn rme_step_count(p: &RmeProcess) -> u64
+    ensures { result ≡ p.now.steps }
+{
+    p.steps
+}

@@ -1,0 +1,14 @@
+//! The machine of one process for C, as a static library: which shared word it loads or stores next, and what that was. C
+//! keeps the private memory of the process as plain numbers, and takes each step itself, as one sequentially consistent
+//! load or store. It takes no memory.
+#![tactic(auto)]
+
+mod answers;
+mod chore;
+mod exports;
+mod lock_part;
+mod position;
+mod process;
+mod record;
+mod starts;
+mod steps;

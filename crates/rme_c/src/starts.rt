@@ -1,0 +1,249 @@
+//! Sizes, and starts of calls.
+
+ghost use Rattle.std.specs.Prelude.{◌≡◌, ◌≤◌, ◌<◌, true, false, not, nat_lt, OnOk, OnErr, IfErr, IfSome, IsSome, Some, None, [], ◌∷◌, length, take};
+ghost use Rattle.redomail.specs.Layout.{IsLayout};
+ghost use Rattle.rmeworld.specs.Refused.{Needs, is_idle, is_inside, is_waiting, first_cause, start_refusal};
+ghost use Rattle.rmeworld.specs.Stand.{spot_of, started, IsSize};
+ghost use Rattle.rme_c.specs.Positions.{stand_at, stand_of, layout_of, Fits};
+ghost use Rattle.rme_c.specs.Starts.{size_cause, call_by, call_cause, start_cause};
+
+use crate::chore::Chore;
+use crate::position::{Position, layout, position_now, stand};
+use crate::process::{RmeCall, RmeProcess};
+use redomail::Layout;
+use rmecore::simulated::{MOST_LIMIT, MOST_PROCS};
+use rmecore::{Body, CoreCall, Refusal, Stage};
+use rmeworld::Call;
+
+/// Why there is no such process of such a world, if there is none.
+pub fn size_refusal(layout: Layout, limit: u64, index: u64) -> Option<Refusal>
+    ensures is { result ≡ size_cause layout limit index }
+    ensures sized { result ≡ None → IsSize layout × (index < layout.procs) }
+{
+    if layout.procs == 0 || layout.procs > MOST_PROCS {
+        return Some(Refusal::BadProcs);
+    }
+    if limit == 0 || limit > MOST_LIMIT {
+        return Some(Refusal::BadLimit);
+    }
+    if index >= layout.procs {
+        return Some(Refusal::NoSuchProcess);
+    }
+    if layout.cap == 0 || layout.cap > 65_536 {
+        return Some(Refusal::BadCap);
+    }
+    if layout.width == 0 || layout.width > 8 {
+        return Some(Refusal::BadWidth);
+    }
+    None
+}
+
+/// The call that C has written, if there is one with this code.
+pub fn call_of(width: u64, call: &RmeCall) -> Option<Call>
+    requires least { 1 ≤ width }
+    requires most { width ≤ 8 }
+    ensures { result ≡ call_by width call.now }
+{
+    match call.code {
+        1 => Some(Call::Lock),
+        2 => Some(Call::Unlock),
+        3 => Some(Call::Consistent),
+        4 => Some(Call::Recover),
+        5 => {
+            let value = Body::new(&call.value[..width as usize]).ok()?;
+            Some(Call::Append {
+                seq: call.number,
+                value,
+            })
+        }
+        6 => Some(Call::Close),
+        7 => Some(Call::Get(call.number)),
+        8 => Some(Call::Put(call.number, call.value[0])),
+        9 => Some(Call::Withdraw),
+        _ => None,
+    }
+}
+
+/// What the refusals of a start ask about a process.
+#[derive(Clone, Copy)]
+struct Seen {
+    idle: bool,
+    inside: bool,
+    waiting: bool,
+}
+
+fn look_at(p: &RmeProcess, position: Position) -> Seen
+    ensures idle { result.idle ≡ is_idle (spot_of (stand_at p.now position)) }
+    ensures inside { result.inside ≡ is_inside (stand_at p.now position).lock }
+    ensures waiting { result.waiting ≡ is_waiting (stand_at p.now position).lock }
+{
+    let _ = &p.index;
+    let (idle, inside, waiting) = match position {
+        Position::Lost | Position::Lock(Stage::Rest | Stage::Dead) => (true, false, false),
+        Position::Lock(Stage::Inside) => (true, true, false),
+        Position::Lock(Stage::Wait { .. }) => (false, false, true),
+        Position::Lock(_) => (false, false, false),
+        Position::Within(_) => (false, true, false),
+    };
+    Seen {
+        idle,
+        inside,
+        waiting,
+    }
+}
+
+/// Refuses, unless a process is inside with no call under way.
+fn holds(seen: Seen) -> Result<(), Refusal>
+    ensures accepted { OnOk result ((seen.idle ≡ true) × (seen.inside ≡ true)) }
+    ensures refused { IfErr result (λ e. (rest : Needs) → first_cause ((seen.idle, Refusal.CallUnderWay) ∷ (seen.inside, Refusal.NotOwner) ∷ rest) ≡ Some e) }
+{
+    if !seen.idle {
+        return Err(Refusal::CallUnderWay);
+    }
+    if !seen.inside {
+        return Err(Refusal::NotOwner);
+    }
+    Ok(())
+}
+
+/// Refuses, unless a process is not inside and no call is under way.
+fn may_come(seen: Seen) -> Result<(), Refusal>
+    ensures accepted { OnOk result ((seen.idle ≡ true) × (seen.inside ≡ false)) }
+    ensures refused { IfErr result (λ e. first_cause ((seen.idle, Refusal.CallUnderWay) ∷ (not seen.inside, Refusal.AlreadyIn) ∷ []) ≡ Some e) }
+{
+    if !seen.idle {
+        return Err(Refusal::CallUnderWay);
+    }
+    if seen.inside {
+        return Err(Refusal::AlreadyIn);
+    }
+    Ok(())
+}
+
+/// Refuses, unless something holds.
+fn only(holds: bool, refusal: Refusal) -> Result<(), Refusal>
+    ensures accepted { OnOk result (holds ≡ true) }
+    ensures refused { IfErr result (λ e. (holds ≡ false) × (e ≡ refusal)) }
+{
+    if holds { Ok(()) } else { Err(refusal) }
+}
+
+/// Refuses a call of the board that can't be started now.
+fn at_board(seen: Seen, i: u64) -> Result<(), Refusal>
+    ensures accepted { OnOk result (first_cause ((seen.idle, Refusal.CallUnderWay) ∷ (seen.inside, Refusal.NotOwner) ∷ (nat_lt i 4, Refusal.BadIndex) ∷ []) ≡ None) }
+    ensures refused { IfErr result (λ e. first_cause ((seen.idle, Refusal.CallUnderWay) ∷ (seen.inside, Refusal.NotOwner) ∷ (nat_lt i 4, Refusal.BadIndex) ∷ []) ≡ Some e) }
+{
+    if !seen.idle {
+        return Err(Refusal::CallUnderWay);
+    }
+    if !seen.inside {
+        return Err(Refusal::NotOwner);
+    }
+    only(i < 4, Refusal::BadIndex)
+}
+
+/// Refuses a call that can't be started now.
+fn check(p: &RmeProcess, position: Position, call: &Call) -> Result<(), Refusal>
+    ensures accepted { OnOk result (start_refusal (layout_of p.now) (spot_of (stand_at p.now position)) call.now ≡ None) }
+    ensures refused { IfErr result (λ e. start_refusal (layout_of p.now) (spot_of (stand_at p.now position)) call.now ≡ Some e) }
+{
+    let seen = look_at(p, position);
+    let mended = p.unmended == 0;
+    match *call {
+        Call::Withdraw => only(seen.waiting, Refusal::NotWaiting),
+        Call::Lock | Call::Recover => may_come(seen),
+        Call::Unlock => holds(seen),
+        Call::Consistent => {
+            holds(seen)?;
+            only(!mended, Refusal::NotInconsistent)
+        }
+        Call::Append { value, .. } => {
+            holds(seen)?;
+            only(mended, Refusal::Unmended)?;
+            only(value.width() == p.width, Refusal::BadWidth)
+        }
+        Call::Close => {
+            holds(seen)?;
+            only(mended, Refusal::Unmended)
+        }
+        Call::Get(i) => at_board(seen, i),
+        Call::Put(i, _) => at_board(seen, i),
+    }
+}
+
+/// The words of a value.
+fn words(value: Body) -> [u64; 8]
+    ensures { take (length value) result ≡ value }
+{
+    let mut all = [0; 8];
+    let width = value.width();
+    all[..width as usize].copy_from_slice(value.as_slice());
+    all
+}
+
+/// Takes up a call that may start.
+fn begin(p: &mut RmeProcess, position: Position, call: Call) -> Position
+    requires allowed { start_refusal (layout_of p.old) (spot_of (stand_at p.old position)) call ≡ None }
+    requires lawful { IsLayout (layout_of p.old) }
+    requires below { p.old.index < p.old.procs }
+    ensures exact { stand_at p.new result ≡ started (stand_at p.old position) call }
+    ensures fits { Fits p.new result }
+    ensures same { p.new ≡ record p.old { barred = p.new.barred; value = p.new.value } }
+{
+    p.barred = 0;
+    match call {
+        Call::Lock => Position::Lock(Stage::ReadingChoosing {
+            call: CoreCall::Lock,
+        }),
+        Call::Recover => Position::Lock(Stage::ReadingChoosing {
+            call: CoreCall::Recover,
+        }),
+        Call::Withdraw => Position::Lock(Stage::Withdrawing),
+        Call::Unlock if p.unmended == 0 => Position::Lock(Stage::Leaving),
+        Call::Unlock => Position::Within(Chore::Ruining),
+        Call::Consistent => Position::Within(Chore::Asking),
+        Call::Append { seq, value } => {
+            p.value = words(value);
+            Position::Within(Chore::Closed { seq })
+        }
+        Call::Close => Position::Within(Chore::Closing),
+        Call::Get(i) => Position::Within(Chore::Getting { i }),
+        Call::Put(i, v) => Position::Within(Chore::Putting { i, v }),
+    }
+}
+
+/// Starts a call whose numbers were read.
+fn start_read(p: &mut RmeProcess, call: Option<Call>) -> Result<(), Refusal>
+    requires sized { IsSize (layout_of p.old) }
+    requires below { p.old.index < p.old.procs }
+    ensures accepted { OnOk result (call_cause (stand_of p.old) call ≡ None) }
+    ensures refused { IfErr result (λ e. call_cause (stand_of p.old) call ≡ Some e) }
+    ensures started { OnOk result (IfSome call (λ c. stand_of p.new ≡ started (stand_of p.old) c)) }
+    ensures fresh { OnOk result (p.new.steps ≡ 0) }
+    ensures err { OnErr result (p.new ≡ p.old) }
+{
+    let Some(call) = call else {
+        return Err(Refusal::BadIndex);
+    };
+    let here = position_now(p);
+    check(p, here, &call)?;
+    let to = begin(p, here, call);
+    stand(p, to);
+    p.steps = 0;
+    Ok(())
+}
+
+/// Starts a call, or says why it is refused. A refused call changes nothing.
+pub fn start(p: &mut RmeProcess, call: &RmeCall) -> Option<Refusal>
+    ensures cause { result ≡ start_cause (stand_of p.old) call.now }
+    ensures started { result ≡ None → IfSome (call_by p.old.width call.now) (λ c. stand_of p.new ≡ started (stand_of p.old) c) }
+    ensures fresh { result ≡ None → p.new.steps ≡ 0 }
+    ensures refused { IsSome result → p.new ≡ p.old }
+{
+    let refused = size_refusal(layout(p), p.limit, p.index);
+    if refused.is_some() {
+        return refused;
+    }
+    let call = call_of(p.width, call);
+    start_read(p, call).err()
+}

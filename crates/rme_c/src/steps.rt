@@ -1,0 +1,267 @@
+//! A step of a chore.
+
+ghost use Rattle.std.specs.Prelude.{◌≡◌, Some, None, false, length};
+ghost use Rattle.rmecore.specs.Machine.{word_of};
+ghost use Rattle.rmecore.specs.declared.access.Access.TheVariants as AccessOf;
+ghost use Rattle.rmecore.specs.declared.kind.Kind.TheVariants as KindOf;
+ghost use Rattle.rmecore.specs.declared.stage.Stage.TheVariants as StageOf;
+ghost use Rattle.rmecore.specs.declared.word.Word.TheVariants as WordOf;
+ghost use Rattle.rmeworld.specs.declared.answer.Answer.TheVariants as AnswerOf;
+ghost use Rattle.rmeworld.specs.Stand.{next_access, InWords};
+ghost use Rattle.rme_c.specs.Positions.{stand_at, Fits};
+ghost use Rattle.rme_c.specs.Steps.{IsStep};
+ghost use Rattle.rme_c.specs.declared.position.Position.TheVariants as Position;
+ghost use Rattle.rme_c.specs.declared.chore.Chore.TheVariants as Chore;
+
+use crate::answers::Told;
+use crate::chore::Chore;
+use crate::position::{Position, layout};
+use crate::process::RmeProcess;
+use crate::record::put;
+use redomail::Reply;
+use redomail::layout::{ARMED, CLOSED, COUNT, RECORD, RUINED};
+use rmecore::{Access, Kind, Stage, Word};
+use rmeworld::Answer;
+
+/// A load of a data word.
+#[inline(always)]
+fn get(i: u64) -> Access
+    ensures { result ≡ AccessOf.Load KindOf.Get (WordOf.Data i) }
+{
+    Access::Load(Kind::Get, Word::Data(i))
+}
+
+/// The step of a chore that comes next.
+pub fn chore_next(p: &RmeProcess, chore: Chore) -> Access
+    requires { Fits p.now (Position.Within chore) }
+    ensures next { next_access (stand_at p.now (Position.Within chore)) ≡ Some result }
+    ensures word { InWords p.now.procs (word_of result) }
+{
+    match chore {
+        Chore::Asking | Chore::Checking => get(RUINED),
+        Chore::Ruining => Access::Store(Kind::Put, Word::Data(RUINED), 1),
+        Chore::Armed => get(ARMED),
+        Chore::At => get(RECORD),
+        Chore::Seq { .. } => get(RECORD + 1),
+        Chore::Value { read, .. } => get(RECORD + 2 + read),
+        Chore::Redo { at, seq, step } | Chore::Store { at, seq, step } => {
+            let (i, v) = put(layout(p), p.index, at, seq, &p.value, step);
+            Access::Store(Kind::Put, Word::Data(i), v)
+        }
+        Chore::Closed { .. } | Chore::Closing => get(CLOSED),
+        Chore::Count { .. } => get(COUNT),
+        Chore::Last { .. } => get(layout(p).last(p.index)),
+        Chore::Close => Access::Store(Kind::Put, Word::Data(CLOSED), 1),
+        Chore::Getting { i } => get(layout(p).board(i)),
+        Chore::Putting { i, v } => Access::Store(Kind::Put, Word::Data(layout(p).board(i)), v),
+    }
+}
+
+/// The call ends with this answer, and the process stands here.
+#[inline(always)]
+fn ends(stage: Stage, answer: Answer) -> (Position, Told)
+    ensures { result ≡ (Position.Lock stage, record { answer = Some answer; blocked = false }) }
+{
+    let told = Told {
+        answer: Some(answer),
+        blocked: false,
+    };
+    (Position::Lock(stage), told)
+}
+
+/// The call ends inside, with this reply.
+#[inline(always)]
+fn replied(reply: Reply) -> (Position, Told)
+    ensures { result ≡ (Position.Lock StageOf.Inside, record { answer = Some (AnswerOf.Mail reply); blocked = false }) }
+{
+    ends(Stage::Inside, Answer::Mail(reply))
+}
+
+/// The call goes on at the exit.
+#[inline(always)]
+fn leaves() -> (Position, Told)
+    ensures { result ≡ (Position.Lock StageOf.Leaving, record { answer = None; blocked = false }) }
+{
+    let told = Told {
+        answer: None,
+        blocked: false,
+    };
+    (Position::Lock(Stage::Leaving), told)
+}
+
+/// The call goes on with this chore.
+#[inline(always)]
+fn on(chore: Chore) -> (Position, Told)
+    ensures { result ≡ (Position.Within chore, record { answer = None; blocked = false }) }
+{
+    let told = Told {
+        answer: None,
+        blocked: false,
+    };
+    (Position::Within(chore), told)
+}
+
+/// The ruin check behind an entry.
+fn checked(p: &mut RmeProcess, value: u64) -> (Position, Told)
+    requires { Fits p.old (Position.Within Chore.Checking) }
+    ensures step { IsStep p.old (Position.Within Chore.Checking) value p.new result.0 result.1 }
+    ensures same { p.new ≡ record p.old { barred = p.new.barred } }
+{
+    if value == 1 {
+        p.barred = 1;
+        return leaves();
+    }
+    if p.unmended == 0 {
+        ends(Stage::Inside, Answer::Clean)
+    } else {
+        ends(Stage::Inside, Answer::OwnerDied)
+    }
+}
+
+/// The get of ruined with which consistent begins: unless the lock is ruined, the repair comes next.
+fn asked(p: &mut RmeProcess, value: u64) -> (Position, Told)
+    requires { Fits p.old (Position.Within Chore.Asking) }
+    ensures step { IsStep p.old (Position.Within Chore.Asking) value p.new result.0 result.1 }
+    ensures same { p.new ≡ p.old }
+{
+    let _ = &p.index;
+    if value == 1 {
+        ends(Stage::Inside, Answer::NotRecoverable)
+    } else {
+        on(Chore::Armed)
+    }
+}
+
+/// The get of armed.
+fn armed(p: &mut RmeProcess, value: u64) -> (Position, Told)
+    requires { Fits p.old (Position.Within Chore.Armed) }
+    ensures step { IsStep p.old (Position.Within Chore.Armed) value p.new result.0 result.1 }
+    ensures same { p.new ≡ record p.old { unmended = p.new.unmended } }
+{
+    if value == 0 {
+        p.unmended = 0;
+        return replied(Reply::Mended(false));
+    }
+    on(Chore::At)
+}
+
+/// The get of one more word of the record's value.
+fn read_on(p: &mut RmeProcess, at: u64, seq: u64, read: u64, value: u64) -> (Position, Told)
+    requires fits { Fits p.old (Position.Within (Chore.Value at seq read)) }
+    requires eight { length p.old.value ≡ 8 }
+    ensures step { IsStep p.old (Position.Within (Chore.Value at seq read)) value p.new result.0 result.1 }
+    ensures same { p.new ≡ record p.old { value = p.new.value } }
+{
+    p.value[read as usize] = value;
+    if read + 1 < p.width {
+        return on(Chore::Value {
+            at,
+            seq,
+            read: read + 1,
+        });
+    }
+    on(Chore::Redo {
+        at,
+        seq,
+        step: 3 + p.width,
+    })
+}
+
+/// A put of a record that is stored again.
+fn redone(p: &mut RmeProcess, at: u64, seq: u64, step: u64, value: u64) -> (Position, Told)
+    requires fits { Fits p.old (Position.Within (Chore.Redo at seq step)) }
+    requires eight { length p.old.value ≡ 8 }
+    ensures step { IsStep p.old (Position.Within (Chore.Redo at seq step)) value p.new result.0 result.1 }
+    ensures same { p.new ≡ record p.old { unmended = p.new.unmended } }
+{
+    let _ = value;
+    if step + 1 < 8 + 2 * p.width {
+        return on(Chore::Redo {
+            at,
+            seq,
+            step: step + 1,
+        });
+    }
+    p.unmended = 0;
+    replied(Reply::Mended(true))
+}
+
+/// What an append does once it knows the three words.
+fn decided(p: &mut RmeProcess, seq: u64, closed: u64, count: u64, last: u64) -> (Position, Told)
+    requires { Fits p.old (Position.Within (Chore.Last seq closed count)) }
+    ensures step { IsStep p.old (Position.Within (Chore.Last seq closed count)) last p.new result.0 result.1 }
+    ensures same { p.new ≡ p.old }
+{
+    if seq == 0 {
+        replied(Reply::OutOfOrder)
+    } else if seq <= last {
+        replied(Reply::Already)
+    } else if seq - 1 > last {
+        replied(Reply::OutOfOrder)
+    } else if closed == 1 {
+        replied(Reply::Closed)
+    } else if count == p.cap {
+        replied(Reply::Full)
+    } else {
+        on(Chore::Store {
+            at: count,
+            seq,
+            step: 0,
+        })
+    }
+}
+
+/// A put of a message that is stored.
+fn stored(p: &mut RmeProcess, at: u64, seq: u64, step: u64, value: u64) -> (Position, Told)
+    requires fits { Fits p.old (Position.Within (Chore.Store at seq step)) }
+    requires eight { length p.old.value ≡ 8 }
+    ensures step { IsStep p.old (Position.Within (Chore.Store at seq step)) value p.new result.0 result.1 }
+    ensures same { p.new ≡ p.old }
+{
+    let _ = value;
+    let behind = step + 1;
+    if behind < 8 + 2 * p.width {
+        return on(Chore::Store {
+            at,
+            seq,
+            step: behind,
+        });
+    }
+    replied(Reply::Stored)
+}
+
+/// Takes a step of a chore.
+pub fn chore_step(p: &mut RmeProcess, chore: Chore, value: u64) -> (Position, Told)
+    requires fits { Fits p.old (Position.Within chore) }
+    requires eight { length p.old.value ≡ 8 }
+    ensures step { IsStep p.old (Position.Within chore) value p.new result.0 result.1 }
+    ensures same { p.new ≡ record p.old { unmended = p.new.unmended; barred = p.new.barred; value = p.new.value } }
+{
+    match chore {
+        Chore::Asking => asked(p, value),
+        Chore::Checking => checked(p, value),
+        Chore::Ruining => leaves(),
+        Chore::Armed => armed(p, value),
+        Chore::At => on(Chore::Seq { at: value }),
+        Chore::Seq { at } => on(Chore::Value {
+            at,
+            seq: value,
+            read: 0,
+        }),
+        Chore::Value { at, seq, read } => read_on(p, at, seq, read, value),
+        Chore::Redo { at, seq, step } => redone(p, at, seq, step, value),
+        Chore::Closed { seq } => on(Chore::Count { seq, closed: value }),
+        Chore::Count { seq, closed } => on(Chore::Last {
+            seq,
+            closed,
+            count: value,
+        }),
+        Chore::Last { seq, closed, count } => decided(p, seq, closed, count, value),
+        Chore::Store { at, seq, step } => stored(p, at, seq, step, value),
+        Chore::Closing if value == 1 => replied(Reply::AlreadyClosed),
+        Chore::Closing => on(Chore::Close),
+        Chore::Close => replied(Reply::ClosedNow),
+        Chore::Getting { .. } => replied(Reply::Word(value)),
+        Chore::Putting { .. } => replied(Reply::Done),
+    }
+}

@@ -1,5 +1,5 @@
 -- Steps of a script on the data words in a row, told by passes alone.
-use Rattle.std.proofs.Common.{◌≡◌, ℕ, zero, suc, ◌+◌, ◌*◌, ◌<◌, ◌≤◌, ◌==◌, ◌&&◌, Bool, true, false, if◌then◌else◌, List, [], ◌∷◌, ◌++◌, length, drop, slice_index, Option, Some, None, IsSome, unwrap_or, refl, sym, ap, ◌∙◌, subst, arith, eq-eqb, length-append}
+use Rattle.std.proofs.Common.{◌≡◌, ℕ, zero, suc, ◌+◌, ◌*◌, ◌<◌, ◌≤◌, ◌==◌, ◌&&◌, Bool, true, false, if◌then◌else◌, List, [], ◌∷◌, ◌++◌, length, drop, slice_index, Some, None, IsSome, unwrap_or, refl, sym, ap, ◌∙◌, subst, arith, eq-eqb, length-append}
 use Rattle.std.proofs.lemmas.Bool.{eqb-true}
 use Rattle.std.proofs.lemmas.List.{drop_all}
 use Rattle.rmecore.specs.declared.kind.Kind.TheVariants.{Get as Gets, Put as Puts}
@@ -7,7 +7,7 @@ use Rattle.rmecore.specs.declared.word.Word.TheVariants.{Data as DataAt}
 use Rattle.rmecore.specs.declared.access.Access.{Access}
 use Rattle.rmecore.specs.declared.access.Access.TheVariants.{Load, Store}
 use Rattle.rmecore.specs.Machine.{kind_of, word_of, carried}
-use Rattle.rmecore.specs.Place.{Place, Inside}
+use Rattle.rmecore.specs.Place.{Inside}
 use Rattle.rmecore.specs.Simulated.{one_more}
 use Rattle.redomail.specs.declared.layout.Layout.{Layout}
 use Rattle.redomail.specs.declared.reply.Reply.{Reply}
@@ -22,7 +22,6 @@ use Rattle.redomail.proofs.Words.{place_low, place_up, place_small}
 use Rattle.rmecore.specs.declared.refusal.Refusal.TheVariants.{BadWidth}
 use Rattle.rmeworld.specs.declared.answer.Answer.{Answer}
 use Rattle.rmeworld.specs.declared.answer.Answer.TheVariants.{Mail}
-use Rattle.rmeworld.specs.declared.outcome.Outcome.{Outcome}
 use Rattle.rmeworld.specs.declared.why.Why.TheVariants.{Working}
 use Rattle.rmeworld.specs.Answered.{answer_at, blocked_by, by_script}
 use Rattle.rmeworld.specs.declared.call.Call.{Call}

@@ -13,16 +13,15 @@ use Rattle.rmeworld.specs.Spot.{Spot, mended_entered}
 use Rattle.rmeworld.specs.Errands.{errand_of}
 use Rattle.rmeworld.specs.declared.errand.Errand.TheVariants.{Free as IsFree, Doing as Does}
 use Rattle.rmeworld.specs.declared.why.Why.TheVariants.{Checking}
-use Rattle.rmeworld.specs.declared.outcome.Outcome.{Outcome}
 use Rattle.rmeworld.specs.Stand.{Stand, standing, spot_of as standing_at, stepped, next_access, IsAllowed, lock_moved}
 use Rattle.rmeworld.proofs.Chores.{lock_goes, lock_allowed}
 use Rattle.runs.specs.declared.entry.TakenStep.{TakenStep}
 use Rattle.runs.specs.Pass.{Pass, spot_now, moved_spot, Advances}
-use Rattle.runs.specs.Running.{Seated, IsRunBy, TakesStep, next_of, outcome_of, many_more}
+use Rattle.runs.specs.Running.{Seated, IsRunBy, TakesStep, outcome_of, many_more}
 use Rattle.rmeworld.specs.declared.answer.Answer.{Answer}
 use Rattle.runs.specs.declared.setup.Setup.{Setup}
 use Rattle.runs.specs.Runs.{spelled, gone, spot_of}
-use Rattle.runs.specs.Calls.{Going, Turning, Takes, answers_of, answers_from}
+use Rattle.runs.specs.Calls.{Going, Turning, Takes, answers_from}
 use Rattle.runs.proofs.Running.{next_same, may_advance, run_by_step}
 use Rattle.runs.proofs.Taken.{more, goes_on, ran_answered, ran_blocked, length_snoc, takes_sizes, takes_spot}
 use Rattle.runs.proofs.Turned.{answers-append, later_blocked}

@@ -1,7 +1,7 @@
 -- One step more of a scan.
-use Rattle.std.proofs.Common.{◌≡◌, ◌≢◌, ℕ, ◌+◌, ◌<◌, ◌≤◌, max, Bool, true, false, List, [], ◌∷◌, Option, Some, None, IsSome, refl, sym, ap, ◌∙◌, subst, arith}
+use Rattle.std.proofs.Common.{◌≡◌, ◌≢◌, ℕ, ◌+◌, ◌<◌, ◌≤◌, max, Bool, List, [], Some, IsSome, refl, sym, ap, ◌∙◌, arith}
 use Rattle.rmecore.specs.Place.{Place, Door, above}
-use Rattle.rmecore.specs.Machine.{access, first}
+use Rattle.rmecore.specs.Machine.{access}
 use Rattle.rmecore.specs.declared.access.Access.{Access}
 use Rattle.rmecore.specs.declared.access.Access.TheVariants.{Load}
 use Rattle.rmecore.specs.declared.kind.Kind.TheVariants.{Peek as Peeks}
@@ -11,7 +11,7 @@ use Rattle.rmecore.proofs.MachineSteps.{door_goes}
 use Rattle.rmeworld.specs.Stand.{standing}
 use Rattle.runs.specs.Pass.{Pass, spot_now, moved_spot, Advances}
 use Rattle.robust.specs.FastPath.{free_spot, IsClear, IsSame, Unanswered}
-use Rattle.robust.proofs.FreeSteps.{stand_of, may_free, same_after, quiet, there}
+use Rattle.robust.proofs.FreeSteps.{stand_of, may_free, quiet, there}
 
 pub same_then : (x y z : Pass) → IsSame x y → IsSame y z → IsSame x z
 same_then x y z h k = (k.0 ∙ h.0, k.1 ∙ h.1)

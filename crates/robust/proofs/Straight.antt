@@ -1,11 +1,10 @@
 -- The steps of a lock that stand between its scans, and those of an unlock.
-use Rattle.std.proofs.Common.{◌≡◌, ◌≢◌, ℕ, zero, suc, ◌+◌, ◌*◌, ◌-◌, ◌<◌, ◌≤◌, Bool, true, false, ◌==◌, nat_lt, List, [], ◌∷◌, length, Option, Some, None, IsSome, unwrap_or, refl, sym, ap, ◌∙◌, subst, inl, inr, arith, eq-eqb}
+use Rattle.std.proofs.Common.{◌≡◌, ◌≢◌, ℕ, zero, suc, ◌+◌, ◌-◌, ◌<◌, ◌≤◌, Bool, true, false, ◌==◌, nat_lt, List, [], ◌∷◌, length, Option, Some, None, IsSome, unwrap_or, refl, sym, ap, ◌∙◌, subst, inl, inr, arith, eq-eqb}
 use Rattle.std.proofs.lemmas.Bool.{cases_Bool}
 use Rattle.std.proofs.lemmas.Bool.{lt-ltb}
 use Rattle.rmecore.specs.Place.{Place, Rest, Reread, Opening, Door, Shutting, Wait, Inside, Leaving, Unmarking, others, relocked, has}
 use Rattle.rmecore.specs.Machine.{access, first}
 use Rattle.rmecore.specs.Simulated.{one_more}
-use Rattle.rmecore.specs.declared.access.Access.{Access}
 use Rattle.rmecore.specs.declared.access.Access.TheVariants.{Load, Store}
 use Rattle.rmecore.specs.declared.core_call.CoreCall.TheVariants.{Lock, Unlock}
 use Rattle.rmecore.specs.declared.kind.Kind.TheVariants.{Reread as Rereads, Open as Opens, Take as Takes, Shut as Shuts, Mark as Marks, Drop as Drops, Get as Gets}

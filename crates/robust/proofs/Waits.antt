@@ -1,8 +1,7 @@
 -- One step more of a wait.
-use Rattle.std.proofs.Common.{◌≡◌, ◌≢◌, ℕ, ◌+◌, ◌<◌, ◌≤◌, Bool, true, false, not, ◌==◌, ◌||◌, if◌then◌else◌, List, [], ◌∷◌, ◌++◌, length, Option, Some, None, IsSome, refl, sym, ap, ◌∙◌, subst, arith, eq-eqb, length-append}
-use Rattle.rmecore.specs.Place.{Place, Wait, above, has, is_before}
+use Rattle.std.proofs.Common.{◌≡◌, ◌≢◌, ℕ, ◌+◌, ◌<◌, ◌≤◌, Bool, true, false, not, ◌==◌, ◌||◌, if◌then◌else◌, List, [], Option, Some, None, IsSome, refl, sym, ap, ◌∙◌, subst, arith, eq-eqb}
+use Rattle.rmecore.specs.Place.{Place, Wait, above, is_before}
 use Rattle.rmecore.specs.Machine.{Standing, access, first, place_of, at_wait, next_access, after_access}
-use Rattle.rmecore.specs.declared.access.Access.{Access}
 use Rattle.rmecore.specs.declared.access.Access.TheVariants.{Load}
 use Rattle.rmecore.specs.declared.kind.Kind.TheVariants.{Look as Looks, Weigh as Weighs}
 use Rattle.rmecore.specs.declared.stage.Stage.TheVariants.{Wait as AtWait}

@@ -1,5 +1,5 @@
 -- The fast path of an append: what is left of its script behind some steps, told by the member's passes alone.
-use Rattle.std.specs.Prelude.{◌≡◌, ℕ, ◌≤◌, true, false, List, drop}
+use Rattle.std.specs.Prelude.{ℕ, true, false, List, drop}
 use Rattle.redomail.specs.declared.reply.Reply.{Reply}
 use Rattle.redomail.specs.declared.reply.Reply.TheVariants.{Stored}
 use Rattle.redomail.specs.declared.task.Task.TheVariants as task
@@ -10,8 +10,8 @@ use Rattle.rmeworld.specs.declared.call.Call.{Call}
 use Rattle.rmeworld.specs.declared.call.Call.TheVariants.{Append, Unlock}
 use Rattle.rmeworld.specs.declared.why.Why.TheVariants.{Working}
 use Rattle.rmeworld.specs.Spot.{Spot, settled}
-use Rattle.runs.specs.Pass.{Pass, spot_now}
-use Rattle.robust.specs.FastPath.{IsClear, IsSame, Unanswered, EndsIn}
+use Rattle.runs.specs.Pass.{Pass}
+use Rattle.robust.specs.FastPath.{Unanswered, EndsIn}
 
 -- a holder with nothing to mend and this script of an append left; with none left it is inside, with nothing to do
 abbrev pub at_append : ℕ → List ℕ → Script Reply → Spot

@@ -8,7 +8,8 @@ ghost use Rattle.robust.specs.Making.{making_refusal, fresh_members};
 
 use crate::member::Member;
 use crate::runner::data_words;
-use crate::walker::{Board, Walker};
+use crate::table::Board;
+use crate::walker::Walker;
 use redomail::Layout;
 use rmecore::Refusal;
 use runs::Setup;

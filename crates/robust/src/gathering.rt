@@ -11,16 +11,15 @@ ghost use Rattle.runs.specs.Pass.{alone, glanced};
 ghost use Rattle.runs.specs.Gathering.{OneArena, has_member, IsMissing, Gathers, Knows, Absorbs, AnswersAll, Looked, Stays};
 
 use crate::member::Member;
-use crate::rule::{Glue, Words};
 use crate::runner::data_words;
-use crate::steps;
-use crate::walker::{Board, Walker, index};
-use atomic_table::Seat;
+use crate::table;
+use crate::table::{Board, RunSeat};
+use crate::walker::{Walker, index};
 use one_lock::GatherFault;
 use rmecore::{Kind, Own, Word};
 use rmeworld::{Cells, Image, Owns};
 use runs::Setup;
-use runs::entry::{Known, Step};
+use runs::entry::Step;
 use std::alloc::Global;
 use std::sync::Arc;
 
@@ -74,8 +73,8 @@ fn has_all(members: &[Member], procs: u64) -> bool
 }
 
 /// A glance of a seat that answers for one or more processes.
-fn look(table: &Words, seat: &mut Seat<(), Known>, setup: &Setup, word: Word) -> u64
-    requires table { (seat.old.table_id ≡ table.now.table_id) × (seat.old.table_id.words ≡ word_count setup.now) }
+fn look(table: &Board, seat: &mut RunSeat, setup: &Setup, word: Word) -> u64
+    requires table { (seat.old.table_id ≡ table.now.shared.table_id) × (seat.old.table_id.words ≡ word_count setup.now) }
     requires setup { seat.old.me.0.view.setup ≡ setup.now }
     requires size { IsSize setup.now.layout }
     requires word { InTable setup.now word }
@@ -90,13 +89,13 @@ fn look(table: &Words, seat: &mut Seat<(), Known>, setup: &Setup, word: Word) ->
         word,
     };
     let at = index(setup, word);
-    steps::load(table, seat, step, at as usize)
+    table::load(table, seat, step, at as usize)
 }
 
 /// The seat answers for the other's process too. It takes a glance first, which tells that all passes that were joined into
 /// it are beginnings of one run.
-fn absorb(table: &Words, seat: &mut Seat<(), Known>, setup: &Setup, other: Walker)
-    requires table { (seat.old.table_id ≡ table.now.table_id) × (seat.old.table_id.words ≡ word_count setup.now) × (other.table ≡ seat.old.table_id) }
+fn absorb(table: &Board, seat: &mut RunSeat, setup: &Setup, other: Walker)
+    requires table { (seat.old.table_id ≡ table.now.shared.table_id) × (seat.old.table_id.words ≡ word_count setup.now) × (other.table ≡ seat.old.table_id) }
     requires setup { seat.old.me.0.view.setup ≡ setup.now }
     requires size { IsSize setup.now.layout }
     requires some { answers_for (stepper seat.old.me.0.view) seat.old.me.0.view.answers ≡ true }
@@ -105,15 +104,11 @@ fn absorb(table: &Words, seat: &mut Seat<(), Known>, setup: &Setup, other: Walke
 {
     look(table, seat, setup, Word::Choosing(0));
     let (_, theirs) = other.into_parts();
-    table.join_seat::<Glue>(seat, theirs);
+    table::take_in(table, seat, theirs);
 }
 
 /// One seat for all members.
-fn join_all(
-    mut others: Vec<Member>,
-    first: Member,
-    setup: &Setup,
-) -> (Arc<Board, Global>, Seat<(), Known>)
+fn join_all(mut others: Vec<Member>, first: Member, setup: &Setup) -> (Arc<Board, Global>, RunSeat)
     requires arena { OneArena (first ∷ others.items) }
     requires setup { setup.now ≡ first.pass.setup }
     ensures table { (result.1.table_id ≡ (arc_value result.0).shared.table_id) × (result.1.table_id.words ≡ word_count setup.now) }
@@ -121,14 +116,14 @@ fn join_all(
 {
     let (board, mut seat) = first.into_walker().into_parts();
     while let Some(other) = others.pop() {
-        absorb(&board.shared, &mut seat, setup, other.into_walker());
+        absorb(&board, &mut seat, setup, other.into_walker());
     }
     (board, seat)
 }
 
 /// A glance of a seat that answers for all processes.
-fn read(table: &Words, seat: &mut Seat<(), Known>, setup: &Setup, word: Word) -> u64
-    requires table { (seat.old.table_id ≡ table.now.table_id) × (seat.old.table_id.words ≡ word_count setup.now) }
+fn read(table: &Board, seat: &mut RunSeat, setup: &Setup, word: Word) -> u64
+    requires table { (seat.old.table_id ≡ table.now.shared.table_id) × (seat.old.table_id.words ≡ word_count setup.now) }
     requires size { IsSize setup.now.layout }
     requires word { InTable setup.now word }
     requires all { AnswersAll setup.now seat.old.me.0.view }
@@ -139,8 +134,8 @@ fn read(table: &Words, seat: &mut Seat<(), Known>, setup: &Setup, word: Word) ->
 }
 
 /// The three lock words of a process.
-fn read_own(table: &Words, seat: &mut Seat<(), Known>, setup: &Setup, p: u64) -> Own
-    requires table { (seat.old.table_id ≡ table.now.table_id) × (seat.old.table_id.words ≡ word_count setup.now) }
+fn read_own(table: &Board, seat: &mut RunSeat, setup: &Setup, p: u64) -> Own
+    requires table { (seat.old.table_id ≡ table.now.shared.table_id) × (seat.old.table_id.words ≡ word_count setup.now) }
     requires size { IsSize setup.now.layout }
     requires within { p < setup.now.layout.procs }
     requires all { AnswersAll setup.now seat.old.me.0.view }
@@ -158,8 +153,8 @@ fn read_own(table: &Words, seat: &mut Seat<(), Known>, setup: &Setup, p: u64) ->
     }
 }
 
-fn read_lock(table: &Words, seat: &mut Seat<(), Known>, setup: &Setup, lock: &mut Vec<Own>)
-    requires table { (seat.old.table_id ≡ table.now.table_id) × (seat.old.table_id.words ≡ word_count setup.now) }
+fn read_lock(table: &Board, seat: &mut RunSeat, setup: &Setup, lock: &mut Vec<Own>)
+    requires table { (seat.old.table_id ≡ table.now.shared.table_id) × (seat.old.table_id.words ≡ word_count setup.now) }
     requires size { IsSize setup.now.layout }
     requires all { AnswersAll setup.now seat.old.me.0.view }
     requires room { (lock.old.items ≡ []) × (setup.now.layout.procs ≤ vec_capacity lock.old) }
@@ -173,8 +168,8 @@ fn read_lock(table: &Words, seat: &mut Seat<(), Known>, setup: &Setup, lock: &mu
     }
 }
 
-fn read_cells(table: &Words, seat: &mut Seat<(), Known>, setup: &Setup, cells: &mut Vec<u64>)
-    requires table { (seat.old.table_id ≡ table.now.table_id) × (seat.old.table_id.words ≡ word_count setup.now) }
+fn read_cells(table: &Board, seat: &mut RunSeat, setup: &Setup, cells: &mut Vec<u64>)
+    requires table { (seat.old.table_id ≡ table.now.shared.table_id) × (seat.old.table_id.words ≡ word_count setup.now) }
     requires size { IsSize setup.now.layout }
     requires all { AnswersAll setup.now seat.old.me.0.view }
     requires room { (cells.old.items ≡ []) × (size setup.now.layout ≤ vec_capacity cells.old) }
@@ -196,9 +191,9 @@ fn read_all(others: Vec<Member>, first: Member, mut lock: Vec<Own>, mut cells: V
 {
     let setup = first.setup();
     let (board, mut seat) = join_all(others, first, &setup);
-    read(&board.shared, &mut seat, &setup, Word::Choosing(0));
-    read_lock(&board.shared, &mut seat, &setup, &mut lock);
-    read_cells(&board.shared, &mut seat, &setup, &mut cells);
+    read(&board, &mut seat, &setup, Word::Choosing(0));
+    read_lock(&board, &mut seat, &setup, &mut lock);
+    read_cells(&board, &mut seat, &setup, &mut cells);
     Image {
         cap: setup.layout.cap,
         cells: Cells::new(cells),

@@ -12,9 +12,8 @@ mod locking;
 pub mod mailing;
 pub mod member;
 mod reading;
-pub mod rule;
 pub mod runner;
-pub mod steps;
+pub mod table;
 pub mod walker;
 mod whole;
 

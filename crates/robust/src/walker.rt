@@ -8,25 +8,21 @@ ghost use Rattle.runs.specs.Runs.{InTable, IsBeyond, index as index_of, word_cou
 ghost use Rattle.robust.specs.FastPath.{IsClear};
 ghost use Rattle.runs.specs.Pass.{Pass, Advances, Looks, IsPass, alone, rest_known, fresh, spot_now, moved_spot};
 
-use crate::rule::{Cut, OneRun};
-use crate::steps;
-use atomic_table::{Seat, Table};
+use crate::table;
+use crate::table::{Board, RunSeat};
 use rmecore::{Kind, Word};
 use rmeworld::Call;
 use runs::Setup;
-use runs::entry::{Known, Step};
+use runs::entry::Step;
 use std::alloc::{AllocError, Global};
 use std::marker::Model;
 use std::sync::Arc;
-
-/// The table: three lock words a process, then the data words.
-pub type Board = Table<(), Known, Setup, OneRun, Global>;
 
 /// A seat at the table. Contracts see it as its pass.
 #[derive(Drop)]
 pub struct Walker {
     board: Arc<Board, Global>,
-    seat: Seat<(), Known>,
+    seat: RunSeat,
     setup: Setup,
     by: u64,
     fallen: bool,
@@ -73,7 +69,7 @@ impl Walker {
     /// The seat of the next process is cut off.
     pub fn first(
         board: &Arc<Board, Global>,
-        seat: &mut Seat<(), Known>,
+        seat: &mut RunSeat,
         setup: Setup,
         by: u64,
     ) -> Result<Walker, AllocError>
@@ -85,7 +81,7 @@ impl Walker {
         ensures walker { IfOk result (λ w. w ≡ fresh seat.old.table_id setup by) }
     {
         let board = Arc::try_clone(board)?;
-        let own = board.shared.split_seat::<Cut>(seat);
+        let own = table::cut_off(&board, seat);
         Ok(Walker {
             board,
             seat: own,
@@ -142,7 +138,7 @@ impl Walker {
             word,
         };
         let at = index(&self.setup, word);
-        let found = steps::load(&self.board.shared, &mut self.seat, step, at as usize);
+        let found = table::load(&self.board, &mut self.seat, step, at as usize);
         self.fallen = false;
         forget(&mut self.start);
         found
@@ -163,7 +159,7 @@ impl Walker {
             word,
         };
         let at = index(&self.setup, word);
-        steps::load(&self.board.shared, &mut self.seat, step, at as usize)
+        table::load(&self.board, &mut self.seat, step, at as usize)
     }
 
     /// One store, where no crash and no start is owed.
@@ -181,7 +177,7 @@ impl Walker {
             word,
         };
         let at = index(&self.setup, word);
-        steps::store(&self.board.shared, &mut self.seat, step, at as usize, new);
+        table::store(&self.board, &mut self.seat, step, at as usize, new);
     }
 
     /// One store, which carries the crash and the start that are owed.
@@ -198,7 +194,7 @@ impl Walker {
             word,
         };
         let at = index(&self.setup, word);
-        steps::store(&self.board.shared, &mut self.seat, step, at as usize, new);
+        table::store(&self.board, &mut self.seat, step, at as usize, new);
         self.fallen = false;
         forget(&mut self.start);
     }
@@ -216,7 +212,7 @@ impl Walker {
             kind,
             word,
         };
-        steps::pass(&self.board.shared, &mut self.seat, step, value);
+        table::pass(&self.board, &mut self.seat, step, value);
         self.fallen = false;
         forget(&mut self.start);
     }
@@ -233,7 +229,7 @@ impl Walker {
             word,
         };
         let at = index(&self.setup, word);
-        steps::load(&self.board.shared, &mut self.seat, step, at as usize)
+        table::load(&self.board, &mut self.seat, step, at as usize)
     }
 
     /// The process loses its private memory. The words stay.
@@ -254,7 +250,7 @@ impl Walker {
     }
 
     /// The table and the seat.
-    pub fn into_parts(self) -> (Arc<Board, Global>, Seat<(), Known>)
+    pub fn into_parts(self) -> (Arc<Board, Global>, RunSeat)
         ensures table { (result.1.table_id ≡ self.table) × ((arc_value result.0).shared.table_id ≡ self.table) }
         ensures seat { result.1.me ≡ (alone self.setup self.by self.seen, []) }
         ensures pass { IsPass self }

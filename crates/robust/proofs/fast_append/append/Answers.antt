@@ -1,14 +1,12 @@
-use Rattle.std.proofs.Common.{◌≡◌, ℕ, ◌+◌, ◌*◌, ◌≤◌, length, refl, sym, ap, ◌∙◌, subst, arith}
+use Rattle.std.proofs.Common.{◌≡◌, ℕ, ◌+◌, ◌*◌, length, sym, ap, ◌∙◌, subst, arith}
 use Rattle.redomail.specs.declared.reply.Reply.{Reply}
 use Rattle.redomail.specs.declared.reply.Reply.TheVariants.{Stored}
-use Rattle.redomail.specs.Script.{Script, Done, puts}
+use Rattle.redomail.specs.Script.{Script}
 use Rattle.rmeworld.specs.declared.answer.Answer.TheVariants.{Mail}
 use Rattle.runs.specs.declared.setup.Setup.{Setup}
-use Rattle.runs.specs.Pass.{spot_now}
 use Rattle.robust.specs.FastPath.{EndsIn}
-use Rattle.robust.specs.FastAppend.{at_append, HasLeft, stored_so_far}
+use Rattle.robust.specs.FastAppend.{at_append, HasLeft}
 use Rattle.robust.proofs.FastAppend.{ends_then, stored_on}
-use Rattle.robust.proofs.Peeks.{same_then}
 use Rattle.robust.proofs.fast_append.append.Goals as goal
 
 pub returns-in-Some-clause-at : goal.returns-in-Some-clause-at

@@ -2,7 +2,6 @@ use Rattle.std.proofs.Common.{◌≡◌, ℕ, ◌+◌, ◌<◌, refl, sym, ap, �
 use Rattle.redomail.specs.Layout.{size}
 use Rattle.redomail.specs.Tasks.{record_of}
 use Rattle.runs.specs.declared.setup.Setup.{Setup}
-use Rattle.runs.specs.Pass.{spot_now}
 use Rattle.robust.specs.FastAppend.{stored_so_far}
 use Rattle.robust.proofs.FreeSteps.{unanswered_none, unanswered_then}
 use Rattle.robust.proofs.Peeks.{same_then}

@@ -1,8 +1,7 @@
-use Rattle.std.proofs.Common.{◌≡◌, ℕ, ◌+◌, ◌<◌, ◌≤◌, sym, ap, ◌∙◌, subst, arith}
+use Rattle.std.proofs.Common.{◌≡◌, ◌<◌, sym, ◌∙◌, subst, arith}
 use Rattle.redomail.specs.Layout.{last_at, size}
 use Rattle.redomail.proofs.Words.{place_low}
 use Rattle.runs.specs.declared.setup.Setup.{Setup}
-use Rattle.robust.proofs.Peeks.{same_then}
 use Rattle.robust.proofs.FastAppend.{closed_may, count_may, last_may, heads_go, heads_left, count_fits}
 use Rattle.robust.proofs.fast_append.read_heads.Goals as goal
 

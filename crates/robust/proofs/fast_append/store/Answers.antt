@@ -1,5 +1,4 @@
-use Rattle.std.proofs.Common.{◌≡◌, ℕ, ◌+◌, ◌*◌, ◌<◌, ◌≤◌, List, ◌∷◌, length, drop, slice_index, refl, sym, ap, ◌∙◌, subst, arith}
-use Rattle.redomail.specs.declared.layout.Layout.{Layout}
+use Rattle.std.proofs.Common.{◌≡◌, ℕ, ◌+◌, ◌*◌, ◌<◌, ◌≤◌, ◌∷◌, length, drop, slice_index, refl, sym, ◌∙◌, subst, arith}
 use Rattle.redomail.specs.Layout.{held, last_at, place_at, size}
 use Rattle.redomail.specs.Tasks.{record_of, store_steps}
 use Rattle.redomail.proofs.Scripts.{held-small, step-commit, step-last, step-count}

@@ -1,4 +1,4 @@
-use Rattle.std.proofs.Common.{◌≡◌, ◌≤◌, List, ℕ, None, ap, ◌∙◌, arith}
+use Rattle.std.proofs.Common.{◌≡◌, ◌≤◌, None, ap, ◌∙◌, arith}
 use Rattle.rmecore.specs.Place.{Wait}
 use Rattle.rmecore.proofs.Scans.{above_past}
 use Rattle.redomail.specs.declared.layout.Layout.{Layout}

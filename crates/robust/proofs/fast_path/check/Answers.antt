@@ -1,6 +1,6 @@
 use Rattle.std.proofs.Common.{refl, arith}
 use Rattle.runs.proofs.Running.{size_is}
-use Rattle.robust.proofs.Straight.{check_may, check_goes}
+use Rattle.robust.proofs.Straight.{check_goes}
 use Rattle.robust.proofs.fast_path.check.Goals as goal
 
 pub returns-clause-at : goal.returns-clause-at

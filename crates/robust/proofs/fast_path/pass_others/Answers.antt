@@ -1,4 +1,4 @@
-use Rattle.std.proofs.Common.{false, ◌≡◌, ◌≢◌, ℕ, ◌+◌, ◌<◌, refl, sym, ◌∙◌, subst, arith}
+use Rattle.std.proofs.Common.{false, ◌≡◌, ℕ, ◌+◌, refl, sym, ◌∙◌, subst, arith}
 use Rattle.runs.specs.Pass.{Pass}
 use Rattle.robust.proofs.Waits.{KeptWait, look_counted, weigh_counted, kept_passed, wait_over}
 use Rattle.robust.proofs.fast_path.pass_others.Goals as goal

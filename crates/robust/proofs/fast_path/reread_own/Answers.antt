@@ -1,10 +1,8 @@
-use Rattle.std.proofs.Common.{◌≡◌, ℕ, ◌+◌, ◌≤◌, [], ◌∷◌, None, refl, sym, ap, ◌∙◌, arith}
-use Rattle.rmecore.specs.Place.{Place, Reread, Opening, Door, Shutting, Wait, Unmarking, above, others, relocked}
+use Rattle.std.proofs.Common.{[], ◌∷◌, refl}
+use Rattle.rmecore.specs.Place.{Reread, Opening, Unmarking, relocked}
 use Rattle.rmecore.specs.declared.core_call.CoreCall.TheVariants.{Lock}
-use Rattle.rmecore.proofs.Scans.{above_past}
-use Rattle.runs.specs.Pass.{Pass}
 use Rattle.robust.specs.FastPath.{Way}
-use Rattle.robust.proofs.Straight.{way_first, way_on, way_more, way_to, way_begun, relocked_none, relocked_some, above_short}
+use Rattle.robust.proofs.Straight.{way_first, way_on, way_to, relocked_none, relocked_some}
 use Rattle.robust.proofs.fast_path.reread_own.Goals as goal
 
 pub returns-then-number-ne0-clause-stands : goal.returns-then-number-ne0-clause-stands

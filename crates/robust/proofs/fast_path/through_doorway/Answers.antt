@@ -1,11 +1,10 @@
-use Rattle.std.proofs.Common.{◌≡◌, ℕ, ◌+◌, ◌≤◌, [], ◌∷◌, None, refl, sym, ap, ◌∙◌, arith}
-use Rattle.rmecore.specs.Place.{Place, Reread, Opening, Door, Shutting, Wait, Unmarking, above, others, relocked}
+use Rattle.std.proofs.Common.{◌≡◌, ◌+◌, ◌≤◌, [], None, refl, sym, ap, arith}
+use Rattle.rmecore.specs.Place.{Opening, Door, Shutting, Wait, above, others}
 use Rattle.rmecore.specs.declared.core_call.CoreCall.TheVariants.{Lock}
 use Rattle.rmecore.proofs.Scans.{above_past}
-use Rattle.runs.specs.Pass.{Pass}
 use Rattle.runs.proofs.Taken.{none_of}
 use Rattle.robust.specs.FastPath.{Way}
-use Rattle.robust.proofs.Straight.{way_first, way_on, way_more, way_to, way_begun, relocked_none, relocked_some, above_short}
+use Rattle.robust.proofs.Straight.{way_on, way_more, way_to, way_begun, above_short}
 use Rattle.robust.proofs.fast_path.through_doorway.Goals as goal
 
 pub returns-then-greatest-limit-clause-way : goal.returns-then-greatest-limit-clause-way

@@ -1,4 +1,4 @@
-use Rattle.std.proofs.Common.{◌≡◌, ◌==◌, ◌||◌, ℕ, Bool, true, false, sym, ap, ◌∙◌, subst}
+use Rattle.std.proofs.Common.{◌≡◌, ◌==◌, ◌||◌, ℕ, true, false, sym, ap, ◌∙◌}
 use Rattle.rmecore.specs.Place.{is_before}
 use Rattle.robust.proofs.Waits.{weighed, weigh_blocked}
 use Rattle.robust.proofs.fast_path.weigh.Goals as goal

@@ -7,8 +7,8 @@ use Rattle.runs.proofs.Keeps.{glues}
 use Rattle.runs.proofs.Leads.{has_one}
 use Rattle.robust.proofs.gathering.absorb.Goals as goal
 
-pub join_seat-requires : goal.join_seat-requires
-join_seat-requires c =
+pub take_in-requires : goal.take_in-requires
+take_in-requires c =
     let t = c.into_parts-theirs.ensures.table in
     let me = c.into_parts-theirs.ensures.seat in
     let here = c.look.ensures.same.0 ∙ c.requires.table.0 in

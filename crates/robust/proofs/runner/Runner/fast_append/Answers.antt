@@ -1,4 +1,4 @@
-use Rattle.std.proofs.Common.{◌≡◌, ℕ, ◌-◌, ◌^◌, ◌≤◌, true, List, length, Some, None, sym, ap, ◌∙◌, subst, arith}
+use Rattle.std.proofs.Common.{◌≡◌, ◌-◌, ◌^◌, ◌≤◌, true, List, length, Some, None, sym, ap, ◌∙◌, subst, arith}
 use Rattle.rmecore.specs.Place.{Inside}
 use Rattle.rmeworld.specs.Spot.{Spot}
 use Rattle.rmeworld.specs.declared.answer.Answer.TheVariants.{Mail}

@@ -1,4 +1,4 @@
-use Rattle.std.proofs.Common.{◌≡◌, ℕ, ◌-◌, ◌^◌, ◌≤◌, List, length, Some, None, refl, sym, subst, arith}
+use Rattle.std.proofs.Common.{◌-◌, ◌^◌, ◌≤◌, List, length, Some, None, refl, sym, subst, arith}
 use Rattle.rmeworld.specs.declared.answer.Answer.TheVariants.{Clean}
 use Rattle.runs.specs.declared.entry.TakenStep.{TakenStep}
 use Rattle.runs.specs.declared.setup.Setup.{Setup}

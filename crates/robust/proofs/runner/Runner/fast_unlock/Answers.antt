@@ -1,4 +1,4 @@
-use Rattle.std.proofs.Common.{◌≡◌, true, None, Some, Ok, refl, sym, ap, ◌∙◌, subst}
+use Rattle.std.proofs.Common.{◌≡◌, true, None, Ok, refl, sym, ap, ◌∙◌, subst}
 use Rattle.rmecore.specs.Place.{Inside, Leaving, Rest}
 use Rattle.rmeworld.specs.Spot.{Spot}
 use Rattle.rmeworld.specs.declared.answer.Answer.TheVariants.{Unlocked}

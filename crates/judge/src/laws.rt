@@ -1,12 +1,13 @@
 //! Laws over every list of deeds. Each is the contract of a function that does nothing.
 
-ghost use Rattle.std.specs.Prelude.{◌≡◌, ◌<◌, ◌↔◌, ℕ, List, [], ◌∷◌, ◌++◌, map, Ok};
+ghost use Rattle.std.specs.Prelude.{◌≡◌, ◌<◌, ◌^◌, ◌↔◌, ℕ, Bool, List, [], ◌∷◌, ◌++◌, map, Ok};
 ghost use Rattle.rmecore.specs.AbstractLock.{Abstract, Legal};
 ghost use Rattle.rmecore.specs.Needs.{AllHold};
 ghost use Rattle.rmecore.specs.Place.{Event};
 ghost use Rattle.rmecore.specs.World.{at_rest, Run, deeds};
 ghost use Rattle.redomail.specs.Mailbox.{doer};
 ghost use Rattle.judge.specs.Halves.{outers, MailAllows, all_after, Agree};
+ghost use Rattle.judge.specs.Kept.{HasBits, row_word};
 ghost use Rattle.judge.specs.Legal.{Leads, IsLegal};
 ghost use Rattle.judge.specs.Plain.{IsPlain, LockInOrder};
 ghost use Rattle.judge.specs.PlainFrom.{IsPlainFrom};
@@ -58,4 +59,10 @@ pub fn histories_grow()
 pub fn only_the_processes_count()
     ensures lock { (n : ℕ) (a b : Abstract) (deeds : List Outer) → Agree n a b → Legal n a deeds → Legal n b deeds }
     ensures history { (s t : State) (b : Abstract) (history : List Deed) → Agree s.procs s.lock b → Leads s history t → Leads (record s { lock = b }) history (all_after (record s { lock = b }) history) }
+{}
+
+/// The number of a row of bits has these bits, and no others.
+pub fn rows_are_told()
+    ensures bits { (n : ℕ) (f : ℕ → Bool) → HasBits (row_word n f) n f }
+    ensures below { (n : ℕ) (f : ℕ → Bool) → row_word n f < 2 ^ n }
 {}

@@ -1,4 +1,4 @@
-use Rattle.std.proofs.Common.{◌≡◌, ◌<◌, ◌%◌, ◌*◌, ◌^◌, ◌∙◌, ℕ, sym, arith}
+use Rattle.std.proofs.Common.{◌∙◌, sym, arith}
 use Rattle.judge.proofs.RowWords.{mod-row_word, low-pow, all-mod}
 use Rattle.judge.proofs.rows.only_first.Goals as goal
 

@@ -13,3 +13,4 @@ pub mod Sets
 pub mod Starts
 pub mod Halves
 pub mod Agreement
+pub mod AlikeStates

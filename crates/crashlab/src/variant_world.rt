@@ -1,6 +1,6 @@
 //! A whole world of a variant in memory, each step taken on request.
 
-ghost use Rattle.std.specs.Prelude.{◌≡◌, ◌<◌, ◌⊎◌, ℕ, IfOk, IfErr, ◌↔◌, false, length, slice_get, slice_index, IfSome, IsSome, IsTrue, OnOk, OnErr, IsErrOf, Some, None, vec_len};
+ghost use Rattle.std.specs.Prelude.{◌≡◌, ◌<◌, ◌⊎◌, ℕ, IfOk, IfErr, ◌↔◌, false, length, slice_get, IfSome, IsSome, IsTrue, OnOk, OnErr, IsErrOf, Some, None, vec_len};
 ghost use Rattle.rmecore.specs.Machine.{carried};
 ghost use Rattle.rmecore.specs.Simulated.{cause};
 ghost use Rattle.rmeworld.specs.Stand.{IsSize};

@@ -4,6 +4,7 @@ pub mod VariantScripts
 pub mod VariantSpots
 pub mod VariantStands
 pub mod VariantWorlds
+pub mod VariantSeams
 pub mod VariantRuns
 pub mod LockWorlds
 pub mod Hunts

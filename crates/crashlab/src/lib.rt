@@ -1,8 +1,8 @@
 //! Plans of crashes, wrong variants of the lock, and the hunt that finds them out.
 #![tactic(auto)]
 
-mod change;
-mod detour;
+pub mod change;
+pub mod detour;
 pub mod hunt;
 pub mod hunt_fault;
 pub mod laws;
@@ -10,10 +10,12 @@ mod moves;
 mod round;
 mod sights;
 pub mod variant;
+pub mod variant_memory;
 pub mod variant_process;
 pub mod variant_world;
 
 pub use hunt_fault::HuntFault;
 pub use plans::{At, Both, CrashPlan, Never, Seeded};
 pub use variant::Variant;
+pub use variant_memory::VariantMemory;
 pub use variant_world::VariantWorld;

@@ -1,13 +1,14 @@
 //! What one process of a variant does, as a machine over its private memory alone: the world's process, with what the
 //! variant changes.
 
-ghost use Rattle.std.specs.Prelude.{◌≡◌, ◌<◌, ◌⊎◌, if◌then◌else◌, OnOk, OnErr, IfErr, IsErrOf, IfSome, Some, None};
+ghost use Rattle.std.specs.Prelude.{◌≡◌, ◌<◌, ◌⊎◌, if◌then◌else◌, ◌↔◌, false, IsTrue, OnOk, OnErr, IfErr, IsErrOf, IfSome, Some, None};
 ghost use Rattle.crashlab.specs.VariantScripts.{raised as raised_to};
 ghost use Rattle.crashlab.specs.VariantStands.{change_of, is_put, shutting as shutting_of, reread_as};
 
 use crate::change::Change;
 use crate::detour::Detour;
 use crate::variant::Variant;
+use crate::variant_memory::VariantMemory;
 use redomail::Layout;
 use redomail::layout::COUNT;
 use rmecore::{Access, CoreCall, Kind, Outer, Progress, Refusal, Word};
@@ -43,7 +44,9 @@ impl Model for VariantProcess {
 
 impl VariantProcess {
     ghost use Rattle.rmeworld.specs.Spot.{Begins, next_spot};
-    ghost use Rattle.rmecore.specs.Machine.{word_of};
+    ghost use Rattle.rmecore.specs.Machine.{word_of, place_of};
+    ghost use Rattle.rmeworld.specs.Errands.{Held};
+    ghost use Rattle.crashlab.specs.VariantSeams.{with_variant_memory};
     ghost use Rattle.rmeworld.specs.Stand.{IsSize, InWords, IsAllowed, StoresOwn, spot_of, next_access, spot_after};
     ghost use Rattle.rmeworld.specs.Refused.{start_refusal};
     ghost use Rattle.crashlab.specs.VariantStands.{IsPlain, variant_resting, variant_crashed, variant_next_access, variant_stepped, variant_outcome, variant_started};
@@ -69,6 +72,32 @@ impl VariantProcess {
         self.process.crash();
         self.detour = Detour::Straight;
         self.change = Change::Nothing;
+    }
+
+    /// A seam of this workspace, for who writes the states of processes down: the private memory.
+    pub fn seam_memory(&self) -> VariantMemory
+        ensures { with_variant_memory self.now result ≡ self.now }
+    {
+        VariantMemory {
+            process: self.process.seam_memory(),
+            detour: self.detour,
+            change: self.change,
+        }
+    }
+
+    /// A seam of this workspace, as `seam_memory`, the other way: this is the private memory from now on, where the world's
+    /// process takes it. Elsewhere it answers false and changes nothing.
+    pub fn seam_set(&mut self, memory: &VariantMemory) -> bool
+        ensures set { IsTrue result → self.new ≡ with_variant_memory self.old memory.now }
+        ensures same { result ≡ false → self.new ≡ self.old }
+        ensures held { IsTrue result ↔ Held memory.now.process.errand (place_of self.old.stand.layout.procs self.old.stand.index memory.now.process.stage) }
+    {
+        if !self.process.seam_set(&memory.process) {
+            return false;
+        }
+        self.detour = memory.detour;
+        self.change = memory.change;
+        true
     }
 
     /// The step that comes next, if a call is under way.

@@ -1,6 +1,6 @@
 //! A whole world of a variant in memory, each step taken on request.
 
-ghost use Rattle.std.specs.Prelude.{◌≡◌, ◌<◌, ◌⊎◌, ℕ, IfOk, IfErr, OnOk, OnErr, IsErrOf, Some, None, vec_len};
+ghost use Rattle.std.specs.Prelude.{◌≡◌, ◌<◌, ◌⊎◌, ℕ, IfOk, IfErr, ◌↔◌, false, length, slice_get, IfSome, IsSome, IsTrue, OnOk, OnErr, IsErrOf, Some, None, vec_len};
 ghost use Rattle.rmecore.specs.Machine.{carried};
 ghost use Rattle.rmecore.specs.Simulated.{cause};
 ghost use Rattle.rmeworld.specs.Stand.{IsSize};
@@ -9,6 +9,7 @@ ghost use Rattle.crashlab.specs.VariantWorlds.{at_rest_from, new_world};
 ghost use Rattle.rmecore.specs.declared.refusal.Refusal.TheVariants.{OutOfMemory};
 
 use crate::variant::Variant;
+use crate::variant_memory::VariantMemory;
 use crate::variant_process::VariantProcess;
 use redomail::{Deed, Layout};
 use rmecore::simulated::{MOST_LIMIT, MOST_PROCS};
@@ -179,6 +180,73 @@ impl VariantWorld {
         }
         self.processes[p as usize].crash();
         Ok(Deed::Outer(Outer::Crash(p)))
+    }
+}
+
+impl VariantWorld {
+    ghost use Rattle.redomail.specs.Layout.{size};
+    ghost use Rattle.rmecore.specs.Machine.{place_of};
+    ghost use Rattle.rmeworld.specs.Errands.{Held};
+    ghost use Rattle.crashlab.specs.VariantSeams.{with_variant_memory, with_process};
+    ghost use Rattle.crashlab.specs.VariantWorlds.{stand_at};
+
+    /// Its sizes.
+    pub fn layout(&self) -> Layout
+        ensures layout { result ≡ self.now.layout }
+        ensures size { IsSize result }
+    {
+        self.layout
+    }
+
+    /// A seam of this workspace, for who writes worlds down: the data words.
+    pub fn seam_cells(&self) -> &[u64]
+        ensures { result.now ≡ self.now.cells }
+    {
+        self.cells.as_slice()
+    }
+
+    /// A seam of this workspace, as `seam_cells`: the lock words of process p and its private memory.
+    pub fn seam_process(&self, p: u64) -> Option<(Own, VariantMemory)>
+        ensures some { IsSome result ↔ (p < self.now.layout.procs) }
+        ensures own { IfSome result (λ r. slice_get self.now.words p ≡ Some r.0) }
+        ensures memory { IfSome result (λ r. with_variant_memory (stand_at self.now.processes p) r.1 ≡ stand_at self.now.processes p) }
+    {
+        if p >= self.layout.procs {
+            return None;
+        }
+        let memory = self.processes[p as usize].seam_memory();
+        Some((self.words[p as usize], memory))
+    }
+
+    /// A seam of this workspace, as `seam_cells`, the other way: these are the data words from now on, in the memory that is
+    /// there. It answers false and changes nothing where they are not as many as the sizes say.
+    pub fn seam_set_cells(&mut self, cells: &[u64]) -> bool
+        ensures set { IsTrue result → self.new ≡ record self.old { cells = cells.now } }
+        ensures same { result ≡ false → self.new ≡ self.old }
+        ensures length { IsTrue result ↔ (length cells.now ≡ size self.old.layout) }
+    {
+        if cells.len() != self.cells.len() {
+            return false;
+        }
+        self.cells.copy_from_slice(cells);
+        true
+    }
+
+    /// A seam of this workspace, as `seam_process`, the other way: these are the lock words of process p and its private
+    /// memory from now on. It answers false and changes nothing where there is no process p, or where that can't take it.
+    pub fn seam_set_process(&mut self, p: u64, own: Own, memory: &VariantMemory) -> bool
+        ensures set { IsTrue result → self.new ≡ with_process self.old p own memory.now }
+        ensures same { result ≡ false → self.new ≡ self.old }
+        ensures held { IsTrue result ↔ ((p < self.old.layout.procs) × Held memory.now.process.errand (place_of self.old.layout.procs p memory.now.process.stage)) }
+    {
+        if p >= self.layout.procs {
+            return false;
+        }
+        if !self.processes[p as usize].seam_set(memory) {
+            return false;
+        }
+        self.words[p as usize] = own;
+        true
     }
 }
 

@@ -22,7 +22,7 @@ least-agree (suc n) t u same =
     ap (λ b. if b then 0 else suc (least n (λ k. t (suc k)))) (same 0 (omega arith))
     ∙ ap (λ m. if u 0 then 0 else suc m) (least-agree n (λ k. t (suc k)) (λ k. u (suc k)) (λ k l. same (suc k) (omega arith)))
 
-row-agree : (n : ℕ) (a b : Abstract) (d : Outer) → lock_doer d < n → Agree n a b → row n a d ≡ row n b d
+pub row-agree : (n : ℕ) (a b : Abstract) (d : Outer) → lock_doer d < n → Agree n a b → row n a d ≡ row n b d
 row-agree n a b (Begin p) l h = ap (λ x. (is_out x, OutOfPlace) ∷ []) (h.phases p l)
 row-agree n a b (IsReady p) l h = ap (λ x. (is_door x, OutOfPlace) ∷ []) (h.phases p l)
 row-agree n a b (Enter p) l h =
@@ -88,7 +88,7 @@ Legal-agree n a b (d ∷ ds) h legal =
     let l = ltb-true (lock_doer d) n legal.0.0 in
     ((legal.0.0, subst AllHold (row-agree n a b d l h) legal.0.1), Legal-agree n (done a d) (done b d) ds (done-agree n a b d l h) legal.1)
 
-after-agree : (n : ℕ) (a b : Abstract) (d : Deed) → doer d < n → Agree n a b → Agree n (lock_after a d) (lock_after b d)
+pub after-agree : (n : ℕ) (a b : Abstract) (d : Deed) → doer d < n → Agree n a b → Agree n (lock_after a d) (lock_after b d)
 after-agree n a b (deed.Outer d) l h = done-agree n a b d l h
 after-agree n a b (deed.Commit p seq v) l h = h
 after-agree n a b (deed.Show p at seq v) l h = h

@@ -2,6 +2,7 @@ pub mod Steps
 pub mod Least
 pub mod Histories
 pub mod Bits
+pub mod RowWords
 pub mod Writes
 pub mod Counts
 pub mod Inside
@@ -12,3 +13,4 @@ pub mod Sets
 pub mod Starts
 pub mod Halves
 pub mod Agreement
+pub mod AlikeStates

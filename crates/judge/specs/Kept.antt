@@ -1,11 +1,12 @@
 -- What a judge keeps. The ahead sets are rows of bits, one for each process.
-use Rattle.std.specs.Prelude.{◌≡◌, ℕ, ◌<◌, ◌≤◌, Bool, true, List, length, slice_index, slice_index_or, Option, is_some, if◌then◌else◌}
+use Rattle.std.specs.Prelude.{◌≡◌, ℕ, zero, suc, ◌+◌, ◌*◌, ◌^◌, ◌<◌, ◌≤◌, Bool, true, List, length, slice_index, slice_index_or, Option, is_some, if◌then◌else◌}
 use Rattle.std.specs.Int.{bit_at}
 use Rattle.rmecore.specs.declared.phase.Phase.{Phase}
 use Rattle.redomail.specs.declared.message.Message.{Message}
 use Rattle.redomail.specs.declared.deed.Deed.{Deed}
 use Rattle.redomail.specs.declared.deed.Deed.TheVariants as deed
 use Rattle.redomail.specs.Mailbox.{doer}
+use Rattle.judge.specs.declared.mail_part.MailPart.{MailPart}
 
 -- all of a state but the messages shown, of which it is kept how many there are, and how many of each sender
 pub record Kept : Type 0 where
@@ -50,3 +51,23 @@ HasRoom k (deed.Commit p seq v) = (p < k.procs) × (k.shown < k.cap)
 HasRoom k (deed.Show p at seq v) = (p < k.procs) × (is_some k.pending ≡ true)
 HasRoom k (deed.Close p) = p < k.procs
 HasRoom k (deed.Ruin p) = p < k.procs
+
+-- the number whose first n bits are the function's values, and that has no others
+abbrev pub row_word : ℕ → (ℕ → Bool) → ℕ
+row_word zero f = 0
+row_word (suc n) f = (if f n then 1 else 0) * 2 ^ n + row_word n f
+
+-- a judge of the same size that keeps this
+abbrev pub told : Kept → List Phase → List ℕ → List ℕ → MailPart → Kept
+told k phases ahead counts mail =
+    record {
+      procs = k.procs;
+      cap = k.cap;
+      phases = phases;
+      ahead = ahead;
+      counts = counts;
+      shown = mail.shown;
+      pending = mail.pending;
+      closed = mail.closed;
+      ruined = mail.ruined;
+    }

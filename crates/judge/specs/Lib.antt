@@ -6,4 +6,5 @@ pub mod Plain
 pub mod Starts
 pub mod PlainFrom
 pub mod Halves
+pub mod Alike
 pub mod View

@@ -1,6 +1,6 @@
 //! The judge at work: it is fed one deed after another, and takes no memory for it.
 
-ghost use Rattle.std.specs.Prelude.{◌≡◌, ℕ, ◌+◌, ◌==◌, count_by, nat_lt, length, ◌<◌, ◌≤◌, ◌↔◌, ◌⊎◌, Bool, true, is_some, List, [], ◌∷◌, ◌++◌, IfNone, IsTrue, IfOk, IfErr, IsErrOf, MatchResult, OnErr, OnOk, Ok, Err, false};
+ghost use Rattle.std.specs.Prelude.{◌≡◌, ℕ, ◌+◌, ◌==◌, count_by, nat_lt, length, ◌<◌, ◌≤◌, ◌↔◌, ◌⊎◌, Bool, true, is_some, List, [], ◌∷◌, ◌++◌, IfNone, IfSome, IsSome, All, slice_index, IsTrue, IfOk, IfErr, IsErrOf, MatchResult, OnErr, OnOk, Ok, Err, false};
 ghost use Rattle.rmecore.specs.AbstractLock.{is_inside, is_dead_in, doer as lock_doer};
 ghost use Rattle.rmecore.specs.Needs.{put, least, none_below, first_fault as fault_of};
 ghost use Rattle.redomail.specs.Mailbox.{is_by, is_pending as is_pending_in, doer as doer_of};
@@ -10,6 +10,7 @@ ghost use Rattle.judge.specs.Kept.{HasRoom};
 ghost use Rattle.judge.specs.Stands.{Keeps, StandsAfter};
 ghost use Rattle.judge.specs.Starts.{state_of, IsStart, IsWithin, LockHolds, MailHolds};
 
+use crate::mail_part::MailPart;
 use crate::start::Start;
 use crate::{place, rows, shape};
 use redomail::{Deed, Message};
@@ -355,5 +356,105 @@ impl Judge {
         }
         self.take(&deed);
         Ok(())
+    }
+}
+
+// None of the counts is above this.
+fn all_within(counts: &[u64], most: u64) -> bool
+    ensures { IsTrue result ↔ ((p : ℕ) → p < length counts.now → slice_index counts.now p ≤ most) }
+{
+    for count in counts {
+        if *count > most {
+            return false;
+        }
+    }
+    true
+}
+
+impl Judge {
+    ghost use Rattle.judge.specs.Kept.{IsSound, row_word, told};
+
+    /// How many processes it judges.
+    pub fn procs(&self) -> u64
+        ensures { result ≡ self.now.procs }
+    {
+        self.procs
+    }
+
+    /// A seam of this workspace, for who writes states down: where each process is.
+    pub fn seam_phases(&self) -> &[Phase]
+        ensures { result.now ≡ self.now.phases }
+    {
+        self.phases.as_slice()
+    }
+
+    /// A seam of this workspace, as `seam_phases`: how many messages of each process are shown.
+    pub fn seam_counts(&self) -> &[u64]
+        ensures { result.now ≡ self.now.counts }
+    {
+        self.counts.as_slice()
+    }
+
+    /// A seam of this workspace, as `seam_phases`: who is ahead of p, as a row of bits. Judges that keep the same state have
+    /// the same row here.
+    pub fn seam_ahead(&self, p: u64) -> Option<u64>
+        ensures some { IsSome result ↔ (p < self.now.procs) }
+        ensures row { (s : State) → Keeps self.now s → IfSome result (λ row. row ≡ row_word s.procs (s.lock.ahead p)) }
+    {
+        if p >= self.procs {
+            return None;
+        }
+        Some(rows::only_first(self.ahead[p as usize], self.procs))
+    }
+
+    /// A seam of this workspace, as `seam_phases`: what it keeps of the mailbox.
+    pub fn seam_mail(&self) -> MailPart
+        ensures { result ≡ record { shown = self.now.shown; pending = self.now.pending; closed = self.now.closed; ruined = self.now.ruined } }
+    {
+        MailPart {
+            shown: self.shown,
+            pending: self.pending,
+            closed: self.closed,
+            ruined: self.ruined,
+        }
+    }
+
+    /// Whether a judge of this size may keep this.
+    fn may_keep(&self, phases: &[Phase], ahead: &[u64], counts: &[u64], mail: &MailPart) -> bool
+        ensures { IsTrue result ↔ IsSound (told self.now phases.now ahead.now counts.now mail.now) }
+    {
+        let n = self.procs as usize;
+        phases.len() == n
+            && ahead.len() == n
+            && counts.len() == n
+            && mail.shown <= self.cap
+            && (mail.pending.is_none() || mail.shown < self.cap)
+            && all_within(counts, mail.shown)
+    }
+
+    /// A seam of this workspace, the other way: the judge keeps this from now on, in the memory that it has. It answers false
+    /// and stays as it is where no judge of its size keeps that. It takes any such state, also one that no deeds lead to.
+    pub fn seam_set(
+        &mut self,
+        phases: &[Phase],
+        ahead: &[u64],
+        counts: &[u64],
+        mail: &MailPart,
+    ) -> bool
+        ensures set { IsTrue result → self.new ≡ told self.old phases.now ahead.now counts.now mail.now }
+        ensures same { result ≡ false → self.new ≡ self.old }
+        ensures sound { IsTrue result ↔ IsSound (told self.old phases.now ahead.now counts.now mail.now) }
+    {
+        if !self.may_keep(phases, ahead, counts, mail) {
+            return false;
+        }
+        self.phases.copy_from_slice(phases);
+        self.ahead.copy_from_slice(ahead);
+        self.counts.copy_from_slice(counts);
+        self.shown = mail.shown;
+        self.pending = mail.pending;
+        self.closed = mail.closed;
+        self.ruined = mail.ruined;
+        true
     }
 }

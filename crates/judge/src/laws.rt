@@ -1,15 +1,18 @@
 //! Laws over every list of deeds. Each is the contract of a function that does nothing.
 
-ghost use Rattle.std.specs.Prelude.{◌≡◌, ◌<◌, ◌↔◌, ℕ, List, [], ◌∷◌, ◌++◌, map, Ok};
+ghost use Rattle.std.specs.Prelude.{◌≡◌, ◌<◌, ◌^◌, ◌↔◌, ℕ, Bool, List, [], ◌∷◌, ◌++◌, map, Ok};
 ghost use Rattle.rmecore.specs.AbstractLock.{Abstract, Legal};
-ghost use Rattle.rmecore.specs.Needs.{AllHold};
+ghost use Rattle.rmecore.specs.Needs.{AllHold, first_fault};
 ghost use Rattle.rmecore.specs.Place.{Event};
 ghost use Rattle.rmecore.specs.World.{at_rest, Run, deeds};
 ghost use Rattle.redomail.specs.Mailbox.{doer};
+ghost use Rattle.judge.specs.Alike.{AreAlike};
 ghost use Rattle.judge.specs.Halves.{outers, MailAllows, all_after, Agree};
+ghost use Rattle.judge.specs.Kept.{Kept, HasBits, row_word};
 ghost use Rattle.judge.specs.Legal.{Leads, IsLegal};
 ghost use Rattle.judge.specs.Plain.{IsPlain, LockInOrder};
 ghost use Rattle.judge.specs.PlainFrom.{IsPlainFrom};
+ghost use Rattle.judge.specs.Stands.{Keeps};
 ghost use Rattle.judge.specs.Starts.{state_of, IsStart};
 ghost use Rattle.judge.specs.Table.{State, lock_needs, mail_needs, needs, after, judged};
 
@@ -58,4 +61,17 @@ pub fn histories_grow()
 pub fn only_the_processes_count()
     ensures lock { (n : ℕ) (a b : Abstract) (deeds : List Outer) → Agree n a b → Legal n a deeds → Legal n b deeds }
     ensures history { (s t : State) (b : Abstract) (history : List Deed) → Agree s.procs s.lock b → Leads s history t → Leads (record s { lock = b }) history (all_after (record s { lock = b }) history) }
+{}
+
+/// The number of a row of bits has these bits, and no others.
+pub fn rows_are_told()
+    ensures bits { (n : ℕ) (f : ℕ → Bool) → HasBits (row_word n f) n f }
+    ensures below { (n : ℕ) (f : ℕ → Bool) → row_word n f < 2 ^ n }
+{}
+
+/// States that are alike have the same verdicts on every deed, and stay alike. So are any two that one judge keeps.
+pub fn alike_states_stay_alike()
+    ensures kept { (judge : Kept) (s t : State) → Keeps judge s → Keeps judge t → AreAlike s t }
+    ensures verdict { (s t : State) (d : Deed) → AreAlike s t → first_fault (needs s d) ≡ first_fault (needs t d) }
+    ensures after { (s t : State) (d : Deed) → AreAlike s t → doer d < s.procs → AreAlike (after s d) (after t d) }
 {}

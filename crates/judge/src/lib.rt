@@ -4,6 +4,7 @@
 pub mod ahead;
 pub mod judge;
 pub mod laws;
+pub mod mail_part;
 pub mod messages;
 pub mod phases;
 mod place;
@@ -13,6 +14,7 @@ pub mod start;
 
 pub use ahead::Ahead;
 pub use judge::Judge;
+pub use mail_part::MailPart;
 pub use messages::Messages;
 pub use phases::Phases;
 pub use redomail::{Deed, Message};

@@ -4,7 +4,7 @@ ghost use Rattle.std.specs.Prelude.{◌≡◌, ◌≢◌, ℕ, ◌<◌, ◌≤�
 ghost use Rattle.std.specs.Int.{bit_at};
 ghost use Rattle.rmecore.specs.Needs.{least, put};
 ghost use Rattle.rmecore.specs.AbstractLock.{is_ready};
-ghost use Rattle.judge.specs.Kept.{Lists, HasBits, HasRows};
+ghost use Rattle.judge.specs.Kept.{Lists, HasBits, HasRows, row_word};
 ghost use Rattle.judge.specs.Starts.{is_named};
 
 use crate::place;
@@ -30,6 +30,14 @@ pub(crate) fn least_in(row: u64, procs: u64) -> u64
         }
     }
     procs
+}
+
+/// The row with no bits but those of the processes.
+pub(crate) fn only_first(row: u64, procs: u64) -> u64
+    requires { procs ≤ 64 }
+    ensures { (f : ℕ → Bool) → HasBits row procs f → result ≡ row_word procs f }
+{
+    if procs < 64 { row % (1 << procs) } else { row }
 }
 
 /// The row with at most this one bit.

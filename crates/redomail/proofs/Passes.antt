@@ -1,5 +1,5 @@
 -- The shape passes from one process inside to the next, where one may leave.
-use Rattle.std.specs.Prelude.{true, false, None, is_none}
+use Rattle.std.specs.Prelude.{true, None, is_none}
 use Rattle.std.proofs.Common.{◌≡◌, ℕ, refl, sym, ◌∙◌, inl, inr, arith}
 use Rattle.std.proofs.lemmas.Bool.{cases_Bool, or_right, true≢false}
 use Rattle.redomail.specs.declared.layout.Layout.{Layout}

@@ -1,6 +1,8 @@
 //! A task under way.
 
-ghost use Rattle.std.specs.Prelude.{◌≡◌, Some, None, IfOk, IfErr, OnOk};
+ghost use Rattle.std.specs.Prelude.{◌≡◌, ◌<◌, ◌↔◌, Some, None, IfSome, IsSome, IfOk, IfErr, OnOk};
+ghost use Rattle.redomail.specs.Jobs.{FitsStage};
+ghost use Rattle.redomail.specs.Layout.{IsLayout};
 ghost use Rattle.redomail.specs.Refusals.{refused as refusal_of};
 ghost use Rattle.redomail.specs.Runs.{StepKept};
 ghost use Rattle.redomail.specs.Script.{head, tail};
@@ -77,6 +79,43 @@ impl Job {
         ensures exact { self.new ≡ fed self.old value }
     {
         self.stage = self.stage.after(self.layout, self.sender, value);
+    }
+
+    /// The sizes of its mailbox.
+    pub fn layout(&self) -> Layout
+        ensures { result ≡ self.now.layout }
+    {
+        self.layout
+    }
+
+    /// Whose task it is.
+    pub fn sender(&self) -> u64
+        ensures { result ≡ self.now.sender }
+    {
+        self.sender
+    }
+
+    /// A seam of this workspace, for who writes the states of processes down: how far the job has come.
+    pub fn seam_stage(&self) -> Stage
+        ensures { result ≡ self.now.stage }
+    {
+        self.stage
+    }
+
+    /// A seam of this workspace, as `seam_stage`, the other way: a job of these sizes and this process that has come so far,
+    /// if there is one. It takes any stage, also one that no word leads to.
+    pub fn seam_at(layout: Layout, sender: u64, stage: Stage) -> Option<Job>
+        ensures at { IfSome result (λ job. job ≡ record { layout = layout; sender = sender; stage = stage }) }
+        ensures some { IsSome result ↔ (IsLayout layout × (sender < layout.procs) × FitsStage layout stage) }
+    {
+        if !layout.is_lawful() || sender >= layout.procs || !stage.fits(layout) {
+            return None;
+        }
+        Some(Job {
+            layout,
+            sender,
+            stage,
+        })
     }
 }
 

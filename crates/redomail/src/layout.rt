@@ -1,7 +1,7 @@
 //! Where the data words stand.
 
-ghost use Rattle.std.specs.Prelude.{◌≡◌, ◌+◌, ◌<◌, ◌≤◌, ◌^◌};
-ghost use Rattle.redomail.specs.Layout.{held, place_at, size, last_at as last_index, board_at as board_index};
+ghost use Rattle.std.specs.Prelude.{◌≡◌, ◌+◌, ◌<◌, ◌≤◌, ◌^◌, ◌↔◌, IsTrue};
+ghost use Rattle.redomail.specs.Layout.{IsLayout, held, place_at, size, last_at as last_index, board_at as board_index};
 
 /// Where the data words stand: for so many processes (1 to 64), so many places (1 to 65,536), and values of so many words
 /// (1 to 8). A layout outside these limits has indexes too, held at the greatest u64.
@@ -24,6 +24,13 @@ pub const ARMED: u64 = 3;
 pub const RECORD: u64 = 4;
 
 impl Layout {
+    /// Whether a mailbox may have these sizes.
+    pub(crate) fn is_lawful(&self) -> bool
+        ensures { IsTrue result ↔ IsLayout self.now }
+    {
+        self.procs <= 64 && self.cap <= 65_536 && self.width >= 1 && self.width <= 8
+    }
+
     /// The index of a word of the board.
     pub fn board(&self, i: u64) -> u64
         requires narrow { self.now.width ≤ 8 }

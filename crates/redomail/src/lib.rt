@@ -10,9 +10,9 @@ pub mod laws;
 pub mod layout;
 pub mod message;
 pub mod next;
-mod record;
+pub mod record;
 pub mod reply;
-mod stage;
+pub mod stage;
 pub mod task;
 
 pub use cells::{Cells, Stop, run_task};

@@ -9,7 +9,7 @@ use rmecore::Body;
 
 /// The redo record: where the message goes, its number and its value.
 #[derive(Clone, Copy)]
-pub(crate) struct Record {
+pub struct Record {
     pub at: u64,
     pub seq: u64,
     pub value: Body,

@@ -1,6 +1,6 @@
 //! How far a job has come.
 
-ghost use Rattle.std.specs.Prelude.{◌≡◌, ℕ, ◌<◌, ◌+◌, None, length, slice_set};
+ghost use Rattle.std.specs.Prelude.{◌≡◌, ℕ, ◌<◌, ◌+◌, ◌↔◌, None, IsTrue, length, slice_set};
 ghost use Rattle.redomail.specs.Layout.{IsLayout};
 ghost use Rattle.redomail.specs.Jobs.{FitsStage, left_at};
 ghost use Rattle.redomail.specs.Refusals.{refused};
@@ -17,7 +17,7 @@ use rmecore::Body;
 
 /// How far a job has come: what it does next, with what it knows.
 #[derive(Clone, Copy)]
-pub(crate) enum Stage {
+pub enum Stage {
     /// An append asks whether the mailbox is closed, with its number and its value.
     AskClosed(u64, Body),
     /// It asks for count, and knows closed.
@@ -60,6 +60,31 @@ impl Stage {
             Task::BoardPut(i, v) => Stage::PutBoard(i, v),
             Task::Ruin => Stage::PutRuined,
             Task::Check => Stage::AskRuined,
+        }
+    }
+
+    /// Whether a job of these sizes may have come here.
+    pub(crate) fn fits(&self, layout: Layout) -> bool
+        requires { IsLayout layout }
+        ensures { IsTrue result ↔ FitsStage layout self.now }
+    {
+        match *self {
+            Stage::AskClosed(_, value)
+            | Stage::AskCount(_, value, _)
+            | Stage::AskLast(_, value, _, _) => { value.width() == layout.width }
+            Stage::AskValue(_, _, words, read) => is_short(layout, words, read),
+            Stage::Write(record, step, _) => {
+                record.value.width() == layout.width && step < 8 + 2 * layout.width
+            }
+            Stage::GetBoard(i) | Stage::PutBoard(i, _) => i < 4,
+            Stage::AskArmed
+            | Stage::AskAt
+            | Stage::AskSeq(_)
+            | Stage::AskOpen
+            | Stage::PutClosed
+            | Stage::PutRuined
+            | Stage::AskRuined
+            | Stage::Ended(_) => true,
         }
     }
 
@@ -127,6 +152,15 @@ impl Stage {
             Stage::Ended(reply) => Stage::Ended(reply),
         }
     }
+}
+
+// A repair that has read this many words into this room has one to read yet.
+fn is_short(layout: Layout, words: [u64; 8], read: u64) -> bool
+    ensures short { IsTrue result ↔ (read < layout.width) }
+    ensures room { length words ≡ 8 }
+{
+    let _ = words;
+    read < layout.width
 }
 
 // A repair that was given one more word of the record's value.

@@ -8,6 +8,7 @@ pub mod Answered
 pub mod Refused
 pub mod Errands
 pub mod Stand
+pub mod Seams
 pub mod World
 pub mod ImageWiden
 pub mod WideWords

@@ -2,25 +2,22 @@
 //! words while it is inside. It knows no shared word: it says which one it loads or stores next, and is fed with what was
 //! read. The world and the running lock run this machine over their words.
 
-ghost use Rattle.std.specs.Prelude.{◌≡◌, ◌==◌, true, false, not, if◌then◌else◌, [], ◌∷◌, Some, None, IfSome, OnOk, OnErr, IfErr, IsErrOf, is_none};
-ghost use Rattle.rmecore.specs.Place.{Inside, Leaving, started as lock_started};
-ghost use Rattle.rmecore.specs.Refused.{start_refusal as lock_refusal};
-ghost use Rattle.rmecore.specs.Machine.{after_access, at_scan, progress, next_access as lock_access, IsAllowed as IsLockAllowed};
-ghost use Rattle.redomail.specs.Left.{left, begun};
+ghost use Rattle.std.specs.Prelude.{◌≡◌, ◌==◌, true, false, not, if◌then◌else◌, [], ◌∷◌, Some, None, IfSome, OnOk, OnErr, IfErr, IsErrOf, IsTrue, ◌↔◌, is_none};
+ghost use Rattle.rmecore.specs.Place.{Inside};
+ghost use Rattle.rmecore.specs.Machine.{at_scan, progress, next_access as lock_access};
 ghost use Rattle.redomail.specs.Refusals.{refused};
-ghost use Rattle.rmeworld.specs.Spot.{mended_entered};
 ghost use Rattle.rmeworld.specs.Whys.{task_of};
-ghost use Rattle.rmeworld.specs.Entered.{is_entry, mended_done, checks_done};
+ghost use Rattle.rmeworld.specs.Errands.{Held};
 ghost use Rattle.rmeworld.specs.Refused.{first_cause, Needs, is_inside, is_waiting};
 
 use crate::call::Call;
-use crate::errand::Errand;
+use crate::errand::{Errand, check_next, job};
+use crate::lock_part::{begin_lock, leave, lock_scan, lock_step};
 use crate::outcome::{Outcome, asked, job_outcome, lock_outcome};
+use crate::private_memory::PrivateMemory;
 use crate::why::Why;
 use redomail::{Job, Layout, Next, Reply, Task};
-use rmecore::{
-    Access, CoreCall, CoreDone, Found, Kind, LockProcess, Progress, Refusal, Scan, Stage, Word,
-};
+use rmecore::{Access, CoreCall, Kind, LockProcess, Progress, Refusal, Scan, Stage, Word};
 use std::fmt;
 use std::marker::Model;
 
@@ -62,6 +59,7 @@ impl Process {
     ghost use Rattle.rmecore.specs.Machine.{word_of, place_of};
     ghost use Rattle.rmeworld.specs.Spot.{next_spot, Begins};
     ghost use Rattle.rmeworld.specs.Refused.{start_refusal, is_idle};
+    ghost use Rattle.rmeworld.specs.Seams.{with_memory};
     ghost use Rattle.rmeworld.specs.Stand.{IsSize, Stand, standing, spot_of, resting, crashed, stepped, started, works, ended_by, next_access, spot_after, outcome, IsAllowed, IsLeast, InWords, StoresOwn};
 
     /// A process at rest, of a world of this size.
@@ -234,6 +232,36 @@ impl Process {
         let mended = &mut self.mended;
         *mended = true;
         self.lock.seam_stand(Stage::Inside);
+    }
+
+    /// A seam of this workspace, for who writes the states of processes down: the private memory.
+    pub fn seam_memory(&self) -> PrivateMemory
+        ensures { with_memory self.now result ≡ self.now }
+    {
+        PrivateMemory {
+            stage: self.lock.stage(),
+            mended: self.mended,
+            barred: self.barred,
+            errand: self.errand,
+        }
+    }
+
+    /// A seam of this workspace, as `seam_memory`, the other way: this is the private memory from now on. It answers false
+    /// and changes nothing where a process has something to do with the data words and is not inside, or is done with it. It
+    /// takes any other memory, also one that no step leads to.
+    pub fn seam_set(&mut self, memory: &PrivateMemory) -> bool
+        ensures set { IsTrue result → self.new ≡ with_memory self.old memory.now }
+        ensures same { result ≡ false → self.new ≡ self.old }
+        ensures held { IsTrue result ↔ Held memory.now.errand (place_of self.old.layout.procs self.old.index memory.now.stage) }
+    {
+        if !memory.is_held() {
+            return false;
+        }
+        self.lock.seam_stand(memory.stage);
+        self.mended = memory.mended;
+        self.barred = memory.barred;
+        self.errand = memory.errand;
+        true
     }
 
     /// Starts a lock, if it is at rest or has crashed and no call is under way. Elsewhere it answers false, and `start` says
@@ -467,83 +495,4 @@ fn only(holds: bool, refusal: Refusal) -> Result<(), Refusal>
     ensures refused { IfErr result (λ e. (holds ≡ false) × (e ≡ refusal)) }
 {
     if holds { Ok(()) } else { Err(refusal) }
-}
-
-/// A task that a process of this size may be given.
-fn job(layout: Layout, sender: u64, task: Task) -> Job
-    requires { refused layout sender task ≡ None }
-    ensures { result ≡ begun layout sender task }
-{
-    match Job::new(layout, sender, task) {
-        Ok(job) => job,
-        Err(_) => unreachable!(),
-    }
-}
-
-/// A step of the lock's part: what it was, whether the process is mended then, and whether the ruin check comes next. Who
-/// enters by a lock checks, and who enters again is not mended.
-fn lock_step(lock: &mut LockProcess, mended: bool, value: u64) -> (Progress, bool, bool)
-    ensures lock { lock.new ≡ record lock.old { place = after_access lock.old (lock_access lock.old) value } }
-    ensures allowed { IfSome (lock_access lock.old) (IsLockAllowed lock.old) }
-    ensures progress { result.0 ≡ progress lock.old (lock_access lock.old) value }
-    ensures mended { result.1 ≡ mended_entered mended lock.old.place lock.new.place }
-    ensures checks { result.2 ≡ is_entry lock.old.place lock.new.place }
-{
-    let progress = lock.feed(value);
-    let (mended, checks) = entry(progress.done, mended);
-    (progress, mended, checks)
-}
-
-/// Behind an entry the ruin check comes next.
-fn check_next(errand: &mut Errand, layout: Layout, index: u64, checks: bool)
-    requires free { errand.old ≡ Errand.Free }
-    requires fits { refused layout index Task.Check ≡ None }
-    ensures { errand.new ≡ if checks then Errand.Doing Why.Checking (begun layout index Task.Check) else Errand.Free }
-{
-    if checks {
-        *errand = Errand::Doing(Why::Checking, job(layout, index, Task::Check));
-    }
-}
-
-/// A step of the lock's part in a scan that goes on, as `lock_step`.
-fn lock_scan(lock: &mut LockProcess, scan: Scan, mended: bool, value: u64) -> (Progress, bool, bool)
-    requires { at_scan lock.old scan ≡ lock.old }
-    ensures lock { lock.new ≡ record lock.old { place = after_access lock.old (lock_access lock.old) value } }
-    ensures allowed { IfSome (lock_access lock.old) (IsLockAllowed lock.old) }
-    ensures progress { result.0 ≡ progress lock.old (lock_access lock.old) value }
-    ensures mended { result.1 ≡ mended_entered mended lock.old.place lock.new.place }
-    ensures checks { result.2 ≡ is_entry lock.old.place lock.new.place }
-{
-    let progress = lock.scan_on(scan, value);
-    let (mended, checks) = entry(progress.done, mended);
-    (progress, mended, checks)
-}
-
-fn entry(done: Option<CoreDone>, mended: bool) -> (bool, bool)
-    ensures mended { result.0 ≡ mended_done mended done }
-    ensures checks { result.1 ≡ checks_done done }
-{
-    match done {
-        Some(CoreDone::In) => (true, true),
-        Some(CoreDone::InAgain) => (false, true),
-        Some(CoreDone::Found(Found::Inside)) => (false, false),
-        _ => (mended, false),
-    }
-}
-
-/// Starts a call of the lock's part.
-fn begin_lock(lock: &mut LockProcess, call: CoreCall)
-    requires { lock_refusal lock.old.place call ≡ None }
-    ensures same { lock.new ≡ record lock.old { place = lock.new.place } }
-    ensures started { lock_started lock.old.place call ≡ Some lock.new.place }
-{
-    let _ = lock.start(call);
-}
-
-/// Starts the exit.
-fn leave(lock: &mut LockProcess)
-    requires { lock.old.place ≡ Inside }
-    ensures { lock.new ≡ record lock.old { place = Leaving } }
-{
-    let _ = lock.start(CoreCall::Unlock);
 }

@@ -4,7 +4,7 @@ use Rattle.rmecore.specs.declared.progress.Progress.{Progress}
 use Rattle.rmeworld.specs.Spot.{mended_entered}
 use Rattle.rmeworld.specs.Entered.{is_entry, mended_done, checks_done}
 use Rattle.rmeworld.proofs.Entries.{all_entered}
-use Rattle.rmeworld.proofs.process.lock_step.Goals as goal
+use Rattle.rmeworld.proofs.lock_part.lock_step.Goals as goal
 
 pub returns-clause-mended : goal.returns-clause-mended
 returns-clause-mended c =

@@ -1,0 +1,73 @@
+//! Steps and starts of the lock's part of a process.
+
+ghost use Rattle.std.specs.Prelude.{◌≡◌, Some, IfSome};
+ghost use Rattle.rmecore.specs.Place.{Inside, Leaving, started as lock_started};
+ghost use Rattle.rmecore.specs.Refused.{start_refusal as lock_refusal};
+ghost use Rattle.rmecore.specs.Machine.{after_access, at_scan, progress, next_access as lock_access, IsAllowed as IsLockAllowed};
+ghost use Rattle.rmeworld.specs.Spot.{mended_entered};
+ghost use Rattle.rmeworld.specs.Entered.{is_entry, mended_done, checks_done};
+
+use rmecore::{CoreCall, CoreDone, Found, LockProcess, Progress, Scan};
+
+/// A step of the lock's part: what it was, whether the process is mended then, and whether the ruin check comes next. Who
+/// enters by a lock checks, and who enters again is not mended.
+pub(crate) fn lock_step(lock: &mut LockProcess, mended: bool, value: u64) -> (Progress, bool, bool)
+    ensures lock { lock.new ≡ record lock.old { place = after_access lock.old (lock_access lock.old) value } }
+    ensures allowed { IfSome (lock_access lock.old) (IsLockAllowed lock.old) }
+    ensures progress { result.0 ≡ progress lock.old (lock_access lock.old) value }
+    ensures mended { result.1 ≡ mended_entered mended lock.old.place lock.new.place }
+    ensures checks { result.2 ≡ is_entry lock.old.place lock.new.place }
+{
+    let progress = lock.feed(value);
+    let (mended, checks) = entry(progress.done, mended);
+    (progress, mended, checks)
+}
+
+/// A step of the lock's part in a scan that goes on, as `lock_step`.
+pub(crate) fn lock_scan(
+    lock: &mut LockProcess,
+    scan: Scan,
+    mended: bool,
+    value: u64,
+) -> (Progress, bool, bool)
+    requires { at_scan lock.old scan ≡ lock.old }
+    ensures lock { lock.new ≡ record lock.old { place = after_access lock.old (lock_access lock.old) value } }
+    ensures allowed { IfSome (lock_access lock.old) (IsLockAllowed lock.old) }
+    ensures progress { result.0 ≡ progress lock.old (lock_access lock.old) value }
+    ensures mended { result.1 ≡ mended_entered mended lock.old.place lock.new.place }
+    ensures checks { result.2 ≡ is_entry lock.old.place lock.new.place }
+{
+    let progress = lock.scan_on(scan, value);
+    let (mended, checks) = entry(progress.done, mended);
+    (progress, mended, checks)
+}
+
+/// What an answer of the lock's part says of the process: whether it is mended then, and whether it checks.
+fn entry(done: Option<CoreDone>, mended: bool) -> (bool, bool)
+    ensures mended { result.0 ≡ mended_done mended done }
+    ensures checks { result.1 ≡ checks_done done }
+{
+    match done {
+        Some(CoreDone::In) => (true, true),
+        Some(CoreDone::InAgain) => (false, true),
+        Some(CoreDone::Found(Found::Inside)) => (false, false),
+        _ => (mended, false),
+    }
+}
+
+/// Starts a call of the lock's part.
+pub(crate) fn begin_lock(lock: &mut LockProcess, call: CoreCall)
+    requires { lock_refusal lock.old.place call ≡ None }
+    ensures same { lock.new ≡ record lock.old { place = lock.new.place } }
+    ensures started { lock_started lock.old.place call ≡ Some lock.new.place }
+{
+    let _ = lock.start(call);
+}
+
+/// Starts the exit.
+pub(crate) fn leave(lock: &mut LockProcess)
+    requires { lock.old.place ≡ Inside }
+    ensures { lock.new ≡ record lock.old { place = Leaving } }
+{
+    let _ = lock.start(CoreCall::Unlock);
+}

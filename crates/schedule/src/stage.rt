@@ -63,7 +63,7 @@ impl Stage {
             },
             Stage::Judging(head, judge, hearing) => match read_deed(head.width, line) {
                 Ok(deed) => {
-                    hearing.hear(judge, deed);
+                    hearing.hear(judge, &deed);
                     Ok(())
                 }
                 Err(fault) => {

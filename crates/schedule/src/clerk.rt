@@ -79,6 +79,7 @@ impl Clerk {
     }
 
     /// Hears the judge on the deed, and writes it down with the answer.
+    #[inline(never)]
     fn record_all<W: Sink>(
         &mut self,
         judge: &mut Judge,

@@ -14,6 +14,7 @@ use judge::Judge;
 use rmeworld::Machine;
 
 /// At most n steps of p, until its call is answered.
+#[inline(never)]
 fn more_steps<M: Machine, W: Sink>(
     machine: &mut M,
     judge: &mut Judge,
@@ -64,6 +65,7 @@ fn take_steps<M: Machine, W: Sink>(
 }
 
 /// A crash of p.
+#[inline(never)]
 fn take_crash<M: Machine, W: Sink>(
     machine: &mut M,
     judge: &mut Judge,

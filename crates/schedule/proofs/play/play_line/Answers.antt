@@ -1,9 +1,8 @@
-use Rattle.std.proofs.Common.{◌∷◌, [], Err, refl, sym, ap, inr}
+use Rattle.std.proofs.Common.{Err, refl, ap, inr}
 use Rattle.std.proofs.lemmas.Result.{err_from_is_err_and}
 use Rattle.schedule.specs.Hearings.{bench}
 use Rattle.schedule.specs.Plays.{tape}
-use Rattle.schedule.specs.Runs.{Did}
-use Rattle.schedule.proofs.Playing.{played_none, told_some, unless_halts, plays_told, start_part, step_part, crash_part}
+use Rattle.schedule.proofs.Playing.{played_none, unless_halts, start_part, step_part, crash_part}
 use Rattle.schedule.proofs.play.play_line.Goals as goal
 
 pub returns-in_err-start-in-Start : goal.returns-in_err-start-in-Start

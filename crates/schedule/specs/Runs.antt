@@ -5,7 +5,6 @@ use Rattle.redomail.specs.declared.deed.Deed.{Deed}
 use Rattle.rmeworld.specs.declared.call.Call.{Call}
 use Rattle.rmeworld.specs.declared.answer.Answer.{Answer}
 use Rattle.rmeworld.specs.declared.stepped.Stepped.{Stepped}
-use Rattle.schedule.specs.declared.clerk.Tidings.{Tidings}
 use Rattle.schedule.specs.declared.line.Line.{Line}
 use Rattle.schedule.specs.declared.line.Line.TheVariants.{Start, Step, Crash}
 
@@ -25,9 +24,6 @@ answered p (Some answer) = Answered p answer ∷ []
 -- a step of p tells its deed, then its answer
 abbrev pub told_of : ℕ → Option Deed → Option Answer → List Told
 told_of p deed answer = did deed ++ answered p answer
-
-abbrev pub told_by : Tidings → List Told
-told_by tidings = told_of tidings.p tidings.deed tidings.answer
 
 abbrev pub deeds_of : List Told → List Deed
 deeds_of [] = []

@@ -4,7 +4,7 @@ ghost use Rattle.std.specs.Prelude.{◌≡◌, ◌++◌, ◌∷◌, [], None, If
 ghost use Rattle.schedule.specs.Hearings.{opened, bench, Hears};
 ghost use Rattle.schedule.specs.Plays.{tape, Tells, Writes, Halts};
 ghost use Rattle.schedule.specs.Reports.{told_text};
-ghost use Rattle.schedule.specs.Runs.{deeds_of, did, told_by};
+ghost use Rattle.schedule.specs.Runs.{deeds_of, did, told_of};
 
 use crate::answer::{put_answer, put_deed};
 use crate::device::{Sink, write_all};
@@ -16,14 +16,6 @@ use redomail::Deed;
 use rmeworld::Answer;
 use std::alloc::{AllocError, Global};
 use std::marker::Model;
-
-/// What a step or a crash of p tells.
-#[derive(Clone, Copy)]
-pub struct Tidings {
-    pub p: u64,
-    pub deed: Option<Deed>,
-    pub answer: Option<Answer>,
-}
 
 /// The hearing of the judge, and a page for lines that are not written yet.
 #[derive(Drop)]
@@ -65,44 +57,75 @@ impl Clerk {
         let Some(deed) = deed else {
             return;
         };
-        self.hearing.hear(judge, *deed);
+        self.hearing.hear(judge, deed);
     }
 
-    /// Writes down all that is told.
-    fn write<W: Sink>(&mut self, w: &mut W, tidings: &Tidings) -> Result<(), Halt>
-        ensures written { OnOk result (Writes (tape (W.taken w.old) (W.failures w.old)) (tape (W.taken w.new) (W.failures w.new)) (told_text (told_by tidings.now))) }
-        ensures halted { IfErr result (λ halt. Halts (tape (W.taken w.old) (W.failures w.old)) (tape (W.taken w.new) (W.failures w.new)) (told_text (told_by tidings.now)) None halt) }
+    /// Writes down the deed and the answer of p.
+    fn write<W: Sink>(
+        &mut self,
+        w: &mut W,
+        p: u64,
+        deed: &Option<Deed>,
+        answer: Option<Answer>,
+    ) -> Result<(), Halt>
+        ensures written { OnOk result (Writes (tape (W.taken w.old) (W.failures w.old)) (tape (W.taken w.new) (W.failures w.new)) (told_text (told_of p deed.now answer))) }
+        ensures halted { IfErr result (λ halt. Halts (tape (W.taken w.old) (W.failures w.old)) (tape (W.taken w.new) (W.failures w.new)) (told_text (told_of p deed.now answer)) None halt) }
         ensures same { self.new ≡ self.old }
     {
         self.page.clear();
-        put_told(&mut self.page, tidings)?;
+        put_told(&mut self.page, p, deed, answer)?;
         write_all(w, &self.page)?;
         Ok(())
     }
 
-    /// Hears the judge on the deed, and writes down all that is told.
+    /// Hears the judge on the deed, and writes it down with the answer.
+    #[inline(never)]
+    fn record_all<W: Sink>(
+        &mut self,
+        judge: &mut Judge,
+        w: &mut W,
+        p: u64,
+        deed: &Option<Deed>,
+        answer: Option<Answer>,
+    ) -> Result<(), Halt>
+        ensures { Tells (tape (W.taken w.old) (W.failures w.old)) (tape (W.taken w.new) (W.failures w.new)) (bench judge.old self.old) (bench judge.new self.new) (told_of p deed.now answer) result }
+    {
+        self.hear(judge, deed);
+        self.write(w, p, deed, answer)
+    }
+
+    /// Takes what a step or a crash of p tells. Most steps tell nothing.
     pub fn tell<W: Sink>(
         &mut self,
         judge: &mut Judge,
         w: &mut W,
-        tidings: &Tidings,
+        p: u64,
+        deed: &Option<Deed>,
+        answer: Option<Answer>,
     ) -> Result<(), Halt>
-        ensures { Tells (tape (W.taken w.old) (W.failures w.old)) (tape (W.taken w.new) (W.failures w.new)) (bench judge.old self.old) (bench judge.new self.new) (told_by tidings.now) result }
+        ensures { Tells (tape (W.taken w.old) (W.failures w.old)) (tape (W.taken w.new) (W.failures w.new)) (bench judge.old self.old) (bench judge.new self.new) (told_of p deed.now answer) result }
     {
-        self.hear(judge, &tidings.deed);
-        self.write(w, tidings)
+        if deed.is_none() && answer.is_none() {
+            return Ok(());
+        }
+        self.record_all(judge, w, p, deed, answer)
     }
 }
 
-fn put_told(page: &mut Vec<u8>, tidings: &Tidings) -> Result<(), AllocError>
-    ensures written { OnOk result (page.new.items ≡ page.old.items ++ told_text (told_by tidings.now)) }
-    ensures wanted { OnErr result (told_text (told_by tidings.now) ≡ [] → ⊥) }
+fn put_told(
+    page: &mut Vec<u8>,
+    p: u64,
+    deed: &Option<Deed>,
+    answer: Option<Answer>,
+) -> Result<(), AllocError>
+    ensures written { OnOk result (page.new.items ≡ page.old.items ++ told_text (told_of p deed.now answer)) }
+    ensures wanted { OnErr result (told_text (told_of p deed.now answer) ≡ [] → ⊥) }
 {
-    if let Some(deed) = &tidings.deed {
+    if let Some(deed) = deed {
         put_deed(page, deed)?;
     }
-    if let Some(answer) = tidings.answer {
-        put_answer(page, tidings.p, answer)?;
+    if let Some(answer) = answer {
+        put_answer(page, p, answer)?;
     }
     Ok(())
 }

@@ -29,11 +29,11 @@ impl Hearing {
     }
 
     /// Asks the judge, after deeds that were allowed.
-    fn ask(&mut self, judge: &mut Judge, deed: Deed)
+    fn ask(&mut self, judge: &mut Judge, deed: &Deed)
         requires { self.old.verdict ≡ Verdict.Fine }
-        ensures { Hears (bench judge.old self.old) (deed ∷ []) (bench judge.new self.new) }
+        ensures { Hears (bench judge.old self.old) (deed.now ∷ []) (bench judge.new self.new) }
     {
-        if let Err(fault) = judge.feed(deed) {
+        if let Err(fault) = judge.feed(*deed) {
             self.verdict = Verdict::Against {
                 at: self.number,
                 fault,
@@ -44,8 +44,8 @@ impl Hearing {
     }
 
     /// Hears the judge on the next deed.
-    pub fn hear(&mut self, judge: &mut Judge, deed: Deed)
-        ensures { Hears (bench judge.old self.old) (deed ∷ []) (bench judge.new self.new) }
+    pub fn hear(&mut self, judge: &mut Judge, deed: &Deed)
+        ensures { Hears (bench judge.old self.old) (deed.now ∷ []) (bench judge.new self.new) }
     {
         match self.verdict {
             Verdict::Fine => self.ask(judge, deed),

@@ -1,11 +1,11 @@
 //! The lines of a schedule, played on a machine.
 
-ghost use Rattle.std.specs.Prelude.{◌≡◌, ◌≤◌, None, Some};
+ghost use Rattle.std.specs.Prelude.{◌≡◌, ◌≤◌, ◌∷◌, [], None, Some};
 ghost use Rattle.schedule.specs.Hearings.{bench};
 ghost use Rattle.schedule.specs.Plays.{tape, Plays, Runs};
-ghost use Rattle.schedule.specs.Runs.{behaviour, steps, line_on, run_on};
+ghost use Rattle.schedule.specs.Runs.{Did, behaviour, steps, unless, line_on, run_on};
 
-use crate::clerk::{Clerk, Tidings};
+use crate::clerk::Clerk;
 use crate::device::Sink;
 use crate::halt::Halt;
 use crate::line::Line;
@@ -14,6 +14,7 @@ use judge::Judge;
 use rmeworld::Machine;
 
 /// At most n steps of p, until its call is answered.
+#[inline(never)]
 fn more_steps<M: Machine, W: Sink>(
     machine: &mut M,
     judge: &mut Judge,
@@ -32,12 +33,7 @@ fn more_steps<M: Machine, W: Sink>(
                 None => return Err(Halt::OutOfMemory),
             },
         };
-        let tidings = Tidings {
-            p,
-            deed: stepped.deed,
-            answer: stepped.answer,
-        };
-        clerk.tell(judge, w, &tidings)?;
+        clerk.tell(judge, w, p, &stepped.deed, stepped.answer)?;
         if stepped.answer.is_some() {
             return Ok(());
         }
@@ -58,16 +54,29 @@ fn take_steps<M: Machine, W: Sink>(
     ensures { Plays (tape (W.taken w.old) (W.failures w.old)) (tape (W.taken w.new) (W.failures w.new)) (bench judge.old clerk.old) (bench judge.new clerk.new) (steps (behaviour M.start_refusal M.started M.advance_refusal M.stepped M.advanced M.crash_refusal M.crash_deed M.crashed) p n machine.old).0 (steps (behaviour M.start_refusal M.started M.advance_refusal M.stepped M.advanced M.crash_refusal M.crash_deed M.crashed) p n machine.old).1 (M.advance_refusal machine.old p) machine.new result }
 {
     let stepped = machine.advance(p)?;
-    let tidings = Tidings {
-        p,
-        deed: stepped.deed,
-        answer: stepped.answer,
-    };
-    clerk.tell(judge, w, &tidings)?;
+    clerk.tell(judge, w, p, &stepped.deed, stepped.answer)?;
     if stepped.answer.is_some() {
         return Ok(());
     }
+    if n == 1 {
+        return Ok(());
+    }
     more_steps(machine, judge, clerk, w, p, n - 1)
+}
+
+/// A crash of p.
+#[inline(never)]
+fn take_crash<M: Machine, W: Sink>(
+    machine: &mut M,
+    judge: &mut Judge,
+    clerk: &mut Clerk,
+    w: &mut W,
+    p: u64,
+) -> Result<(), Halt>
+    ensures { let part = unless (M.crash_refusal machine.old p) machine.old (Did (M.crash_deed machine.old p) ∷ []) (M.crashed machine.old p) in Plays (tape (W.taken w.old) (W.failures w.old)) (tape (W.taken w.new) (W.failures w.new)) (bench judge.old clerk.old) (bench judge.new clerk.new) part.told part.left part.refused machine.new result }
+{
+    let deed = Some(machine.crash(p)?);
+    clerk.tell(judge, w, p, &deed, None)
 }
 
 /// One line.
@@ -86,15 +95,7 @@ fn play_line<M: Machine, W: Sink>(
             Ok(())
         }
         Line::Step(p, count) => take_steps(machine, judge, clerk, w, p, count.get()),
-        Line::Crash(p) => {
-            let deed = machine.crash(p)?;
-            let tidings = Tidings {
-                p,
-                deed: Some(deed),
-                answer: None,
-            };
-            clerk.tell(judge, w, &tidings)
-        }
+        Line::Crash(p) => take_crash(machine, judge, clerk, w, p),
     }
 }
 

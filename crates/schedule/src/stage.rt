@@ -43,6 +43,17 @@ fn begin(alloc: Global, line: &[u8]) -> Result<Stage, AllocError>
 }
 
 impl Stage {
+    /// Takes the first line. What this takes on the stack is not made ready at each other line.
+    #[inline(never)]
+    fn take_first(&mut self, alloc: Global, line: &[u8]) -> Result<(), AllocError>
+        requires { IsStage self.old }
+        ensures stage { IsStage self.new }
+        ensures stands { OnOk result (Stands self.new (line.now ∷ [])) }
+    {
+        *self = begin(alloc, line)?;
+        Ok(())
+    }
+
     /// Takes one more line, which has this number.
     pub fn take(&mut self, alloc: Global, number: u64, line: &[u8]) -> Result<(), AllocError>
         requires { IsStage self.old }
@@ -50,10 +61,7 @@ impl Stage {
         ensures stands { (lines : List (List ℕ)) → Stands self.old lines → number ≡ length lines + 1 → OnOk result (Stands self.new (lines ++ line.now ∷ [])) }
     {
         match self {
-            Stage::First => {
-                *self = begin(alloc, line)?;
-                Ok(())
-            }
+            Stage::First => self.take_first(alloc, line),
             Stage::Refused(head, _) => match read_deed(head.width, line) {
                 Ok(_) => Ok(()),
                 Err(fault) => {
@@ -63,7 +71,7 @@ impl Stage {
             },
             Stage::Judging(head, judge, hearing) => match read_deed(head.width, line) {
                 Ok(deed) => {
-                    hearing.hear(judge, deed);
+                    hearing.hear(judge, &deed);
                     Ok(())
                 }
                 Err(fault) => {

@@ -1,21 +1,14 @@
-use Rattle.std.proofs.Common.{◌∷◌, [], Err, refl, sym, ap, inr}
+use Rattle.std.proofs.Common.{Err, refl, ap, inr}
 use Rattle.std.proofs.lemmas.Result.{err_from_is_err_and}
 use Rattle.schedule.specs.Hearings.{bench}
 use Rattle.schedule.specs.Plays.{tape}
-use Rattle.schedule.specs.Runs.{Did}
-use Rattle.schedule.proofs.Playing.{played_none, told_some, unless_halts, plays_told, start_part, step_part, crash_part}
+use Rattle.schedule.proofs.Playing.{played_none, unless_halts, start_part, step_part, crash_part}
 use Rattle.schedule.proofs.play.play_line.Goals as goal
 
 pub returns-in_err-start-in-Start : goal.returns-in_err-start-in-Start
 returns-in_err-start-in-Start g c =
     let p = err_from_is_err_and c.from_residual.result c.from_residual.ensures.1 in
     rw (p.1, p.2, start_part _ c.args.machine.now c.args.line.now c.in-Start.p c.in-Start.call c.in-Start.is) (unless_halts _ _ _ _ _ _ _ c.in_err-start-in-Start.field-0.0 (inr c.in_err-start-in-Start.ensures.refused) (λ is. absurd (c.in_err-start-in-Start.ensures.memory (ap (λ e. Err e) is))) c.in_err-start-in-Start.ensures.err)
-
-pub returns-in_err-deed-in-Crash : goal.returns-in_err-deed-in-Crash
-returns-in_err-deed-in-Crash g c =
-    let p = err_from_is_err_and c.from_residual-in_err-deed-in-Crash.result c.from_residual-in_err-deed-in-Crash.ensures.1 in
-    rw (p.1, p.2, crash_part _ c.args.machine.now c.args.line.now c.in-Crash.p c.in-Crash.is) (unless_halts _ _ _ _ _ _ _ c.in_err-deed-in-Crash.field-0.0 c.in_err-deed-in-Crash.ensures.refused
-    (λ is. (c.in_err-deed-in-Crash.ensures.memory (ap (λ e. Err e) is), told_some (Did (g.M.Machine.crash_deed c.args.machine.now c.in-Crash.p)) [])) c.in_err-deed-in-Crash.ensures.err)
 
 pub returns-in_ok-start-in-Start : goal.returns-in_ok-start-in-Start
 returns-in_ok-start-in-Start g c =
@@ -26,7 +19,6 @@ pub returns-in-Step : goal.returns-in-Step
 returns-in-Step g c =
     rw (step_part _ c.args.machine.now c.args.line.now c.in-Step.p c.in-Step.count c.in-Step.is, ← c.get.ensures.value) c.take_steps.ensures
 
-pub returns-in_ok-deed-in-Crash : goal.returns-in_ok-deed-in-Crash
-returns-in_ok-deed-in-Crash g c =
-    rw (crash_part _ c.args.machine.now c.args.line.now c.in-Crash.p c.in-Crash.is, c.in_ok-deed-in-Crash.ensures.accepted)
-    (plays_told _ _ _ _ _ _ _ _ _ c.tell.result c.tell.ensures (ap (λ d. Did d ∷ []) (sym c.in_ok-deed-in-Crash.ensures.told)) c.in_ok-deed-in-Crash.ensures.ok refl)
+pub returns-in-Crash : goal.returns-in-Crash
+returns-in-Crash g c =
+    rw (crash_part _ c.args.machine.now c.args.line.now c.in-Crash.p c.in-Crash.is) c.take_crash.ensures

@@ -1,9 +1,10 @@
 use Rattle.std.proofs.Common.{◌≡◌, suc, ◌-◌, [], Err, refl, sym, ap, ◌∙◌, arith}
+use Rattle.std.proofs.lemmas.List.{append-nil}
 use Rattle.std.proofs.lemmas.Result.{err_from_is_err_and}
 use Rattle.schedule.specs.Hearings.{bench}
 use Rattle.schedule.specs.Reports.{told_text}
 use Rattle.schedule.specs.Runs.{told_of}
-use Rattle.schedule.proofs.Playing.{played_none, played_more, append_none, told_append, deed_some, refusal_halts, halts_further, never_stops, told_is, left_is, step_more, step_last, step_begun, step_refused, plays_all, plays_then}
+use Rattle.schedule.proofs.Playing.{played_none, played_more, append_none, told_append, deed_some, refusal_halts, halts_further, never_stops, told_is, left_is, step_more, step_last, step_begun, step_refused, steps_none, plays_all, plays_then}
 use Rattle.schedule.proofs.play.take_steps.Goals as goal
 
 pub returns-in_err-stepped : goal.returns-in_err-stepped
@@ -44,3 +45,13 @@ returns g c =
     plays_then _ _ _ _ _ _ told _ _ _ _ c.more_steps.result (played_more _ _ _ _ _ _ [] told (played_none _ (bench c.args.judge.now c.args.clerk.now)) c.in_ok-tell.ensures.0 c.in_ok-tell.ensures.1)
     (step_more _ c.args.p _ [] _ _ c.args.machine.now c.advance.new.self step refl count c.in_ok-stepped.ensures.accepted c.in_ok-stepped.ensures.told (grind arith) c.in_ok-stepped.ensures.ok)
     c.in_ok-stepped.ensures.accepted c.more_steps.ensures
+
+pub returns-then-n-eq1 : goal.returns-then-n-eq1
+returns-then-n-eq1 g c =
+    let count : c.args.n ≡ suc 0 = c.if-n-eq1.true in
+    let step = c.in_ok-stepped.stepped in
+    let told = told_of c.args.p step.deed step.answer in
+    let still = step_more _ c.args.p _ [] _ _ c.args.machine.now c.advance.new.self step refl count c.in_ok-stepped.ensures.accepted c.in_ok-stepped.ensures.told (grind arith) c.in_ok-stepped.ensures.ok in
+    plays_all _ _ _ _ _ told _ c.advance.new.self (played_more _ _ _ _ _ _ [] told (played_none _ (bench c.args.judge.now c.args.clerk.now)) c.in_ok-tell.ensures.0 c.in_ok-tell.ensures.1)
+    (still ∙ rw (steps_none _ c.args.p c.advance.new.self) (ap (λ xs. (xs, c.advance.new.self)) (append-nil told)))
+    c.in_ok-stepped.ensures.accepted

@@ -1,6 +1,15 @@
 -- A step where no call is under way, and what a step tells.
-use Rattle.std.proofs.Common.{◌≡◌, ℕ, Bool, true, false, if◌then◌else◌, is_none, length, Option, Some, None, refl, sym, ap, ◌∙◌, subst}
-use Rattle.rmecore.specs.Machine.{next_access as lock_access, after_access}
+use Rattle.std.proofs.Common.{◌≡◌, ℕ, ◌+◌, ◌==◌, not, Bool, true, false, if◌then◌else◌, is_none, length, Option, Some, None, refl, sym, ap, ◌∙◌, subst}
+use Rattle.rmecore.specs.Machine.{place_of, next_access as lock_access, after_access, progress}
+use Rattle.rmecore.specs.Place.{Place}
+use Rattle.rmecore.specs.declared.core_done.CoreDone.{CoreDone}
+use Rattle.rmecore.specs.declared.stage.Stage.{Stage}
+use Rattle.rmecore.proofs.Accesses.{all_allowed}
+use Rattle.redomail.specs.Layout.{held}
+use Rattle.rmeworld.specs.Answered.{by_lock}
+use Rattle.rmeworld.specs.Entered.{is_entry, mended_done, checks_done}
+use Rattle.rmeworld.specs.Spot.{mended_entered}
+use Rattle.rmeworld.proofs.Chores.{lock_outcome}
 use Rattle.rmecore.specs.declared.access.Access.{Access}
 use Rattle.redomail.specs.Left.{begun}
 use Rattle.redomail.specs.declared.task.Task.TheVariants.{Check}
@@ -9,14 +18,21 @@ use Rattle.rmeworld.specs.declared.errand.Errand.TheVariants.{Free as IsFree, Do
 use Rattle.rmeworld.specs.declared.outcome.Outcome.{Outcome}
 use Rattle.rmeworld.specs.declared.why.Why.TheVariants.{Checking}
 use Rattle.rmeworld.specs.Stand.{Stand, standing, stepped, lock_moved, next_access, outcome}
-use Rattle.rmeworld.proofs.Entries.{stays}
+use Rattle.rmeworld.proofs.Entries.{stays, all_entered}
 use Rattle.rme_c.specs.declared.position.Position.{Position}
 use Rattle.rme_c.specs.declared.position.Position.TheVariants.{Lost, Lock, Within}
 use Rattle.rme_c.specs.declared.process.RmeProcess.{RmeProcess}
-use Rattle.rme_c.specs.Codes.{told, told_by, told_as}
-use Rattle.rme_c.specs.Positions.{stand_at, stand_of, position_of, Fits}
-use Rattle.rme_c.specs.Steps.{answered, is_blocked}
+use Rattle.rme_c.specs.declared.answers.Told.{Told}
+use Rattle.rme_c.specs.declared.lock_part.Landing.{Landing}
+use Rattle.rme_c.specs.declared.process.RmeAccess.{RmeAccess}
+use Rattle.rme_c.specs.declared.process.RmePosition.{RmePosition}
+use Rattle.rme_c.specs.Codes.{told, told_by, told_as, shown}
+use Rattle.rme_c.specs.declared.chore.Chore.{Chore}
+use Rattle.rme_c.specs.Positions.{stand_at, stand_of, position_of, stage_now, stage_of, chore_of, by_parts, is_placed, layout_of, landing, Fits}
+use Rattle.rme_c.specs.Steps.{answered, is_blocked, IsStep, IsLanding, IsFed}
 use Rattle.rme_c.proofs.Arms.{has_chore}
+use Rattle.rme_c.proofs.Locks.{lands, has_errand}
+use Rattle.rme_c.proofs.Numbers.{stands}
 
 free_stays : (s : Stand) → s.errand ≡ IsFree → (o : Option Access) (v : ℕ) → is_none o ≡ true → lock_moved s (after_access (standing s) o v) ≡ s
 free_stays s free (Some a) v e = cc
@@ -56,3 +72,101 @@ pub feed_told : (p : RmeProcess) (x : Position) (v : ℕ) (a : Option Answer) (b
 feed_told p x v a b here busy answer blocked =
     subst (λ y. told_as a b ≡ told (stand_at p y) v) here
     ((λ i. told_as (answer i) (blocked i)) ∙ sym (busy_told (next_access (stand_at p x)) (outcome (stand_at p x) (next_access (stand_at p x)) v) busy))
+
+busy_at : (p : RmeProcess) (x : Position) → position_of p ≡ x → is_none (next_access (stand_at p x)) ≡ false → is_none (next_access (stand_of p)) ≡ false
+busy_at p x here busy = subst (λ y. is_none (next_access (stand_at p y)) ≡ false) (sym here) busy
+
+none_is : (o : Option Access) → is_none o ≡ true → o ≡ None
+none_is None e = refl
+none_is (Some a) e = cc
+
+-- where no call is under way
+pub idle_fed : (p : RmeProcess) (x : Position) (v : ℕ) → x ≡ position_of p → length p.value ≡ 8 → Fits p x → is_none (next_access (stand_at p x)) ≡ true → IsFed p v p (record { store = 0; place = 0; value = 0 }) 7
+idle_fed p x v here eight fits idle =
+    let idles : is_none (next_access (stand_of p)) ≡ true = subst (λ y. is_none (next_access (stand_at p y)) ≡ true) here idle in
+    let none : next_access (stand_of p) ≡ None = none_is (next_access (stand_of p)) idles in
+    record {
+      exact = feed_idle p x v here eight fits idle;
+      told = feed_idle_told p x v here idle;
+      next = sym (λ i. shown p.procs (outcome (stand_of p) (none i) v).answer (none i));
+      steps = rw idles refl;
+    }
+
+fits_landing : (p : RmeProcess) (q : RmePosition) (from to : Stage) (checks : Bool) → Fits p (Lock from) → Fits (record p { position = q }) (landing checks to)
+fits_landing p q from to true h = (h.0, (h.1, tt))
+fits_landing p q from to false h = h
+
+-- a step of the lock's part, by its landing
+module _ (p : RmeProcess) (t : Stage) (v : ℕ) (r : Landing) (q : RmeProcess) (a : RmeAccess) (code : ℕ) where
+  abbrev now : Stand
+  now = stand_at p (Lock t)
+
+  abbrev x : Position
+  x = landing (checks_done r.done) r.to
+
+  abbrev told_of : Option Answer
+  told_of = by_lock now.barred r.done
+
+  pub lands_fed : position_of p ≡ Lock t → Fits p (Lock t) → is_none (next_access now) ≡ false
+      → place_of p.procs p.index r.to ≡ after_access (standing now) (lock_access (standing now)) v
+      → r.done ≡ (progress (standing now) (lock_access (standing now)) v).done
+      → r.blocked ≡ (progress (standing now) (lock_access (standing now)) v).blocked
+      → IsLanding p r → q ≡ record p { unmended = r.unmended; position = r.position; steps = held (p.steps + 1) } → a ≡ r.next → code ≡ r.code
+      → IsFed p v q a code
+  lands_fed here fits busy place done blocked is same shows tells =
+      let to : Place = after_access (standing now) (lock_access (standing now)) v in
+      let enters = all_entered (standing now) v (all_allowed (standing now)) in
+      let mended : (r.unmended == 0) ≡ mended_entered now.mended now.lock to = is.mended ∙ ap (mended_done now.mended) done ∙ enters.1 now.mended in
+      let checks : checks_done r.done ≡ is_entry now.lock to = ap checks_done done ∙ enters.0 in
+      let at = lands p.procs p.index now.lock to r.to (checks_done r.done) checks place in
+      let errand = has_errand (layout_of p) p.index p.value now.lock to r.to (checks_done r.done) checks in
+      let outcomes = lock_outcome now v in
+      let q' : RmeProcess = record p { unmended = r.unmended; position = r.position; steps = held (p.steps + 1) } in
+      let stands' : position_of q' ≡ x = stands (record p { position = r.position }) x (fits_landing p r.position t r.to (checks_done r.done) fits) is.position in
+      let stepped' : stand_at q' x ≡ stepped now v =
+      λ i. record { layout = layout_of p; limit = p.limit; index = p.index; lock = at i; mended = mended i; barred = not (p.barred == 0); errand = errand i } in
+      let exact' : stand_of q' ≡ stepped now v = ap (λ y. stand_at q' y) stands' ∙ stepped' in
+      let answers : told_of ≡ (outcome now (next_access now) v).answer = ap (λ (d : Option CoreDone). by_lock now.barred d) done ∙ sym (ap (λ (o : Outcome). o.answer) outcomes) in
+      let blocks : r.blocked ≡ (outcome now (next_access now) v).progress.blocked = blocked ∙ sym (ap (λ (o : Outcome). o.progress.blocked) outcomes) in
+      let exact : stand_of q ≡ stepped (stand_of p) v =
+      ap stand_of same ∙ exact' ∙ ap (λ y. stepped (stand_at p y) v) (sym here) in
+      record {
+        exact = exact;
+        told = tells ∙ is.code ∙ feed_told p (Lock t) v told_of r.blocked (sym here) busy answers blocks;
+        next =
+            shows ∙ is.next
+            ∙ (λ i. shown p.procs (answers i) (next_access (stand_at p x)))
+            ∙ ap (λ (y : Position). shown p.procs (outcome (stand_at p y) (next_access (stand_at p y)) v).answer (next_access (stand_at p x))) (sym here)
+            ∙ ap (λ (s : Stand). shown p.procs (outcome (stand_of p) (next_access (stand_of p)) v).answer (next_access s)) (sym (ap stand_of same ∙ ap (λ y. stand_at q' y) stands'));
+        steps = rw (busy_at p (Lock t) here busy) (ap (λ (z : RmeProcess). z.steps) same);
+      }
+
+-- a step that is taken, written down as numbers, and told
+pub step_fed : (p : RmeProcess) (x : Position) (v : ℕ) (m q : RmeProcess) (y : Position) (t : Told) (a : RmeAccess) (code n : ℕ) (o : Option Access)
+    → position_of p ≡ x → is_none (next_access (stand_at p x)) ≡ false → IsStep p x v m y t
+    → position_of q ≡ y → stand_at q y ≡ stand_at m y → a ≡ shown n t.answer o → n ≡ p.procs → o ≡ next_access (stand_at q y)
+    → code ≡ told_as t.answer t.blocked → q.steps ≡ held (p.steps + 1) → IsFed p v q a code
+step_fed p x v m q y t a code n o here busy step there same shows procs wants tells steps =
+    record {
+      exact = ap (λ z. stand_at q z) there ∙ same ∙ step.exact ∙ ap (λ z. stepped (stand_at p z) v) (sym here);
+      told = tells ∙ feed_told p x v t.answer t.blocked (sym here) busy step.answer step.blocked;
+      next =
+          shows
+          ∙ (λ i. shown (procs i) (step.answer i) (wants i))
+          ∙ ap (λ (z : Position). shown p.procs (outcome (stand_at p z) (next_access (stand_at p z)) v).answer (next_access (stand_at q y))) (sym here)
+          ∙ ap (λ (z : Position). shown p.procs (outcome (stand_of p) (next_access (stand_of p)) v).answer (next_access (stand_at q z))) (sym there);
+      steps = rw (busy_at p x here busy) steps;
+    }
+
+lost : (c : Option Chore) (t : Stage) → by_parts None c ≡ Lock t → ⊥
+lost None t e = cc
+lost (Some c) t e = cc
+
+-- numbers that are no stage's are not in the lock's part
+pub no_lock : (p : RmeProcess) (t : Stage) → stage_now p ≡ None → position_of p ≡ Lock t → ⊥
+no_lock p t none at = by (is_placed p) (stage_of p.position) (chore_of (layout_of p) p.position) none at
+  where
+    by : (b : Bool) (s : Option Stage) (c : Option Chore) → (if b then s else None) ≡ None → (if b then by_parts s c else Lost) ≡ Lock t → ⊥
+    by false s c e at = cc
+    by true None c e at = lost c t at
+    by true (Some s) c e at = cc

@@ -4,7 +4,7 @@ use Rattle.rmecore.specs.declared.core_call.CoreCall.{CoreCall}
 use Rattle.rmecore.specs.declared.core_call.CoreCall.TheVariants.{Lock, Recover, Unlock, Withdraw}
 use Rattle.rmecore.specs.declared.stage.Stage.{Stage}
 use Rattle.rmecore.specs.declared.stage.Stage.TheVariants as stage
-use Rattle.rmecore.specs.Machine.{place_of}
+use Rattle.rmecore.specs.Machine.{Standing, place_of}
 use Rattle.rmecore.specs.Place.{Place, Dead, Inside}
 use Rattle.redomail.specs.declared.layout.Layout.{Layout}
 use Rattle.rmeworld.specs.declared.errand.Errand.{Errand}
@@ -95,6 +95,10 @@ layout_of p = record { procs = p.procs; cap = p.cap; width = p.width }
 abbrev pub is_placed : RmeProcess → Bool
 is_placed p = nat_lt p.index p.procs && nat_le p.procs 64
 
+-- the stage of the lock's part in which it stands, if it stands in one
+abbrev pub stage_now : RmeProcess → Option Stage
+stage_now p = if is_placed p then stage_of p.position else None
+
 -- where it stands
 abbrev pub position_of : RmeProcess → Position
 position_of p = if is_placed p then by_parts (stage_of p.position) (chore_of (layout_of p) p.position) else position.Lost
@@ -113,6 +117,10 @@ Fits p (position.Within c) = (p.index < p.procs) × ((p.procs ≤ 64) × FitsCho
 abbrev pub landing : Bool → Stage → Position
 landing true t = position.Within chore.Checking
 landing false t = position.Lock t
+
+-- what the lock's machine sees of the process at this stage
+abbrev pub standing_at : RmeProcess → Stage → Standing
+standing_at p t = record { procs = p.procs; limit = p.limit; index = p.index; place = place_of p.procs p.index t }
 
 abbrev pub lock_at : ℕ → ℕ → Position → Place
 lock_at n p position.Lost = Dead

@@ -1,11 +1,18 @@
 -- What a step from a position is.
-use Rattle.std.specs.Prelude.{◌≡◌, ℕ, Bool, Option}
+use Rattle.std.specs.Prelude.{◌≡◌, ℕ, ◌+◌, ◌==◌, not, is_none, if◌then◌else◌, Bool, Option}
+use Rattle.redomail.specs.declared.layout.Layout.{Layout}
+use Rattle.redomail.specs.Layout.{held}
+use Rattle.rmeworld.specs.Answered.{by_lock}
+use Rattle.rmeworld.specs.Entered.{mended_done, checks_done}
 use Rattle.rmeworld.specs.declared.answer.Answer.{Answer}
 use Rattle.rmeworld.specs.Stand.{stepped, next_access, outcome}
 use Rattle.rme_c.specs.declared.answers.Told.{Told}
 use Rattle.rme_c.specs.declared.position.Position.{Position}
 use Rattle.rme_c.specs.declared.process.RmeProcess.{RmeProcess}
-use Rattle.rme_c.specs.Positions.{stand_at, Fits}
+use Rattle.rme_c.specs.declared.lock_part.Landing.{Landing}
+use Rattle.rme_c.specs.declared.process.RmeAccess.{RmeAccess}
+use Rattle.rme_c.specs.Codes.{told, told_as, shown}
+use Rattle.rme_c.specs.Positions.{stand_at, stand_of, stage_of, chore_of, by_parts, landing, Fits, FitsAt}
 
 -- the answer of the step with this value, and whether it was blocked
 abbrev pub answered : RmeProcess → Position → ℕ → Option Answer
@@ -20,3 +27,17 @@ pub record IsStep (p : RmeProcess) (x : Position) (v : ℕ) (q : RmeProcess) (y 
   pub answer : t.answer ≡ answered p x v
   pub blocked : t.blocked ≡ is_blocked p x v
   pub fits : Fits q y
+
+-- the numbers of a landing are those of its stage, and of what the call ends with there
+pub record IsLanding (p : RmeProcess) (r : Landing) : Type 0 where
+  pub mended : (r.unmended == 0) ≡ mended_done (p.unmended == 0) r.done
+  pub position : (l : Layout) → FitsAt l (landing (checks_done r.done) r.to) → by_parts (stage_of r.position) (chore_of l r.position) ≡ landing (checks_done r.done) r.to
+  pub code : r.code ≡ told_as (by_lock (not (p.barred == 0)) r.done) r.blocked
+  pub next : r.next ≡ shown p.procs (by_lock (not (p.barred == 0)) r.done) (next_access (stand_at p (landing (checks_done r.done) r.to)))
+
+-- the process was fed with this value: where it stands then, what was told and what was shown
+pub record IsFed (p : RmeProcess) (v : ℕ) (q : RmeProcess) (a : RmeAccess) (r : ℕ) : Type 0 where
+  pub exact : stand_of q ≡ stepped (stand_of p) v
+  pub told : r ≡ told (stand_of p) v
+  pub next : a ≡ shown p.procs (outcome (stand_of p) (next_access (stand_of p)) v).answer (next_access (stand_of q))
+  pub steps : q.steps ≡ if is_none (next_access (stand_of p)) then p.steps else held (p.steps + 1)

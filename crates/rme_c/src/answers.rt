@@ -23,10 +23,11 @@ pub struct Told {
     pub blocked: bool,
 }
 
-/// A step after which the call goes on.
-pub const GOES_ON: Told = Told {
-    answer: None,
-    blocked: false,
+/// What is shown where there is nothing to show.
+pub const NOTHING: RmeAccess = RmeAccess {
+    store: 0,
+    place: 0,
+    value: 0,
 };
 
 /// Where a word stands in the block. What lies far beyond it stands at the greatest number.
@@ -148,11 +149,7 @@ pub fn shown(procs: u64, answer: Option<Answer>, next: Option<Access>) -> RmeAcc
             value: answer_word(answer),
         },
         (None, Some(access)) => wanted(procs, access),
-        (None, None) => RmeAccess {
-            store: 0,
-            place: 0,
-            value: 0,
-        },
+        (None, None) => NOTHING,
     }
 }
 

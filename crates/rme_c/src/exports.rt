@@ -1,22 +1,24 @@
 //! What C calls.
 
-ghost use Rattle.std.specs.Prelude.{◌≡◌, ◌≢◌, ◌+◌, ◌*◌, ◌<◌, ◌≤◌, ◌↔◌, IfSome, None, is_none, if◌then◌else◌, length};
-ghost use Rattle.rmecore.specs.Machine.{word_of};
+ghost use Rattle.std.specs.Prelude.{◌≡◌, ◌≢◌, ◌+◌, ◌*◌, ◌<◌, ◌≤◌, ◌↔◌, IfSome, None, false, is_none, if◌then◌else◌, length};
 ghost use Rattle.redomail.specs.Layout.{held, size};
-ghost use Rattle.rmeworld.specs.Stand.{resting, crashed, started, stepped, next_access, outcome, InWords};
+ghost use Rattle.rmeworld.specs.Stand.{resting, crashed, started, stepped, next_access, outcome};
 ghost use Rattle.rme_c.specs.Codes.{refusal_code as code_of_refusal, told as told_of, wanted as wanted_of, shown as shown_of};
-ghost use Rattle.rme_c.specs.Positions.{stand_at, stand_of, Fits};
+ghost use Rattle.rme_c.specs.Positions.{stand_at, stand_of, position_of, stage_now, Fits};
 ghost use Rattle.rme_c.specs.Starts.{size_cause, call_by, start_cause};
-ghost use Rattle.rme_c.specs.Steps.{IsStep};
+ghost use Rattle.rme_c.specs.Steps.{IsFed};
+ghost use Rattle.rme_c.specs.declared.position.Position.TheVariants as PositionOf;
 
-use crate::answers::{GOES_ON, Told, code, refusal_code, shown, wanted};
-use crate::lock_part::{lock_next, lock_step};
-use crate::position::{Position, is_idle, position_now, stand};
+use crate::accesses::next_at;
+use crate::answers::{NOTHING, code, refusal_code, shown, wanted};
+use crate::chore::Chore;
+use crate::lock_arms::lock_feed;
+use crate::position::{Position, is_idle, lock_stage, position_now, stand};
 use crate::process::{RmeAccess, RmeCall, RmePosition, RmeProcess};
 use crate::starts::{size_refusal, start};
-use crate::steps::{chore_next, chore_step};
+use crate::steps::chore_step;
 use redomail::Layout;
-use rmecore::Access;
+use rmecore::Stage;
 
 /// How many words the shared block of a world has: three lock words a process, then the data words. 0 for sizes of no
 /// world.
@@ -98,33 +100,53 @@ pub extern "C" fn rme_start(p: &mut RmeProcess, call: &RmeCall) -> u64
     refusal_code(start(p, call))
 }
 
-/// The step that comes next at a position.
+/// Takes the step of a chore.
 #[inline(always)]
-fn next_at(p: &RmeProcess, position: Position) -> Option<Access>
-    requires { Fits p.now position }
-    ensures next { result ≡ next_access (stand_at p.now position) }
-    ensures word { IfSome result (λ a. InWords p.now.procs (word_of a)) }
-    ensures placed { IfSome result (λ _. p.now.procs ≤ 64) }
+fn chore_feed(p: &mut RmeProcess, chore: Chore, value: u64, next: &mut RmeAccess) -> u64
+    requires here { position_of p.old ≡ PositionOf.Within chore }
+    requires fits { Fits p.old (PositionOf.Within chore) }
+    requires eight { length p.old.value ≡ 8 }
+    ensures { IsFed p.old value p.new next.new result }
 {
-    match position {
-        Position::Lost => None,
-        Position::Lock(stage) => lock_next(p, stage),
-        Position::Within(chore) => Some(chore_next(p, chore)),
-    }
+    let _whole = *p;
+    let (to, told) = chore_step(p, chore, value);
+    stand(p, to);
+    p.steps = p.steps.saturating_add(1);
+    *next = shown(p.procs, told.answer, next_at(p, to));
+    code(told)
 }
 
-/// Takes the step that comes next at a position.
+/// Takes the step that comes next at a stage of the lock's part, if there is one.
 #[inline(always)]
-fn step_at(p: &mut RmeProcess, position: Position, value: u64) -> (Position, Told)
-    requires fits { Fits p.old position }
+fn stage_feed(p: &mut RmeProcess, stage: Stage, value: u64, next: &mut RmeAccess) -> u64
+    requires here { position_of p.old ≡ PositionOf.Lock stage }
+    requires fits { Fits p.old (PositionOf.Lock stage) }
     requires eight { length p.old.value ≡ 8 }
-    ensures step { IsStep p.old position value p.new result.0 result.1 }
-    ensures same { p.new ≡ record p.old { unmended = p.new.unmended; barred = p.new.barred; value = p.new.value } }
+    ensures { IsFed p.old value p.new next.new result }
 {
-    match position {
-        Position::Lost => (position, GOES_ON),
-        Position::Lock(stage) => lock_step(p, stage, value),
-        Position::Within(chore) => chore_step(p, chore, value),
+    let _whole = *p;
+    if is_idle(p, Position::Lock(stage)) {
+        *next = NOTHING;
+        return 7;
+    }
+    lock_feed(p, stage, value, next)
+}
+
+/// Takes the step of a chore, where the numbers are no stage's.
+#[inline(never)]
+fn other_feed(p: &mut RmeProcess, value: u64, next: &mut RmeAccess) -> u64
+    requires none { stage_now p.old ≡ None }
+    requires eight { length p.old.value ≡ 8 }
+    ensures { IsFed p.old value p.new next.new result }
+{
+    let _whole = *p;
+    match position_now(p) {
+        Position::Lost => {
+            *next = NOTHING;
+            7
+        }
+        Position::Lock(_) => 7,
+        Position::Within(chore) => chore_feed(p, chore, value, next),
     }
 }
 
@@ -155,20 +177,10 @@ pub extern "C" fn rme_feed(p: &mut RmeProcess, value: u64, next: &mut RmeAccess)
     ensures steps { p.new.steps ≡ if is_none (next_access (stand_of p.old)) then p.old.steps else held (p.old.steps + 1) }
 {
     let _whole = *p;
-    let here = position_now(p);
-    if is_idle(p, here) {
-        *next = RmeAccess {
-            store: 0,
-            place: 0,
-            value: 0,
-        };
-        return 7;
+    match lock_stage(p) {
+        Some(stage) => stage_feed(p, stage, value, next),
+        None => other_feed(p, value, next),
     }
-    let (to, told) = step_at(p, here, value);
-    stand(p, to);
-    p.steps = p.steps.saturating_add(1);
-    *next = shown(p.procs, told.answer, next_at(p, to));
-    code(told)
 }
 
 /// The own steps of the last call that was started, held at the greatest number.

@@ -3,9 +3,11 @@
 //! load or store. It takes no memory.
 #![tactic(auto)]
 
+mod accesses;
 mod answers;
 mod chore;
 mod exports;
+mod lock_arms;
 mod lock_part;
 mod position;
 mod process;

@@ -1,41 +1,30 @@
-//! A step of the lock's part.
+//! What a step of the lock's part leaves.
 
-ghost use Rattle.std.specs.Prelude.{◌≡◌, ◌<◌, ◌==◌, IfSome};
-ghost use Rattle.rmecore.specs.Machine.{after_access, progress, next_access as lock_access, place_of, word_of};
-ghost use Rattle.rmeworld.specs.Spot.{mended_entered};
-ghost use Rattle.rmeworld.specs.Entered.{is_entry, mended_done, checks_done};
+ghost use Rattle.std.specs.Prelude.{◌≡◌, ◌<◌, ◌≤◌, ◌==◌};
+ghost use Rattle.rmeworld.specs.Entered.{mended_done, checks_done};
 ghost use Rattle.rmeworld.specs.Answered.{by_lock};
-ghost use Rattle.rmeworld.specs.Stand.{next_access, InWords};
-ghost use Rattle.rme_c.specs.Positions.{stand_at, landing, Fits};
-ghost use Rattle.rme_c.specs.Steps.{IsStep};
-ghost use Rattle.rme_c.specs.declared.position.Position.TheVariants as Position;
+ghost use Rattle.rme_c.specs.Positions.{landing, Fits};
+ghost use Rattle.rme_c.specs.Steps.{IsLanding};
 
-use crate::answers::Told;
+use crate::accesses::next_at;
+use crate::answers::{Told, code, shown};
 use crate::chore::Chore;
-use crate::position::Position;
-use crate::process::RmeProcess;
-use rmecore::{Access, CoreDone, Found, LockProcess, Progress, Stage};
+use crate::position::{Position, numbers};
+use crate::process::{RmeAccess, RmePosition, RmeProcess};
+use rmecore::{CoreDone, Found, Stage};
 use rmeworld::Answer;
 
-/// The lock's machine at this stage.
-#[inline(always)]
-fn machine(p: &RmeProcess, stage: Stage) -> LockProcess
-    requires { p.now.index < p.now.procs }
-    ensures { result ≡ record { procs = p.now.procs; limit = p.now.limit; index = p.now.index; place = place_of p.now.procs p.now.index stage } }
-{
-    let mut lock = LockProcess::new(p.procs, p.limit, p.index);
-    lock.seam_stand(stage);
-    lock
-}
-
-/// The step of the lock's part that comes next.
-#[inline(always)]
-pub fn lock_next(p: &RmeProcess, stage: Stage) -> Option<Access>
-    requires { Fits p.now (Position.Lock stage) }
-    ensures next { result ≡ next_access (stand_at p.now (Position.Lock stage)) }
-    ensures word { IfSome result (λ a. InWords p.now.procs (word_of a)) }
-{
-    machine(p, stage).next()
+/// Where a step of the lock's part leads: to which stage, what its call ends with, whether it was blocked. With it the
+/// numbers that C gets to see.
+#[derive(Clone, Copy)]
+pub struct Landing {
+    pub to: Stage,
+    pub done: Option<CoreDone>,
+    pub blocked: bool,
+    pub unmended: u64,
+    pub position: RmePosition,
+    pub code: u64,
+    pub next: RmeAccess,
 }
 
 /// What is answered where the lock's part ends.
@@ -53,38 +42,38 @@ fn answer(barred: bool, done: Option<CoreDone>) -> Option<Answer>
     }
 }
 
-/// Whether the process is mended behind a step, and whether it has entered by a lock.
+/// The number for whether something is left to be mended, behind a step.
 #[inline(always)]
-fn entry(done: Option<CoreDone>, mended: bool) -> (bool, bool)
-    ensures mended { result.0 ≡ mended_done mended done }
-    ensures checks { result.1 ≡ checks_done done }
+fn unmended(before: u64, done: Option<CoreDone>) -> u64
+    ensures { (result == 0) ≡ mended_done (before == 0) done }
 {
     match done {
-        Some(CoreDone::In) => (true, true),
-        Some(CoreDone::InAgain) => (false, true),
-        Some(CoreDone::Found(Found::Inside)) => (false, false),
-        _ => (mended, false),
+        Some(CoreDone::In) => 0,
+        Some(CoreDone::InAgain | CoreDone::Found(Found::Inside)) => 1,
+        _ => before,
     }
 }
 
-/// A step of the lock's machine: what it was, whether the process is mended then, and whether it has entered by a lock.
+/// Whether a step was an entry by a lock.
 #[inline(always)]
-fn step(lock: &mut LockProcess, mended: bool, value: u64) -> (Progress, bool, bool)
-    ensures lock { lock.new ≡ record lock.old { place = after_access lock.old (lock_access lock.old) value } }
-    ensures progress { result.0 ≡ progress lock.old (lock_access lock.old) value }
-    ensures mended { result.1 ≡ mended_entered mended lock.old.place lock.new.place }
-    ensures checks { result.2 ≡ is_entry lock.old.place lock.new.place }
+fn enters(done: Option<CoreDone>) -> bool
+    ensures { result ≡ checks_done done }
 {
-    let progress = lock.feed(value);
-    let (mended, checks) = entry(progress.done, mended);
-    (progress, mended, checks)
+    match done {
+        Some(CoreDone::In | CoreDone::InAgain) => true,
+        _ => false,
+    }
 }
 
 /// Where a step of the lock's part leads: behind an entry by a lock the ruin check comes next.
 #[inline(always)]
-fn behind(checks: bool, stage: Stage) -> Position
-    ensures { result ≡ landing checks stage }
+fn behind(p: &RmeProcess, checks: bool, stage: Stage) -> Position
+    requires below { p.now.index < p.now.procs }
+    requires few { p.now.procs ≤ 64 }
+    ensures is { result ≡ landing checks stage }
+    ensures fits { Fits p.now result }
 {
+    let _ = &p.index;
     if checks {
         Position::Within(Chore::Checking)
     } else {
@@ -92,27 +81,29 @@ fn behind(checks: bool, stage: Stage) -> Position
     }
 }
 
-/// The number for whether something is left to be mended.
+/// The landing at a stage.
 #[inline(always)]
-fn unmended(mended: bool) -> u64
-    ensures { (result == 0) ≡ mended }
+pub fn lands(p: &RmeProcess, to: Stage, done: Option<CoreDone>, blocked: bool) -> Landing
+    requires below { p.now.index < p.now.procs }
+    requires few { p.now.procs ≤ 64 }
+    ensures to { result.to ≡ to }
+    ensures done { result.done ≡ done }
+    ensures blocked { result.blocked ≡ blocked }
+    ensures numbers { IsLanding p.now result }
 {
-    if mended { 0 } else { 1 }
-}
-
-/// Takes a step of the lock's part.
-#[inline(always)]
-pub fn lock_step(p: &mut RmeProcess, stage: Stage, value: u64) -> (Position, Told)
-    requires { Fits p.old (Position.Lock stage) }
-    ensures step { IsStep p.old (Position.Lock stage) value p.new result.0 result.1 }
-    ensures same { p.new ≡ record p.old { unmended = p.new.unmended } }
-{
-    let mut lock = machine(p, stage);
-    let (progress, mended, checks) = step(&mut lock, p.unmended == 0, value);
-    p.unmended = unmended(mended);
-    let told = Told {
-        answer: answer(p.barred != 0, progress.done),
-        blocked: progress.blocked,
-    };
-    (behind(checks, lock.stage()), told)
+    let position = behind(p, enters(done), to);
+    let answer = answer(p.barred != 0, done);
+    let next = shown(p.procs, answer, next_at(p, position));
+    let code = code(Told { answer, blocked });
+    let unmended = unmended(p.unmended, done);
+    let position = numbers(position);
+    Landing {
+        to,
+        done,
+        blocked,
+        unmended,
+        position,
+        code,
+        next,
+    }
 }

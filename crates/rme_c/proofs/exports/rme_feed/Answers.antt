@@ -1,15 +1,25 @@
-use Rattle.std.proofs.Common.{rules, sym, ◌∙◌}
-use Rattle.rme_c.proofs.Feeds.{feed_idle, feed_idle_told, feed_told}
 use Rattle.rme_c.proofs.exports.rme_feed.Goals as goal
 
-pub returns-then-is_idle-clause-exact : goal.returns-then-is_idle-clause-exact
-returns-then-is_idle-clause-exact c =
-    feed_idle c.args.p.now c.position_now-here.result c.args.value c.position_now-here.ensures.is (search rules) c.position_now-here.ensures.fits (sym c.is_idle.ensures ∙ c.if-is_idle.true)
+pub returns-in-Some-clause-exact : goal.returns-in-Some-clause-exact
+returns-in-Some-clause-exact c = c.stage_feed.ensures.exact
 
-pub returns-then-is_idle-clause-told : goal.returns-then-is_idle-clause-told
-returns-then-is_idle-clause-told c = feed_idle_told c.args.p.now c.position_now-here.result c.args.value c.position_now-here.ensures.is (sym c.is_idle.ensures ∙ c.if-is_idle.true)
+pub returns-in-Some-clause-told : goal.returns-in-Some-clause-told
+returns-in-Some-clause-told c = c.stage_feed.ensures.told
 
-pub returns-clause-told : goal.returns-clause-told
-returns-clause-told c =
-    c.code.ensures
-    ∙ feed_told c.args.p.now c.position_now-here.result c.args.value _ _ c.position_now-here.ensures.is (sym c.is_idle.ensures ∙ c.if-is_idle.false) c.step_at-to.ensures.step.answer c.step_at-to.ensures.step.blocked
+pub returns-in-Some-clause-next : goal.returns-in-Some-clause-next
+returns-in-Some-clause-next c = c.stage_feed.ensures.next
+
+pub returns-in-Some-clause-steps : goal.returns-in-Some-clause-steps
+returns-in-Some-clause-steps c = c.stage_feed.ensures.steps
+
+pub returns-in-None-clause-exact : goal.returns-in-None-clause-exact
+returns-in-None-clause-exact c = c.other_feed.ensures.exact
+
+pub returns-in-None-clause-told : goal.returns-in-None-clause-told
+returns-in-None-clause-told c = c.other_feed.ensures.told
+
+pub returns-in-None-clause-next : goal.returns-in-None-clause-next
+returns-in-None-clause-next c = c.other_feed.ensures.next
+
+pub returns-in-None-clause-steps : goal.returns-in-None-clause-steps
+returns-in-None-clause-steps c = c.other_feed.ensures.steps

@@ -28,7 +28,7 @@ use Rattle.laboratory.specs.declared.order.RunOrder.{RunOrder}
 use Rattle.laboratory.specs.Sizes.{HuntFits, RunFits}
 use Rattle.laboratory.specs.declared.ending.Ending.{Ending}
 use Rattle.laboratory.specs.declared.fault.Fault.{Fault}
-use Rattle.laboratory.specs.declared.fault.Fault.TheVariants.{BadSize}
+use Rattle.laboratory.specs.declared.fault.Fault.TheVariants.{BadSize, Read}
 use Rattle.laboratory.specs.Statuses.{outcome, outcome_told, status_after, status_ended}
 
 -- what is printed of a trace: the line of its verdict, or nothing after a fault
@@ -53,8 +53,13 @@ pub record IsEnded (saves : Bool) (before now : ℕ) (ending : Ending) : Type 0 
   pub saved : is_some ending.save ≡ saves
   pub whole : now ≡ before
 
+-- where a read has failed, that is the fault
+abbrev pub TellsReads : Reading → Reading → Result Ending Fault → Type 0
+TellsReads old new (Ok ending) = new.failures ≡ old.failures
+TellsReads old new (Err fault) = (new.failures ≡ old.failures) ⊎ (fault ≡ Read)
+
 abbrev pub JudgeEnds : Reading → Reading → Tape → Tape → Result Ending Fault → Type 0
-JudgeEnds old new before now end = IsBroken end ⊎ TellsTrace old new before now end
+JudgeEnds old new before now end = (IsBroken end ⊎ TellsTrace old new before now end) × TellsReads old new end
 
 -- a schedule that finds a wrong variant out was written
 pub record TellsFind (variant : Variant) (before now : Tape) : Type 0 where
@@ -107,11 +112,11 @@ pub record IsReplayed {S : Type 0} (start : State) (run : Part S (ℕ × Refusal
   pub last : IfSome ending.save (λ text. text.items ≡ image_line (picture_of run.left))
   pub ended : IsEnded saves before now ending
 
--- whatever is asked for beside, nothing finds the right lock out
+-- whatever is asked for beside, nothing finds the right lock out, and no failed read is taken for the end of the text
 abbrev pub ReplayEnds : ReplayOrder → Bool → Reading → Reading → Tape → Tape → Result Ending Fault → Type 0
 ReplayEnds order pictured old new before now end =
     (status_ended end ≡ 1 → order.variant ≢ Right) × (IsPlainReplay order pictured → TellsReplay old new before now end)
-    × (IsNew order pictured → IfOk end (λ ending. SavesLast old new ending.save))
+    × (IsNew order pictured → IfOk end (λ ending. SavesLast old new ending.save)) × TellsReads old new end
 
 -- the lab that a run is made in: room for each message, and numbers enough
 abbrev pub lab_for : RunOrder → Spec

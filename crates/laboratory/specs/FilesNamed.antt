@@ -1,9 +1,8 @@
 -- The files that a command names.
-use Rattle.std.specs.Prelude.{List, String, Option, None}
+use Rattle.std.specs.Prelude.{String, Option, None}
 use Rattle.std.specs.declared.alloc.Global.{Global}
 use Rattle.laboratory.specs.declared.order.Command.{Command}
-use Rattle.laboratory.specs.declared.order.Command.TheVariants.{Replay, Run, Hunt, Judge}
-use Rattle.laboratory.specs.declared.order.ReplayOrder.{ReplayOrder}
+use Rattle.laboratory.specs.declared.order.Command.TheVariants.{Replay, Judge}
 
 -- the image that a world begins with
 abbrev pub image_of : Command → Option (String Global)

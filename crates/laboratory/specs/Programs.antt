@@ -1,5 +1,5 @@
 -- What the program does with files, and when it speaks on standard error.
-use Rattle.std.specs.Prelude.{◌≡◌, ◌≤◌, ◌⊎◌, ℕ, List, ◌++◌, [], Bool, true, false, String, string_bytes, Vec, Option, Some, None, is_some, option_to_list, Result, Ok, Err, OnOk}
+use Rattle.std.specs.Prelude.{◌≡◌, ◌≤◌, ◌⊎◌, ℕ, List, ◌++◌, [], true, false, String, string_bytes, Vec, Option, None, is_some, option_to_list, Result, Ok, Err, OnOk}
 use Rattle.std.specs.declared.alloc.Global.{Global}
 use Rattle.schedule.specs.Plays.{Tape, Writes}
 use Rattle.schedule.specs.Wholes.{Reading, reading}

@@ -1,6 +1,6 @@
 //! The command `replay`.
 
-ghost use Rattle.std.specs.Prelude.{◌≡◌, ◌≤◌, ℕ, List, [], Ok, Err, IfOk, IfSome, None, is_some, true, false};
+ghost use Rattle.std.specs.Prelude.{◌≡◌, ◌⊎◌, ◌≤◌, ℕ, List, [], Ok, Err, IfErr, IfOk, IfSome, None, is_some, true, false};
 ghost use Rattle.judge.specs.Stands.{Keeps, StandsAfter};
 ghost use Rattle.judge.specs.Starts.{IsStart};
 ghost use Rattle.judge.specs.Table.{empty, State};
@@ -12,7 +12,7 @@ ghost use Rattle.schedule.specs.Plays.{tape};
 ghost use Rattle.schedule.specs.Runs.{behaviour, run_on};
 ghost use Rattle.schedule.specs.Schedules.{schedule_at};
 ghost use Rattle.schedule.specs.Wholes.{reading, WasRead};
-ghost use Rattle.laboratory.specs.Commands.{CanFit, IsEnded, IsFitting, IsLast, IsPlayed, IsReplayed, ReplayEnds, TellsReplay};
+ghost use Rattle.laboratory.specs.Commands.{CanFit, IsEnded, IsFitting, IsLast, IsPlayed, IsReplayed, ReplayEnds, TellsReads, TellsReplay};
 ghost use Rattle.laboratory.specs.Statuses.{fault_of_header, fault_of_image, fault_on_page};
 
 use crate::ending::{Ending, status_after_verdict};
@@ -265,7 +265,8 @@ fn image_read(alloc: Global, text: Option<&[u8]>) -> Result<Option<Image>, Fault
 
 /// The schedule that the reader gives.
 fn schedule_read<R: Source>(alloc: Global, r: &mut R) -> Result<Schedule, Fault>
-    ensures { IfOk result (λ schedule. (text : List ℕ) × WasRead (reading (R.given r.old) (R.ended r.old) (R.failures r.old)) (reading (R.given r.new) (R.ended r.new) (R.failures r.new)) text × (schedule_at text ≡ Ok schedule)) }
+    ensures read { IfOk result (λ schedule. (text : List ℕ) × WasRead (reading (R.given r.old) (R.ended r.old) (R.failures r.old)) (reading (R.given r.new) (R.ended r.new) (R.failures r.new)) text × (schedule_at text ≡ Ok schedule)) }
+    ensures unread { IfErr result (λ fault. (R.failures r.new ≡ R.failures r.old) ⊎ (fault ≡ Fault.Read)) }
 {
     let text = read_all(alloc, r)?;
     Ok(read_schedule(alloc, &text)?)
@@ -295,6 +296,7 @@ fn replay_schedule<W: Sink>(
 #[tactic(auto, using(crate::proofs::Replays::replayed_whole))]
 fn replay_plain<R: Source, W: Sink>(alloc: Global, r: &mut R, w: &mut W) -> Result<Ending, Fault>
     ensures tells { TellsReplay (reading (R.given r.old) (R.ended r.old) (R.failures r.old)) (reading (R.given r.new) (R.ended r.new) (R.failures r.new)) (tape (W.taken w.old) (W.failures w.old)) (tape (W.taken w.new) (W.failures w.new)) result }
+    ensures reads { TellsReads (reading (R.given r.old) (R.ended r.old) (R.failures r.old)) (reading (R.given r.new) (R.ended r.new) (R.failures r.new)) result }
     ensures fine { IfOk result (λ ending. (ending.status ≡ 0) × (ending.save ≡ None)) }
     ensures ended { IfOk result (IsEnded false (W.failures w.old) (W.failures w.new)) }
 {

@@ -77,7 +77,3 @@ idle_access limit n p AtInside = refl
 idle_access limit n p AtLeaving = refl
 idle_access limit n p AtWithdrawing = refl
 idle_access limit n p (AtUnmarking call) = refl
-
-pub lands_well : (p : RmeProcess) (n : ℕ) (from to : Stage) (checks : Bool) → Fits p (Lock from) → Fits (record p { unmended = n }) (landing checks to)
-lands_well p n from to true h = (h.0, (h.1, tt))
-lands_well p n from to false h = h

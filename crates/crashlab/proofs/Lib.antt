@@ -11,3 +11,4 @@ pub mod VariantRuns
 pub mod Choices
 pub mod LockWorlds
 pub mod Lines
+pub mod Scans

@@ -73,7 +73,7 @@ more s new h later e w lock takes scene history layout limit seated plain =
 plain_stepped : (t : VariantStand) (v : ℕ) → IsPlain t → variant_stepped t v ≡ record t { stand = stand_stepped t.stand v }
 plain_stepped t v plain = ap (λ variant. stepped_beside variant t.detour t v) plain.variant
 
-plain_outcome : (t : VariantStand) (v : ℕ) → IsPlain t → variant_outcome t v ≡ outcome t.stand (next_access t.stand) v
+pub plain_outcome : (t : VariantStand) (v : ℕ) → IsPlain t → variant_outcome t v ≡ outcome t.stand (next_access t.stand) v
 plain_outcome t v plain = ap (λ variant. outcome_beside variant t.detour t v) plain.variant
 
 pub plain_access : (t : VariantStand) → IsPlain t → variant_next_access t ≡ next_access t.stand

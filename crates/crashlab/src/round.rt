@@ -65,8 +65,8 @@ fn start(
     }
 }
 
-/// Takes a step.
-fn step(
+/// Takes a step that may be a deed, or end its call.
+fn told_step(
     world: &mut VariantWorld,
     judge: &mut Judge,
     schedule: &mut Schedule,
@@ -86,6 +86,23 @@ fn step(
         ),
         Err(_) => Ok(Made::On(None)),
     }
+}
+
+/// Takes a step.
+fn step(
+    world: &mut VariantWorld,
+    judge: &mut Judge,
+    schedule: &mut Schedule,
+    p: u64,
+) -> Result<Made, HuntFault>
+    ensures ends { (variant : VariantOf) → IsPlayed variant schedule.old world.old judge.old → IfOk result (Ends variant schedule.new world.new judge.new) }
+    ensures grows { OnOk result (length schedule.new.lines ≤ length schedule.old.lines + 1) }
+    ensures memory { IfErr result (λ e. e ≡ HuntFault.OutOfMemory) }
+{
+    if !world.take_quiet_step(p) {
+        return told_step(world, judge, schedule, p);
+    }
+    tell(judge, schedule, Line::Step(p, Count::ONE), None, None)
 }
 
 /// Crashes a process.

@@ -11,7 +11,7 @@ use crate::variant::Variant;
 use crate::variant_memory::VariantMemory;
 use redomail::Layout;
 use redomail::layout::COUNT;
-use rmecore::{Access, CoreCall, Kind, Outer, Progress, Refusal, Word};
+use rmecore::{Access, CoreCall, Kind, Outer, Progress, Refusal, Scan, Word};
 use rmeworld::{Call, Outcome, Process};
 use std::marker::Model;
 
@@ -44,10 +44,12 @@ impl Model for VariantProcess {
 
 impl VariantProcess {
     ghost use Rattle.rmeworld.specs.Spot.{Begins, next_spot};
-    ghost use Rattle.rmecore.specs.Machine.{word_of, place_of};
+    ghost use Rattle.rmecore.specs.Machine.{word_of, place_of, at_scan};
+    ghost use Rattle.rmeworld.specs.Advancing.{GoesOn};
+    ghost use Rattle.rmeworld.specs.declared.errand.Errand.TheVariants.{Free};
     ghost use Rattle.rmeworld.specs.Errands.{Held};
     ghost use Rattle.crashlab.specs.VariantSeams.{with_variant_memory};
-    ghost use Rattle.rmeworld.specs.Stand.{IsSize, InWords, IsAllowed, StoresOwn, spot_of, next_access, spot_after};
+    ghost use Rattle.rmeworld.specs.Stand.{IsSize, InWords, IsAllowed, StoresOwn, standing, spot_of, next_access, spot_after};
     ghost use Rattle.rmeworld.specs.Refused.{start_refusal};
     ghost use Rattle.crashlab.specs.VariantStands.{IsPlain, variant_resting, variant_crashed, variant_next_access, variant_stepped, variant_outcome, variant_started};
 
@@ -119,6 +121,34 @@ impl VariantProcess {
             }
             (_, next) => next,
         }
+    }
+
+    /// A scan that goes on, of a process that nothing is changed of, and the load that comes next in it.
+    pub(crate) fn scan(&self) -> Option<(Scan, Access)>
+        ensures plain { IfSome result (λ r. IsPlain self.now) }
+        ensures goes_on { IfSome result (λ r. GoesOn self.now.stand r.0 r.1) }
+    {
+        match (self.variant, self.detour, self.change) {
+            (Variant::Right, Detour::Straight, Change::Nothing) => {}
+            _ => return None,
+        }
+        let (scan, access) = self.process.scan()?;
+        match access {
+            Access::Load(..) => Some((scan, access)),
+            Access::Store(..) => None,
+        }
+    }
+
+    /// Takes the next step of such a scan, as `feed` does.
+    pub(crate) fn scan_on(&mut self, scan: Scan, value: u64) -> Outcome
+        requires plain { IsPlain self.old }
+        requires free { self.old.stand.errand ≡ Free }
+        requires at { at_scan (standing self.old.stand) scan ≡ standing self.old.stand }
+        ensures exact { self.new ≡ variant_stepped self.old value }
+        ensures outcome { result ≡ variant_outcome self.old value }
+        ensures plain { spot_of self.new.stand ≡ spot_after self.old.stand (next_access self.old.stand) value }
+    {
+        self.process.scan_on(scan, value)
     }
 
     /// Starts a call, as the world's process does.

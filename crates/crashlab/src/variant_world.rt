@@ -13,7 +13,7 @@ use crate::variant_memory::VariantMemory;
 use crate::variant_process::VariantProcess;
 use redomail::{Deed, Layout};
 use rmecore::simulated::{MOST_LIMIT, MOST_PROCS};
-use rmecore::{Access, Happened, Outer, Own, Refusal};
+use rmecore::{Access, Happened, Outer, Own, Refusal, Scan};
 use rmeworld::images::rules::{MOST_CAP, MOST_WIDTH};
 use rmeworld::memory::{deed_of, load, store};
 use rmeworld::{Call, Cells, Image, Machine, Owns, Stepped};
@@ -115,6 +115,9 @@ impl VariantWorld {
     ghost use Rattle.redomail.specs.declared.deed.Deed.{Deed as DeedOf};
     ghost use Rattle.rmeworld.specs.Replayed.{list_of};
     ghost use Rattle.crashlab.specs.VariantWorlds.{start_refusal, started, advance_refusal, stepped, advanced, crash_refusal, crash_deed, crashed};
+    ghost use Rattle.crashlab.specs.VariantStands.{IsPlain};
+    ghost use Rattle.crashlab.specs.VariantWorlds.{stand_at};
+    ghost use Rattle.rmeworld.specs.Advancing.{GoesOn};
     ghost use Rattle.crashlab.specs.LockWorlds.{IsLockWorld};
 
     /// Starts a call of process p.
@@ -163,6 +166,51 @@ impl VariantWorld {
             deed,
             answer: outcome.answer,
         })
+    }
+
+    /// Takes the next step of process p where it is one of a scan of the lock, which is no deed and ends no call, and
+    /// answers true. Any other step it leaves to `take_step`, and answers false.
+    pub(crate) fn take_quiet_step(&mut self, p: u64) -> bool
+        ensures accepted { IsTrue result → advance_refusal self.old p ≡ None }
+        ensures quiet { IsTrue result → ((stepped self.old p).deed ≡ None) × ((stepped self.old p).answer ≡ None) }
+        ensures ok { IsTrue result → self.new ≡ advanced self.old p }
+        ensures same { result ≡ false → self.new ≡ self.old }
+        ensures lock { IsTrue result → (history : List DeedOf) → IsLockWorld self.old history → IsLockWorld self.new history }
+    {
+        match self.scan(p) {
+            Some((scan, access)) => {
+                self.scan_on(p, scan, access);
+                true
+            }
+            None => false,
+        }
+    }
+
+    /// A scan of process p that goes on, of a process that nothing is changed of, and its next load.
+    fn scan(&self, p: u64) -> Option<(Scan, Access)>
+        ensures below { IfSome result (λ r. p < self.now.layout.procs) }
+        ensures plain { IfSome result (λ r. IsPlain (stand_at self.now.processes p)) }
+        ensures goes_on { IfSome result (λ r. GoesOn (stand_at self.now.processes p).stand r.0 r.1) }
+    {
+        if p >= self.layout.procs {
+            return None;
+        }
+        self.processes[p as usize].scan()
+    }
+
+    /// Takes the next step of such a scan.
+    fn scan_on(&mut self, p: u64, scan: Scan, access: Access)
+        requires below { p < self.old.layout.procs }
+        requires plain { IsPlain (stand_at self.old.processes p) }
+        requires goes_on { GoesOn (stand_at self.old.processes p).stand scan access }
+        ensures accepted { advance_refusal self.old p ≡ None }
+        ensures quiet { ((stepped self.old p).deed ≡ None) × ((stepped self.old p).answer ≡ None) }
+        ensures ok { self.new ≡ advanced self.old p }
+        ensures lock { (history : List DeedOf) → IsLockWorld self.old history → IsLockWorld self.new history }
+    {
+        let found = load(&self.words, &self.cells, access.word());
+        let process = &mut self.processes[p as usize];
+        process.scan_on(scan, found);
     }
 
     /// Crashes process p.
@@ -287,6 +335,10 @@ impl Machine for VariantWorld {
 
     fn advance(&mut self, p: u64) -> Result<Stepped, Refusal> {
         self.take_step(p)
+    }
+
+    fn step_quietly(&mut self, p: u64) -> bool {
+        self.take_quiet_step(p)
     }
 
     fn crash(&mut self, p: u64) -> Result<Deed, Refusal> {

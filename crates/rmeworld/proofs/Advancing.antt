@@ -1,8 +1,8 @@
 -- A step that the code has made is the world's.
 use Rattle.std.proofs.Common.{◌≡◌, ℕ, false, if◌then◌else◌, List, [], Option, Some, None, IfSome, refl, sym, ap, ◌∙◌, subst}
 use Rattle.std.proofs.lemmas.Bool.{true≢false}
-use Rattle.rmecore.specs.Machine.{Standing, first, at_scan, kind_of}
-use Rattle.rmecore.specs.Place.{above, Door, Wait}
+use Rattle.rmecore.specs.Machine.{Standing, first, at_scan, kind_of, word_of, answer}
+use Rattle.rmecore.specs.Place.{Place, above, Door, Wait}
 use Rattle.rmecore.specs.World.{is_store, step_deed}
 use Rattle.rmecore.specs.declared.kind.Kind.{Kind}
 use Rattle.rmecore.specs.declared.kind.Kind.TheVariants.{Open as Opens, Peek as Peeks, Take as TakesNumber, Shut as Shuts, Look as Looks, Weigh as Weighs, Mark as Marks, Drop as Drops, Reread as Rereads, Get as Gets, Put as Puts, Glance as Glances}
@@ -17,14 +17,15 @@ use Rattle.rmecore.specs.Tallied.{IsExact}
 use Rattle.rmecore.specs.declared.access.Access.{Access}
 use Rattle.rmecore.specs.declared.access.Access.TheVariants.{Load, Store}
 use Rattle.rmeworld.specs.Advancing.{Advances, IsLoad, GoesOn}
-use Rattle.rmeworld.specs.Answered.{answer_at}
+use Rattle.rmeworld.specs.Answered.{answer_at, answer_by, by_lock, done_by}
 use Rattle.rmeworld.specs.Errands.{errand_of}
 use Rattle.rmeworld.specs.Reached.{IsWorld}
-use Rattle.rmeworld.specs.Replayed.{value_of, happening, or_else, mail_by, words_by, cells_by, stepped_by, stepped_if, advanced_if}
+use Rattle.rmeworld.specs.Replayed.{value_of, happening, or_else, mail_by, words_by, cells_by, the_deed, stepped, stepped_by, stepped_if, quiet_step, advanced_if}
 use Rattle.rmeworld.specs.Spot.{outer_by}
 use Rattle.rmeworld.specs.Stand.{Stand, standing, outcome, IsLeast}
 use Rattle.rmeworld.specs.Tallied.{HasTaken}
-use Rattle.rmeworld.specs.WorldState.{WorldState, stand_at, spot_at, Takes, happening_of, ChoosesLeast}
+use Rattle.rmeworld.specs.WorldState.{WorldState, stand_at, spot_at, scene_of, Takes, happening_of, ChoosesLeast}
+use Rattle.rmeworld.specs.World.{reading, event_deeds}
 use Rattle.rmeworld.specs.declared.answer.Answer.{Answer}
 use Rattle.rmeworld.specs.declared.errand.Errand.{Errand as Chore}
 use Rattle.rmeworld.specs.declared.stepped.Stepped.{Stepped}
@@ -47,46 +48,69 @@ advances s p a told new world step least made is =
       taken = subst (λ (x : Stepped). Taken x.answer new) (sym is) (subst (Taken (answer_at (spot_at s.processes p) (kind_of a) (value_of s a))) (sym (made_is made)) (answered_step s p a step world.tallied));
     }
 
--- a load in the doorway or in the line is no deed
-door_is_quiet : (p : ℕ) (unread : List ℕ) (m : ℕ) (kind : Kind) (x : ℕ) → is_store kind ≡ false → step_deed p (Door unread m) kind x ≡ None
+-- a load is no deed at this place, and ends no call
+abbrev IsQuiet : ℕ → Place → Kind → ℕ → Type 0
+IsQuiet p s kind x = (step_deed p s kind x ≡ None) × (answer s kind x ≡ None)
+
+-- so it is in the doorway and in the line
+door_is_quiet : (p : ℕ) (unread : List ℕ) (m : ℕ) (kind : Kind) (x : ℕ) → is_store kind ≡ false → IsQuiet p (Door unread m) kind x
 door_is_quiet p unread m Opens x h = absurd (true≢false h)
-door_is_quiet p unread m Peeks x h = refl
+door_is_quiet p unread m Peeks x h = (refl, refl)
 door_is_quiet p unread m TakesNumber x h = absurd (true≢false h)
 door_is_quiet p unread m Shuts x h = absurd (true≢false h)
-door_is_quiet p unread m Looks x h = refl
-door_is_quiet p unread m Weighs x h = refl
+door_is_quiet p unread m Looks x h = (refl, refl)
+door_is_quiet p unread m Weighs x h = (refl, refl)
 door_is_quiet p unread m Marks x h = absurd (true≢false h)
 door_is_quiet p unread m Drops x h = absurd (true≢false h)
-door_is_quiet p unread m Rereads x h = refl
-door_is_quiet p unread m Gets x h = refl
+door_is_quiet p unread m Rereads x h = (refl, refl)
+door_is_quiet p unread m Gets x h = (refl, refl)
 door_is_quiet p unread m Puts x h = absurd (true≢false h)
-door_is_quiet p unread m Glances x h = refl
+door_is_quiet p unread m Glances x h = (refl, refl)
 
-line_is_quiet : (p k : ℕ) (unpassed : List ℕ) (looked : Option ℕ) (kind : Kind) (x : ℕ) → is_store kind ≡ false → step_deed p (Wait k unpassed looked) kind x ≡ None
+line_is_quiet : (p k : ℕ) (unpassed : List ℕ) (looked : Option ℕ) (kind : Kind) (x : ℕ) → is_store kind ≡ false → IsQuiet p (Wait k unpassed looked) kind x
 line_is_quiet p k unpassed looked Opens x h = absurd (true≢false h)
-line_is_quiet p k unpassed looked Peeks x h = refl
+line_is_quiet p k unpassed looked Peeks x h = (refl, refl)
 line_is_quiet p k unpassed looked TakesNumber x h = absurd (true≢false h)
 line_is_quiet p k unpassed looked Shuts x h = absurd (true≢false h)
-line_is_quiet p k unpassed looked Looks x h = refl
-line_is_quiet p k unpassed looked Weighs x h = refl
+line_is_quiet p k unpassed looked Looks x h = (refl, refl)
+line_is_quiet p k unpassed looked Weighs x h = (refl, refl)
 line_is_quiet p k unpassed looked Marks x h = absurd (true≢false h)
 line_is_quiet p k unpassed looked Drops x h = absurd (true≢false h)
-line_is_quiet p k unpassed looked Rereads x h = refl
-line_is_quiet p k unpassed looked Gets x h = refl
+line_is_quiet p k unpassed looked Rereads x h = (refl, refl)
+line_is_quiet p k unpassed looked Gets x h = (refl, refl)
 line_is_quiet p k unpassed looked Puts x h = absurd (true≢false h)
-line_is_quiet p k unpassed looked Glances x h = refl
+line_is_quiet p k unpassed looked Glances x h = (refl, refl)
 
-place_is_quiet : (st : Stand) (scan : Scan) (kind : Kind) (x : ℕ) → at_scan (standing st) scan ≡ standing st → is_store kind ≡ false → step_deed st.index st.lock kind x ≡ None
-place_is_quiet st (Peeking i m) kind x at h = subst (λ (t : Standing). step_deed st.index t.place kind x ≡ None) at (door_is_quiet st.index (above st.layout.procs st.index i) m kind x h)
+place_is_quiet : (st : Stand) (scan : Scan) (kind : Kind) (x : ℕ) → at_scan (standing st) scan ≡ standing st → is_store kind ≡ false → IsQuiet st.index st.lock kind x
+place_is_quiet st (Peeking i m) kind x at h = subst (λ (t : Standing). IsQuiet st.index t.place kind x) at (door_is_quiet st.index (above st.layout.procs st.index i) m kind x h)
 place_is_quiet st (Waiting k i looked) kind x at h =
-    subst (λ (t : Standing). step_deed st.index t.place kind x ≡ None) at (line_is_quiet st.index k (above st.layout.procs st.index i) (if looked then first (above st.layout.procs st.index i) else None) kind x h)
+    subst (λ (t : Standing). IsQuiet st.index t.place kind x) at (line_is_quiet st.index k (above st.layout.procs st.index i) (if looked then first (above st.layout.procs st.index i) else None) kind x h)
 
 -- the next load of a scan is no deed
 pub scan_is_quiet : (st : Stand) (scan : Scan) (a : Access) (l : Layout) (p : ℕ) (cells : Words) (v : ℕ) → GoesOn st scan a → or_else (outcome st (Some a) v).progress.outer (mail_by l p cells a) ≡ []
 scan_is_quiet st scan (Store kind word w) l p cells v goes = absurd goes.load
 scan_is_quiet st scan (Load kind word) l p cells v goes =
-    let none : outer_by st.index st.lock (errand_of st.errand) kind v ≡ None = subst (λ (e : Chore). outer_by st.index st.lock (errand_of e) kind v ≡ None) (sym goes.free) (place_is_quiet st scan kind v goes.at goes.own) in
+    let none : outer_by st.index st.lock (errand_of st.errand) kind v ≡ None = subst (λ (e : Chore). outer_by st.index st.lock (errand_of e) kind v ≡ None) (sym goes.free) (place_is_quiet st scan kind v goes.at goes.own).0 in
     ap (λ o. or_else o (mail_by l p cells (Load kind word))) none
+
+-- nor does it end a call
+pub scan_ends_nothing : (st : Stand) (scan : Scan) (a : Access) (v : ℕ) → GoesOn st scan a → ((outcome st (Some a) v).progress.outer ≡ None) × ((outcome st (Some a) v).progress.done ≡ None) × ((outcome st (Some a) v).answer ≡ None)
+scan_ends_nothing st scan (Store kind word w) v goes = absurd goes.load
+scan_ends_nothing st scan (Load kind word) v goes =
+    let quiet = place_is_quiet st scan kind v goes.at goes.own in (
+      subst (λ (e : Chore). outer_by st.index st.lock (errand_of e) kind v ≡ None) (sym goes.free) quiet.0,
+      subst (λ (e : Chore). done_by st.lock (errand_of e) kind v ≡ None) (sym goes.free) quiet.1,
+      subst (λ (e : Chore). answer_by st.lock st.mended st.barred (errand_of e) kind v ≡ None) (sym goes.free) (ap (by_lock st.barred) quiet.1),
+    )
+
+-- what it tells
+pub scan_tells : (s : WorldState) (p : ℕ) (scan : Scan) (a : Access) → GoesOn (stand_at s.processes p) scan a → event_deeds s.layout (scene_of s) (happening s p a) ≡ [] → stepped s p ≡ quiet_step a (reading (scene_of s) (word_of a))
+scan_tells s p scan (Store kind word w) goes none = absurd goes.load
+scan_tells s p scan (Load kind word) goes none =
+    let v : ℕ = reading (scene_of s) word in
+    let ends = scan_ends_nothing (stand_at s.processes p) scan (Load kind word) v goes in
+    ap (stepped_if s p) goes.next
+    ∙ (λ i. record { happened = record { kind = kind; word = word; value = v; outer = ends.0 i; done = ends.1 i }; deed = the_deed (none i); answer = ends.2 i })
 
 pub load_leaves : (a : Access) (words : List Own) (cells : List ℕ) → IsLoad a → (words_by words a ≡ words) × (cells_by cells a ≡ cells)
 load_leaves (Load kind word) words cells load = (refl, refl)

@@ -119,6 +119,10 @@ advanced_by s p a =
 abbrev pub no_step : Stepped
 no_step = record { happened = record { kind = Glance; word = DataAt 0; value = 0; outer = None; done = None }; deed = None; answer = None }
 
+-- what a load tells that is no deed and ends no call
+abbrev pub quiet_step : Access → ℕ → Stepped
+quiet_step a v = record { happened = record { kind = kind_of a; word = word_of a; value = v; outer = None; done = None }; deed = None; answer = None }
+
 abbrev pub stepped_if : WorldState → ℕ → Option Access → Stepped
 stepped_if s p None = no_step
 stepped_if s p (Some a) = stepped_by s p a

@@ -1,6 +1,6 @@
 //! What a schedule is replayed on.
 
-ghost use Rattle.std.specs.Prelude.{◌≡◌, ℕ, Option, Some, None, is_some, true, OnOk, OnErr, IfOk, IfErr, IsErrOf, ◌⊎◌};
+ghost use Rattle.std.specs.Prelude.{◌≡◌, ℕ, Option, Some, None, is_some, true, false, IsTrue, OnOk, OnErr, IfOk, IfErr, IsErrOf, ◌⊎◌};
 ghost use Rattle.rmecore.specs.declared.refusal.Refusal.{Refusal as RefusalOf};
 ghost use Rattle.rmecore.specs.declared.refusal.Refusal.TheVariants.{OutOfMemory};
 ghost use Rattle.redomail.specs.declared.deed.Deed.{Deed as DeedOf};
@@ -52,6 +52,14 @@ pub trait Machine {
         ensures told { IfOk result (λ s. s ≡ stepped self.old p) }
         ensures ok { OnOk result (self.new ≡ advanced self.old p) }
         ensures err { OnErr result (self.new ≡ self.old) };
+
+    /// Takes the next step of process p, where it sees at once that it is no deed and ends no call, and answers true. Any
+    /// other step it leaves to `advance`, and answers false.
+    fn step_quietly(&mut self, p: u64) -> bool
+        ensures accepted { IsTrue result → advance_refusal self.old p ≡ None }
+        ensures quiet { IsTrue result → ((stepped self.old p).deed ≡ None) × ((stepped self.old p).answer ≡ None) }
+        ensures ok { IsTrue result → self.new ≡ advanced self.old p }
+        ensures same { result ≡ false → self.new ≡ self.old };
 
     /// Process p loses its private memory, and with it a call that is under way.
     fn crash(&mut self, p: u64) -> Result<Deed, Refusal>

@@ -1,8 +1,11 @@
 //! One step of a world, told.
 
+ghost use Rattle.std.specs.Prelude.{◌≡◌};
+
 use crate::answer::Answer;
+use crate::outcome::Outcome;
 use redomail::Deed;
-use rmecore::Happened;
+use rmecore::{Access, Happened};
 
 /// One step of a world: what happened, the deed that it is, if it is one, and the answer, where it ends its call.
 #[derive(Clone, Copy, Debug, PartialEq, Eq)]
@@ -10,4 +13,64 @@ pub struct Stepped {
     pub happened: Happened,
     pub deed: Option<Deed>,
     pub answer: Option<Answer>,
+}
+
+impl Stepped {
+    ghost use Rattle.rmeworld.specs.Replayed.{quiet_step};
+
+    /// What a load tells that is no deed and ends no call.
+    pub(crate) fn quiet(access: Access, found: u64) -> Stepped
+        ensures { result ≡ quiet_step access found }
+    {
+        Stepped {
+            happened: Happened {
+                kind: access.kind(),
+                word: access.word(),
+                value: found,
+                outer: None,
+                done: None,
+            },
+            deed: None,
+            answer: None,
+        }
+    }
+}
+
+/// A step before it is taken.
+#[derive(Clone, Copy)]
+pub(crate) struct Prospect {
+    pub access: Access,
+    /// What the word holds.
+    pub found: u64,
+}
+
+impl Prospect {
+    ghost use Rattle.rmecore.specs.Machine.{kind_of, word_of, carried};
+
+    /// What the step tells, once it is taken.
+    pub(crate) fn told(&self, outcome: Outcome, deed: Option<Deed>) -> Stepped
+        ensures { result ≡ record { happened = record { kind = kind_of self.now.access; word = word_of self.now.access; value = carried self.now.access self.now.found; outer = outcome.progress.outer; done = outcome.progress.done }; deed = deed; answer = outcome.answer } }
+    {
+        Stepped {
+            happened: Happened {
+                kind: self.access.kind(),
+                word: self.access.word(),
+                value: self.value(),
+                outer: outcome.progress.outer,
+                done: outcome.progress.done,
+            },
+            deed,
+            answer: outcome.answer,
+        }
+    }
+
+    /// What is read or written.
+    fn value(&self) -> u64
+        ensures { result ≡ carried self.now.access self.now.found }
+    {
+        match self.access {
+            Access::Load(..) => self.found,
+            Access::Store(_, _, value) => value,
+        }
+    }
 }

@@ -1,7 +1,7 @@
 //! A whole world in memory, each step taken on request.
 
 ghost use Rattle.std.specs.Prelude.{◌≡◌, ◌<◌, ◌≤◌, ◌⊎◌, ◌++◌, ℕ, map, is_some, true, IfOk, IfErr, OnOk, OnErr, IsErrOf, Some, None, vec_len, slice_index_or, slice_get};
-ghost use Rattle.rmecore.specs.Machine.{carried, word_of};
+ghost use Rattle.rmecore.specs.Machine.{word_of};
 ghost use Rattle.rmecore.specs.Simulated.{cause, fresh};
 ghost use Rattle.redomail.specs.Layout.{words_of};
 ghost use Rattle.rmeworld.specs.Spot.{Begins, Falls};
@@ -16,13 +16,12 @@ use crate::image::Image;
 use crate::images::rules::{MOST_CAP, MOST_WIDTH, first_rule, layout};
 use crate::machine::Machine;
 use crate::memory::{deed_of, load, store};
-use crate::outcome::Outcome;
 use crate::owns::Owns;
 use crate::process::Process;
-use crate::stepped::Stepped;
+use crate::stepped::{Prospect, Stepped};
 use redomail::{Deed, Layout};
 use rmecore::simulated::{MOST_LIMIT, MOST_PROCS};
-use rmecore::{Access, Happened, Outer, Own, Refusal, Scan, Tally};
+use rmecore::{Access, Outer, Own, Refusal, Scan, Tally};
 use std::alloc::Global;
 use std::fmt;
 use std::marker::Model;
@@ -66,14 +65,6 @@ impl Model for World {
     ghost view = { λ w. record { layout = w.layout; limit = w.limit; words = w.words.items; cells = w.cells.items; processes = w.processes.items; tallies = w.tallies.items; history = w.history.items } };
 
     ghost invariant = { λ w. IsWorld (record { layout = w.layout; limit = w.limit; words = w.words.items; cells = w.cells.items; processes = w.processes.items; tallies = w.tallies.items; history = w.history.items }) };
-}
-
-/// A step before it is taken.
-#[derive(Clone, Copy)]
-struct Prospect {
-    access: Access,
-    /// What the word holds.
-    found: u64,
 }
 
 fn all_at_rest(alloc: Global, layout: Layout, limit: u64) -> Result<Vec<Process>, Refusal>
@@ -121,7 +112,7 @@ fn all_unstarted(alloc: Global, words: &[Own]) -> Result<Vec<Tally>, Refusal>
 }
 
 impl World {
-    ghost use Rattle.std.specs.Prelude.{◌+◌, false, IfSome};
+    ghost use Rattle.std.specs.Prelude.{◌+◌, false, IfSome, IsTrue};
     ghost use Rattle.rmecore.specs.Paid.{is_glance};
     ghost use Rattle.rmecore.specs.Simulated.{own_at, tally_at};
     ghost use Rattle.rmecore.specs.Tallied.{IsExact, IsRereading};
@@ -131,7 +122,7 @@ impl World {
     ghost use Rattle.rmeworld.specs.Reached.{IsReached, IsLegalHistory};
     ghost use Rattle.rmeworld.specs.ImageRules.{IsLawfulImage};
     ghost use Rattle.rmeworld.specs.ImageStart.{IsUnstarted};
-    ghost use Rattle.rmeworld.specs.Replayed.{start_refusal, started, advance_refusal, stepped, advanced, crash_refusal, crash_deed, crashed as world_crashed, image_of};
+    ghost use Rattle.rmeworld.specs.Replayed.{start_refusal, started, advance_refusal, stepped, quiet_step, advanced, crash_refusal, crash_deed, crashed as world_crashed, image_of};
     ghost use Rattle.rmeworld.specs.Advancing.{Advances, GoesOn};
 
     /// A new world: all words are 0, and all processes at rest.
@@ -247,8 +238,25 @@ impl World {
         ensures err { OnErr result (self.new ≡ self.old) }
     {
         match self.scan(p) {
-            Some((scan, access)) => Ok(self.scan_on(p, scan, access)),
+            Some((scan, access)) => Ok(self.scan_told(p, scan, access)),
             None => self.step_on(p),
+        }
+    }
+
+    /// Takes the next step of process p where it is one of a scan, which is no deed and ends no call, and answers true. Any
+    /// other step it leaves to `advance`, and answers false.
+    pub fn step_quietly(&mut self, p: u64) -> bool
+        ensures accepted { IsTrue result → advance_refusal self.old p ≡ None }
+        ensures quiet { IsTrue result → ((stepped self.old p).deed ≡ None) × ((stepped self.old p).answer ≡ None) }
+        ensures ok { IsTrue result → self.new ≡ advanced self.old p }
+        ensures same { result ≡ false → self.new ≡ self.old }
+    {
+        match self.scan(p) {
+            Some((scan, access)) => {
+                self.scan_on(p, scan, access);
+                true
+            }
+            None => false,
         }
     }
 
@@ -267,19 +275,27 @@ impl World {
         }
     }
 
-    /// Takes the next step of a scan, which is a load and no deed.
-    fn scan_on(&mut self, p: u64, scan: Scan, access: Access) -> Stepped
+    /// Takes the next step of a scan, and tells it.
+    fn scan_told(&mut self, p: u64, scan: Scan, access: Access) -> Stepped
         requires below { p < self.old.layout.procs }
         requires goes_on { GoesOn (stand_at self.old.processes p) scan access }
         ensures { Advances self.old p result self.new }
     {
-        let step = Prospect {
-            access,
-            found: load(&self.words, &self.cells, access.word()),
-        };
-        let scanned = self.processes[p as usize].scan_on(scan, step.found);
+        let found = self.scan_on(p, scan, access);
+        Stepped::quiet(access, found)
+    }
+
+    /// Takes the next step of a scan, which is a load and no deed, and ends no call. It answers what was read.
+    fn scan_on(&mut self, p: u64, scan: Scan, access: Access) -> u64
+        requires below { p < self.old.layout.procs }
+        requires goes_on { GoesOn (stand_at self.old.processes p) scan access }
+        ensures advances { Advances self.old p (stepped self.old p) self.new }
+        ensures quiet { stepped self.old p ≡ quiet_step access result }
+    {
+        let found = load(&self.words, &self.cells, access.word());
+        let scanned = self.processes[p as usize].scan_on(scan, found);
         self.tallies[p as usize].count(scanned.progress.blocked);
-        step.told(scanned, None)
+        found
     }
 
     /// Takes the next step of a process, whatever it is.
@@ -418,37 +434,6 @@ impl World {
     }
 }
 
-impl Prospect {
-    ghost use Rattle.rmecore.specs.Machine.{kind_of, word_of, carried};
-
-    /// What the step tells, once it is taken.
-    fn told(&self, outcome: Outcome, deed: Option<Deed>) -> Stepped
-        ensures { result ≡ record { happened = record { kind = kind_of self.now.access; word = word_of self.now.access; value = carried self.now.access self.now.found; outer = outcome.progress.outer; done = outcome.progress.done }; deed = deed; answer = outcome.answer } }
-    {
-        Stepped {
-            happened: Happened {
-                kind: self.access.kind(),
-                word: self.access.word(),
-                value: self.value(),
-                outer: outcome.progress.outer,
-                done: outcome.progress.done,
-            },
-            deed,
-            answer: outcome.answer,
-        }
-    }
-
-    /// What is read or written.
-    fn value(&self) -> u64
-        ensures { result ≡ carried self.now.access self.now.found }
-    {
-        match self.access {
-            Access::Load(..) => self.found,
-            Access::Store(_, _, value) => value,
-        }
-    }
-}
-
 impl Machine for World {
     ghost use Rattle.rmeworld.specs.Replayed as replayed;
 
@@ -476,6 +461,10 @@ impl Machine for World {
 
     fn advance(&mut self, p: u64) -> Result<Stepped, Refusal> {
         World::advance(self, p)
+    }
+
+    fn step_quietly(&mut self, p: u64) -> bool {
+        World::step_quietly(self, p)
     }
 
     fn crash(&mut self, p: u64) -> Result<Deed, Refusal> {

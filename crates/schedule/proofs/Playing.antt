@@ -1,5 +1,5 @@
 -- Parts of a run that are played one after another.
-use Rattle.std.proofs.Common.{◌≡◌, ℕ, suc, true, false, is_some, if◌then◌else◌, ◌+◌, List, [], ◌∷◌, ◌++◌, length, Option, Some, None, Result, Ok, Err, OnOk, IfErr, refl, sym, ap, ◌∙◌, append_assoc, ◌⊎◌, inl, inr, arith}
+use Rattle.std.proofs.Common.{◌≡◌, ℕ, suc, true, false, is_some, if◌then◌else◌, ◌+◌, List, [], ◌∷◌, ◌++◌, length, Option, Some, None, Result, Ok, Err, OnOk, IfErr, refl, sym, ap, ◌∙◌, subst, append_assoc, ◌⊎◌, inl, inr, arith}
 use Rattle.std.proofs.lemmas.List.{append-nil, length-append}
 use Rattle.std.specs.Prelude.{codes}
 use Rattle.std.specs.List.{join_with_byte}
@@ -171,6 +171,9 @@ module _ {S : Type 0} (b : Behaviour S) (p : ℕ) where
   abbrev pub StillTo : List Told × S → List Told → ℕ → S → Type 0
   StillTo total told n s = total ≡ (told ++ (steps b p n s).0, (steps b p n s).1)
 
+  pub still_there : (total : List Told × S) (told : List Told) (n : ℕ) (s t : S) → StillTo total told n s → t ≡ s → StillTo total told n t
+  still_there total told n s t still same = rw same still
+
   pub step_more : (total : List Told × S) (told : List Told) (n k : ℕ) (s t : S) (step : Stepped) → StillTo total told n s → n ≡ suc k
       → b.advance_refusal s p ≡ None → step ≡ b.stepped s p → is_some step.answer ≡ false → t ≡ b.advanced s p
       → StillTo total (told ++ told_of p step.deed step.answer) k t
@@ -178,6 +181,14 @@ module _ {S : Type 0} (b : Behaviour S) (p : ℕ) where
   step_more total told n k s t step still count taken is unanswered left =
       let going : is_some (b.stepped s p).answer ≡ false = rw (← is) unanswered in
       rw (is, left) (still ∙ rw count (rw (taken, going) (ap (λ (xs : List Told). (xs, (steps b p k (b.advanced s p)).1)) (sym (append_assoc told (told_of p (b.stepped s p).deed (b.stepped s p).answer) (steps b p k (b.advanced s p)).0)))))
+
+  -- a step that tells nothing
+  pub step_silent : (total : List Told × S) (told : List Told) (n k : ℕ) (s t : S) → StillTo total told n s → n ≡ suc k
+      → b.advance_refusal s p ≡ None → (b.stepped s p).deed ≡ None → (b.stepped s p).answer ≡ None → t ≡ b.advanced s p → StillTo total told k t
+  step_silent total told n k s t still count taken no_deed no_answer left =
+      let step : Stepped = b.stepped s p in
+      let nothing : told ++ told_of p step.deed step.answer ≡ told = (λ i. told ++ told_of p (no_deed i) (no_answer i)) ∙ append-nil told in
+      subst (λ (xs : List Told). StillTo total xs k t) nothing (step_more total told n k s t step still count taken refl (ap is_some no_answer) left)
 
   pub step_last : (total : List Told × S) (told : List Told) (n k : ℕ) (s t : S) (step : Stepped) → StillTo total told n s → n ≡ suc k
       → b.advance_refusal s p ≡ None → step ≡ b.stepped s p → is_some step.answer ≡ true → t ≡ b.advanced s p

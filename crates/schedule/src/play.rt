@@ -26,6 +26,9 @@ fn more_steps<M: Machine, W: Sink>(
     ensures { Plays (tape (W.taken w.old) (W.failures w.old)) (tape (W.taken w.new) (W.failures w.new)) (bench judge.old clerk.old) (bench judge.new clerk.new) (steps (behaviour M.start_refusal M.started M.advance_refusal M.stepped M.advanced M.crash_refusal M.crash_deed M.crashed) p n machine.old).0 (steps (behaviour M.start_refusal M.started M.advance_refusal M.stepped M.advanced M.crash_refusal M.crash_deed M.crashed) p n machine.old).1 None machine.new result }
 {
     for _ in 0..n {
+        if machine.step_quietly(p) {
+            continue;
+        }
         let stepped = match machine.advance(p) {
             Ok(stepped) => stepped,
             Err(refusal) => match refusal.number() {
@@ -41,8 +44,9 @@ fn more_steps<M: Machine, W: Sink>(
     Ok(())
 }
 
-/// One step of p, and then at most n more until its call is answered.
-fn take_steps<M: Machine, W: Sink>(
+/// As `take_steps`, where the first step may have something to tell.
+#[inline(never)]
+fn take_told_steps<M: Machine, W: Sink>(
     machine: &mut M,
     judge: &mut Judge,
     clerk: &mut Clerk,
@@ -62,6 +66,28 @@ fn take_steps<M: Machine, W: Sink>(
         return Ok(());
     }
     more_steps(machine, judge, clerk, w, p, n - 1)
+}
+
+/// At most n steps of p, until its call is answered. They are refused where the first is.
+fn take_steps<M: Machine, W: Sink>(
+    machine: &mut M,
+    judge: &mut Judge,
+    clerk: &mut Clerk,
+    w: &mut W,
+    p: u64,
+    n: u64,
+) -> Result<(), Halt>
+    requires { 1 ≤ n }
+    ensures { Plays (tape (W.taken w.old) (W.failures w.old)) (tape (W.taken w.new) (W.failures w.new)) (bench judge.old clerk.old) (bench judge.new clerk.new) (steps (behaviour M.start_refusal M.started M.advance_refusal M.stepped M.advanced M.crash_refusal M.crash_deed M.crashed) p n machine.old).0 (steps (behaviour M.start_refusal M.started M.advance_refusal M.stepped M.advanced M.crash_refusal M.crash_deed M.crashed) p n machine.old).1 (M.advance_refusal machine.old p) machine.new result }
+{
+    if !machine.step_quietly(p) {
+        return take_told_steps(machine, judge, clerk, w, p, n);
+    }
+    let left = n - 1;
+    if left == 0 {
+        return Ok(());
+    }
+    more_steps(machine, judge, clerk, w, p, left)
 }
 
 /// A crash of p.

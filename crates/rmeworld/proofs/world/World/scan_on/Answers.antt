@@ -1,50 +1,50 @@
 use Rattle.std.proofs.Common.{◌≡◌, ◌++◌, [], List, slice_index_or, slice_set, Some, sym, ap, ◌∙◌, subst}
 use Rattle.std.proofs.lemmas.List.{append-nil}
-use Rattle.rmecore.specs.Machine.{kind_of, word_of, carried}
+use Rattle.rmecore.specs.Machine.{word_of}
 use Rattle.rmecore.specs.Simulated.{own_at, counted, tally_at}
 use Rattle.rmecore.specs.declared.access.Access.{Access}
 use Rattle.redomail.specs.Layout.{words_of}
 use Rattle.redomail.specs.declared.deed.Deed.{Deed}
-use Rattle.rmeworld.specs.Replayed.{happening, the_deed}
+use Rattle.rmeworld.specs.Replayed.{happening, stepped, stepped_if, quiet_step}
 use Rattle.rmeworld.specs.Reached.{IsWorld}
 use Rattle.rmeworld.specs.Stand.{spot_of, outcome, next_access, spot_after, stepped as stand_stepped}
 use Rattle.rmeworld.specs.World.{reading, reading_of, event_deeds}
 use Rattle.rmeworld.specs.WorldState.{WorldState, stand_at, scene_of}
-use Rattle.rmeworld.proofs.Advancing.{advances, scan_is_quiet, load_leaves}
+use Rattle.rmeworld.proofs.Advancing.{advances, scan_is_quiet, scan_tells, load_leaves}
 use Rattle.rmeworld.proofs.Worlds.{found, tally_found, Made, made_is, deeds_are, world_step}
 use Rattle.rmeworld.proofs.WorldSteps.{IsStep}
 use Rattle.rmeworld.proofs.world.World.scan_on.Goals as goal
 
-world : (c : goal.After-told) → IsWorld c.args.self.now
+world : (c : goal.After-self-2-1) → IsWorld c.args.self.now
 world c = subst IsWorld c.self.view_is c.self.invariant
 
-stand : (c : goal.After-told) → stand_at c.args.self.now.processes c.args.p ≡ c.index_mut.result.now
+stand : (c : goal.After-self-2-1) → stand_at c.args.self.now.processes c.args.p ≡ c.index_mut.result.now
 stand c = found c.args.self.now c.args.p c.index_mut.result.now (world c) c.requires.below (c.index_mut.ensures.value ∙ ap (λ (s : WorldState). slice_index_or s.processes c.args.p c.index_mut.result.now) c.self.view_is)
 
-tally : (c : goal.After-told) → tally_at c.args.self.now.tallies c.args.p ≡ c.index_mut-2.result.now
+tally : (c : goal.After-self-2-1) → tally_at c.args.self.now.tallies c.args.p ≡ c.index_mut-2.result.now
 tally c = tally_found c.args.self.now c.args.p c.index_mut-2.result.now (world c) c.requires.below (c.index_mut-2.ensures.value ∙ ap (λ (s : WorldState). slice_index_or s.tallies c.args.p c.index_mut-2.result.now) c.self.view_is)
 
-read : (c : goal.After-told) → c.load.result ≡ reading (scene_of c.args.self.now) (word_of c.args.access)
+read : (c : goal.After-self-2-1) → c.load-found.result ≡ reading (scene_of c.args.self.now) (word_of c.args.access)
 read c =
-    c.load.ensures
+    c.load-found.ensures
     ∙ (λ i. reading_of (own_at ((c.deref.ensures.value ∙ ap (λ (s : WorldState). s.words) c.self.view_is) i)) (words_of ((c.deref-2.ensures.value ∙ ap (λ (s : WorldState). s.cells) c.self.view_is) i)) (c.word.ensures i))
 
 -- the process after it was fed
-fed : (c : goal.After-told) → c.scan_on-scanned.new.self ≡ stand_stepped (stand_at c.args.self.now.processes c.args.p) (reading (scene_of c.args.self.now) (word_of c.args.access))
+fed : (c : goal.After-self-2-1) → c.scan_on-scanned.new.self ≡ stand_stepped (stand_at c.args.self.now.processes c.args.p) (reading (scene_of c.args.self.now) (word_of c.args.access))
 fed c = c.scan_on-scanned.ensures.exact ∙ (λ i. stand_stepped (sym (stand c) i) (read c i))
 
-what : (c : goal.After-told) → c.scan_on-scanned.result ≡ outcome (stand_at c.args.self.now.processes c.args.p) (Some c.args.access) (reading (scene_of c.args.self.now) (word_of c.args.access))
+what : (c : goal.After-self-2-1) → c.scan_on-scanned.result ≡ outcome (stand_at c.args.self.now.processes c.args.p) (Some c.args.access) (reading (scene_of c.args.self.now) (word_of c.args.access))
 what c =
     c.scan_on-scanned.ensures.outcome ∙ (λ i. outcome (sym (stand c) i) (next_access (sym (stand c) i)) (read c i))
     ∙ ap (λ o. outcome (stand_at c.args.self.now.processes c.args.p) o (reading (scene_of c.args.self.now) (word_of c.args.access))) c.requires.goes_on.next
 
-quiet : (c : goal.After-told) → event_deeds c.args.self.now.layout (scene_of c.args.self.now) (happening c.args.self.now c.args.p c.args.access) ≡ []
+quiet : (c : goal.After-self-2-1) → event_deeds c.args.self.now.layout (scene_of c.args.self.now) (happening c.args.self.now c.args.p c.args.access) ≡ []
 quiet c =
     let s : WorldState = c.args.self.now in
     sym (deeds_are s c.args.p c.args.access _ (world c).seated c.requires.below c.requires.goes_on.own c.requires.goes_on.next)
     ∙ scan_is_quiet (stand_at s.processes c.args.p) c.args.scan c.args.access s.layout c.args.p (words_of s.cells) (reading (scene_of s) (word_of c.args.access)) c.requires.goes_on
 
-step : (c : goal.After-told) → IsStep c.args.self.now c.args.p c.args.access
+step : (c : goal.After-self-2-1) → IsStep c.args.self.now c.args.p c.args.access
 step c =
     record {
       filled = (world c).filled;
@@ -56,7 +56,7 @@ step c =
       goes = ap spot_of (sym (fed c)) ∙ c.scan_on-scanned.ensures.spot ∙ (λ i. spot_after (sym (stand c) i) (next_access (sym (stand c) i)) (read c i));
     }
 
-abbrev new : goal.After-told → WorldState
+abbrev new : goal.After-self-2-1 → WorldState
 new c = record {
   layout = c.self.inside.layout;
   limit = c.self.inside.limit;
@@ -67,7 +67,7 @@ new c = record {
   history = c.self.inside.history.items;
 }
 
-made : (c : goal.After-told) → Made c.args.self.now c.args.p c.args.access (new c)
+made : (c : goal.After-self-2-1) → Made c.args.self.now c.args.p c.args.access (new c)
 made c =
     let s : WorldState = c.args.self.now in
     let view = c.self.view_is in
@@ -88,12 +88,10 @@ made c =
 pub invariant_of-self : goal.invariant_of-self
 invariant_of-self c = subst IsWorld (sym (made_is (made c))) (world_step c.args.self.now c.args.p c.args.access (world c) (step c))
 
-pub returns : goal.returns
-returns c =
-    let a : Access = c.args.access in
-    advances c.args.self.now c.args.p a c.told.result (new c) (world c) (step c) c.requires.goes_on.least (made c)
-    (c.told.ensures ∙ (λ i. record {
-      happened = record { kind = kind_of a; word = word_of a; value = carried a (read c i); outer = (what c i).progress.outer; done = (what c i).progress.done };
-      deed = the_deed (sym (quiet c) i);
-      answer = (what c i).answer;
-    }))
+pub returns-clause-advances : goal.returns-clause-advances
+returns-clause-advances c =
+    let s : WorldState = c.args.self.now in
+    advances s c.args.p c.args.access (stepped s c.args.p) (new c) (world c) (step c) c.requires.goes_on.least (made c) (ap (stepped_if s c.args.p) c.requires.goes_on.next)
+
+pub returns-clause-quiet : goal.returns-clause-quiet
+returns-clause-quiet c = scan_tells c.args.self.now c.args.p c.args.scan c.args.access c.requires.goes_on (quiet c) ∙ ap (quiet_step c.args.access) (sym (read c))

@@ -1,9 +1,12 @@
 -- How a command ends: what its status, or its fault, says of what was read, what it has written, and what is to be saved.
-use Rattle.std.specs.Prelude.{◌≡◌, ◌≢◌, ◌⊎◌, ℕ, ◌-◌, ◌*◌, ◌^◌, ◌≤◌, min, Bool, false, List, [], ◌∷◌, length, codes, Option, None, is_some, IfSome, Vec, Result, Ok, Err, IfOk}
+use Rattle.std.specs.Prelude.{◌≡◌, ◌≢◌, ◌⊎◌, ℕ, ◌-◌, ◌*◌, ◌^◌, ◌≤◌, min, Bool, false, List, [], ◌∷◌, length, codes, Option, Some, None, is_some, IfSome, Vec, Result, Ok, Err, IfOk}
 use Rattle.std.specs.declared.alloc.Global.{Global}
 use Rattle.crashlab.specs.declared.variant.Variant.{Variant}
 use Rattle.crashlab.specs.declared.variant.Variant.TheVariants.{Right}
 use Rattle.crashlab.specs.Hunts.{IsFound}
+use Rattle.meanings.specs.declared.topic.Topic.{Topic}
+use Rattle.meanings.specs.declared.topic.TheConstants.{TOPICS}
+use Rattle.meanings.specs.Told.{list_of, TellsTopic}
 use Rattle.rmeworld.specs.declared.image.Image.{Image}
 use Rattle.rmeworld.specs.ImageText.{image_line}
 use Rattle.rmeworld.specs.Replayed.{image_of}
@@ -21,14 +24,14 @@ use Rattle.schedule.specs.Runs.{Part, deeds_of}
 use Rattle.schedule.specs.Verdicts.{verdict_on}
 use Rattle.schedule.specs.Wholes.{Reading, WasRead, ReplaysSource, world_run}
 use Rattle.laboratory.specs.declared.order.Command.{Command}
-use Rattle.laboratory.specs.declared.order.Command.TheVariants.{Replay, Run, Hunt, Judge}
+use Rattle.laboratory.specs.declared.order.Command.TheVariants.{Replay, Run, Hunt, Judge, Explain}
 use Rattle.laboratory.specs.declared.order.HuntOrder.{HuntOrder}
 use Rattle.laboratory.specs.declared.order.ReplayOrder.{ReplayOrder}
 use Rattle.laboratory.specs.declared.order.RunOrder.{RunOrder}
 use Rattle.laboratory.specs.Sizes.{HuntFits, RunFits}
 use Rattle.laboratory.specs.declared.ending.Ending.{Ending}
 use Rattle.laboratory.specs.declared.fault.Fault.{Fault}
-use Rattle.laboratory.specs.declared.fault.Fault.TheVariants.{BadSize, Read}
+use Rattle.laboratory.specs.declared.fault.Fault.TheVariants.{BadSize, Read, Write}
 use Rattle.laboratory.specs.Statuses.{outcome, outcome_told, status_after, status_ended}
 
 -- what is printed of a trace: the line of its verdict, or nothing after a fault
@@ -133,12 +136,22 @@ lab_for order =
 abbrev pub RunEnds : RunOrder → Result Ending Fault → Type 0
 RunEnds order end = status_ended end ≡ 2 → RunFits order → ⊥
 
+-- the meaning of a topic was written, or the names of all
+abbrev pub Explains : Option Topic → Tape → Tape → Type 0
+Explains (Some topic) before now = TellsTopic topic before now
+Explains None before now = Writes before now (list_of TOPICS)
+
+-- only a failed write keeps it from being told
+abbrev pub ExplainEnds : Option Topic → Tape → Tape → Result Ending Fault → Type 0
+ExplainEnds topic before now end = (outcome end ≡ Ok 0) × Explains topic before now ⊎ (outcome end ≡ Err Write)
+
 -- by the command, and whether an image is given; by how far its input was read and what it has written, before and now
 abbrev pub CommandEnds : Command → Bool → Reading → Reading → Tape → Tape → Result Ending Fault → Type 0
 CommandEnds (Replay order) pictured old new before now end = ReplayEnds order pictured old new before now end
 CommandEnds (Run order) pictured old new before now end = RunEnds order end
 CommandEnds (Hunt order) pictured old new before now end = HuntEnds order before now end
 CommandEnds (Judge file) pictured old new before now end = JudgeEnds old new before now end
+CommandEnds (Explain topic) pictured old new before now end = (new ≡ old) × ExplainEnds topic before now end
 
 -- the schedule's header names the image's sizes, and its width or a greater one
 abbrev pub CanFit : Image → Scheduled → Type 0

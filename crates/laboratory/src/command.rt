@@ -4,7 +4,7 @@ ghost use Rattle.std.specs.Prelude.{◌≡◌, Result, IfErr, IfOk, OnOk, is_som
 ghost use Rattle.schedule.specs.Plays.{tape, Writes};
 ghost use Rattle.schedule.specs.Schedules.{spelling};
 ghost use Rattle.schedule.specs.Wholes.{reading};
-ghost use Rattle.laboratory.specs.Commands.{CommandEnds, HuntEnds, IsEnded, JudgeEnds};
+ghost use Rattle.laboratory.specs.Commands.{CommandEnds, ExplainEnds, HuntEnds, IsEnded, JudgeEnds};
 ghost use Rattle.laboratory.specs.FilesNamed.{save_of};
 ghost use Rattle.laboratory.specs.Programs.{Closes};
 ghost use Rattle.laboratory.specs.Statuses.{status_of};
@@ -16,6 +16,7 @@ use crate::order::{Command, HuntOrder};
 use crate::replaying::replay_order;
 use crate::running::run_order;
 use crashlab::hunt::hunt;
+use meanings::{Topic, tell_all_names, tell_topic};
 use schedule::device::write_all;
 use schedule::{Schedule, Sink, Source, judge_trace, put_verdict, write_schedule};
 use std::alloc::Global;
@@ -72,6 +73,24 @@ fn hunt_order<W: Sink>(alloc: Global, order: &HuntOrder, w: &mut W) -> Result<En
     }
 }
 
+/// What a topic means, or the names of all topics.
+fn explain_order<W: Sink>(topic: Option<Topic>, w: &mut W) -> Result<Ending, Fault>
+    ensures ends { ExplainEnds topic (tape (W.taken w.old) (W.failures w.old)) (tape (W.taken w.new) (W.failures w.new)) result }
+    ensures ended { IfOk result (IsEnded false (W.failures w.old) (W.failures w.new)) }
+{
+    let told = match topic {
+        Some(topic) => tell_topic(topic, w),
+        None => tell_all_names(w),
+    };
+    match told {
+        Ok(()) => Ok(Ending {
+            status: 0,
+            save: None,
+        }),
+        Err(_) => Err(Fault::Write),
+    }
+}
+
 /// Does what a command says, or says why not: it reads the schedule or the trace from `r`, and writes what it prints to
 /// `w`. The image is the text of the file that `--image` names.
 pub fn ended<T: Threads + Wait + Sync, R: Source, W: Sink>(
@@ -90,6 +109,7 @@ pub fn ended<T: Threads + Wait + Sync, R: Source, W: Sink>(
         Command::Judge(_) => judge_order(alloc, r, w),
         Command::Hunt(order) => hunt_order(alloc, order, w),
         Command::Run(order) => run_order(rt, alloc, order, w),
+        Command::Explain(topic) => explain_order(*topic, w),
     }
 }
 

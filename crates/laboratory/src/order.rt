@@ -3,6 +3,7 @@
 ghost use Rattle.std.specs.Prelude.{◌≡◌, option_copied};
 
 use crashlab::Variant;
+use meanings::Topic;
 
 /// `replay`: a schedule is run, and its report is printed.
 #[derive(Debug, Drop, PartialEq, Eq)]
@@ -51,6 +52,8 @@ pub enum Command {
     Hunt(HuntOrder),
     /// The verdict of a trace in a file, or on standard input.
     Judge(Option<String>),
+    /// What this topic means; without one, the names of all topics.
+    Explain(Option<Topic>),
 }
 
 impl Command {

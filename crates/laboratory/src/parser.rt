@@ -29,6 +29,14 @@ const JUDGE_HELP: &str =
 line.\nExit status: 0 where the verdict is fine, 1 where it is against, 2 after a fault of the words or the trace, 3 after one of a \
 device or of memory.\n\nExample: rmelab judge examples/overtaken.trace";
 
+const EXPLAIN_HELP: &str =
+    "In: nothing.\nOut: what the words name, in two sentences, and the page that defines it; without words the names of \
+all that is explained, one a line.\nExit status: 0 where the words are a name, 2 where they are none, 3 after a fault of a device or \
+of memory.\n\nExample: rmelab explain fault 5";
+
+/// What `--version` tells.
+const VERSION: &str = "0.1.0";
+
 fn option<'a>(alloc: Global, name: &'a str, value: &'a str, help: &'a str) -> Arg<'a> {
     Arg::new(alloc, name)
         .long(name)
@@ -137,10 +145,23 @@ fn judge<'a>(alloc: Global) -> Result<Parser<'a>, AllocError> {
         .arg(file(alloc, "The trace; without it, standard input is read"))
 }
 
+fn explain<'a>(alloc: Global) -> Result<Parser<'a>, AllocError> {
+    let words = Arg::new(alloc, "WORDS")
+        .help(
+            "The name, as `fault 5`, `refused 12`, `rule 7`, `against 4`, `answer clean` or `step look`",
+        )
+        .action(ArgAction::Append);
+    Parser::new(alloc, "explain")
+        .about("Says what a number or a word of reports and faults means")
+        .after_help(EXPLAIN_HELP)
+        .arg(words)
+}
+
 fn head<'a>(alloc: Global) -> Parser<'a> {
     Parser::new(alloc, "rmelab")
         .about("A laboratory of recoverable first-come first-served locks")
         .after_help(STATUSES)
+        .version(VERSION)
         .subcommand_required(true)
 }
 
@@ -157,5 +178,6 @@ pub fn parser<'a>(alloc: Global) -> Result<Parser<'a>, AllocError> {
     let whole = with(head(alloc), replay(alloc))?;
     let whole = with(whole, run(alloc))?;
     let whole = with(whole, hunt(alloc))?;
-    with(whole, judge(alloc))
+    let whole = with(whole, judge(alloc))?;
+    with(whole, explain(alloc))
 }

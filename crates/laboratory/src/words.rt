@@ -1,6 +1,8 @@
 //! The words of the command line, read.
 
 ghost use Rattle.std.specs.Prelude.{◌≡◌, ◌↔◌, IfOk, IsOk, OnErr, IsErrOf};
+ghost use Rattle.meanings.specs.declared.topic.Topic.{Topic as AnyTopic};
+ghost use Rattle.meanings.specs.Names.{name_of};
 ghost use Rattle.laboratory.specs.Sizes.{IsSized, HuntFits, RunFits};
 
 use crate::order::{Command, HuntOrder, ReplayOrder, RunOrder};
@@ -8,6 +10,7 @@ use crate::parser::parser;
 use clap::error::ErrorKind;
 use clap::{ArgMatches, Error};
 use crashlab::Variant;
+use meanings::{Topic, topic_named};
 use std::alloc::{AllocError, Global};
 use std::io;
 use std::rt::Env;
@@ -15,9 +18,9 @@ use std::rt::Env;
 /// Why the words are no command, in the order in which it is found.
 #[derive(Debug, Drop)]
 pub enum WordsFault {
-    /// The help that is asked for, to be printed; the status is 0.
+    /// The help or the version that is asked for, to be printed; the status is 0.
     Help { text: String },
-    /// What `clap` says against them, to be told; the status is 2.
+    /// What `clap` says against them, or that they name no topic, to be told; the status is 2.
     Refused { text: String },
     /// No such variant, or one other than `right` together with an image.
     BadVariant,
@@ -148,6 +151,37 @@ fn run_words(matches: &ArgMatches<'_>) -> Result<RunOrder, WordsFault>
     })
 }
 
+/// What is told of words that name no topic.
+fn unnamed(alloc: Global, name: &str) -> Result<String, AllocError> {
+    format!(in alloc;
+        "error: '{name}' names nothing that is explained\n\nFor more information, try 'rmelab explain'.\n"
+    )
+}
+
+/// The topic of this name.
+fn topic_of(alloc: Global, name: &str) -> Result<Topic, WordsFault>
+    ensures named { IfOk result (λ topic. name_of topic ≡ name.now) }
+    ensures found { (topic : AnyTopic) → name_of topic ≡ name.now → IsOk result }
+{
+    match topic_named(name) {
+        Some(topic) => Ok(topic),
+        None => Err(WordsFault::Refused {
+            text: unnamed(alloc, name)?,
+        }),
+    }
+}
+
+/// The topic that the words name, one space between two; none without words.
+fn explain_words(alloc: Global, matches: &ArgMatches<'_>) -> Result<Option<Topic>, WordsFault> {
+    match matches.get_strs("WORDS") {
+        Some(words) => {
+            let name = words.join(alloc, " ")?;
+            Ok(Some(topic_of(alloc, &name)?))
+        }
+        None => Ok(None),
+    }
+}
+
 fn command_of(alloc: Global, matches: &ArgMatches<'_>) -> Result<Command, WordsFault>
     ensures { IfOk result IsSized }
 {
@@ -155,6 +189,7 @@ fn command_of(alloc: Global, matches: &ArgMatches<'_>) -> Result<Command, WordsF
         Some(("replay", inner)) => Ok(Command::Replay(replay_words(alloc, inner)?)),
         Some(("run", inner)) => Ok(Command::Run(run_words(inner)?)),
         Some(("hunt", inner)) => Ok(Command::Hunt(hunt_words(inner)?)),
+        Some(("explain", inner)) => Ok(Command::Explain(explain_words(alloc, inner)?)),
         Some((_, inner)) => Ok(Command::Judge(text_of(alloc, inner, "FILE")?)),
         None => Err(WordsFault::BadVariant),
     }
@@ -173,7 +208,7 @@ fn refused(alloc: Global, error: &Error) -> Result<WordsFault, AllocError> {
 }
 
 /// Reads the words of a command line, of which the first is the program's name. What `clap` refuses is found first, then
-/// a bad variant, then a bad size.
+/// a bad variant, then a bad size. Words of `explain` that name no topic are refused as `clap` refuses words.
 pub fn read_words(alloc: Global, words: &[String]) -> Result<Command, WordsFault>
     ensures sized { IfOk result IsSized }
 {

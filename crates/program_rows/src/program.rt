@@ -1,6 +1,7 @@
 //! The worked rows that name the program, as whole invocations.
 
 mod everything;
+mod explains;
 mod helps;
 mod images;
 mod invocation;

@@ -8,14 +8,16 @@ const HELP: &str = "A laboratory of recoverable first-come first-served locks
 Usage: rmelab <COMMAND>
 
 Commands:
-  replay  Runs a schedule of steps and crashes, and prints its report
-  run     Runs senders on threads, with drawn crashes, and counts what came through
-  hunt    Draws schedules until a variant of the lock goes wrong
-  judge   Judges a trace of deeds, and prints the verdict
-  help    Print this message or the help of the given subcommand(s)
+  replay   Runs a schedule of steps and crashes, and prints its report
+  run      Runs senders on threads, with drawn crashes, and counts what came through
+  hunt     Draws schedules until a variant of the lock goes wrong
+  judge    Judges a trace of deeds, and prints the verdict
+  explain  Says what a number or a word of reports and faults means
+  help     Print this message or the help of the given subcommand(s)
 
 Options:
-  -h, --help  Print help
+  -h, --help     Print help
+  -V, --version  Print version
 
 Exit status: 0 fine, 1 a verdict against, a schedule found, or a message twice or out of order, 2 a fault of the input, 3 a fault of a device, of memory or of a member.
 ";
@@ -95,6 +97,23 @@ Exit status: 0 where the verdict is fine, 1 where it is against, 2 after a fault
 Example: rmelab judge examples/overtaken.trace
 ";
 
+const EXPLAIN: &str = "Says what a number or a word of reports and faults means
+
+Usage: rmelab explain [WORDS]...
+
+Arguments:
+  [WORDS]...  The name, as `fault 5`, `refused 12`, `rule 7`, `against 4`, `answer clean` or `step look`
+
+Options:
+  -h, --help  Print help
+
+In: nothing.
+Out: what the words name, in two sentences, and the page that defines it; without words the names of all that is explained, one a line.
+Exit status: 0 where the words are a name, 2 where they are none, 3 after a fault of a device or of memory.
+
+Example: rmelab explain fault 5
+";
+
 const SEEDLESS_RUN: &str = "error: the following required arguments were not provided:
   --seed <S>
 
@@ -112,7 +131,7 @@ For more information, try '--help'.
 ";
 
 const NO_COMMAND: &str = "error: 'rmelab' requires a subcommand but one was not provided
-  [subcommands: replay, run, hunt, judge, help]
+  [subcommands: replay, run, hunt, judge, explain, help]
 
 Usage: rmelab <COMMAND>
 
@@ -139,8 +158,18 @@ fn helps(rt: HostRuntime) -> Result<(), Fail> {
         invoked("rmelab run --help", "", RUN),
         invoked("rmelab hunt --help", "", HUNT),
         invoked("rmelab judge --help", "", JUDGE),
+        invoked("rmelab explain --help", "", EXPLAIN),
         invoked("rmelab help", "", HELP),
         invoked("rmelab help judge", "", JUDGE),
+    ];
+    all_come_to(&rt, rt.alloc(), &rows)
+}
+
+#[test]
+fn version(rt: HostRuntime) -> Result<(), Fail> {
+    let rows = [
+        invoked("rmelab --version", "", "rmelab 0.1.0\n"),
+        invoked("rmelab -V", "", "rmelab 0.1.0\n"),
     ];
     all_come_to(&rt, rt.alloc(), &rows)
 }

@@ -1,5 +1,6 @@
 //! Each request for memory refused in turn, of whole invocations.
 
+use super::explains::{NO_NAME, NO_NEWLINE};
 use super::invocation::{Failing, Fake, Feed};
 use super::invocations::{IN_ORDER, OBJECT, REPORT, SMALLEST};
 use super::scarce::{PIECES, Scarce};
@@ -38,11 +39,11 @@ fn ends(
     run_program(rt, alloc, Ok(words), &mut folder, input, output, errors)
 }
 
-/// It tells that it wants memory, and ends with 3, until it meets no refusal; then it prints this.
+/// It tells that it wants memory, and ends with 3, until it meets no refusal; then it prints and tells this.
 fn comes_to(
     rt: &(impl Threads + Wait + Sync),
     alloc: Global,
-    (line, input, printed): (&str, &str, &str),
+    (line, input, printed, said): (&str, &str, &str, &str),
 ) -> Result<(), Fail> {
     let mut all = all_words(alloc, line)?;
     let mut scarce = Scarce::new(alloc)?;
@@ -50,13 +51,13 @@ fn comes_to(
     for _ in 0..PIECES {
         let words = all.pop().unwrap_or(Vec::new(alloc));
         let mut out = [0; 512];
-        let mut err = [0; 64];
+        let mut err = [0; 128];
         let code = ends(rt, alloc, words, input, &mut out, &mut err);
-        if code == ExitCode::from(0) {
-            check(
-                out.starts_with(printed.as_bytes()) && err[0] == 0,
-                "printed",
-            )?;
+        if code != ExitCode::from(3) {
+            let status = if said.is_empty() { 0 } else { 2 };
+            let whole = out.starts_with(printed.as_bytes()) && err.starts_with(said.as_bytes());
+            let ended = err.get(said.len()) == Some(&0) && code == ExitCode::from(status);
+            check(whole && ended, "printed")?;
             break;
         }
         let told = err.starts_with(b"rmelab: out of memory\n\0");
@@ -68,10 +69,12 @@ fn comes_to(
     check(0 < refused && refused < PIECES as u64, "refused")
 }
 
-const ROWS: [(&str, &str, &str); 3] = [
-    ("rmelab replay", SMALLEST, REPORT),
-    ("rmelab replay --json --save a.json", SMALLEST, OBJECT),
-    ("rmelab judge", IN_ORDER, "verdict fine\n"),
+const ROWS: [(&str, &str, &str, &str); 5] = [
+    ("rmelab replay", SMALLEST, REPORT, ""),
+    ("rmelab replay --json --save a.json", SMALLEST, OBJECT, ""),
+    ("rmelab judge", IN_ORDER, "verdict fine\n", ""),
+    ("rmelab explain fault 5", "", NO_NEWLINE, ""),
+    ("rmelab explain fault 7", "", "", NO_NAME),
 ];
 
 #[test]

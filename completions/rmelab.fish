@@ -1,0 +1,42 @@
+# Made by docs/from-help of what rmelab --help prints.
+complete -c rmelab -f
+complete -c rmelab -n __fish_use_subcommand -a replay -d 'Runs a schedule of steps and crashes, and prints its report'
+complete -c rmelab -n __fish_use_subcommand -a run -d 'Runs senders on threads, with drawn crashes, and counts what came through'
+complete -c rmelab -n __fish_use_subcommand -a hunt -d 'Draws schedules until a variant of the lock goes wrong'
+complete -c rmelab -n __fish_use_subcommand -a judge -d 'Judges a trace of deeds, and prints the verdict'
+complete -c rmelab -n __fish_use_subcommand -a explain -d 'Says what a number or a word of reports and faults means'
+complete -c rmelab -n __fish_use_subcommand -a help -d 'Print this message or the help of the given subcommand(s)'
+complete -c rmelab -n '__fish_use_subcommand' -s h -l help -d 'Print help'
+complete -c rmelab -n '__fish_use_subcommand' -s V -l version -d 'Print version'
+complete -c rmelab -n '__fish_seen_subcommand_from replay' -l json -d 'Print one JSON object of the report\'s lines'
+complete -c rmelab -n '__fish_seen_subcommand_from replay' -l variant -x -a 'right no-look no-ties renumber exit-on-crash count-up last-skipped' -d 'right, no-look, no-ties, renumber, exit-on-crash, count-up or last-skipped'
+complete -c rmelab -n '__fish_seen_subcommand_from replay' -l image -r -F -d 'Begin with the words of this image, every process crashed'
+complete -c rmelab -n '__fish_seen_subcommand_from replay' -l save -r -F -d 'Write the last image to this file'
+complete -c rmelab -n '__fish_seen_subcommand_from replay' -s h -l help -d 'Print help'
+complete -c rmelab -n '__fish_seen_subcommand_from replay' -F
+complete -c rmelab -n '__fish_seen_subcommand_from run' -l procs -x -d '1 to 16 senders'
+complete -c rmelab -n '__fish_seen_subcommand_from run' -l messages -x -d '1 to 4096 messages of each'
+complete -c rmelab -n '__fish_seen_subcommand_from run' -l crash -x -d '0 to 50 crashes in 1000 askings'
+complete -c rmelab -n '__fish_seen_subcommand_from run' -l seed -x -d 'The seed of the crashes'
+complete -c rmelab -n '__fish_seen_subcommand_from run' -l width -x -d '1 to 8 words a message; 1 without it'
+complete -c rmelab -n '__fish_seen_subcommand_from run' -s h -l help -d 'Print help'
+complete -c rmelab -n '__fish_seen_subcommand_from hunt' -l variant -x -a 'right no-look no-ties renumber exit-on-crash count-up last-skipped' -d 'right, no-look, no-ties, renumber, exit-on-crash, count-up or last-skipped'
+complete -c rmelab -n '__fish_seen_subcommand_from hunt' -l seed -x -d 'The seed of the moves'
+complete -c rmelab -n '__fish_seen_subcommand_from hunt' -l rounds -x -d '1 to 10000 rounds'
+complete -c rmelab -n '__fish_seen_subcommand_from hunt' -l steps -x -d '1 to 10000 moves a round'
+complete -c rmelab -n '__fish_seen_subcommand_from hunt' -s h -l help -d 'Print help'
+complete -c rmelab -n '__fish_seen_subcommand_from judge' -s h -l help -d 'Print help'
+complete -c rmelab -n '__fish_seen_subcommand_from judge' -F
+complete -c rmelab -n '__fish_seen_subcommand_from explain' -s h -l help -d 'Print help'
+function __rmelab_explained
+    set -l words (commandline -opc)
+    set -l given $words[3..]
+    set -l behind (count $given)
+    set -l at (math $behind + 1)
+    for name in (command $words[1] explain 2>/dev/null)
+        set -l each (string split ' ' -- $name)
+        test $behind -eq 0; or test "$each[1..$behind]" = "$given"; or continue
+        test (count $each) -ge $at; and echo $each[$at]
+    end
+end
+complete -c rmelab -n '__fish_seen_subcommand_from explain' -a '(__rmelab_explained)'

@@ -1,0 +1,49 @@
+//! What topics mean, written to a sink.
+
+ghost use Rattle.std.specs.Prelude.{◌≡◌, OnOk};
+ghost use Rattle.schedule.specs.Plays.{tape, Writes};
+ghost use Rattle.meanings.specs.Told.{list_of, meaning_text, TellsTopic};
+ghost use Rattle.meanings.specs.declared.topic.TheConstants.{TOPICS as all_topics};
+
+use crate::meaning::{Meaning, meaning_of};
+use crate::topic::{TOPICS, Topic};
+use schedule::device::write_all;
+use schedule::{Failed, Sink};
+
+/// Writes a name, its two sentences, and the page that defines it.
+fn tell<W: Sink>(meaning: &Meaning, w: &mut W) -> Result<(), Failed>
+    ensures { OnOk result (Writes (tape (W.taken w.old) (W.failures w.old)) (tape (W.taken w.new) (W.failures w.new)) (meaning_text meaning.now)) }
+{
+    write_all(w, meaning.name.as_bytes())?;
+    write_all(w, b": ")?;
+    write_all(w, meaning.text.as_bytes())?;
+    write_all(w, b"\nSee ")?;
+    write_all(w, meaning.page.as_bytes())?;
+    write_all(w, b".\n")
+}
+
+/// Writes what a topic means.
+pub fn tell_topic<W: Sink>(topic: Topic, w: &mut W) -> Result<(), Failed>
+    ensures { OnOk result (TellsTopic topic (tape (W.taken w.old) (W.failures w.old)) (tape (W.taken w.new) (W.failures w.new))) }
+{
+    let meaning = meaning_of(topic);
+    tell(&meaning, w)
+}
+
+/// Writes the name of each of these topics, one a line.
+fn tell_names<W: Sink>(topics: &[Topic], w: &mut W) -> Result<(), Failed>
+    ensures { OnOk result (Writes (tape (W.taken w.old) (W.failures w.old)) (tape (W.taken w.new) (W.failures w.new)) (list_of topics.now)) }
+{
+    for topic in topics {
+        write_all(w, meaning_of(*topic).name.as_bytes())?;
+        write_all(w, b"\n")?;
+    }
+    Ok(())
+}
+
+/// Writes the names of all that there is to explain, one a line.
+pub fn tell_all_names<W: Sink>(w: &mut W) -> Result<(), Failed>
+    ensures { OnOk result (Writes (tape (W.taken w.old) (W.failures w.old)) (tape (W.taken w.new) (W.failures w.new)) (list_of all_topics)) }
+{
+    tell_names(&TOPICS, w)
+}

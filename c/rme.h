@@ -53,7 +53,7 @@ enum rme_answer {
 uint64_t rme_words(uint64_t procs, uint64_t cap, uint64_t width);
 uint64_t rme_init(struct rme_process *, uint64_t procs, uint64_t cap, uint64_t width, uint64_t limit, uint64_t index);
 void rme_crash(struct rme_process *);
-uint64_t rme_start(struct rme_process *, const struct rme_call *);
+uint64_t rme_start(struct rme_process *, const struct rme_call *, struct rme_access *);
 uint64_t rme_next(const struct rme_process *, struct rme_access *);
 uint64_t rme_feed(struct rme_process *, uint64_t value, struct rme_access *);
 uint64_t rme_step_count(const struct rme_process *);

@@ -197,9 +197,7 @@ static int slow_append(struct rme_seat *seat, uint64_t number, const uint64_t *v
 {
     const struct rme_call call = {.code = RME_APPEND, .number = number, .value = {value[0], value[1]}};
     struct rme_access next;
-    uint64_t told = rme_start(&seat->machine, &call);
-    if (told == 0)
-        told = rme_next(&seat->machine, &next);
+    uint64_t told = rme_start(&seat->machine, &call, &next);
     while (told == 0) {
         uint64_t read = 0;
         nap(0.0002);

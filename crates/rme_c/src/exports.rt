@@ -7,16 +7,19 @@ ghost use Rattle.rme_c.specs.Codes.{refusal_code as code_of_refusal, told as tol
 ghost use Rattle.rme_c.specs.Positions.{stand_at, stand_of, position_of, stage_now, Fits};
 ghost use Rattle.rme_c.specs.Starts.{size_cause, call_by, start_cause};
 ghost use Rattle.rme_c.specs.Steps.{IsFed};
+ghost use Rattle.rme_c.specs.declared.chore.Chore.TheVariants as ChoreOf;
 ghost use Rattle.rme_c.specs.declared.position.Position.TheVariants as PositionOf;
 
 use crate::accesses::next_at;
 use crate::answers::{NOTHING, code, refusal_code, shown, wanted};
 use crate::chore::Chore;
-use crate::lock_arms::lock_feed;
-use crate::position::{Position, is_idle, lock_stage, position_now, stand};
+use crate::lock_arms::{lock_feed, quick_feed};
+use crate::position::{
+    Position, is_checking, is_idle, lock_stage, position_now, scan_stage, stand,
+};
 use crate::process::{RmeAccess, RmeCall, RmePosition, RmeProcess};
 use crate::starts::{size_refusal, start};
-use crate::steps::chore_step;
+use crate::steps::{checked, chore_step};
 use redomail::Layout;
 use rmecore::Stage;
 
@@ -88,16 +91,17 @@ pub extern "C" fn rme_crash(p: &mut RmeProcess)
     };
 }
 
-/// Starts a call, or answers the number of the refusal: of the sizes, of the call's code (13), of the start. Nothing changes
-/// then.
+/// Starts a call and shows its first step, or answers the number of the refusal: of the sizes, of the call's code (13), of
+/// the start. Nothing changes then.
 #[unsafe(no_mangle)]
-pub extern "C" fn rme_start(p: &mut RmeProcess, call: &RmeCall) -> u64
+pub extern "C" fn rme_start(p: &mut RmeProcess, call: &RmeCall, next: &mut RmeAccess) -> u64
     ensures status { result ≡ code_of_refusal (start_cause (stand_of p.old) call.now) }
     ensures started { result ≡ 0 → IfSome (call_by p.old.width call.now) (λ c. stand_of p.new ≡ started (stand_of p.old) c) }
+    ensures next { result ≡ 0 → next.new ≡ shown_of p.old.procs None (next_access (stand_of p.new)) }
     ensures steps { result ≡ 0 → p.new.steps ≡ 0 }
-    ensures refused { result ≢ 0 → p.new ≡ p.old }
+    ensures refused { result ≢ 0 → (p.new ≡ p.old) × (next.new ≡ next.old) }
 {
-    refusal_code(start(p, call))
+    refusal_code(start(p, call, next))
 }
 
 /// Takes the step of a chore.
@@ -116,9 +120,25 @@ fn chore_feed(p: &mut RmeProcess, chore: Chore, value: u64, next: &mut RmeAccess
     code(told)
 }
 
+/// Takes the step of the ruin check.
+#[inline(always)]
+fn check_feed(p: &mut RmeProcess, value: u64, next: &mut RmeAccess) -> u64
+    requires here { position_of p.old ≡ PositionOf.Within ChoreOf.Checking }
+    requires fits { Fits p.old (PositionOf.Within ChoreOf.Checking) }
+    requires eight { length p.old.value ≡ 8 }
+    ensures { IsFed p.old value p.new next.new result }
+{
+    let _whole = *p;
+    let (to, told) = checked(p, value);
+    stand(p, to);
+    p.steps = p.steps.saturating_add(1);
+    *next = shown(p.procs, told.answer, next_at(p, to));
+    code(told)
+}
+
 /// Takes the step that comes next at a stage of the lock's part, if there is one.
 #[inline(always)]
-fn stage_feed(p: &mut RmeProcess, stage: Stage, value: u64, next: &mut RmeAccess) -> u64
+fn whole_feed(p: &mut RmeProcess, stage: Stage, value: u64, next: &mut RmeAccess) -> u64
     requires here { position_of p.old ≡ PositionOf.Lock stage }
     requires fits { Fits p.old (PositionOf.Lock stage) }
     requires eight { length p.old.value ≡ 8 }
@@ -132,10 +152,9 @@ fn stage_feed(p: &mut RmeProcess, stage: Stage, value: u64, next: &mut RmeAccess
     lock_feed(p, stage, value, next)
 }
 
-/// Takes the step of a chore, where the numbers are no stage's.
+/// Takes the step that comes next, wherever the process stands.
 #[inline(never)]
-fn other_feed(p: &mut RmeProcess, value: u64, next: &mut RmeAccess) -> u64
-    requires none { stage_now p.old ≡ None }
+fn any_feed(p: &mut RmeProcess, value: u64, next: &mut RmeAccess) -> u64
     requires eight { length p.old.value ≡ 8 }
     ensures { IsFed p.old value p.new next.new result }
 {
@@ -145,8 +164,37 @@ fn other_feed(p: &mut RmeProcess, value: u64, next: &mut RmeAccess) -> u64
             *next = NOTHING;
             7
         }
-        Position::Lock(_) => 7,
+        Position::Lock(stage) => whole_feed(p, stage, value, next),
         Position::Within(chore) => chore_feed(p, chore, value, next),
+    }
+}
+
+/// Takes the step that comes next at a stage of the lock's part, by a short way where there is one.
+#[inline(always)]
+fn stage_feed(p: &mut RmeProcess, stage: Stage, value: u64, next: &mut RmeAccess) -> u64
+    requires here { position_of p.old ≡ PositionOf.Lock stage }
+    requires fits { Fits p.old (PositionOf.Lock stage) }
+    requires eight { length p.old.value ≡ 8 }
+    ensures { IsFed p.old value p.new next.new result }
+{
+    let _whole = *p;
+    match quick_feed(p, stage, value, next) {
+        Some(code) => code,
+        None => any_feed(p, value, next),
+    }
+}
+
+/// Takes the step that comes next, by a short way where there is one.
+#[inline(always)]
+fn short_feed(p: &mut RmeProcess, value: u64, next: &mut RmeAccess) -> u64
+    requires eight { length p.old.value ≡ 8 }
+    ensures { IsFed p.old value p.new next.new result }
+{
+    let _whole = *p;
+    match lock_stage(p) {
+        Some(stage) => stage_feed(p, stage, value, next),
+        None if value != 1 && is_checking(p) => check_feed(p, value, next),
+        None => any_feed(p, value, next),
     }
 }
 
@@ -177,9 +225,9 @@ pub extern "C" fn rme_feed(p: &mut RmeProcess, value: u64, next: &mut RmeAccess)
     ensures steps { p.new.steps ≡ if is_none (next_access (stand_of p.old)) then p.old.steps else held (p.old.steps + 1) }
 {
     let _whole = *p;
-    match lock_stage(p) {
+    match scan_stage(p) {
         Some(stage) => stage_feed(p, stage, value, next),
-        None => other_feed(p, value, next),
+        None => short_feed(p, value, next),
     }
 }
 

@@ -13,13 +13,13 @@ pub returns-in-Some-clause-steps : goal.returns-in-Some-clause-steps
 returns-in-Some-clause-steps c = c.stage_feed.ensures.steps
 
 pub returns-in-None-clause-exact : goal.returns-in-None-clause-exact
-returns-in-None-clause-exact c = c.other_feed.ensures.exact
+returns-in-None-clause-exact c = c.short_feed.ensures.exact
 
 pub returns-in-None-clause-told : goal.returns-in-None-clause-told
-returns-in-None-clause-told c = c.other_feed.ensures.told
+returns-in-None-clause-told c = c.short_feed.ensures.told
 
 pub returns-in-None-clause-next : goal.returns-in-None-clause-next
-returns-in-None-clause-next c = c.other_feed.ensures.next
+returns-in-None-clause-next c = c.short_feed.ensures.next
 
 pub returns-in-None-clause-steps : goal.returns-in-None-clause-steps
-returns-in-None-clause-steps c = c.other_feed.ensures.steps
+returns-in-None-clause-steps c = c.short_feed.ensures.steps

@@ -221,8 +221,8 @@ fn scanned(p: &mut RmeProcess, stage: Stage, value: u64, next: &mut RmeAccess) -
     }
 }
 
-/// Where the step that comes next leads, where it is one of a lock or an unlock that finds no trace of a crash. At any other
-/// nothing changes.
+/// Where the step that comes next leads, where it is one of a lock or an unlock that finds no trace of a crash, and of no scan.
+/// At any other nothing changes.
 #[inline(always)]
 fn shortly(p: &mut RmeProcess, stage: Stage, value: u64, next: &mut RmeAccess) -> Option<Landing>
     requires below { p.old.index < p.old.procs }
@@ -264,12 +264,26 @@ fn shortly(p: &mut RmeProcess, stage: Stage, value: u64, next: &mut RmeAccess) -
         Stage::Unmarking {
             call: CoreCall::Unlock,
         } => ends(p, Stage::Rest, CoreDone::Out, next),
-        _ => return scanned(p, stage, value, next),
+        _ => return None,
     };
     Some(landing)
 }
 
-/// Takes a step of the lock's part, if it is one of a lock or an unlock that finds no trace of a crash.
+/// Takes a step of the lock's part, if it is one of a scan.
+#[inline(always)]
+pub fn scan_feed(p: &mut RmeProcess, stage: Stage, value: u64, next: &mut RmeAccess) -> Option<u64>
+    requires here { position_of p.old ≡ Position.Lock stage }
+    requires fits { Fits p.old (Position.Lock stage) }
+    ensures fed { IfSome result (λ code. IsFed p.old value p.new next.new code) }
+    ensures none { result ≡ None → (p.new ≡ p.old) × (next.new ≡ next.old) }
+{
+    match scanned(p, stage, value, next) {
+        Some(landing) => Some(landing.code),
+        None => None,
+    }
+}
+
+/// Takes a step of the lock's part, if it is one of a lock or an unlock that finds no trace of a crash, and of no scan.
 #[inline(always)]
 pub fn quick_feed(p: &mut RmeProcess, stage: Stage, value: u64, next: &mut RmeAccess) -> Option<u64>
     requires here { position_of p.old ≡ Position.Lock stage }

@@ -1,16 +1,16 @@
 use Rattle.rme_c.proofs.exports.rme_feed.Goals as goal
 
 pub returns-in-Some-clause-exact : goal.returns-in-Some-clause-exact
-returns-in-Some-clause-exact c = c.stage_feed.ensures.exact
+returns-in-Some-clause-exact c = c.scan_on.ensures.exact
 
 pub returns-in-Some-clause-told : goal.returns-in-Some-clause-told
-returns-in-Some-clause-told c = c.stage_feed.ensures.told
+returns-in-Some-clause-told c = c.scan_on.ensures.told
 
 pub returns-in-Some-clause-next : goal.returns-in-Some-clause-next
-returns-in-Some-clause-next c = c.stage_feed.ensures.next
+returns-in-Some-clause-next c = c.scan_on.ensures.next
 
 pub returns-in-Some-clause-steps : goal.returns-in-Some-clause-steps
-returns-in-Some-clause-steps c = c.stage_feed.ensures.steps
+returns-in-Some-clause-steps c = c.scan_on.ensures.steps
 
 pub returns-in-None-clause-exact : goal.returns-in-None-clause-exact
 returns-in-None-clause-exact c = c.short_feed.ensures.exact

@@ -98,7 +98,7 @@ pub fn lands(
     let answer = answer(p.barred != 0, done);
     let shows = shown(p.procs, answer, next_at(p, position));
     p.unmended = unmended(p.unmended, done);
-    p.position = numbers(position);
+    p.position = numbers(p.position, position);
     p.steps = p.steps.saturating_add(1);
     *next = shows;
     let code = code(Told { answer, blocked });

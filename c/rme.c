@@ -45,22 +45,18 @@ static void rest(uint64_t turn)
     }
 }
 
-/* Takes the steps of the call under way to its answer, or to so many blocked readings and one more. */
-static uint64_t finish(struct rme_seat *s, uint64_t turns, uint64_t *word)
+/* Takes the steps of the call under way, from this access on, to its answer, or to so many blocked readings and one more. */
+static inline __attribute__((always_inline)) uint64_t finish(struct rme_seat *s, struct rme_access *access, uint64_t turns)
 {
-    struct rme_access access = {0, 0, 0};
-    uint64_t turn = 0, told = rme_next(&s->machine, &access);
-    while (told == 0 || told == RME_BLOCKED) {
-        told = rme_feed(&s->machine, take(s, &access), &access);
-        if (told == RME_BLOCKED) {
-            if (turn >= turns)
-                return told;
-            rest(turn++);
-        }
+    uint64_t turn = 0, told;
+    for (;;) {
+        told = rme_feed(&s->machine, take(s, access), access);
+        if (told == 0)
+            continue;
+        if (told != RME_BLOCKED || turn >= turns)
+            return told;
+        rest(turn++);
     }
-    if (word)
-        *word = access.value;
-    return told;
 }
 
 static int error_of(uint64_t told)
@@ -86,26 +82,33 @@ static int error_of(uint64_t told)
 
 static uint64_t call(struct rme_seat *s, const struct rme_call *asked, uint64_t *word)
 {
-    uint64_t refused = rme_start(&s->machine, asked);
-    return refused ? refused : finish(s, UINT64_MAX, word);
+    struct rme_access access;
+    uint64_t told = rme_start(&s->machine, asked, &access);
+    if (told == 0)
+        told = finish(s, &access, UINT64_MAX);
+    if (word && told == RME_WORD)
+        *word = access.value;
+    return told;
 }
 
-static uint64_t plain(struct rme_seat *s, enum rme_code code)
-{
-    const struct rme_call asked = {.code = code};
-    return call(s, &asked, NULL);
-}
+/* The calls that have a code alone. */
+static const struct rme_call calls[] = {
+    [RME_LOCK] = {.code = RME_LOCK}, [RME_UNLOCK] = {.code = RME_UNLOCK}, [RME_CONSISTENT] = {.code = RME_CONSISTENT},
+    [RME_RECOVER] = {.code = RME_RECOVER}, [RME_CLOSE] = {.code = RME_CLOSE}, [RME_WITHDRAW] = {.code = RME_WITHDRAW},
+};
+
+static uint64_t plain(struct rme_seat *s, enum rme_code code) { return call(s, &calls[code], NULL); }
 
 /* ---- calls ---- */
 
 /* A lock that was given up behind ETIMEDOUT is under way still: it goes on where it waited. */
 int rme_lock_within(struct rme_seat *s, uint64_t turns)
 {
-    const struct rme_call asked = {.code = RME_LOCK};
-    uint64_t refused = rme_start(&s->machine, &asked);
-    if (refused && refused != RME_CALL_UNDER_WAY)
-        return error_of(refused);
-    return error_of(finish(s, turns, NULL));
+    struct rme_access access;
+    uint64_t told = rme_start(&s->machine, &calls[RME_LOCK], &access);
+    if (told == RME_CALL_UNDER_WAY)
+        told = rme_next(&s->machine, &access);
+    return error_of(told ? told : finish(s, &access, turns));
 }
 
 int rme_lock(struct rme_seat *s) { return rme_lock_within(s, UINT64_MAX); }
@@ -133,10 +136,7 @@ int rme_append(struct rme_seat *s, uint64_t number, const uint64_t *value)
 int rme_get(struct rme_seat *s, uint64_t i, uint64_t *word)
 {
     const struct rme_call asked = {.code = RME_GET, .number = i};
-    uint64_t read = 0, told = call(s, &asked, &read);
-    if (told == RME_WORD)
-        *word = read;
-    return error_of(told);
+    return error_of(call(s, &asked, word));
 }
 
 int rme_put(struct rme_seat *s, uint64_t i, uint64_t word)
@@ -259,8 +259,8 @@ int rme_attach(struct rme_seat *s, const char *path, uint64_t index)
 /* At rest the index is given back; inside or under way this is a crash, as any other end of the process is. */
 int rme_detach(struct rme_seat *s)
 {
-    const struct rme_call unlock = {.code = RME_UNLOCK};
-    uint64_t refused = rme_start(&s->machine, &unlock);
+    struct rme_access access;
+    uint64_t refused = rme_start(&s->machine, &calls[RME_UNLOCK], &access);
     if (refused == RME_NOT_OWNER)
         atomic_store(&s->header->seats[s->machine.index], 0);
     munmap(s->header, s->length);

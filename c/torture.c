@@ -197,9 +197,7 @@ static int slow_append(struct rme_seat *seat, uint64_t number, const uint64_t *v
 {
     const struct rme_call call = {.code = RME_APPEND, .number = number, .value = {value[0], value[1]}};
     struct rme_access next;
-    uint64_t told = rme_start(&seat->machine, &call);
-    if (told == 0)
-        told = rme_next(&seat->machine, &next);
+    uint64_t told = rme_start(&seat->machine, &call, &next);
     while (told == 0) {
         uint64_t read = 0;
         nap(0.0002);
@@ -331,6 +329,25 @@ static void write_image(const struct rme_seat *seat, const char *folder)
     fclose(image);
 }
 
+/* The words are an image's, and words that are none's are told from them. */
+static void judge(const struct rme_seat *seat)
+{
+    const struct rme_header *h = seat->header;
+    uint64_t *words = calloc(seat->count, sizeof *words);
+    if (!words)
+        fail("memory", ENOMEM);
+    for (uint64_t i = 0; i < seat->count; i++)
+        words[i] = seat->words[i];
+    if (rme_content_rule(words, seat->count, h->procs, h->cap, h->width, h->limit) != RME_LAWFUL)
+        fail("the last words", 0);
+    if (rme_content_rule(words, seat->count - 1, h->procs, h->cap, h->width, h->limit) != RME_NO_BLOCK)
+        fail("words of another length", 0);
+    words[0] = 2;
+    if (rme_content_rule(words, seat->count, h->procs, h->cap, h->width, h->limit) != 5)
+        fail("a lock word that is no row's", 0);
+    free(words);
+}
+
 static uint64_t check_list(const struct rme_seat *seat, const char *folder)
 {
     FILE *list = output(folder, "list");
@@ -371,6 +388,7 @@ int main(int count, char **word)
     expect("attach at the end", rme_attach(&seat, path, 0), 0);
     uint64_t wrong = check_list(&seat, word[1]);
     write_image(&seat, word[1]);
+    judge(&seat);
     printf("senders %" PRIu64 " messages %" PRIu64 " kills %" PRIu64 " entries %" PRIu64 " owner-died %" PRIu64 " already %" PRIu64
            " overlaps %" PRIu64 " wrong %" PRIu64 "\n",
            senders, senders * messages, kills, (uint64_t)tally->entries, (uint64_t)tally->owner_died,

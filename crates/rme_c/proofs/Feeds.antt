@@ -97,7 +97,7 @@ fits_landing p q from to true h = (h.0, (h.1, tt))
 fits_landing p q from to false h = h
 
 -- a step of the lock's part, by its landing
-module _ (p : RmeProcess) (t : Stage) (v : ℕ) (r : Landing) (q : RmeProcess) (a : RmeAccess) (code : ℕ) where
+module _ (p : RmeProcess) (t : Stage) (v : ℕ) (r : Landing) (q : RmeProcess) (a : RmeAccess) where
   abbrev now : Stand
   now = stand_at p (Lock t)
 
@@ -111,34 +111,33 @@ module _ (p : RmeProcess) (t : Stage) (v : ℕ) (r : Landing) (q : RmeProcess) (
       → place_of p.procs p.index r.to ≡ after_access (standing now) (lock_access (standing now)) v
       → r.done ≡ (progress (standing now) (lock_access (standing now)) v).done
       → r.blocked ≡ (progress (standing now) (lock_access (standing now)) v).blocked
-      → IsLanding p r → q ≡ record p { unmended = r.unmended; position = r.position; steps = held (p.steps + 1) } → a ≡ r.next → code ≡ r.code
-      → IsFed p v q a code
-  lands_fed here fits busy place done blocked is same shows tells =
+      → IsLanding p r q a → IsFed p v q a r.code
+  lands_fed here fits busy place done blocked is =
       let to : Place = after_access (standing now) (lock_access (standing now)) v in
       let enters = all_entered (standing now) v (all_allowed (standing now)) in
-      let mended : (r.unmended == 0) ≡ mended_entered now.mended now.lock to = is.mended ∙ ap (mended_done now.mended) done ∙ enters.1 now.mended in
+      let mended : (q.unmended == 0) ≡ mended_entered now.mended now.lock to = is.mended ∙ ap (mended_done now.mended) done ∙ enters.1 now.mended in
       let checks : checks_done r.done ≡ is_entry now.lock to = ap checks_done done ∙ enters.0 in
       let at = lands p.procs p.index now.lock to r.to (checks_done r.done) checks place in
       let errand = has_errand (layout_of p) p.index p.value now.lock to r.to (checks_done r.done) checks in
       let outcomes = lock_outcome now v in
-      let q' : RmeProcess = record p { unmended = r.unmended; position = r.position; steps = held (p.steps + 1) } in
-      let stands' : position_of q' ≡ x = stands (record p { position = r.position }) x (fits_landing p r.position t r.to (checks_done r.done) fits) is.position in
+      let q' : RmeProcess = record p { unmended = q.unmended; position = q.position; steps = held (p.steps + 1) } in
+      let stands' : position_of q' ≡ x = stands (record p { position = q.position }) x (fits_landing p q.position t r.to (checks_done r.done) fits) is.position in
       let stepped' : stand_at q' x ≡ stepped now v =
       λ i. record { layout = layout_of p; limit = p.limit; index = p.index; lock = at i; mended = mended i; barred = not (p.barred == 0); errand = errand i } in
       let exact' : stand_of q' ≡ stepped now v = ap (λ y. stand_at q' y) stands' ∙ stepped' in
       let answers : told_of ≡ (outcome now (next_access now) v).answer = ap (λ (d : Option CoreDone). by_lock now.barred d) done ∙ sym (ap (λ (o : Outcome). o.answer) outcomes) in
       let blocks : r.blocked ≡ (outcome now (next_access now) v).progress.blocked = blocked ∙ sym (ap (λ (o : Outcome). o.progress.blocked) outcomes) in
       let exact : stand_of q ≡ stepped (stand_of p) v =
-      ap stand_of same ∙ exact' ∙ ap (λ y. stepped (stand_at p y) v) (sym here) in
+      ap stand_of is.process ∙ exact' ∙ ap (λ y. stepped (stand_at p y) v) (sym here) in
       record {
         exact = exact;
-        told = tells ∙ is.code ∙ feed_told p (Lock t) v told_of r.blocked (sym here) busy answers blocks;
+        told = is.code ∙ feed_told p (Lock t) v told_of r.blocked (sym here) busy answers blocks;
         next =
-            shows ∙ is.next
+            is.next
             ∙ (λ i. shown p.procs (answers i) (next_access (stand_at p x)))
             ∙ ap (λ (y : Position). shown p.procs (outcome (stand_at p y) (next_access (stand_at p y)) v).answer (next_access (stand_at p x))) (sym here)
-            ∙ ap (λ (s : Stand). shown p.procs (outcome (stand_of p) (next_access (stand_of p)) v).answer (next_access s)) (sym (ap stand_of same ∙ ap (λ y. stand_at q' y) stands'));
-        steps = rw (busy_at p (Lock t) here busy) (ap (λ (z : RmeProcess). z.steps) same);
+            ∙ ap (λ (s : Stand). shown p.procs (outcome (stand_of p) (next_access (stand_of p)) v).answer (next_access s)) (sym (ap stand_of is.process ∙ ap (λ y. stand_at q' y) stands'));
+        steps = rw (busy_at p (Lock t) here busy) (ap (λ (z : RmeProcess). z.steps) is.process);
       }
 
 -- a step that is taken, written down as numbers, and told

@@ -16,9 +16,7 @@ use Rattle.rmeworld.specs.declared.errand.Errand.TheVariants.{Free as IsFree, Do
 use Rattle.rmeworld.specs.declared.why.Why.TheVariants.{Checking}
 use Rattle.rmeworld.specs.Entered.{is_entry}
 use Rattle.rmeworld.specs.Stand.{InWords}
-use Rattle.rme_c.specs.declared.position.Position.TheVariants.{Lock}
-use Rattle.rme_c.specs.declared.process.RmeProcess.{RmeProcess}
-use Rattle.rme_c.specs.Positions.{landing, lock_at, errand_at, Fits}
+use Rattle.rme_c.specs.Positions.{landing, lock_at, errand_at}
 
 entered_inside : (s t : Place) → is_entry s t ≡ true → t ≡ Inside
 entered_inside s Inside e = refl

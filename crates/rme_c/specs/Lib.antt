@@ -1,3 +1,4 @@
+pub mod Blocks
 pub mod Chores
 pub mod Codes
 pub mod Positions

@@ -28,12 +28,13 @@ pub record IsStep (p : RmeProcess) (x : Position) (v : ℕ) (q : RmeProcess) (y 
   pub blocked : t.blocked ≡ is_blocked p x v
   pub fits : Fits q y
 
--- the numbers of a landing are those of its stage, and of what the call ends with there
-pub record IsLanding (p : RmeProcess) (r : Landing) : Type 0 where
-  pub mended : (r.unmended == 0) ≡ mended_done (p.unmended == 0) r.done
-  pub position : (l : Layout) → FitsAt l (landing (checks_done r.done) r.to) → by_parts (stage_of r.position) (chore_of l r.position) ≡ landing (checks_done r.done) r.to
+-- a process that has landed: its numbers are those of the stage, and of what the call ends with there
+pub record IsLanding (p : RmeProcess) (r : Landing) (q : RmeProcess) (a : RmeAccess) : Type 0 where
+  pub process : q ≡ record p { unmended = q.unmended; position = q.position; steps = held (p.steps + 1) }
+  pub mended : (q.unmended == 0) ≡ mended_done (p.unmended == 0) r.done
+  pub position : (l : Layout) → FitsAt l (landing (checks_done r.done) r.to) → by_parts (stage_of q.position) (chore_of l q.position) ≡ landing (checks_done r.done) r.to
   pub code : r.code ≡ told_as (by_lock (not (p.barred == 0)) r.done) r.blocked
-  pub next : r.next ≡ shown p.procs (by_lock (not (p.barred == 0)) r.done) (next_access (stand_at p (landing (checks_done r.done) r.to)))
+  pub next : a ≡ shown p.procs (by_lock (not (p.barred == 0)) r.done) (next_access (stand_at p (landing (checks_done r.done) r.to)))
 
 -- the process was fed with this value: where it stands then, what was told and what was shown
 pub record IsFed (p : RmeProcess) (v : ℕ) (q : RmeProcess) (a : RmeAccess) (r : ℕ) : Type 0 where

@@ -7,9 +7,10 @@ ghost use Rattle.rmeworld.specs.Stand.{next_access, InWords};
 ghost use Rattle.rme_c.specs.Positions.{standing_at, stand_at, Fits};
 ghost use Rattle.rme_c.specs.declared.position.Position.TheVariants as Position;
 
+use crate::chore::Chore;
 use crate::position::Position;
 use crate::process::RmeProcess;
-use crate::steps::chore_next;
+use crate::steps::{check_next, chore_next};
 use rmecore::{Access, Kind, Stage, Word};
 
 /// The first other process from an index on.
@@ -77,6 +78,7 @@ pub fn next_at(p: &RmeProcess, position: Position) -> Option<Access>
     match position {
         Position::Lost => None,
         Position::Lock(stage) => lock_next(p, stage),
+        Position::Within(Chore::Checking) => Some(check_next(p)),
         Position::Within(chore) => Some(chore_next(p, chore)),
     }
 }

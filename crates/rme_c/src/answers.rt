@@ -66,6 +66,7 @@ pub fn wanted(procs: u64, access: Access) -> RmeAccess
     }
 }
 
+#[inline(always)]
 fn found_code(found: Found) -> u64
     ensures { result ≡ code_of_found found }
 {
@@ -78,6 +79,7 @@ fn found_code(found: Found) -> u64
     }
 }
 
+#[inline(always)]
 fn reply_code(reply: Reply) -> u64
     ensures { result ≡ code_of_reply reply }
 {
@@ -98,6 +100,7 @@ fn reply_code(reply: Reply) -> u64
 }
 
 /// The number of an answer.
+#[inline(always)]
 fn answer_code(answer: Answer) -> u64
     ensures { result ≡ code_of_answer answer }
 {
@@ -114,6 +117,7 @@ fn answer_code(answer: Answer) -> u64
 }
 
 /// The board word that is answered.
+#[inline(always)]
 fn answer_word(answer: Answer) -> u64
     ensures { result ≡ word_of_answer answer }
 {

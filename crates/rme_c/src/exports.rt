@@ -2,27 +2,34 @@
 
 ghost use Rattle.std.specs.Prelude.{◌≡◌, ◌≢◌, ◌+◌, ◌*◌, ◌<◌, ◌≤◌, ◌↔◌, IfSome, None, false, is_none, if◌then◌else◌, length};
 ghost use Rattle.redomail.specs.Layout.{held, size};
+ghost use Rattle.rmeworld.specs.ImageRules.{IsLawfulImage, IsFirstBroken};
 ghost use Rattle.rmeworld.specs.Stand.{resting, crashed, started, stepped, next_access, outcome};
+ghost use Rattle.rme_c.specs.Blocks.{is_block as is_block_of, image_of};
 ghost use Rattle.rme_c.specs.Codes.{refusal_code as code_of_refusal, told as told_of, wanted as wanted_of, shown as shown_of};
 ghost use Rattle.rme_c.specs.Positions.{stand_at, stand_of, position_of, stage_now, Fits};
 ghost use Rattle.rme_c.specs.Starts.{size_cause, call_by, start_cause};
 ghost use Rattle.rme_c.specs.Steps.{IsFed};
+ghost use Rattle.rme_c.specs.declared.chore.Chore.TheVariants as ChoreOf;
 ghost use Rattle.rme_c.specs.declared.position.Position.TheVariants as PositionOf;
 
 use crate::accesses::next_at;
 use crate::answers::{NOTHING, code, refusal_code, shown, wanted};
+use crate::blocks::{block_words, image, is_block};
 use crate::chore::Chore;
-use crate::lock_arms::lock_feed;
-use crate::position::{Position, is_idle, lock_stage, position_now, stand};
+use crate::lock_arms::{lock_feed, quick_feed, scan_feed};
+use crate::position::{
+    Position, is_checking, is_idle, lock_stage, position_now, scan_stage, stand,
+};
 use crate::process::{RmeAccess, RmeCall, RmePosition, RmeProcess};
 use crate::starts::{size_refusal, start};
-use crate::steps::chore_step;
+use crate::steps::{checked, chore_step};
 use redomail::Layout;
 use rmecore::Stage;
+use rmeworld::first_rule;
+use std::alloc::Global;
 
 /// How many words the shared block of a world has: three lock words a process, then the data words. 0 for sizes of no
 /// world.
-#[tactic(auto, unfolding(redomail::specs::Layout::place_at))]
 #[unsafe(no_mangle)]
 pub extern "C" fn rme_words(procs: u64, cap: u64, width: u64) -> u64
     ensures some { 0 < result → result ≡ 3 * procs + size (record { procs = procs; cap = cap; width = width }) }
@@ -30,7 +37,7 @@ pub extern "C" fn rme_words(procs: u64, cap: u64, width: u64) -> u64
 {
     match size_refusal(Layout { procs, cap, width }, 1, 0) {
         Some(_) => 0,
-        None => 3 * procs + 10 + width + procs + (2 + width) * cap,
+        None => block_words(Layout { procs, cap, width }),
     }
 }
 
@@ -88,16 +95,17 @@ pub extern "C" fn rme_crash(p: &mut RmeProcess)
     };
 }
 
-/// Starts a call, or answers the number of the refusal: of the sizes, of the call's code (13), of the start. Nothing changes
-/// then.
+/// Starts a call and shows its first step, or answers the number of the refusal: of the sizes, of the call's code (13), of
+/// the start. Nothing changes then.
 #[unsafe(no_mangle)]
-pub extern "C" fn rme_start(p: &mut RmeProcess, call: &RmeCall) -> u64
+pub extern "C" fn rme_start(p: &mut RmeProcess, call: &RmeCall, next: &mut RmeAccess) -> u64
     ensures status { result ≡ code_of_refusal (start_cause (stand_of p.old) call.now) }
     ensures started { result ≡ 0 → IfSome (call_by p.old.width call.now) (λ c. stand_of p.new ≡ started (stand_of p.old) c) }
+    ensures next { result ≡ 0 → next.new ≡ shown_of p.old.procs None (next_access (stand_of p.new)) }
     ensures steps { result ≡ 0 → p.new.steps ≡ 0 }
-    ensures refused { result ≢ 0 → p.new ≡ p.old }
+    ensures refused { result ≢ 0 → (p.new ≡ p.old) × (next.new ≡ next.old) }
 {
-    refusal_code(start(p, call))
+    refusal_code(start(p, call, next))
 }
 
 /// Takes the step of a chore.
@@ -116,9 +124,25 @@ fn chore_feed(p: &mut RmeProcess, chore: Chore, value: u64, next: &mut RmeAccess
     code(told)
 }
 
+/// Takes the step of the ruin check.
+#[inline(always)]
+fn check_feed(p: &mut RmeProcess, value: u64, next: &mut RmeAccess) -> u64
+    requires here { position_of p.old ≡ PositionOf.Within ChoreOf.Checking }
+    requires fits { Fits p.old (PositionOf.Within ChoreOf.Checking) }
+    requires eight { length p.old.value ≡ 8 }
+    ensures { IsFed p.old value p.new next.new result }
+{
+    let _whole = *p;
+    let (behind, told) = checked(p, value);
+    stand(p, behind);
+    p.steps = p.steps.saturating_add(1);
+    *next = shown(p.procs, told.answer, next_at(p, behind));
+    code(told)
+}
+
 /// Takes the step that comes next at a stage of the lock's part, if there is one.
 #[inline(always)]
-fn stage_feed(p: &mut RmeProcess, stage: Stage, value: u64, next: &mut RmeAccess) -> u64
+fn whole_feed(p: &mut RmeProcess, stage: Stage, value: u64, next: &mut RmeAccess) -> u64
     requires here { position_of p.old ≡ PositionOf.Lock stage }
     requires fits { Fits p.old (PositionOf.Lock stage) }
     requires eight { length p.old.value ≡ 8 }
@@ -132,10 +156,9 @@ fn stage_feed(p: &mut RmeProcess, stage: Stage, value: u64, next: &mut RmeAccess
     lock_feed(p, stage, value, next)
 }
 
-/// Takes the step of a chore, where the numbers are no stage's.
+/// Takes the step that comes next, wherever the process stands.
 #[inline(never)]
-fn other_feed(p: &mut RmeProcess, value: u64, next: &mut RmeAccess) -> u64
-    requires none { stage_now p.old ≡ None }
+fn any_feed(p: &mut RmeProcess, value: u64, next: &mut RmeAccess) -> u64
     requires eight { length p.old.value ≡ 8 }
     ensures { IsFed p.old value p.new next.new result }
 {
@@ -145,8 +168,52 @@ fn other_feed(p: &mut RmeProcess, value: u64, next: &mut RmeAccess) -> u64
             *next = NOTHING;
             7
         }
-        Position::Lock(_) => 7,
+        Position::Lock(stage) => whole_feed(p, stage, value, next),
         Position::Within(chore) => chore_feed(p, chore, value, next),
+    }
+}
+
+/// Takes the step of a scan.
+#[inline(always)]
+fn scan_on(p: &mut RmeProcess, stage: Stage, value: u64, next: &mut RmeAccess) -> u64
+    requires here { position_of p.old ≡ PositionOf.Lock stage }
+    requires fits { Fits p.old (PositionOf.Lock stage) }
+    requires eight { length p.old.value ≡ 8 }
+    ensures { IsFed p.old value p.new next.new result }
+{
+    let _whole = *p;
+    match scan_feed(p, stage, value, next) {
+        Some(code) => code,
+        None => any_feed(p, value, next),
+    }
+}
+
+/// Takes the step that comes next at a stage of the lock's part, by a short way where there is one.
+#[inline(always)]
+fn stage_feed(p: &mut RmeProcess, stage: Stage, value: u64, next: &mut RmeAccess) -> u64
+    requires here { position_of p.old ≡ PositionOf.Lock stage }
+    requires fits { Fits p.old (PositionOf.Lock stage) }
+    requires eight { length p.old.value ≡ 8 }
+    ensures { IsFed p.old value p.new next.new result }
+{
+    let _whole = *p;
+    match quick_feed(p, stage, value, next) {
+        Some(code) => code,
+        None => any_feed(p, value, next),
+    }
+}
+
+/// Takes the step that comes next, by a short way where there is one.
+#[inline(always)]
+fn short_feed(p: &mut RmeProcess, value: u64, next: &mut RmeAccess) -> u64
+    requires eight { length p.old.value ≡ 8 }
+    ensures { IsFed p.old value p.new next.new result }
+{
+    let _whole = *p;
+    match lock_stage(p) {
+        Some(stage) => stage_feed(p, stage, value, next),
+        None if value != 1 && is_checking(p) => check_feed(p, value, next),
+        None => any_feed(p, value, next),
     }
 }
 
@@ -177,9 +244,9 @@ pub extern "C" fn rme_feed(p: &mut RmeProcess, value: u64, next: &mut RmeAccess)
     ensures steps { p.new.steps ≡ if is_none (next_access (stand_of p.old)) then p.old.steps else held (p.old.steps + 1) }
 {
     let _whole = *p;
-    match lock_stage(p) {
-        Some(stage) => stage_feed(p, stage, value, next),
-        None => other_feed(p, value, next),
+    match scan_stage(p) {
+        Some(stage) => scan_on(p, stage, value, next),
+        None => short_feed(p, value, next),
     }
 }
 
@@ -189,4 +256,29 @@ pub extern "C" fn rme_step_count(p: &RmeProcess) -> u64
     ensures { result ≡ p.now.steps }
 {
     p.steps
+}
+
+/// The rule that a copied block breaks first, from 2 to 9; 0 where it keeps them all, 1 where the words are no block of these
+/// sizes, 16 for want of memory.
+#[unsafe(no_mangle)]
+pub extern "C" fn rme_content_rule(
+    alloc: Global,
+    words: &[u64],
+    procs: u64,
+    cap: u64,
+    width: u64,
+    limit: u64,
+) -> u64
+    ensures misfit { result ≡ 1 ↔ is_block_of (record { procs = procs; cap = cap; width = width }) limit words.now ≡ false }
+    ensures lawful { result ≡ 0 → IsLawfulImage (image_of (record { procs = procs; cap = cap; width = width }) limit words.now) }
+    ensures broken { 2 ≤ result → result ≢ 16 → IsFirstBroken result (image_of (record { procs = procs; cap = cap; width = width }) limit words.now) }
+{
+    let layout = Layout { procs, cap, width };
+    if !is_block(layout, limit, words) {
+        return 1;
+    }
+    match image(alloc, layout, limit, words) {
+        Some(image) => first_rule(&image).unwrap_or(0),
+        None => 16,
+    }
 }

@@ -10,21 +10,18 @@ use crate::accesses::next_at;
 use crate::answers::{Told, code, shown};
 use crate::chore::Chore;
 use crate::position::{Position, numbers};
-use crate::process::{RmeAccess, RmePosition, RmeProcess};
+use crate::process::{RmeAccess, RmeProcess};
 use rmecore::{CoreDone, Found, Stage};
 use rmeworld::Answer;
 
-/// Where a step of the lock's part leads: to which stage, what its call ends with, whether it was blocked. With it the
-/// numbers that C gets to see.
+/// Where a step of the lock's part has led: to which stage, what its call ends with, whether it was blocked, and what C is
+/// told.
 #[derive(Clone, Copy)]
 pub struct Landing {
     pub to: Stage,
     pub done: Option<CoreDone>,
     pub blocked: bool,
-    pub unmended: u64,
-    pub position: RmePosition,
     pub code: u64,
-    pub next: RmeAccess,
 }
 
 /// What is answered where the lock's part ends.
@@ -81,29 +78,34 @@ fn behind(p: &RmeProcess, checks: bool, stage: Stage) -> Position
     }
 }
 
-/// The landing at a stage.
+/// The process lands at a stage.
 #[inline(always)]
-pub fn lands(p: &RmeProcess, to: Stage, done: Option<CoreDone>, blocked: bool) -> Landing
-    requires below { p.now.index < p.now.procs }
-    requires few { p.now.procs ≤ 64 }
+pub fn lands(
+    p: &mut RmeProcess,
+    to: Stage,
+    done: Option<CoreDone>,
+    blocked: bool,
+    next: &mut RmeAccess,
+) -> Landing
+    requires below { p.old.index < p.old.procs }
+    requires few { p.old.procs ≤ 64 }
     ensures to { result.to ≡ to }
     ensures done { result.done ≡ done }
     ensures blocked { result.blocked ≡ blocked }
-    ensures numbers { IsLanding p.now result }
+    ensures numbers { IsLanding p.old result p.new next.new }
 {
     let position = behind(p, enters(done), to);
     let answer = answer(p.barred != 0, done);
-    let next = shown(p.procs, answer, next_at(p, position));
+    let shows = shown(p.procs, answer, next_at(p, position));
+    p.unmended = unmended(p.unmended, done);
+    p.position = numbers(p.position, position);
+    p.steps = p.steps.saturating_add(1);
+    *next = shows;
     let code = code(Told { answer, blocked });
-    let unmended = unmended(p.unmended, done);
-    let position = numbers(position);
     Landing {
         to,
         done,
         blocked,
-        unmended,
-        position,
         code,
-        next,
     }
 }

@@ -3,13 +3,16 @@
 ghost use Rattle.std.specs.Prelude.{◌≡◌, ◌≤◌, ◌<◌, true, false, not, nat_lt, OnOk, OnErr, IfErr, IfSome, IsSome, Some, None, [], ◌∷◌, length, take};
 ghost use Rattle.redomail.specs.Layout.{IsLayout};
 ghost use Rattle.rmeworld.specs.Refused.{Needs, is_idle, is_inside, is_waiting, first_cause, start_refusal};
-ghost use Rattle.rmeworld.specs.Stand.{spot_of, started, IsSize};
+ghost use Rattle.rmeworld.specs.Stand.{spot_of, started, next_access, IsSize};
+ghost use Rattle.rme_c.specs.Codes.{shown as shown_of};
 ghost use Rattle.rme_c.specs.Positions.{stand_at, stand_of, layout_of, Fits};
 ghost use Rattle.rme_c.specs.Starts.{size_cause, call_by, call_cause, start_cause};
 
+use crate::accesses::next_at;
+use crate::answers::shown;
 use crate::chore::Chore;
 use crate::position::{Position, layout, position_now, stand};
-use crate::process::{RmeCall, RmeProcess};
+use crate::process::{RmeAccess, RmeCall, RmeProcess};
 use redomail::Layout;
 use rmecore::simulated::{MOST_LIMIT, MOST_PROCS};
 use rmecore::{Body, CoreCall, Refusal, Stage};
@@ -72,6 +75,7 @@ struct Seen {
     waiting: bool,
 }
 
+#[inline(always)]
 fn look_at(p: &RmeProcess, position: Position) -> Seen
     ensures idle { result.idle ≡ is_idle (spot_of (stand_at p.now position)) }
     ensures inside { result.inside ≡ is_inside (stand_at p.now position).lock }
@@ -93,6 +97,7 @@ fn look_at(p: &RmeProcess, position: Position) -> Seen
 }
 
 /// Refuses, unless a process is inside with no call under way.
+#[inline(always)]
 fn holds(seen: Seen) -> Result<(), Refusal>
     ensures accepted { OnOk result ((seen.idle ≡ true) × (seen.inside ≡ true)) }
     ensures refused { IfErr result (λ e. (rest : Needs) → first_cause ((seen.idle, Refusal.CallUnderWay) ∷ (seen.inside, Refusal.NotOwner) ∷ rest) ≡ Some e) }
@@ -107,6 +112,7 @@ fn holds(seen: Seen) -> Result<(), Refusal>
 }
 
 /// Refuses, unless a process is not inside and no call is under way.
+#[inline(always)]
 fn may_come(seen: Seen) -> Result<(), Refusal>
     ensures accepted { OnOk result ((seen.idle ≡ true) × (seen.inside ≡ false)) }
     ensures refused { IfErr result (λ e. first_cause ((seen.idle, Refusal.CallUnderWay) ∷ (not seen.inside, Refusal.AlreadyIn) ∷ []) ≡ Some e) }
@@ -121,6 +127,7 @@ fn may_come(seen: Seen) -> Result<(), Refusal>
 }
 
 /// Refuses, unless something holds.
+#[inline(always)]
 fn only(holds: bool, refusal: Refusal) -> Result<(), Refusal>
     ensures accepted { OnOk result (holds ≡ true) }
     ensures refused { IfErr result (λ e. (holds ≡ false) × (e ≡ refusal)) }
@@ -143,6 +150,7 @@ fn at_board(seen: Seen, i: u64) -> Result<(), Refusal>
 }
 
 /// Refuses a call that can't be started now.
+#[inline(always)]
 fn check(p: &RmeProcess, position: Position, call: &Call) -> Result<(), Refusal>
     ensures accepted { OnOk result (start_refusal (layout_of p.now) (spot_of (stand_at p.now position)) call.now ≡ None) }
     ensures refused { IfErr result (λ e. start_refusal (layout_of p.now) (spot_of (stand_at p.now position)) call.now ≡ Some e) }
@@ -182,6 +190,7 @@ fn words(value: Body) -> [u64; 8]
 }
 
 /// Takes up a call that may start.
+#[inline(always)]
 fn begin(p: &mut RmeProcess, position: Position, call: Call) -> Position
     requires allowed { start_refusal (layout_of p.old) (spot_of (stand_at p.old position)) call ≡ None }
     requires lawful { IsLayout (layout_of p.old) }
@@ -212,38 +221,59 @@ fn begin(p: &mut RmeProcess, position: Position, call: Call) -> Position
     }
 }
 
-/// Starts a call whose numbers were read.
-fn start_read(p: &mut RmeProcess, call: Option<Call>) -> Result<(), Refusal>
+/// Starts a call of a process of a world, and shows its first step.
+#[inline(always)]
+fn start_read(p: &mut RmeProcess, call: Call, next: &mut RmeAccess) -> Result<(), Refusal>
     requires sized { IsSize (layout_of p.old) }
     requires below { p.old.index < p.old.procs }
-    ensures accepted { OnOk result (call_cause (stand_of p.old) call ≡ None) }
-    ensures refused { IfErr result (λ e. call_cause (stand_of p.old) call ≡ Some e) }
-    ensures started { OnOk result (IfSome call (λ c. stand_of p.new ≡ started (stand_of p.old) c)) }
+    ensures accepted { OnOk result (call_cause (stand_of p.old) (Some call) ≡ None) }
+    ensures refused { IfErr result (λ e. call_cause (stand_of p.old) (Some call) ≡ Some e) }
+    ensures started { OnOk result (stand_of p.new ≡ started (stand_of p.old) call) }
     ensures fresh { OnOk result (p.new.steps ≡ 0) }
-    ensures err { OnErr result (p.new ≡ p.old) }
+    ensures next { OnOk result (next.new ≡ shown_of p.old.procs None (next_access (stand_of p.new))) }
+    ensures err { OnErr result ((p.new ≡ p.old) × (next.new ≡ next.old)) }
 {
-    let Some(call) = call else {
-        return Err(Refusal::BadIndex);
-    };
     let here = position_now(p);
     check(p, here, &call)?;
     let to = begin(p, here, call);
     stand(p, to);
     p.steps = 0;
+    *next = shown(p.procs, None, next_at(p, to));
     Ok(())
 }
 
-/// Starts a call, or says why it is refused. A refused call changes nothing.
-pub fn start(p: &mut RmeProcess, call: &RmeCall) -> Option<Refusal>
+/// Starts a call, whichever it is.
+#[inline(never)]
+fn start_any(p: &mut RmeProcess, call: &RmeCall, next: &mut RmeAccess) -> Option<Refusal>
+    requires sized { IsSize (layout_of p.old) }
+    requires below { p.old.index < p.old.procs }
+    ensures cause { result ≡ call_cause (stand_of p.old) (call_by p.old.width call.now) }
+    ensures started { result ≡ None → IfSome (call_by p.old.width call.now) (λ c. stand_of p.new ≡ started (stand_of p.old) c) }
+    ensures fresh { result ≡ None → p.new.steps ≡ 0 }
+    ensures next { result ≡ None → next.new ≡ shown_of p.old.procs None (next_access (stand_of p.new)) }
+    ensures refused { IsSome result → (p.new ≡ p.old) × (next.new ≡ next.old) }
+{
+    match call_of(p.width, call) {
+        Some(call) => start_read(p, call, next).err(),
+        None => Some(Refusal::BadIndex),
+    }
+}
+
+/// Starts a call and shows its first step, or says why it is refused. A refused call changes nothing.
+pub fn start(p: &mut RmeProcess, call: &RmeCall, next: &mut RmeAccess) -> Option<Refusal>
     ensures cause { result ≡ start_cause (stand_of p.old) call.now }
     ensures started { result ≡ None → IfSome (call_by p.old.width call.now) (λ c. stand_of p.new ≡ started (stand_of p.old) c) }
     ensures fresh { result ≡ None → p.new.steps ≡ 0 }
-    ensures refused { IsSome result → p.new ≡ p.old }
+    ensures next { result ≡ None → next.new ≡ shown_of p.old.procs None (next_access (stand_of p.new)) }
+    ensures refused { IsSome result → (p.new ≡ p.old) × (next.new ≡ next.old) }
 {
     let refused = size_refusal(layout(p), p.limit, p.index);
     if refused.is_some() {
         return refused;
     }
-    let call = call_of(p.width, call);
-    start_read(p, call).err()
+    match call.code {
+        1 => start_read(p, Call::Lock, next).err(),
+        2 if p.unmended == 0 => start_read(p, Call::Unlock, next).err(),
+        _ => start_any(p, call, next),
+    }
 }

@@ -31,6 +31,17 @@ fn get(i: u64) -> Access
     Access::Load(Kind::Get, Word::Data(i))
 }
 
+/// The get of ruined behind an entry.
+#[inline(always)]
+pub fn check_next(p: &RmeProcess) -> Access
+    requires { Fits p.now (Position.Within Chore.Checking) }
+    ensures next { next_access (stand_at p.now (Position.Within Chore.Checking)) ≡ Some result }
+    ensures word { InWords p.now.procs (word_of result) }
+{
+    let _ = &p.index;
+    get(RUINED)
+}
+
 /// The step of a chore that comes next.
 pub fn chore_next(p: &RmeProcess, chore: Chore) -> Access
     requires { Fits p.now (Position.Within chore) }
@@ -102,7 +113,8 @@ fn on(chore: Chore) -> (Position, Told)
 }
 
 /// The ruin check behind an entry.
-fn checked(p: &mut RmeProcess, value: u64) -> (Position, Told)
+#[inline(always)]
+pub fn checked(p: &mut RmeProcess, value: u64) -> (Position, Told)
     requires { Fits p.old (Position.Within Chore.Checking) }
     ensures step { IsStep p.old (Position.Within Chore.Checking) value p.new result.0 result.1 }
     ensures same { p.new ≡ record p.old { barred = p.new.barred } }

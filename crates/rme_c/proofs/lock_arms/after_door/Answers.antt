@@ -6,4 +6,4 @@ use Rattle.rme_c.proofs.lock_arms.after_door.Goals as goal
 
 pub returns-in-Some-clause-place : goal.returns-in-Some-clause-place
 returns-in-Some-clause-place c =
-    rw (c.goes.ensures.to, c.max.ensures) (sym (door_goes (standing_at c.args.p.now (Door c.args.next c.args.greatest)) c.args.next c.args.greatest c.in-Some.j c.args.value (sym c.first.ensures.first ∙ c.in-Some.is)))
+    rw (c.goes.ensures.to, c.max.ensures) (sym (door_goes (standing_at c.args.p.now (Door c.args.from c.args.greatest)) c.args.from c.args.greatest c.in-Some.j c.args.value (sym c.first.ensures.first ∙ c.in-Some.is)))

@@ -1,0 +1,20 @@
+use Rattle.std.proofs.Common.{◌≡◌, ◌+◌, ap, ◌∙◌, arith}
+use Rattle.redomail.specs.Layout.{held}
+use Rattle.rme_c.specs.Positions.{stand_at}
+use Rattle.rme_c.specs.declared.chore.Chore.TheVariants.{Checking}
+use Rattle.rme_c.specs.declared.position.Position.TheVariants.{Within}
+use Rattle.rme_c.specs.declared.process.RmeProcess.{RmeProcess}
+use Rattle.rme_c.proofs.Arms.{has_chore}
+use Rattle.rme_c.proofs.Feeds.{step_fed}
+use Rattle.rme_c.proofs.exports.check_feed.Goals as goal
+
+pub returns : goal.returns
+returns c =
+    let p = c.args.p.now in
+    let to = c.checked-behind.result.0 in
+    let steps : c.stand.new.p.steps ≡ p.steps = ap (λ (z : RmeProcess). z.steps) c.stand.ensures.same ∙ ap (λ (z : RmeProcess). z.steps) c.checked-behind.ensures.same in
+    let procs : c.stand.new.p.procs ≡ p.procs = ap (λ (z : RmeProcess). z.procs) c.stand.ensures.same ∙ ap (λ (z : RmeProcess). z.procs) c.checked-behind.ensures.same in
+    let counts : c.saturating_add-p.result ≡ held (p.steps + 1) = omega (arith, c.saturating_add-p.ensures, steps) in
+    step_fed p (Within Checking) c.args.value c.checked-behind.new.p _ to c.checked-behind.result.1 _ _ c.stand.new.p.procs _ c.requires.here (has_chore p c.requires.eight Checking c.requires.fits) c.checked-behind.ensures.step c.stand.ensures.is
+    (ap (λ (z : RmeProcess). stand_at z to) c.stand.ensures.same)
+    c.shown.ensures procs c.next_at.ensures.next c.code.ensures counts

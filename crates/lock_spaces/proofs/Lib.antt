@@ -1,2 +1,4 @@
 pub mod Filtered
 pub mod Played
+pub mod JudgeTells
+pub mod SceneTells

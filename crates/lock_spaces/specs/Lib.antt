@@ -1,2 +1,3 @@
 pub mod Spaces
 pub mod FoundBy
+pub mod SceneWords

@@ -1,0 +1,3 @@
+pub mod PlaceBack
+pub mod JobBack
+pub mod StandTells

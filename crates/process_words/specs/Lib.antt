@@ -1,0 +1,3 @@
+pub mod PlaceWords
+pub mod JobWords
+pub mod StandWords

@@ -1,0 +1,28 @@
+-- A run that was played, and how it ends.
+use Rattle.std.proofs.Common.{◌≡◌, ℕ, List, [], Result, Ok, Err, ◌∙◌}
+use Rattle.rmecore.specs.declared.refusal.Refusal.{Refusal}
+use Rattle.judge.specs.Table.{State}
+use Rattle.schedule.specs.declared.verdict.Verdict.{Verdict}
+use Rattle.schedule.specs.Runs.{Part, deeds_of}
+use Rattle.schedule.specs.Verdicts.{verdict_on}
+use Rattle.drawing.specs.declared.act.Row.{Row}
+use Rattle.drawing.specs.declared.drawing.End.{End}
+use Rattle.drawing.specs.declared.drawing.End.TheVariants as ends
+use Rattle.drawing.specs.declared.stop.Stop.{Stop}
+use Rattle.drawing.specs.declared.stop.Stop.TheVariants as stops
+use Rattle.drawing.specs.Events.{Event}
+use Rattle.drawing.specs.Rows.{events_in, PlaysOn, EndsAs, IsEndOf}
+
+pub record Drawn {S : Type 0} (now : List Row) (events : List Event) (run : Part S (ℕ × Refusal)) (verdict : Verdict) (end : End) : Type 0 where
+  pub shows : events_in now ≡ events
+  pub ends_so : (start : State) → verdict ≡ verdict_on start (deeds_of run.told) → EndsAs start run end
+
+pub drawn : {S A : Type 0} (now : List Row) (events : List Event) (run : Part S (ℕ × Refusal)) (verdict : Verdict) (r : Result A (ℕ × Stop)) (end : End)
+    → PlaysOn [] now events run r → IsEndOf r verdict end → Drawn now events run verdict end
+drawn now events run verdict (Ok x) (ends.Judged said) played is = record { shows = played.0; ends_so = λ start ruled. (played.1, is ∙ ruled) }
+drawn now events run verdict (Ok x) (ends.Refused at why said) played is = absurd is
+drawn now events run verdict (Err (line, stops.Refused number)) (ends.Judged said) played is = absurd is
+drawn now events run verdict (Err (line, stops.Refused number)) (ends.Refused at why said) played is =
+    record { shows = played.0; ends_so = λ start ruled. (rw (is.0, is.1) played.1, is.2 ∙ ruled) }
+drawn now events run verdict (Err (line, stops.OutOfMemory)) (ends.Judged said) played is = absurd is
+drawn now events run verdict (Err (line, stops.OutOfMemory)) (ends.Refused at why said) played is = absurd is

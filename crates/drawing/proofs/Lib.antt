@@ -1,0 +1,6 @@
+pub mod Telling
+pub mod Shown
+pub mod Heard
+pub mod Written
+pub mod Drawn
+pub mod Joined

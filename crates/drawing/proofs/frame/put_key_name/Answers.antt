@@ -1,0 +1,10 @@
+use Rattle.std.proofs.Common.{◌++◌, ap, ◌∙◌}
+use Rattle.std.specs.Prelude.{codes}
+use Rattle.drawing.specs.Pictures.{key_name, class_of}
+use Rattle.drawing.proofs.Joined.{joined_three}
+use Rattle.drawing.proofs.frame.put_key_name.Goals as goal
+
+pub returns : goal.returns
+unfolding key_name
+returns c =
+    joined_three c.put_text-3.result _ _ _ _ (codes "<text x='10' y='12'>") (class_of c.args.phase) (codes "</text>") c.in_ok-put_text.ensures (c.in_ok-put_text-2.ensures ∙ ap (λ t. c.put_text.new.out.items ++ t) c.class_of.ensures) c.put_text-3.ensures

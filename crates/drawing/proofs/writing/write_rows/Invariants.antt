@@ -1,0 +1,9 @@
+use Rattle.std.proofs.Common.{◌≡◌, drop}
+use Rattle.schedule.specs.Pieces.{WritesFront}
+use Rattle.drawing.specs.Drawings.{rows_spelled}
+use Rattle.drawing.proofs.writing.write_rows.Given as goal
+
+abbrev pub invariant-loop-row : goal.invariant-loop-row
+invariant-loop-row g l =
+    WritesFront (g.W.Sink.taken l.fn.w) (g.W.Sink.taken l.w) (rows_spelled l.sheet l.fn.pen l.rows) (rows_spelled l.sheet l.pen (drop l.row-index l.rows))
+    × (g.W.Sink.failures l.w ≡ g.W.Sink.failures l.fn.w)

@@ -1,0 +1,44 @@
+//! Steps that wait.
+
+ghost use Rattle.std.specs.Prelude.{◌≡◌, None, IsTrue};
+
+use rmecore::{Happened, Kind, Word};
+
+/// Whether both kinds are the same of those that may wait.
+fn wait_alike(first: Kind, second: Kind) -> bool
+    ensures { IsTrue result → first ≡ second }
+{
+    match (first, second) {
+        (Kind::Look, Kind::Look) | (Kind::Weigh, Kind::Weigh) => true,
+        _ => false,
+    }
+}
+
+fn is_same_word(first: Word, second: Word) -> bool
+    ensures { IsTrue result → first ≡ second }
+{
+    match (first, second) {
+        (Word::Choosing(i), Word::Choosing(j)) => i == j,
+        (Word::Number(i), Word::Number(j)) => i == j,
+        (Word::Inside(i), Word::Inside(j)) => i == j,
+        (Word::Data(i), Word::Data(j)) => i == j,
+        _ => false,
+    }
+}
+
+/// Whether the step is an access alone, and ends nothing.
+fn is_bare(happened: &Happened) -> bool
+    ensures { IsTrue result → (happened.now.outer ≡ None) × (happened.now.done ≡ None) }
+{
+    happened.outer.is_none() && happened.done.is_none()
+}
+
+/// Whether a step is one that waits, and is taken once more.
+pub fn is_blocked_again(first: &Happened, second: &Happened) -> bool
+    ensures { IsTrue result → first.now ≡ second.now }
+{
+    if !wait_alike(first.kind, second.kind) || !is_same_word(first.word, second.word) {
+        return false;
+    }
+    first.value == second.value && is_bare(first) && is_bare(second)
+}

@@ -3,8 +3,8 @@
 ghost use Rattle.std.specs.Prelude.{◌≡◌, []};
 
 use crate::folder::{FileFault, Folder};
+use histories::Log;
 use schedule::FromReader;
-use schedule::log::Log;
 use std::io::ErrorKind;
 use std::rt::Files;
 use std::{fs, io};

@@ -24,3 +24,4 @@ pub mod LabFaults
 pub mod Worked
 pub mod FastAppend
 pub mod FastPath
+pub mod Owed

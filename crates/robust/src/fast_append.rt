@@ -61,8 +61,8 @@ fn read_heads(walker: &mut Walker, seq: u64, value: &Body) -> Heads
     let layout = walker.setup().layout;
     let own = walker.by();
     let closed = walker.load(Kind::Get, Word::Data(CLOSED));
-    let count = walker.load_clear(Kind::Get, Word::Data(COUNT));
-    let last = walker.load_clear(Kind::Get, Word::Data(layout.last(own)));
+    let count = walker.load(Kind::Get, Word::Data(COUNT));
+    let last = walker.load(Kind::Get, Word::Data(layout.last(own)));
     Heads {
         closed,
         count,
@@ -106,7 +106,7 @@ fn put(walker: &mut Walker, entry: &NewEntry, step: u64, i: u64, v: u64)
 {
     let _ = step;
     let _ = entry;
-    walker.store_clear(Kind::Put, Word::Data(i), v);
+    walker.store(Kind::Put, Word::Data(i), v);
 }
 
 /// The puts of a row: a first word, the number, and the words of the value.
@@ -147,7 +147,7 @@ fn store(walker: &mut Walker, entry: &NewEntry)
     put_row(walker, entry, row + 1, layout.place(entry.at, 0), own);
     put(walker, entry, 2 * row + 1, layout.last(own), entry.seq);
     put(walker, entry, 2 * row + 2, COUNT, entry.at + 1);
-    walker.store_clear(Kind::Put, Word::Data(ARMED), 0);
+    walker.store(Kind::Put, Word::Data(ARMED), 0);
 }
 
 /// The steps of an append, right behind its start. Tells how many they were.

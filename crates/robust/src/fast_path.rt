@@ -51,7 +51,7 @@ fn read_number(walker: &mut Walker, choosing: u64) -> u64
 {
     let _ = choosing;
     let own = walker.by();
-    walker.load_clear(Kind::Reread, Word::Number(own))
+    walker.load(Kind::Reread, Word::Number(own))
 }
 
 /// Rereads the own inside, where the other two words are 0.
@@ -63,7 +63,7 @@ fn read_inside(walker: &mut Walker) -> u64
     ensures same { IsSame walker.old walker.new }
 {
     let own = walker.by();
-    walker.load_clear(Kind::Reread, Word::Inside(own))
+    walker.load(Kind::Reread, Word::Inside(own))
 }
 
 /// Opens the doorway.
@@ -75,7 +75,7 @@ fn open(walker: &mut Walker)
     ensures same { IsSame walker.old walker.new }
 {
     let own = walker.by();
-    walker.store_clear(Kind::Open, Word::Choosing(own), 1);
+    walker.store(Kind::Open, Word::Choosing(own), 1);
 }
 
 /// Takes the number behind the greatest.
@@ -88,7 +88,7 @@ fn take(walker: &mut Walker, greatest: u64)
     ensures same { IsSame walker.old walker.new }
 {
     let own = walker.by();
-    walker.store_clear(Kind::Take, Word::Number(own), greatest + 1);
+    walker.store(Kind::Take, Word::Number(own), greatest + 1);
 }
 
 /// Closes the doorway behind a number.
@@ -101,7 +101,7 @@ fn shut(walker: &mut Walker, number: u64)
 {
     let _ = number;
     let own = walker.by();
-    walker.store_clear(Kind::Shut, Word::Choosing(own), 0);
+    walker.store(Kind::Shut, Word::Choosing(own), 0);
 }
 
 /// The greater of two numbers.
@@ -127,7 +127,7 @@ fn peek_others(walker: &mut Walker) -> (u64, u64)
     let mut taken = 0;
     for j in 0..procs {
         if j != own {
-            let number = walker.load_clear(Kind::Peek, Word::Number(j));
+            let number = walker.load(Kind::Peek, Word::Number(j));
             greatest = greater(greatest, number);
             taken += 1;
         }
@@ -153,7 +153,7 @@ fn look(walker: &mut Walker, number: u64, j: u64) -> bool
     ensures same { IsSame walker.old walker.new }
 {
     let _pass = walker.by();
-    let value = walker.load_clear(Kind::Look, Word::Choosing(j));
+    let value = walker.load(Kind::Look, Word::Choosing(j));
     value == 0
 }
 
@@ -169,7 +169,7 @@ fn weigh(walker: &mut Walker, number: u64, j: u64) -> bool
     ensures same { IsSame walker.old walker.new }
 {
     let own = walker.by();
-    let value = walker.load_clear(Kind::Weigh, Word::Number(j));
+    let value = walker.load(Kind::Weigh, Word::Number(j));
     passes(number, own, value, j)
 }
 
@@ -327,7 +327,7 @@ pub fn mark(walker: &mut Walker, number: u64)
 {
     let _ = number;
     let own = walker.by();
-    walker.store_clear(Kind::Mark, Word::Inside(own), 1);
+    walker.store(Kind::Mark, Word::Inside(own), 1);
 }
 
 /// Asks whether the lock is ruined.
@@ -338,7 +338,7 @@ pub fn check(walker: &mut Walker) -> u64
     ensures at { spot_now walker.new ≡ checked_spot (result == 1) }
 {
     let _pass = walker.by();
-    walker.load_clear(Kind::Get, Word::Data(0))
+    walker.load(Kind::Get, Word::Data(0))
 }
 
 /// How far the fast path of a lock has led: to a place outside the section, where the last step was blocked or where the
@@ -419,7 +419,7 @@ fn unmark(walker: &mut Walker)
     ensures at { spot_now walker.new ≡ free_spot Rest (spot_now walker.old).mended }
 {
     let own = walker.by();
-    walker.store_clear(Kind::Mark, Word::Inside(own), 0);
+    walker.store(Kind::Mark, Word::Inside(own), 0);
 }
 
 /// From right behind the start of an unlock out of the section, in two steps.

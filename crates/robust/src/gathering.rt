@@ -16,10 +16,9 @@ use crate::table;
 use crate::table::{Board, RunSeat};
 use crate::walker::{Walker, index};
 use one_lock::GatherFault;
-use rmecore::{Kind, Own, Word};
+use rmecore::{Own, Word};
 use rmeworld::{Cells, Image, Owns};
 use runs::Setup;
-use runs::entry::Step;
 use std::alloc::Global;
 use std::sync::Arc;
 
@@ -82,14 +81,8 @@ fn look(table: &Board, seat: &mut RunSeat, setup: &Setup, word: Word) -> u64
     ensures same { (seat.new.table_id ≡ seat.old.table_id) × (seat.new.me.1 ≡ seat.old.me.1) }
     ensures did { Did (glanced word) seat.old.me.0 result seat.new.me.0 }
 {
-    let step = Step {
-        crashed: false,
-        start: None,
-        kind: Kind::Glance,
-        word,
-    };
     let at = index(setup, word);
-    table::load(table, seat, step, at as usize)
+    table::glance(table, seat, word, at)
 }
 
 /// The seat answers for the other's process too. It takes a glance first, which tells that all passes that were joined into

@@ -11,6 +11,7 @@ pub mod laws;
 mod locking;
 pub mod mailing;
 pub mod member;
+pub mod owed;
 mod reading;
 pub mod runner;
 pub mod table;

@@ -340,8 +340,8 @@ impl Runner {
         ensures pass { IsPass (behind self.old call.now).pass }
         ensures leaves { Fits call.now result × Leaves call.now result (spot_now self.new.pass) }
     {
-        match *call {
-            Call::Append { seq, value } => self.fast_append(plan, seq, &value),
+        match call {
+            Call::Append { seq, value } => self.fast_append(plan, *seq, value),
             Call::Unlock => self.fast_leave(plan),
             _ => unreachable!(),
         }

@@ -1,11 +1,15 @@
 //! The shared table, which no other file names: its rule, what a step tells, and each load and store.
 ghost use Rattle.std.specs.Prelude.{◌≡◌, ℕ, ◌<◌, []};
 ghost use Rattle.atomic_table.specs.Table.{Splits, Joins};
+ghost use Rattle.runs.specs.Pass.{glanced};
 ghost use Rattle.runs.specs.Rule.{Kept, Did, MayLoad, MayStore, MayPass, without_first, first_alone, joined, spent_known};
+ghost use Rattle.robust.specs.Owed.{step_of};
 
+use crate::owed::Owed;
 use atomic_table::{Join, Play, Seat, Split, Table, TableRule};
+use rmecore::{Kind, Word};
 use runs::Setup;
-use runs::entry::{Known, Step};
+use runs::entry::Known;
 use std::alloc::Global;
 use std::marker::{Brand, PhantomData};
 
@@ -91,74 +95,119 @@ impl Join<Known> for Glue {
     ghost spent = { spent_known };
 }
 
-fn load_named<D: StepName>(table: &Board, seat: &mut RunSeat, step: Step, word: usize) -> u64
+fn load_named<D: StepName>(
+    table: &Board,
+    seat: &mut RunSeat,
+    owed: &Owed,
+    kind: Kind,
+    word: Word,
+    at: u64,
+) -> u64
     requires table { seat.old.table_id ≡ table.now.shared.table_id }
-    requires word { word < table.now.shared.table_id.words }
-    requires step { step ≡ D.step }
-    requires may { MayLoad step word seat.old.me.0.view }
+    requires word { at < table.now.shared.table_id.words }
+    requires step { step_of owed.now kind word ≡ D.step }
+    requires may { MayLoad (step_of owed.now kind word) at seat.old.me.0.view }
     ensures same { (seat.new.table_id ≡ seat.old.table_id) × (seat.new.id ≡ seat.old.id) × (seat.new.me.1 ≡ seat.old.me.1) }
-    ensures did { Did step seat.old.me.0 result seat.new.me.0 }
+    ensures did { Did (step_of owed.now kind word) seat.old.me.0 result seat.new.me.0 }
 {
-    let _ = step;
-    table.shared.load::<Does<D>>(seat, word)
+    let _ = owed;
+    let _ = (kind, word);
+    table.shared.load::<Does<D>>(seat, at as usize)
 }
 
-fn store_named<D: StepName>(table: &Board, seat: &mut RunSeat, step: Step, word: usize, new: u64)
+fn store_named<D: StepName>(
+    table: &Board,
+    seat: &mut RunSeat,
+    owed: &Owed,
+    kind: Kind,
+    word: Word,
+    at: u64,
+    new: u64,
+)
     requires table { seat.old.table_id ≡ table.now.shared.table_id }
-    requires word { word < table.now.shared.table_id.words }
-    requires step { step ≡ D.step }
-    requires may { MayStore step word seat.old.me.0.view new }
+    requires word { at < table.now.shared.table_id.words }
+    requires step { step_of owed.now kind word ≡ D.step }
+    requires may { MayStore (step_of owed.now kind word) at seat.old.me.0.view new }
     ensures same { (seat.new.table_id ≡ seat.old.table_id) × (seat.new.id ≡ seat.old.id) × (seat.new.me.1 ≡ seat.old.me.1) }
-    ensures did { Did step seat.old.me.0 new seat.new.me.0 }
+    ensures did { Did (step_of owed.now kind word) seat.old.me.0 new seat.new.me.0 }
 {
-    let _ = step;
-    table.shared.store::<Does<D>>(seat, word, new);
+    let _ = owed;
+    let _ = (kind, word);
+    table.shared.store::<Does<D>>(seat, at as usize, new);
 }
 
-fn pass_named<D: StepName>(table: &Board, seat: &mut RunSeat, step: Step, value: u64)
+fn pass_named<D: StepName>(
+    table: &Board,
+    seat: &mut RunSeat,
+    owed: &Owed,
+    kind: Kind,
+    word: Word,
+    value: u64,
+)
     requires table { seat.old.table_id ≡ table.now.shared.table_id }
     requires some { 0 < table.now.shared.table_id.words }
-    requires step { step ≡ D.step }
+    requires step { step_of owed.now kind word ≡ D.step }
     requires value { value ≡ D.value }
-    requires may { MayPass step seat.old.me.0.view value }
+    requires may { MayPass (step_of owed.now kind word) seat.old.me.0.view value }
     ensures same { (seat.new.table_id ≡ seat.old.table_id) × (seat.new.id ≡ seat.old.id) × (seat.new.me.1 ≡ seat.old.me.1) }
-    ensures did { Did step seat.old.me.0 value seat.new.me.0 }
+    ensures did { Did (step_of owed.now kind word) seat.old.me.0 value seat.new.me.0 }
 {
-    let _ = (step, value);
+    let _ = owed;
+    let _ = (kind, word, value);
     table.shared.load::<Passes<D>>(seat, 0);
 }
 
 /// A step at a data word that there is not. The pass grows by this step, and no word changes.
-pub fn pass(table: &Board, seat: &mut RunSeat, step: Step, value: u64)
+pub fn pass(table: &Board, seat: &mut RunSeat, owed: &Owed, kind: Kind, word: Word, value: u64)
     requires table { seat.old.table_id ≡ table.now.shared.table_id }
     requires some { 0 < table.now.shared.table_id.words }
-    requires may { MayPass step seat.old.me.0.view value }
+    requires may { MayPass (step_of owed.now kind word) seat.old.me.0.view value }
     ensures same { (seat.new.table_id ≡ seat.old.table_id) × (seat.new.id ≡ seat.old.id) × (seat.new.me.1 ≡ seat.old.me.1) }
-    ensures did { Did step seat.old.me.0 value seat.new.me.0 }
+    ensures did { Did (step_of owed.now kind word) seat.old.me.0 value seat.new.me.0 }
 {
-    pass_named::<Brand>(table, seat, step, value);
+    pass_named::<Brand>(table, seat, owed, kind, word, value);
 }
 
 /// One load. The pass grows by this step.
-pub fn load(table: &Board, seat: &mut RunSeat, step: Step, word: usize) -> u64
+pub fn load(table: &Board, seat: &mut RunSeat, owed: &Owed, kind: Kind, word: Word, at: u64) -> u64
     requires table { seat.old.table_id ≡ table.now.shared.table_id }
-    requires word { word < table.now.shared.table_id.words }
-    requires may { MayLoad step word seat.old.me.0.view }
+    requires word { at < table.now.shared.table_id.words }
+    requires may { MayLoad (step_of owed.now kind word) at seat.old.me.0.view }
     ensures same { (seat.new.table_id ≡ seat.old.table_id) × (seat.new.id ≡ seat.old.id) × (seat.new.me.1 ≡ seat.old.me.1) }
-    ensures did { Did step seat.old.me.0 result seat.new.me.0 }
+    ensures did { Did (step_of owed.now kind word) seat.old.me.0 result seat.new.me.0 }
 {
-    load_named::<Brand>(table, seat, step, word)
+    load_named::<Brand>(table, seat, owed, kind, word, at)
+}
+
+/// One load of a word for no call. What the process owes stays owed.
+pub fn glance(table: &Board, seat: &mut RunSeat, word: Word, at: u64) -> u64
+    requires table { seat.old.table_id ≡ table.now.shared.table_id }
+    requires word { at < table.now.shared.table_id.words }
+    requires may { MayLoad (glanced word) at seat.old.me.0.view }
+    ensures same { (seat.new.table_id ≡ seat.old.table_id) × (seat.new.id ≡ seat.old.id) × (seat.new.me.1 ≡ seat.old.me.1) }
+    ensures did { Did (glanced word) seat.old.me.0 result seat.new.me.0 }
+{
+    let owed = Owed::nothing();
+    load_named::<Brand>(table, seat, &owed, Kind::Glance, word, at)
 }
 
 /// One store. The pass grows by this step.
-pub fn store(table: &Board, seat: &mut RunSeat, step: Step, word: usize, new: u64)
+pub fn store(
+    table: &Board,
+    seat: &mut RunSeat,
+    owed: &Owed,
+    kind: Kind,
+    word: Word,
+    at: u64,
+    new: u64,
+)
     requires table { seat.old.table_id ≡ table.now.shared.table_id }
-    requires word { word < table.now.shared.table_id.words }
-    requires may { MayStore step word seat.old.me.0.view new }
+    requires word { at < table.now.shared.table_id.words }
+    requires may { MayStore (step_of owed.now kind word) at seat.old.me.0.view new }
     ensures same { (seat.new.table_id ≡ seat.old.table_id) × (seat.new.id ≡ seat.old.id) × (seat.new.me.1 ≡ seat.old.me.1) }
-    ensures did { Did step seat.old.me.0 new seat.new.me.0 }
+    ensures did { Did (step_of owed.now kind word) seat.old.me.0 new seat.new.me.0 }
 {
-    store_named::<Brand>(table, seat, step, word, new);
+    store_named::<Brand>(table, seat, owed, kind, word, at, new);
 }
 
 /// The first process of a seat gets a seat of its own.

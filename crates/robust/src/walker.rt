@@ -5,15 +5,14 @@ ghost use Rattle.rmecore.specs.World.{is_store};
 ghost use Rattle.rmeworld.specs.Spot.{next_spot, Begins};
 ghost use Rattle.rmeworld.specs.Stand.{IsSize};
 ghost use Rattle.runs.specs.Runs.{InTable, IsBeyond, index as index_of, word_count, IsRun};
-ghost use Rattle.robust.specs.FastPath.{IsClear};
 ghost use Rattle.runs.specs.Pass.{Pass, Advances, Looks, IsPass, alone, rest_known, fresh, spot_now, moved_spot};
 
+use crate::owed::Owed;
 use crate::table;
 use crate::table::{Board, RunSeat};
 use rmecore::{Kind, Word};
 use rmeworld::Call;
 use runs::Setup;
-use runs::entry::Step;
 use std::alloc::{AllocError, Global};
 use std::marker::Model;
 use std::sync::Arc;
@@ -25,20 +24,20 @@ pub struct Walker {
     seat: RunSeat,
     setup: Setup,
     by: u64,
-    fallen: bool,
-    start: Option<Call>,
+    owed: Owed,
 }
 
 impl Model for Walker {
     ghost use Rattle.std.specs.Prelude.{◌≡◌, []};
     ghost use Rattle.std.specs.Arc.{arc_value};
+    ghost use Rattle.robust.specs.Owed.{has_crashed, started};
     ghost use Rattle.runs.specs.Pass.{Pass, IsPass, alone};
 
     ghost Value = { Pass };
 
-    ghost view = { λ w. record { table = w.seat.table_id; setup = w.setup; by = w.by; fallen = w.fallen; start = w.start; seen = w.seat.me.0.view.seen } };
+    ghost view = { λ w. record { table = w.seat.table_id; setup = w.setup; by = w.by; fallen = has_crashed w.owed; start = started w.owed; seen = w.seat.me.0.view.seen } };
 
-    ghost invariant = { λ w. record { table : w.seat.table_id ≡ (arc_value w.board).shared.table_id; seat : w.seat.me ≡ (alone w.setup w.by w.seat.me.0.view.seen, []); pass : IsPass (record { table = w.seat.table_id; setup = w.setup; by = w.by; fallen = w.fallen; start = w.start; seen = w.seat.me.0.view.seen }) } };
+    ghost invariant = { λ w. record { table : w.seat.table_id ≡ (arc_value w.board).shared.table_id; seat : w.seat.me ≡ (alone w.setup w.by w.seat.me.0.view.seen, []); pass : IsPass (record { table = w.seat.table_id; setup = w.setup; by = w.by; fallen = has_crashed w.owed; start = started w.owed; seen = w.seat.me.0.view.seen }) } };
 }
 
 /// Where a word of the world stands in the table.
@@ -53,15 +52,6 @@ pub fn index(setup: &Setup, word: Word) -> u64
         Word::Number(p) => 3 * p + 1,
         Word::Inside(p) => 3 * p + 2,
         Word::Data(i) => 3 * setup.layout.procs + i,
-    }
-}
-
-/// The start has been told.
-fn forget(start: &mut Option<Call>)
-    ensures { start.new ≡ None }
-{
-    if start.is_some() {
-        *start = None;
     }
 }
 
@@ -87,8 +77,7 @@ impl Walker {
             seat: own,
             setup,
             by,
-            fallen: false,
-            start: None,
+            owed: Owed::nothing(),
         })
     }
 
@@ -131,53 +120,10 @@ impl Walker {
         requires may { (found : ℕ) → found < 2 ^ 64 → IsSome (moved_spot self.old kind word found) }
         ensures { Advances self.old kind word result self.new }
     {
-        let step = Step {
-            crashed: self.fallen,
-            start: self.start,
-            kind,
-            word,
-        };
         let at = index(&self.setup, word);
-        let found = table::load(&self.board, &mut self.seat, step, at as usize);
-        self.fallen = false;
-        forget(&mut self.start);
+        let found = table::load(&self.board, &mut self.seat, &self.owed, kind, word, at);
+        self.owed = Owed::nothing();
         found
-    }
-
-    /// One load, where no crash and no start is owed.
-    pub fn load_clear(&mut self, kind: Kind, word: Word) -> u64
-        requires table { InTable self.old.setup word }
-        requires kind { is_store kind ≡ false }
-        requires clear { IsClear self.old }
-        requires may { (found : ℕ) → found < 2 ^ 64 → IsSome (moved_spot self.old kind word found) }
-        ensures { Advances self.old kind word result self.new }
-    {
-        let step = Step {
-            crashed: false,
-            start: None,
-            kind,
-            word,
-        };
-        let at = index(&self.setup, word);
-        table::load(&self.board, &mut self.seat, step, at as usize)
-    }
-
-    /// One store, where no crash and no start is owed.
-    pub fn store_clear(&mut self, kind: Kind, word: Word, new: u64)
-        requires table { InTable self.old.setup word }
-        requires kind { is_store kind ≡ true }
-        requires clear { IsClear self.old }
-        requires may { IsSome (moved_spot self.old kind word new) }
-        ensures { Advances self.old kind word new self.new }
-    {
-        let step = Step {
-            crashed: false,
-            start: None,
-            kind,
-            word,
-        };
-        let at = index(&self.setup, word);
-        table::store(&self.board, &mut self.seat, step, at as usize, new);
     }
 
     /// One store, which carries the crash and the start that are owed.
@@ -187,16 +133,9 @@ impl Walker {
         requires may { IsSome (moved_spot self.old kind word new) }
         ensures { Advances self.old kind word new self.new }
     {
-        let step = Step {
-            crashed: self.fallen,
-            start: self.start,
-            kind,
-            word,
-        };
         let at = index(&self.setup, word);
-        table::store(&self.board, &mut self.seat, step, at as usize, new);
-        self.fallen = false;
-        forget(&mut self.start);
+        table::store(&self.board, &mut self.seat, &self.owed, kind, word, at, new);
+        self.owed = Owed::nothing();
     }
 
     /// A step at a data word that there is not: no word changes, and a load reads 0. It loads a word for nothing.
@@ -206,15 +145,8 @@ impl Walker {
         requires may { IsSome (moved_spot self.old kind word value) }
         ensures { Advances self.old kind word value self.new }
     {
-        let step = Step {
-            crashed: self.fallen,
-            start: self.start,
-            kind,
-            word,
-        };
-        table::pass(&self.board, &mut self.seat, step, value);
-        self.fallen = false;
-        forget(&mut self.start);
+        table::pass(&self.board, &mut self.seat, &self.owed, kind, word, value);
+        self.owed = Owed::nothing();
     }
 
     /// Reads any word, wherever the process stands. What is owed stays owed.
@@ -222,22 +154,15 @@ impl Walker {
         requires { InTable self.old.setup word }
         ensures { Looks self.old word result self.new }
     {
-        let step = Step {
-            crashed: false,
-            start: None,
-            kind: Kind::Glance,
-            word,
-        };
         let at = index(&self.setup, word);
-        table::load(&self.board, &mut self.seat, step, at as usize)
+        table::glance(&self.board, &mut self.seat, word, at)
     }
 
     /// The process loses its private memory. The words stay.
     pub fn crash(&mut self)
         ensures { self.new ≡ record self.old { fallen = true; start = None } }
     {
-        self.fallen = true;
-        self.start = None;
+        self.owed = Owed::crash();
     }
 
     /// The process starts a call.
@@ -246,7 +171,7 @@ impl Walker {
         requires may { IsSome (next_spot self.old.setup.layout self.old.setup.limit (spot_now self.old) (Begins self.old.by call)) }
         ensures { self.new ≡ record self.old { start = Some call } }
     {
-        self.start = Some(call);
+        self.owed.begin(&call);
     }
 
     /// The table and the seat.
@@ -260,8 +185,7 @@ impl Walker {
             seat,
             setup: _,
             by: _,
-            fallen: _,
-            start: _,
+            owed: _,
         } = self;
         (board, seat)
     }

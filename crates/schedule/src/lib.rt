@@ -16,7 +16,6 @@ pub mod item;
 mod last_words;
 pub mod laws;
 pub mod line;
-pub mod log;
 mod number;
 pub mod pieces;
 mod play;

@@ -3,7 +3,7 @@
 ghost use Rattle.std.specs.Prelude.{◌≡◌, ◌+◌, ◌-◌, ◌^◌, ◌<◌, ◌≤◌, ◌++◌, List, ℕ, [], length, take, OnOk, OnErr, IfOk, min, false};
 
 use crate::device::{Failed, Sink, Source};
-use crate::log::Log;
+use histories::Log;
 use std::{io, mem};
 
 /// Adds the bytes to the log, at no cost.

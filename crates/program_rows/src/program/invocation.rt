@@ -1,11 +1,11 @@
 //! An invocation of the program, over a folder in memory and devices that may fail.
 
 use super::words_of;
+use histories::Log;
 use laboratory::folder::{FileFault, Folder};
 use laboratory::program::run_program;
 use laboratory::words::WordsFault;
 use schedule::FromReader;
-use schedule::log::Log;
 use std::alloc::Global;
 use std::io::{ErrorKind, Read, Write};
 use std::process::{Abort, ExitCode};

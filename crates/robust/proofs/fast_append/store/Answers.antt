@@ -96,13 +96,13 @@ put-requires-3-clause-next c =
     let k : ℕ = 2 * (2 + c.width-row.result) + 2 in
     subst (λ (n : ℕ). drop k (store_steps y.setup.layout y.by (record_of e.at e.seq e.value)) ≡ (2, n) ∷ drop (k + 1) (store_steps y.setup.layout y.by (record_of e.at e.seq e.value))) h (step-count y.setup.layout y.by (record_of e.at e.seq e.value) k (omega arith))
 
-pub store_clear-requires-clause-may : goal.store_clear-requires-clause-may
-store_clear-requires-clause-may c =
+pub store-requires-clause-may : goal.store-requires-clause-may
+store-requires-clause-may c =
     let e = c.args.entry.now in
     disarm_may c.put-3.new.walker e.at e.seq e.value _ (omega arith) (stored_here c.put-2.new.walker c.put-3.new.walker e.at e.seq e.value _ _ c.put-3.ensures.same refl c.put-3.ensures.at)
 
-pub store_clear-requires-clause-table : goal.store_clear-requires-clause-table
-store_clear-requires-clause-table c =
+pub store-requires-clause-table : goal.store-requires-clause-table
+store-requires-clause-table c =
     let l = c.put-3.new.walker.setup.layout in
     let low = place_low l l.cap in omega arith
 
@@ -136,8 +136,8 @@ returns-clause-at c =
     let r3 = c.put_row-2.ensures in
     let r4 = c.put-2.ensures in
     let r5 = c.put-3.ensures in
-    all_stored x c.put_row.new.walker c.put.new.walker c.put_row-2.new.walker c.put-2.new.walker c.put-3.new.walker e.at e.seq e.value r1.same r2.same r3.same r4.same r5.same r1.unanswered r2.unanswered r3.unanswered r4.unanswered r5.unanswered c.store_clear.new.self
-    (2 * (2 + c.width-row.result) + 2 + 1) (omega arith) (stored_here c.put-2.new.walker c.put-3.new.walker e.at e.seq e.value _ _ r5.same refl r5.at) c.store_clear.ensures
+    all_stored x c.put_row.new.walker c.put.new.walker c.put_row-2.new.walker c.put-2.new.walker c.put-3.new.walker e.at e.seq e.value r1.same r2.same r3.same r4.same r5.same r1.unanswered r2.unanswered r3.unanswered r4.unanswered r5.unanswered c.store.new.self
+    (2 * (2 + c.width-row.result) + 2 + 1) (omega arith) (stored_here c.put-2.new.walker c.put-3.new.walker e.at e.seq e.value _ _ r5.same refl r5.at) c.store.ensures
 
 pub returns-clause-ends : goal.returns-clause-ends
 returns-clause-ends c =
@@ -148,12 +148,12 @@ returns-clause-ends c =
     let r3 = c.put_row-2.ensures in
     let r4 = c.put-2.ensures in
     let r5 = c.put-3.ensures in
-    all_ends x c.put_row.new.walker c.put.new.walker c.put_row-2.new.walker c.put-2.new.walker c.put-3.new.walker e.at e.seq e.value r1.same r2.same r3.same r4.same r5.same r1.unanswered r2.unanswered r3.unanswered r4.unanswered r5.unanswered c.store_clear.new.self
-    (2 * (2 + c.width-row.result) + 2 + 1) (omega arith) (stored_here c.put-2.new.walker c.put-3.new.walker e.at e.seq e.value _ _ r5.same refl r5.at) c.store_clear.ensures
+    all_ends x c.put_row.new.walker c.put.new.walker c.put_row-2.new.walker c.put-2.new.walker c.put-3.new.walker e.at e.seq e.value r1.same r2.same r3.same r4.same r5.same r1.unanswered r2.unanswered r3.unanswered r4.unanswered r5.unanswered c.store.new.self
+    (2 * (2 + c.width-row.result) + 2 + 1) (omega arith) (stored_here c.put-2.new.walker c.put-3.new.walker e.at e.seq e.value _ _ r5.same refl r5.at) c.store.ensures
 
 pub returns-clause-same : goal.returns-clause-same
 returns-clause-same c =
     let x = c.args.walker.now in
     let e = c.args.entry.now in
     let five = same_five x c.put_row.new.walker c.put.new.walker c.put_row-2.new.walker c.put-2.new.walker c.put-3.new.walker e.at e.seq e.value c.put_row.ensures.same c.put.ensures.same c.put_row-2.ensures.same c.put-2.ensures.same c.put-3.ensures.same in
-    let a = c.store_clear.ensures.adds in (a.setup ∙ five.0, a.by ∙ five.1)
+    let a = c.store.ensures.adds in (a.setup ∙ five.0, a.by ∙ five.1)

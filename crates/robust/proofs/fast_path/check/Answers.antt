@@ -4,7 +4,7 @@ use Rattle.robust.proofs.Straight.{check_goes}
 use Rattle.robust.proofs.fast_path.check.Goals as goal
 
 pub returns-clause-at : goal.returns-clause-at
-returns-clause-at c = check_goes c.args.walker.now c.load_clear.new.self c.load_clear.result _ refl c.requires.at c.load_clear.ensures
+returns-clause-at c = check_goes c.args.walker.now c.load.new.self c.load.result _ refl c.requires.at c.load.ensures
 
-pub load_clear-requires-clause-table : goal.load_clear-requires-clause-table
-load_clear-requires-clause-table c = let s = size_is c.args.walker.now.setup.layout in omega arith
+pub load-requires-clause-table : goal.load-requires-clause-table
+load-requires-clause-table c = let s = size_is c.args.walker.now.setup.layout in omega arith

@@ -15,7 +15,7 @@ loop-j-preserved c =
     let k : Kept x c.if-j-own.walker c.if-j-own.greatest c.if-j-own.taken (j + 1) = elim c.if-j-own.branch [
       | then-j-own w ↦
           let ne : j ≢ x.by = λ e. w.if-j-own.true (e ∙ sym c.by-own.ensures.is) in
-          subst (λ (t : Pass × ℕ × ℕ). Kept x t.0 t.1 t.2 (j + 1)) (λ n. (sym w.walker-is n, sym (w.greatest-is ∙ w.greater-greatest.ensures) n, sym w.taken-is n)) (kept_peeked x y j c.loop-j.greatest c.loop-j.taken here below ne w.load_clear-number.new.self w.load_clear-number.result w.load_clear-number.ensures)
+          subst (λ (t : Pass × ℕ × ℕ). Kept x t.0 t.1 t.2 (j + 1)) (λ n. (sym w.walker-is n, sym (w.greatest-is ∙ w.greater-greatest.ensures) n, sym w.taken-is n)) (kept_peeked x y j c.loop-j.greatest c.loop-j.taken here below ne w.load-number.new.self w.load-number.result w.load-number.ensures)
       | else-j-own w ↦
           let own : j ≡ x.by = w.if-j-own.false ∙ c.by-own.ensures.is in
           subst (λ (t : Pass × ℕ × ℕ). Kept x t.0 t.1 t.2 (j + 1)) (λ n. (sym w.walker-is n, sym w.greatest-is n, sym w.taken-is n)) (kept_over x y j c.loop-j.greatest c.loop-j.taken here c.by-own.ensures.pass.below own)

@@ -8,5 +8,5 @@ use Rattle.robust.proofs.fast_path.take.Goals as goal
 pub returns-clause-comes : goal.returns-clause-comes
 returns-clause-comes c =
     let w = c.args.walker.now in
-    let adv = subst (λ (q : ℕ). Advances w Take (Number q) (c.args.greatest + 1) c.store_clear.new.self) c.by-own.ensures.is c.store_clear.ensures in
-    number_taken w _ c.store_clear.new.self c.args.greatest c.requires.below c.requires.at adv
+    let adv = subst (λ (q : ℕ). Advances w Take (Number q) (c.args.greatest + 1) c.store.new.self) c.by-own.ensures.is c.store.ensures in
+    number_taken w _ c.store.new.self c.args.greatest c.requires.below c.requires.at adv

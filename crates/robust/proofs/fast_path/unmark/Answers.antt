@@ -6,7 +6,7 @@ use Rattle.robust.proofs.Straight.{unmarked}
 use Rattle.robust.proofs.fast_path.unmark.Goals as goal
 
 pub returns-clause-advances : goal.returns-clause-advances
-returns-clause-advances c = subst (λ (q : ℕ). Advances c.args.walker.now Mark (Inside q) 0 c.store_clear.new.self) c.by-own.ensures.is c.store_clear.ensures
+returns-clause-advances c = subst (λ (q : ℕ). Advances c.args.walker.now Mark (Inside q) 0 c.store.new.self) c.by-own.ensures.is c.store.ensures
 
 pub returns-clause-at : goal.returns-clause-at
-returns-clause-at c = unmarked c.args.walker.now _ c.store_clear.new.self c.requires.at (returns-clause-advances c)
+returns-clause-at c = unmarked c.args.walker.now _ c.store.new.self c.requires.at (returns-clause-advances c)

@@ -1,6 +1,6 @@
-use Rattle.std.proofs.Common.{◌≡◌, ◌∙◌, ◌++◌, map, All, sym, ap, subst, arith}
+use Rattle.std.proofs.Common.{rules, ◌≡◌, ◌∙◌, ◌++◌, map, All, sym, ap, subst, arith}
 use Rattle.std.specs.Vec.Iter.{into_iter_items}
-use Rattle.std.proofs.lemmas.List.Elements.{All-push, All-tail}
+use Rattle.std.proofs.lemmas.List.Elements.{All-head, All-push, All-tail}
 use Rattle.robust.specs.declared.lab.worker.HandsBack.{HandsBack}
 use Rattle.robust.specs.Worked.{seat_promised, sizes_of}
 use Rattle.robust.specs.Sending.{IsNew}
@@ -21,3 +21,8 @@ loop-member-preserved g c =
       new = All-tail (IsNew (sizes_of c.args.spec)) c.in-Some.member left new;
       spec = subst (All (λ h. h.promise.1 ≡ c.args.spec)) (sym items) (All-push (λ h. h.promise.1 ≡ c.args.spec) c.loop-member.threads.items c.in-Ok.thread i.spec (ap (λ (p : HandsBack). p.1) c.in-Ok.ensures.ok));
     }
+
+pub spawn_with-requires-clause-runs : goal.spawn_with-requires-clause-runs
+spawn_with-requires-clause-runs g c κs within =
+    let new = subst (All (IsNew (sizes_of c.args.spec))) c.in-Some.ensures.steps.0 c.loop-member.invariant.new in
+    (search rules, search rules, c.requires.messages.0, c.requires.messages.1, c.requires.width.0, c.requires.width.1, All-head (IsNew (sizes_of c.args.spec)) c.in-Some.member (into_iter_items c.next.new.self) new)

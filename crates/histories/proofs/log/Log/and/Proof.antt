@@ -31,11 +31,11 @@ use denote.Triple.Table.{entered}
 use denote.Triple.Walked.{says, Stays, stay_dropped, walk_of, ends_at, walk_Meets, Goes-dropped}
 use Rattle.std.specs.contracts.marker.PhantomData as Mark
 use Rattle.bytes.proofs.Walks.{none, one, one_made}
-use Rattle.schedule.specs.contracts.log.Log as Log
-use Rattle.schedule.specs.contracts.log.Log.and as F
-use Rattle.schedule.specs.contracts.log.Log.and.Key.{name as #self}
-use Rattle.schedule.proofs.log.Log.and.Statement as stated
-use Rattle.schedule.proofs.log.Log.and.Code as code
+use Rattle.histories.specs.contracts.log.Log as Log
+use Rattle.histories.specs.contracts.log.Log.and as F
+use Rattle.histories.specs.contracts.log.Log.and.Key.{name as #self}
+use Rattle.histories.proofs.log.Log.and.Statement as stated
+use Rattle.histories.proofs.log.Log.and.Code as code
 
 module _ (A : RattleType) where
   abbrev args : Args

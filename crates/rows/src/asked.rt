@@ -1,10 +1,11 @@
 //! A plan is asked before each step, and neither earlier nor later: what another member meets at an asking.
 
-use super::counted::never;
-use super::kit::{body, two};
+use super::kit::two;
 use plans::{At, CrashPlan, Never};
 use redomail::Reply;
 use robust::{Entry, LockFault, Member};
+use row_kit::counted::never;
+use row_kit::messages::body;
 use std::alloc::Global;
 use std::process::Abort;
 
@@ -92,7 +93,7 @@ fn shown<P: CrashPlan + Drop>(
         askings: 0,
         shown: 0,
     };
-    assert!(rt; one.append_within(1, body(rt, 5), &mut plan, 0) == answer);
+    assert!(rt; one.append_within(1, body(5), &mut plan, 0) == answer);
     (plan.shown, plan.askings)
 }
 

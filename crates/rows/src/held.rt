@@ -1,11 +1,12 @@
 //! Two members on two threads, at the same time.
 
-use super::gated::{Gated, meeting};
-use super::kit::{body, two};
+use super::kit::two;
 use plans::Never;
 use redomail::Reply;
 use rmecore::Body;
 use robust::{Entry, LockFault, Member};
+use row_kit::gated::{Gated, meeting};
+use row_kit::messages::body;
 use std::sync::Wait;
 use std::test::Fail;
 use std::thread;
@@ -28,7 +29,7 @@ fn a_lock_beside_an_append(rt: HostRuntime) -> Result<(), Fail> {
     let rt = &rt;
     let (one, other) = two(rt, rt.alloc(), 10, 2);
     let (first, second, zero, late) = meeting(rt.alloc(), 20)?;
-    let value = body(rt, 1);
+    let value = body(1);
     let answers = thread::join(
         rt,
         move || sends(rt, one, value, first),
@@ -44,7 +45,7 @@ fn a_close_beside_an_append(rt: HostRuntime) -> Result<(), Fail> {
     let rt = &rt;
     let (one, other) = two(rt, rt.alloc(), 10, 2);
     let (first, second, zero, late) = meeting(rt.alloc(), 20)?;
-    let value = body(rt, 1);
+    let value = body(1);
     let answers = thread::join(
         rt,
         move || sends(rt, one, value, first),
@@ -65,7 +66,7 @@ fn appends<R: Wait>(rt: &R, mut member: Member, value: Body) -> (Member, Result<
 fn freshness(rt: HostRuntime) -> Result<(), Fail> {
     let rt = &rt;
     let (one, other) = two(rt, rt.alloc(), 10, 4);
-    let (five, nine) = (body(rt, 5), body(rt, 9));
+    let (five, nine) = (body(5), body(9));
     let (first, second) = thread::join(
         rt,
         move || appends(rt, one, five),

@@ -1,9 +1,7 @@
 //! What the tests share: two members of an arena, and the words at the end.
 
-ghost use Rattle.std.specs.Prelude.{◌≡◌, length};
+ghost use Rattle.std.specs.Prelude.{◌≡◌};
 
-use redomail::{Layout, Message, Reply, content};
-use rmecore::Body;
 use rmeworld::{Image, start_of};
 use robust::{Arena, Member, gather};
 use std::alloc::Global;
@@ -42,64 +40,4 @@ pub fn words(rt: &impl Abort, image: &Image, p: usize) -> (u64, u64, u64) {
         panic!(rt; "no such process")
     };
     (own.choosing, own.number, own.inside)
-}
-
-/// The messages that an image of two processes shows: of each its sender, its number and its word.
-pub fn shows(rt: &impl Abort, alloc: Global, image: &Image, wanted: &[(u64, u64, u64)]) -> bool {
-    let layout = Layout {
-        procs: 2,
-        cap: image.cap,
-        width: 1,
-    };
-    let Ok(messages) = content(alloc, layout, image.cells.as_slice()) else {
-        panic!(rt; "no content")
-    };
-    are(rt, messages.as_slice(), wanted)
-}
-
-/// Whether the messages are these.
-pub fn are(rt: &impl Abort, messages: &[Message], wanted: &[(u64, u64, u64)]) -> bool {
-    if messages.len() != wanted.len() {
-        return false;
-    }
-    for (message, (sender, seq, word)) in messages.iter().zip(wanted) {
-        if message.sender != *sender || message.seq != *seq || message.value != body(rt, *word) {
-            return false;
-        }
-    }
-    true
-}
-
-/// A value of one word.
-pub fn body(rt: &impl Abort, word: u64) -> Body
-    ensures { length result ≡ 1 }
-{
-    let Ok(value) = Body::new(&[word]) else {
-        panic!(rt; "no value")
-    };
-    value
-}
-
-/// The answer of an append after a crash at asking k, and its steps.
-pub fn answered_after(k: u64) -> (Reply, u64) {
-    match k {
-        1..=4 => (Reply::Stored, 26),
-        5 | 6 => (Reply::Stored, 25),
-        7 => (Reply::Stored, 23),
-        8..=10 => (Reply::Stored, 22),
-        11..=18 => (Reply::Stored, 21),
-        19..=24 => (Reply::Already, 20),
-        25 => (Reply::Already, 11),
-        26 => (Reply::Already, 17),
-        _ => (Reply::Already, 16),
-    }
-}
-
-/// The steps of a lock of member 1 that is not answered yet, after such a crash of member 0; where there are none it enters.
-pub fn blocked_after(k: u64) -> Option<u64> {
-    match k {
-        5..=7 => Some(8),
-        8..=25 => Some(9),
-        _ => None,
-    }
 }

@@ -1,24 +1,16 @@
 //! The lab over the running lock, and workers that meet: each waits at an asking until the other has come far enough.
 
-use super::gated::{Gated, Progress, Until, meeting};
-use super::kit::are;
-use super::noting::{ALONE, Noting};
 use plans::{Never, Seeded};
 use redomail::{Message, Reply};
 use robust::{LabFault, LockFault, Spec, run_lab};
+use row_kit::gated::{Gated, Progress, Until, meeting};
+use row_kit::messages::{TWO, are, are_all_sent};
+use row_kit::noting::{ALONE, Noting};
 use std::alloc::Global;
 use std::process::Abort;
 use std::sync::Wait;
 use std::test::Fail;
 use std::thread::Threads;
-
-pub const TWO: Spec = Spec {
-    procs: 2,
-    messages: 1,
-    limit: 10,
-    cap: 2,
-    width: 1,
-};
 
 #[test]
 fn both_at_once(rt: HostRuntime) -> Result<(), Fail> {
@@ -29,13 +21,7 @@ fn both_at_once(rt: HostRuntime) -> Result<(), Fail> {
     let lab = run_lab(&rt, rt.alloc(), TWO, gates)?;
     assert!(rt; !zero.has_given_up() && !one.has_given_up());
     assert!(rt; zero.has_told_at(1, 27) && one.has_told(1, 20));
-    assert!(rt;
-        are(
-            &rt,
-            lab.messages.as_slice(),
-            &[(0, 1, 1), (1, 1, 1_000_001)]
-        )
-    );
+    assert!(rt; are(lab.messages.as_slice(), &[(0, 1, 1), (1, 1, 1_000_001)]));
     Ok(())
 }
 
@@ -108,7 +94,7 @@ fn answers_told(rt: HostRuntime) -> Result<(), Fail> {
     let mut gates = Vec::new(rt.alloc());
     gates.push(gate)?;
     let lab = run_lab(&rt, rt.alloc(), ALONE, gates)?;
-    are_all_sent(&rt, ALONE, lab.messages.as_slice());
+    assert!(rt; are_all_sent(ALONE, lab.messages.as_slice()));
     assert!(rt; notes.are_right());
     Ok(())
 }
@@ -132,34 +118,6 @@ fn a_full_mailbox(rt: HostRuntime) -> Result<(), Fail> {
     Ok(())
 }
 
-/// Each worker's messages stand once, in order and as they were sent, and there are no others.
-pub fn are_all_sent(rt: &impl Abort, spec: Spec, messages: &[Message]) {
-    assert_eq!(rt;
-        messages.len() as u64,
-        spec.procs.saturating_mul(spec.messages)
-    );
-    for p in 0..spec.procs {
-        let mut seq = 0u64;
-        for message in messages {
-            if message.sender == p {
-                seq = seq.saturating_add(1);
-                assert_eq!(rt; message.seq, seq, "of worker {p}");
-                for j in 0..spec.width {
-                    let word = p
-                        .saturating_mul(1_000_000)
-                        .saturating_add(seq)
-                        .saturating_add(j);
-                    assert!(rt;
-                        message.value.word(j) == Ok(word),
-                        "worker {p}, {seq}, word {j}"
-                    );
-                }
-            }
-        }
-        assert_eq!(rt; seq, spec.messages, "worker {p}");
-    }
-}
-
 /// So many workers, each of which crashes at 20 of 1,000 askings.
 fn sends_all<R: Abort + Threads + Wait + Sync>(
     rt: &R,
@@ -179,7 +137,7 @@ fn sends_all<R: Abort + Threads + Wait + Sync>(
         gates.push(Seeded::new(p.saturating_add(7), 20))?;
     }
     let lab = run_lab(rt, alloc, spec, gates)?;
-    are_all_sent(rt, spec, lab.messages.as_slice());
+    assert!(rt; are_all_sent(spec, lab.messages.as_slice()));
     Ok(())
 }
 

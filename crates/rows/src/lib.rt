@@ -1,5 +1,5 @@
-//! The worked rows over members, and members that crash, on the running lock and on its plain reference. Tests alone: each
-//! names public functions of `robust` and `one_lock`.
+//! The worked rows over members, and members that crash, on the running lock. Tests alone: each names public functions of
+//! `robust`.
 #![tactic(auto)]
 
 #[cfg(test)]
@@ -7,11 +7,7 @@ mod asked;
 #[cfg(test)]
 mod calls;
 #[cfg(test)]
-mod counted;
-#[cfg(test)]
 mod eight;
-#[cfg(test)]
-mod gated;
 #[cfg(test)]
 mod held;
 #[cfg(test)]
@@ -20,10 +16,6 @@ mod kit;
 mod labs;
 #[cfg(test)]
 mod members;
-#[cfg(test)]
-mod noting;
-#[cfg(test)]
-mod plain;
 #[cfg(test)]
 mod scarce;
 #[cfg(test)]

@@ -1,11 +1,11 @@
 //! The rows over members that need no threads.
 
-use super::counted::{Counted, at, never, stepwise};
 use super::kit::{gathered, two, words};
 use plans::CrashPlan;
 use redomail::Reply;
 use rmecore::Found;
 use robust::{Arena, Entry, LockFault};
+use row_kit::counted::{Counted, at, never, stepwise};
 use std::alloc::Global;
 use std::process::Abort;
 use std::test::Fail;

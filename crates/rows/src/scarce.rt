@@ -3,12 +3,13 @@
 
 ghost use Rattle.runs.specs.Gathering.{OneArena};
 
-use super::counted::never;
-use super::kit::{are, body, two, words};
+use super::kit::{two, words};
 use redomail::Reply;
 use rmecore::Refusal;
 use rmeworld::Image;
 use robust::{Arena, GatherFault, Member, gather};
+use row_kit::counted::never;
+use row_kit::messages::{are, body};
 use std::alloc::{AllocError, Global};
 use std::process::Abort;
 use std::test::Fail;
@@ -124,12 +125,12 @@ fn a_gathering(rt: HostRuntime) -> Result<(), Fail> {
 fn a_reading(rt: HostRuntime) -> Result<(), Fail> {
     let alloc = rt.alloc();
     let (mut one, mut other) = two(&rt, alloc, 10, 2);
-    assert!(rt; one.append_within(1, body(&rt, 5), &mut never(), 0) == Ok(Reply::Stored));
+    assert!(rt; one.append_within(1, body(5), &mut never(), 0) == Ok(Reply::Stored));
     let mut scarce = Scarce::new(alloc)?;
     let mut refused = 0u64;
     for _ in 0..PIECES {
         if let Ok(messages) = other.read_from(alloc, 0) {
-            assert!(rt; are(&rt, messages.as_slice(), &[(0, 1, 5)]));
+            assert!(rt; are(messages.as_slice(), &[(0, 1, 5)]));
             break;
         }
         refused = refused.saturating_add(1);

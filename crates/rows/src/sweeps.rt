@@ -3,11 +3,13 @@
 ghost use Rattle.std.specs.Prelude.{◌≡◌};
 ghost use Rattle.robust.specs.Working.{seat_of};
 
-use super::counted::{Counted, at, never, stepwise};
-use super::kit::{answered_after, are, blocked_after, body, gathered, shows, two};
+use super::kit::{gathered, two};
 use plans::{Both, CrashPlan};
 use redomail::Reply;
 use robust::{Entry, LockFault, Member};
+use row_kit::counted::{Counted, at, never, stepwise};
+use row_kit::cut_off::{answered_after, blocked_after};
+use row_kit::messages::{are, body, shows};
 use std::alloc::Global;
 use std::process::Abort;
 use std::test::Fail;
@@ -16,7 +18,7 @@ use std::test::Fail;
 fn cut<C: CrashPlan>(rt: &impl Abort, member: &mut Member, plan: &mut Counted<C>)
     ensures { seat_of member.new ≡ seat_of member.old }
 {
-    let value = body(rt, 5);
+    let value = body(5);
     assert!(rt; member.append_within(1, value, plan, 0) == Err(LockFault::Crashed));
     assert!(rt; plan.taken() == member.steps().saturating_add(1));
 }
@@ -26,10 +28,10 @@ fn both_stand(rt: &impl Abort, alloc: Global, one: Member, mut other: Member)
     requires { one.pass.table ≡ other.pass.table }
 {
     let mut plan = never();
-    assert!(rt; other.append_within(1, body(rt, 9), &mut plan, 0) == Ok(Reply::Stored));
+    assert!(rt; other.append_within(1, body(9), &mut plan, 0) == Ok(Reply::Stored));
     assert!(rt; plan.taken() == other.steps().saturating_add(1));
     let image = gathered(rt, alloc, one, other);
-    assert!(rt; shows(rt, alloc, &image, &[(0, 1, 5), (1, 1, 9)]));
+    assert!(rt; shows(alloc, &image, &[(0, 1, 5), (1, 1, 9)]));
 }
 
 /// An append that is sent again after a crash at asking k.
@@ -37,7 +39,7 @@ fn sent_again<C: CrashPlan>(rt: &impl Abort, alloc: Global, k: u64, plan: &mut C
     let (mut one, other) = two(rt, alloc, 10, 4);
     cut(rt, &mut one, &mut at(k));
     let (reply, steps) = answered_after(k);
-    let again = one.append_within(1, body(rt, 5), plan, 0);
+    let again = one.append_within(1, body(5), plan, 0);
     assert!(rt; again == Ok(reply), "at {k}");
     assert!(rt;
         one.steps() == steps && plan.taken() == steps.saturating_add(1),
@@ -64,7 +66,7 @@ fn crash_pairs(rt: HostRuntime) -> Result<(), Fail> {
             let mut plan = Counted::new(Both::new(k, m));
             cut(&rt, &mut one, &mut plan);
             cut(&rt, &mut one, &mut plan);
-            let reply = one.append_within(1, body(&rt, 5), &mut plan, 0);
+            let reply = one.append_within(1, body(5), &mut plan, 0);
             assert!(rt;
                 matches!(reply, Ok(Reply::Stored | Reply::Already)),
                 "at {k} and {m}"
@@ -108,7 +110,7 @@ fn blocked_by_a_crash(rt: HostRuntime) -> Result<(), Fail> {
 fn late_reader(rt: HostRuntime) -> Result<(), Fail> {
     for k in 1..29 {
         let (mut one, mut other) = two(&rt, rt.alloc(), 10, 4);
-        let answer = one.append_within(1, body(&rt, 5), &mut at(k), 0);
+        let answer = one.append_within(1, body(5), &mut at(k), 0);
         let wanted = if k < 28 {
             Err(LockFault::Crashed)
         } else {
@@ -119,7 +121,7 @@ fn late_reader(rt: HostRuntime) -> Result<(), Fail> {
         if k < 24 {
             assert!(rt; messages.is_empty(), "at {k}");
         } else {
-            assert!(rt; are(&rt, messages.as_slice(), &[(0, 1, 5)]), "at {k}");
+            assert!(rt; are(messages.as_slice(), &[(0, 1, 5)]), "at {k}");
         }
     }
     Ok(())

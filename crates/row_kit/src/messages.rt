@@ -1,0 +1,80 @@
+//! Messages, and what is expected of them.
+
+ghost use Rattle.std.specs.Prelude.{◌≡◌, length};
+
+use one_lock::lab::Spec;
+use redomail::{Layout, Message, content};
+use rmecore::Body;
+use rmeworld::Image;
+use std::alloc::Global;
+
+/// Two workers that send one message each.
+pub const TWO: Spec = Spec {
+    procs: 2,
+    messages: 1,
+    limit: 10,
+    cap: 2,
+    width: 1,
+};
+
+/// A value of one word.
+pub fn body(word: u64) -> Body
+    ensures { length result ≡ 1 }
+{
+    match Body::new(&[word]) {
+        Ok(value) => value,
+        Err(_) => unreachable!(),
+    }
+}
+
+/// Whether the messages are these: of each its sender, its number and its word.
+pub fn are(messages: &[Message], wanted: &[(u64, u64, u64)]) -> bool {
+    messages.len() == wanted.len()
+        && messages.iter().zip(wanted).all(|(message, (sender, seq, word))| {
+            message.sender == *sender && message.seq == *seq && message.value == body(*word)
+        })
+}
+
+/// Whether an image of two processes, with values of one word, shows just these messages.
+pub fn shows(alloc: Global, image: &Image, wanted: &[(u64, u64, u64)]) -> bool {
+    let layout = Layout {
+        procs: 2,
+        cap: image.cap,
+        width: 1,
+    };
+    match content(alloc, layout, image.cells.as_slice()) {
+        Ok(messages) => are(messages.as_slice(), wanted),
+        Err(_) => false,
+    }
+}
+
+/// Whether the message has the words that worker p sends with this number.
+fn is_from(message: &Message, p: u64, seq: u64, width: u64) -> bool {
+    (0..width).all(|j| {
+        let word = p
+            .saturating_mul(1_000_000)
+            .saturating_add(seq)
+            .saturating_add(j);
+        message.value.word(j) == Ok(word)
+    })
+}
+
+/// Whether the messages of worker p are all that it was to send, in order.
+fn are_sent_by(spec: Spec, messages: &[Message], p: u64) -> bool {
+    let mut seq = 0u64;
+    for message in messages {
+        if message.sender == p {
+            seq = seq.saturating_add(1);
+            if message.seq != seq || !is_from(message, p, seq, spec.width) {
+                return false;
+            }
+        }
+    }
+    seq == spec.messages
+}
+
+/// Whether the messages are all that the workers of a lab were to send, each worker's in order.
+pub fn are_all_sent(spec: Spec, messages: &[Message]) -> bool {
+    messages.len() as u64 == spec.procs.saturating_mul(spec.messages)
+        && (0..spec.procs).all(|p| are_sent_by(spec, messages, p))
+}

@@ -1,5 +1,5 @@
 -- How the answer of a call comes from the steps of its process.
-use Rattle.std.proofs.Common.{◌≡◌, ◌≢◌, ◌↔◌, ◌+◌, ◌≤◌, ℕ, zero, suc, ◌⊎◌, Bool, true, false, Option, Some, None, IsNone, IsSome, IsTrue, List, [], ◌∷◌, length, Result, Ok, Err, OnOk, IfOk, IfErr, refl, sym, ap, ◌∙◌, subst, inl, inr, arith}
+use Rattle.std.proofs.Common.{◌≡◌, ◌≢◌, ◌↔◌, ◌+◌, ℕ, zero, suc, ◌⊎◌, Bool, true, false, Option, Some, None, IsNone, IsSome, IsTrue, List, [], ◌∷◌, length, Result, Ok, Err, OnOk, IfOk, IfErr, refl, sym, ap, ◌∙◌, subst, inl, inr, arith}
 use Rattle.std.proofs.lemmas.Bool.{true≢false}
 use Rattle.rmecore.specs.Simulated.{tally_at}
 use Rattle.rmecore.specs.declared.refusal.Refusal.{Refusal}

@@ -1,6 +1,8 @@
 -- All members of an arena, at its making and when they are handed back.
-use Rattle.std.proofs.Common.{◌≡◌, ℕ, zero, suc, ◌<◌, List, [], ◌∷◌, ◌++◌, map, length, All, refl, sym, ap, ◌∙◌, subst, append_assoc}
-use Rattle.std.proofs.lemmas.List.{map-append}
+use Rattle.std.proofs.Common.{◌≡◌, ℕ, zero, suc, ◌<◌, List, [], ◌∷◌, ◌++◌, map, length, get_or, All, refl, sym, ap, ◌∙◌, subst, inl, inr, arith, append_assoc}
+use Rattle.std.proofs.Math.Seq.{get_or-append_seam}
+use Rattle.std.proofs.lemmas.Bool.{cases_lt}
+use Rattle.std.proofs.lemmas.List.{map-append, length-map, get_or_append_left}
 use Rattle.std.proofs.lemmas.List.Elements.{All-nil, All-cons, All-head, All-tail, All-push}
 use Rattle.redomail.specs.declared.layout.Layout.{Layout}
 use Rattle.one_lock.specs.declared.member_state.MemberState.TheVariants.{Out}
@@ -22,6 +24,21 @@ new_fit l (suc n) = All-push (λ (m : Seat). m.layout.procs ≡ l.procs) (new_se
 pub new_count : (l : Layout) (n : ℕ) → length (new_seats l n) ≡ n
 new_count l zero = refl
 new_count l (suc n) = length_more (new_seats l n) (record { process = n; layout = l; standing = Out; steps = 0; counted = 0 }) ∙ ap suc (new_count l n)
+
+-- which process has each member of a new arena
+pub number_at : (l : Layout) (n p : ℕ) (x : ℕ × Layout) → p < n → get_or (map place_of (new_seats l n)) p x ≡ (p, l)
+number_at l zero p x below = absurd (omega (arith, below))
+number_at l (suc n) p x below =
+    let front : List (ℕ × Layout) = map place_of (new_seats l n) in
+    let count : length front ≡ n = length-map (new_seats l n) place_of ∙ new_count l n in
+    let split : map place_of (new_seats l (suc n)) ≡ front ++ (n, l) ∷ [] = map-append place_of (new_seats l n) (record { process = n; layout = l; standing = Out; steps = 0; counted = 0 } ∷ []) in
+    elim (cases_lt p n) [
+      | inl less ↦ ap (λ (xs : List (ℕ × Layout)). get_or xs p x) split ∙ get_or_append_left front ((n, l) ∷ []) x p (omega (arith, less, count)) ∙ number_at l n p x less
+      | inr most ↦
+          (let last : length front ≡ p = omega (arith, most, below, count) in
+          let same : n ≡ p = sym count ∙ last in
+          ap (λ (xs : List (ℕ × Layout)). get_or xs p x) split ∙ subst (λ (k : ℕ). get_or (front ++ (n, l) ∷ []) k x ≡ (n, l)) last (get_or-append_seam front (n, l) [] x) ∙ ap (λ (k : ℕ). (k, l)) same)
+    ]
 
 -- the members of a new arena, told by how many parts its ledger has
 pub new_arena : (l : Layout) (n : ℕ) (ms : List Seat) → ms ≡ new_seats l l.procs → l.procs ≡ n → FitAll n ms

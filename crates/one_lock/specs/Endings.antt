@@ -5,7 +5,11 @@ use Rattle.one_lock.specs.declared.lab.lab_fault.LabFault.TheVariants.{BadSpec, 
 use Rattle.one_lock.specs.declared.lab.ending.Ending.{Ending}
 use Rattle.one_lock.specs.declared.lab.ending.Ending.TheVariants.{AllSent, Fault, Refused}
 use Rattle.redomail.specs.declared.reply.Reply.TheVariants.{Stored, Already}
+use Rattle.rmeworld.specs.declared.call.Call.TheVariants.{Lock}
+use Rattle.rmeworld.specs.declared.answer.Answer.TheVariants.{NumbersSpent as SpentAnswer}
 use Rattle.runs.specs.declared.lock_fault.LockFault.TheVariants.{NumbersSpent, NotRecoverable, OutOfMemory}
+use Rattle.one_lock.specs.declared.member_state.MemberState.{MemberState}
+use Rattle.one_lock.specs.Answers.{IsAnswered}
 
 -- each worker has sent all its messages
 abbrev pub HaveAllSent : List Ending → Type 0
@@ -29,16 +33,23 @@ pub record IsOfLeast (endings : List Ending) (fault : LabFault) : Type 0 where
   pub before : HaveAllSent (take p endings)
   pub told : fault_by p ending ≡ Some fault
 
--- How a worker may end: all its messages are shown; or it is out of numbers, is told that the lock is ruined, or wants memory;
--- or one of its messages was answered by a reply that doesn't show it.
-abbrev pub MayEnd : Ending → Type 0
-MayEnd AllSent = Unit {0}
-MayEnd (Fault why) = (why ≡ NumbersSpent) ⊎ (why ≡ NotRecoverable) ⊎ (why ≡ OutOfMemory)
-MayEnd (Refused reply) = (reply ≢ Stored) × (reply ≢ Already)
+-- A lock of p, with no end of turns, was answered that no number is left: its last step read the limit in its doorway.
+pub record WasSpent (p : ℕ) : Type 0 where
+  pub standing : MemberState
+  pub from : ℕ
+  pub to : ℕ
+  pub answered : IsAnswered p standing Lock None from to (Some SpentAnswer)
+
+-- How worker p may end: all its messages are shown; or a lock of it was answered that no number is left; or it is told that the
+-- lock is ruined, or wants memory; or one of its messages was answered by a reply that doesn't show it.
+abbrev pub MayEnd : ℕ → Ending → Type 0
+MayEnd p AllSent = Unit {0}
+MayEnd p (Fault why) = ((why ≡ NumbersSpent) × WasSpent p) ⊎ (why ≡ NotRecoverable) ⊎ (why ≡ OutOfMemory)
+MayEnd p (Refused reply) = (reply ≢ Stored) × (reply ≢ Already)
 
 -- what may end a lab of so many workers early
 abbrev pub MayEndLab : ℕ → LabFault → Type 0
 MayEndLab procs BadSpec = ⊥
 MayEndLab procs WantsMemory = Unit {0}
-MayEndLab procs (Member p why) = (p < procs) × ((why ≡ NumbersSpent) ⊎ (why ≡ NotRecoverable))
+MayEndLab procs (Member p why) = (p < procs) × (((why ≡ NumbersSpent) × WasSpent p) ⊎ (why ≡ NotRecoverable))
 MayEndLab procs (Reply p reply) = (p < procs) × (reply ≢ Stored) × (reply ≢ Already)

@@ -36,7 +36,7 @@ impl<L: Ledger> Promise<Done<L>> for HandsBack<L> {
     ghost use Rattle.one_lock.specs.Endings.{MayEnd};
     ghost use Rattle.one_lock.specs.Shown.{place_of};
 
-    ghost kept_by = { λ promise done. (place_of done.member ≡ place_of promise.0.value) × MayEnd done.ending };
+    ghost kept_by = { λ promise done. (place_of done.member ≡ place_of promise.0.value) × MayEnd done.member.process done.ending };
 }
 
 /// Sends the messages of a worker, numbered from 1, each again until it is answered. An answer is told to the gate.
@@ -51,7 +51,7 @@ fn work<L: Ledger, G: Gate + Drop, R: Wait>(
     requires wide { spec.width ≤ 8 }
     requires ready { CanSend spec.width member }
     ensures place { place_of result.member ≡ place_of member }
-    ensures ends { MayEnd result.ending }
+    ensures ends { MayEnd result.member.process result.ending }
 {
     let p = member.process();
     for seq in 1..spec.messages + 1 {
@@ -74,6 +74,7 @@ fn work<L: Ledger, G: Gate + Drop, R: Wait>(
 }
 
 /// Sends one message until it is answered. Last of all the gate hears of the answer.
+#[tactic(auto, using(crate::proofs::Endings::ended_by))]
 fn send<L: Ledger, G: Gate, R: Wait>(
     rt: &R,
     member: &mut Member<L>,
@@ -85,7 +86,7 @@ fn send<L: Ledger, G: Gate, R: Wait>(
     ensures place { place_of member.new ≡ place_of member.old }
     ensures ready { is_in member.new.standing ≡ false }
     ensures told { OnOk result ((asking : G) × G.heard asking seq gate.new) }
-    ensures faults { IfErr result (λ why. (why ≡ LockFault.NumbersSpent) ⊎ (why ≡ LockFault.NotRecoverable) ⊎ (why ≡ LockFault.OutOfMemory)) }
+    ensures ends { IfErr result (λ why. MayEnd member.new.process (Ending.Fault why)) }
 {
     for _ in rt.forever() {
         match member.append(rt, seq, value, gate) {
@@ -117,14 +118,14 @@ pub fn work_all<L: Ledger + Send + Sync, G: Gate + Send + Drop, R: Threads + Wai
     requires width { (1 ≤ spec.width) × (spec.width ≤ 8) }
     requires ready { All (CanSend spec.width) members.items }
     ensures places { IfOk result (λ all. map (λ d. place_of d.member) all.items ≡ map place_of members.items) }
-    ensures ends { IfOk result (λ all. All (λ d. MayEnd d.ending) all.items) }
+    ensures ends { IfOk result (λ all. All (λ d. MayEnd d.member.process d.ending) all.items) }
 {
     thread::scope(
         thread::scope_env(),
         rt,
         |scope| -> Result<Vec<Done<L>>, AllocError>
             requires { IsSend G.row × IsSync R.row × (vec_len gates ≡ vec_len members) × (spec.messages ≤ 4096) × (1 ≤ spec.width) × (spec.width ≤ 8) × All (CanSend spec.width) members.items }
-            ensures { IfOk result (λ all. (map (λ d. place_of d.member) all.items ≡ map place_of members.items) × All (λ d. MayEnd d.ending) all.items) }
+            ensures { IfOk result (λ all. (map (λ d. place_of d.member) all.items ≡ map place_of members.items) × All (λ d. MayEnd d.member.process d.ending) all.items) }
         {
             let threads = start_all(scope, rt, alloc, spec, members, gates)?;
             join_all(rt, alloc, threads)
@@ -172,7 +173,7 @@ fn join_all<L: Ledger, R: Threads>(
     threads: Vec<PromisedHandle<Done<L>, HandsBack<L>>>,
 ) -> Result<Vec<Done<L>>, AllocError>
     ensures places { IfOk result (λ all. map (λ d. place_of d.member) all.items ≡ map (λ h. place_of h.promise.0.value) threads.items) }
-    ensures ends { IfOk result (λ all. All (λ d. MayEnd d.ending) all.items) }
+    ensures ends { IfOk result (λ all. All (λ d. MayEnd d.member.process d.ending) all.items) }
 {
     let mut all = Vec::new(alloc);
     for thread in threads {

@@ -1,6 +1,8 @@
 -- The fast path, for a member and its plan.
 use Rattle.std.proofs.Common.{◌≡◌, ℕ, zero, suc, ◌+◌, ◌-◌, ◌^◌, ◌≤◌, ◌==◌, min, Bool, true, false, List, [], ◌∷◌, length, None, Some, IsSome, unwrap_or, refl, sym, ap, ◌∙◌, subst, arith, eq-eqb}
-use Rattle.rmecore.specs.Place.{Wait, Inside, Leaving, Rest}
+use Rattle.rmecore.specs.Place.{Place, Wait, Inside, Leaving, Rest}
+use Rattle.rmecore.specs.Machine.{place_of}
+use Rattle.rmecore.specs.declared.stage.Stage.{Stage}
 use Rattle.rmecore.specs.Simulated.{one_more}
 use Rattle.redomail.specs.declared.layout.Layout.{Layout}
 use Rattle.redomail.specs.declared.task.Task.TheVariants.{Check}
@@ -50,6 +52,22 @@ module _ (x z : Pass) (k s0 s1 a0 a1 f0 f1 : ℕ) (small : s0 ≤ 2 ^ 64 - 1) (s
 
   pub fast_answered : (a : Answer) → EndsIn x k a z → (mine : List TakenStep) × Ran (seat x s0) (Some a) (seat z s1) mine × Calm (length mine) a0 a1 f0 f1
   fast_answered a p = (p.mine, record { takes = p.takes; answers = p.answers; blocked = p.blocked; steps = counted p.mine p.long }, calm p.mine p.long)
+
+-- the machine that is told where the fast path has led
+pub run_by_stood : (x z : Pass) (s u : Stand) (t : Place) (b : Bool) → IsRunBy x s → IsSame x z → (spot_now x).barred ≡ false → s.errand ≡ IsFree → spot_now z ≡ free_spot t b → u ≡ record s { lock = t; mended = b } → IsRunBy z u
+run_by_stood x z s u t b r same barred free there is =
+    let open_to : s.barred ≡ false = ap (λ (q : Spot). q.barred) r.spot ∙ barred in
+    record {
+      layout = ap (λ (v : Stand). v.layout) is ∙ r.layout ∙ ap (λ (v : Setup). v.layout) (sym same.0);
+      limit = ap (λ (v : Stand). v.limit) is ∙ r.limit ∙ ap (λ (v : Setup). v.limit) (sym same.0);
+      index = ap (λ (v : Stand). v.index) is ∙ r.index ∙ sym same.1;
+      spot = ap standing_at is ∙ (λ i. record { lock = t; mended = b; barred = open_to i; errand = errand_of (free i) }) ∙ sym there;
+    }
+
+pub run_by_stage : (x z : Pass) (s u : Stand) (t : Stage) → IsRunBy x s → IsSame x z → (spot_now x).barred ≡ false → s.errand ≡ IsFree → spot_now z ≡ free_spot (place_of x.setup.layout.procs x.by t) (spot_now x).mended → u ≡ record s { lock = place_of s.layout.procs s.index t } → IsRunBy z u
+run_by_stage x z s u t r same barred free there is =
+    let here : spot_now z ≡ free_spot (place_of s.layout.procs s.index t) s.mended = there ∙ (λ i. free_spot (place_of (sym r.layout i).procs (sym r.index i) t) (sym r.spot i).mended) in
+    run_by_stood x z s u (place_of s.layout.procs s.index t) s.mended r same barred free here is
 
 -- who is barred from a ruined lock
 module _ (l : Layout) (limit p : ℕ) (b : Bool) where

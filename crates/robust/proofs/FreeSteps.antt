@@ -21,7 +21,7 @@ use Rattle.runs.specs.Running.{Seated, IsRunBy, TakesStep, outcome_of, many_more
 use Rattle.rmeworld.specs.declared.answer.Answer.{Answer}
 use Rattle.runs.specs.declared.setup.Setup.{Setup}
 use Rattle.runs.specs.Runs.{spelled, gone, spot_of}
-use Rattle.runs.specs.Calls.{Going, Turning, Takes, answers_from}
+use Rattle.runs.specs.Calls.{Going, Turning, Takes, answers_of, answers_from, blocked_of}
 use Rattle.runs.proofs.Running.{next_same, may_advance, run_by_step}
 use Rattle.runs.proofs.Taken.{more, goes_on, ran_answered, ran_blocked, length_snoc, takes_sizes, takes_spot}
 use Rattle.runs.proofs.Turned.{answers-append, later_blocked}
@@ -109,16 +109,37 @@ pub takes-append : (x y z : Pass) (a b : List TakenStep) → Takes x a y → Tak
 takes-append x y z [] b h k = subst (λ (p : Pass). Takes p b z) h k
 takes-append x y z (e ∷ es) b h k = (h.0, h.1, h.2, takes-append h.0 y z es b h.3 k, h.4)
 
--- some steps and then some more
+-- steps that answer nothing, and then some more
+module _ (x y z : Pass) (j : ℕ) (p : Unanswered x j 0 y) (b : List TakenStep) (takes : Takes y b z) where
+  then_answers : answers_of x (p.mine ++ b) ≡ answers_of y b
+  then_answers =
+      let sizes = takes_sizes x y p.mine p.takes in
+      answers-append x.setup (spot_of x.setup x.by x.seen) p.mine b
+      ∙ ap (λ (l : List Answer). l ++ answers_from x.setup (gone x.setup (spot_of x.setup x.by x.seen) (spelled p.mine)) b) p.answers
+      ∙ ap (λ (u : Setup × Spot). answers_from u.0 u.1 b) (λ i. (sym sizes.0 i, sym (takes_spot x y p.mine p.takes) i))
+
+  then_blocked : blocked_of x (p.mine ++ b) ≡ blocked_of y b
+  then_blocked =
+      let t : Turning (seat x 0) p.mine 0 (seat y (many_more (length p.mine) 0)) = record { takes = p.takes; answers = p.answers; blocked = p.blocked; steps = refl } in
+      later_blocked (seat x 0) (seat y (many_more (length p.mine) 0)) (seat z 0) p.mine b 0 t ∙ (let e : 0 + blocked_of y b ≡ blocked_of y b = omega arith in e)
+
+  then_long : (k : ℕ) → length b ≡ k → length (p.mine ++ b) ≡ j + k
+  then_long k e = let l = length-append p.mine b in let a = p.long in omega arith
+
 pub unanswered_then : (x y z : Pass) (j k m : ℕ) → Unanswered x j 0 y → Unanswered y k m z → Unanswered x (j + k) m z
-unanswered_then x y z j k m p q =
-    let t : Turning (seat x 0) p.mine 0 (seat y (many_more (length p.mine) 0)) = record { takes = p.takes; answers = p.answers; blocked = p.blocked; steps = refl } in
-    let sizes = takes_sizes x y p.mine p.takes in
-    record {
-      mine = p.mine ++ q.mine;
-      long = (let l = length-append p.mine q.mine in let a = p.long in let b = q.long in omega arith);
-      takes = takes-append x y z p.mine q.mine p.takes q.takes;
-      answers = answers-append x.setup (spot_of x.setup x.by x.seen) p.mine q.mine ∙ ap (λ (l : List Answer). l ++ answers_from x.setup (gone x.setup (spot_of x.setup x.by x.seen) (spelled p.mine)) q.mine) p.answers
-          ∙ ap (λ (u : Setup × Spot). answers_from u.0 u.1 q.mine) (λ i. (sym sizes.0 i, sym (takes_spot x y p.mine p.takes) i)) ∙ q.answers;
-      blocked = later_blocked (seat x 0) (seat y (many_more (length p.mine) 0)) (seat z 0) p.mine q.mine 0 t ∙ (let b = q.blocked in omega arith);
-    }
+unanswered_then x y z j k m p q = record {
+  mine = p.mine ++ q.mine;
+  long = then_long x y z j p q.mine q.takes k q.long;
+  takes = takes-append x y z p.mine q.mine p.takes q.takes;
+  answers = then_answers x y z j p q.mine q.takes ∙ q.answers;
+  blocked = then_blocked x y z j p q.mine q.takes ∙ q.blocked;
+}
+
+pub ends_then : (x y z : Pass) (j k : ℕ) (a : Answer) → Unanswered x j 0 y → EndsIn y k a z → EndsIn x (j + k) a z
+ends_then x y z j k a p q = record {
+  mine = p.mine ++ q.mine;
+  long = then_long x y z j p q.mine q.takes k q.long;
+  takes = takes-append x y z p.mine q.mine p.takes q.takes;
+  answers = then_answers x y z j p q.mine q.takes ∙ q.answers;
+  blocked = then_blocked x y z j p q.mine q.takes ∙ q.blocked;
+}

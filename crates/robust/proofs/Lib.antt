@@ -13,5 +13,6 @@ pub mod FreeSteps
 pub mod Peeks
 pub mod Waits
 pub mod Straight
+pub mod Entering
 pub mod FastLock
 pub mod FastAppend

@@ -10,7 +10,7 @@ use Rattle.rmecore.proofs.Scans.{first_here, above_first, above_skip, above_past
 use Rattle.rmecore.proofs.MachineSteps.{wait_goes}
 use Rattle.rmeworld.specs.Stand.{standing}
 use Rattle.runs.specs.Pass.{Pass, spot_now, moved_spot, Advances}
-use Rattle.robust.specs.FastPath.{free_spot, IsClear, IsSame, Unanswered, waits_at}
+use Rattle.robust.specs.FastPath.{free_spot, IsSame, Unanswered, waits_at}
 use Rattle.robust.proofs.FreeSteps.{stand_of, may_free, unanswered_none, unanswered_then, quiet, halted, there}
 use Rattle.robust.proofs.Peeks.{same_then}
 
@@ -79,7 +79,7 @@ same_waits x y k i l t same at = λ n. free_spot (place_of (same.0 n).layout.pro
 
 -- what a wait keeps: from j on nobody was passed
 abbrev pub KeptWait : Pass → Pass → ℕ → ℕ → ℕ → Type 0
-KeptWait x y number k j = (spot_now y ≡ waits_at x number j false) × Unanswered x k 0 y × IsClear y × IsSame x y × (k ≤ j + j)
+KeptWait x y number k j = (spot_now y ≡ waits_at x number j false) × Unanswered x k 0 y × IsSame x y × (k ≤ j + j)
 
 module _ (x y : Pass) (number k j : ℕ) (h : KeptWait x y number k j) where
   abbrev at_j : Place
@@ -87,14 +87,14 @@ module _ (x y : Pass) (number k j : ℕ) (h : KeptWait x y number k j) where
 
   module _ (z : Pass) (l : Bool) (at : spot_now z ≡ waits_at y number j l) (same : IsSame y z) where
     pub looks_at : spot_now z ≡ waits_at x number j l
-    looks_at = at ∙ same_waits x y number j l at_j h.3 h.0
+    looks_at = at ∙ same_waits x y number j l at_j h.2 h.0
 
     module _ (m : ℕ) (p : Unanswered y 1 m z) where
       pub look_counted : Unanswered x (k + 1) m z
       look_counted = unanswered_then x y z k 1 m h.1 p
 
   -- a look and a weigh that let it pass
-  module _ (z w : Pass) (at : spot_now z ≡ waits_at y number j true) (same : IsSame y z) (p : Unanswered y 1 0 z) (then_same : IsSame z w) (clear : IsClear w) where
+  module _ (z w : Pass) (at : spot_now z ≡ waits_at y number j true) (same : IsSame y z) (p : Unanswered y 1 0 z) (then_same : IsSame z w) where
     at_z : spot_now z ≡ waits_at x number j true
     at_z = looks_at z true at same
 
@@ -105,18 +105,17 @@ module _ (x y : Pass) (number k j : ℕ) (h : KeptWait x y number k j) where
 
     pub kept_passed : spot_now w ≡ waits_at z number (j + 1) false → Unanswered z 1 0 w → KeptWait x w number (k + 2) (j + 1)
     kept_passed there q = (
-      there ∙ same_waits x z number (j + 1) false (place_of x.setup.layout.procs x.by (AtWait number j true)) (same_then x y z h.3 same) at_z,
+      there ∙ same_waits x z number (j + 1) false (place_of x.setup.layout.procs x.by (AtWait number j true)) (same_then x y z h.2 same) at_z,
       weigh_counted 0 q,
-      clear,
-      same_then x z w (same_then x y z h.3 same) then_same,
-      (let few = h.4 in omega arith),
+      same_then x z w (same_then x y z h.2 same) then_same,
+      (let few = h.3 in omega arith),
     )
 
   -- the process itself is passed over
   pub wait_over : x.by < x.setup.layout.procs → j ≡ x.by → KeptWait x y number k (j + 1)
   wait_over below e =
       let gone : above x.setup.layout.procs x.by j ≡ above x.setup.layout.procs x.by (j + 1) = ap (above x.setup.layout.procs x.by) e ∙ above_skip x.setup.layout.procs x.by below ∙ ap (λ (i : ℕ). above x.setup.layout.procs x.by (i + 1)) (sym e) in
-      (h.0 ∙ ap (λ (js : List ℕ). free_spot (Wait number js None) (spot_now x).mended) gone, h.1, h.2, h.3, (let few = h.4 in omega arith))
+      (h.0 ∙ ap (λ (js : List ℕ). free_spot (Wait number js None) (spot_now x).mended) gone, h.1, h.2, (let few = h.3 in omega arith))
 
 -- and behind the last one nobody is left
 pub all_passed : (x y : Pass) (number j : ℕ) → x.setup.layout.procs ≤ j → spot_now y ≡ waits_at x number j false → spot_now y ≡ free_spot (Wait number [] None) (spot_now x).mended

@@ -11,6 +11,13 @@ use Rattle.rmeworld.specs.Spot.{Spot, Free, Doing}
 use Rattle.runs.specs.declared.entry.TakenStep.{TakenStep}
 use Rattle.runs.specs.Pass.{Pass, spot_now}
 use Rattle.runs.specs.Calls.{Takes, answers_of, blocked_of}
+use Rattle.runs.specs.Under.{Begun}
+use Rattle.rmecore.specs.declared.stage.Stage.{Stage}
+use Rattle.rmeworld.specs.Refused.{is_waiting}
+use Rattle.rmeworld.specs.declared.answer.Answer.TheVariants.{Clean}
+use Rattle.rmeworld.specs.declared.call.Call.TheVariants.{Lock}
+use Rattle.robust.specs.declared.fast_path.Reached.{Reached}
+use Rattle.robust.specs.declared.fast_path.Reached.TheVariants as Reaches
 
 -- at this place of the lock, with nothing to do on the data words, and not turned away
 abbrev pub free_spot : Place → Bool → Spot
@@ -58,3 +65,13 @@ pub record EndsIn (x : Pass) (k : ℕ) (a : Answer) (y : Pass) : Type 0 where
   pub takes : Takes x mine y
   pub answers : answers_of x mine ≡ a ∷ []
   pub blocked : blocked_of x mine ≡ 0
+
+-- How far the fast path of a lock has led in k steps: to a place outside the section, where the last step was blocked or where
+-- the general way goes on; into the section; or out of it again. It was not turned away before
+pub record Enters (x : Pass) (r : Reached) (k : ℕ) (y : Pass) : Type 0 where
+  pub blocked : (t : Stage) → r ≡ Reaches.Blocked t → (spot_now y ≡ free_spot (place_of x.setup.layout.procs x.by t) (spot_now x).mended) × Unanswered x k 1 y × Begun Lock x.setup.layout.procs (spot_now y) × (is_waiting (spot_now y).lock ≡ true)
+  pub stands : (t : Stage) → r ≡ Reaches.Stands t → (spot_now y ≡ free_spot (place_of x.setup.layout.procs x.by t) (spot_now x).mended) × Unanswered x k 0 y × Begun Lock x.setup.layout.procs (spot_now y)
+  pub clean : r ≡ Reaches.Clean → (spot_now y ≡ checked_spot false) × EndsIn x k Clean y
+  pub ruined : r ≡ Reaches.Ruined → (spot_now y ≡ checked_spot true) × Unanswered x k 0 y
+  pub same : IsSame x y
+  pub barred : (spot_now x).barred ≡ false

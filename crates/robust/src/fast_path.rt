@@ -1,10 +1,10 @@
 //! The fast path of a lock and of an unlock, for plans that never fall: loops over the words alone, proved to be the run of
-//! their steps. The machine is told its place once, behind them.
+//! their steps. The machine is told its place once, behind them. A wait in the line stands in `in_line.rt`.
 ghost use Rattle.std.specs.Prelude.{◌≡◌, ◌≢◌, ℕ, ◌+◌, ◌<◌, ◌≤◌, max, [], ◌∷◌, true, false, ◌==◌, ◌||◌, None, IfSome, if◌then◌else◌};
-ghost use Rattle.rmecore.specs.Place.{Rest, Reread, Opening, Door, Shutting, Wait, Leaving, Unmarking, others, is_before, relocked};
+ghost use Rattle.rmecore.specs.Place.{Rest, Reread, Opening, Door, Shutting, Wait, Leaving, Unmarking, others, relocked};
 ghost use Rattle.rmecore.specs.declared.core_call.CoreCall.TheVariants.{Lock, Unlock};
 ghost use Rattle.rmecore.specs.Machine.{place_of};
-ghost use Rattle.rmecore.specs.declared.stage.Stage.{Stage as StageOf};
+ghost use Rattle.robust.specs.declared.fast_path.Reached.TheVariants as Reaches;
 ghost use Rattle.rmeworld.specs.Refused.{is_waiting};
 ghost use Rattle.rmeworld.specs.Stand.{spot_of as standing_at};
 ghost use Rattle.rmeworld.specs.declared.errand.Errand.TheVariants as Errand;
@@ -13,22 +13,14 @@ ghost use Rattle.rmeworld.specs.declared.answer.Answer.TheVariants as Answer;
 ghost use Rattle.rmecore.specs.declared.kind.Kind.TheVariants.{Get as Gets, Mark as Marks};
 ghost use Rattle.rmecore.specs.declared.word.Word.TheVariants.{Data as DataAt, Inside as InsideOf};
 ghost use Rattle.runs.specs.Pass.{Advances, IsPass, spot_now};
-ghost use Rattle.runs.specs.Under.{Begun};
-ghost use Rattle.robust.specs.FastPath.{free_spot, IsClear, IsSame, Unanswered, Comes, Way, waits_at, EndsIn, checking_spot, checked_spot};
+ghost use Rattle.runs.specs.Under.{Begun, IsUnder};
+ghost use Rattle.rmeworld.specs.Spot.{Free};
+ghost use Rattle.robust.specs.FastPath.{free_spot, IsClear, IsSame, Unanswered, Comes, Way, waits_at, EndsIn, Enters, checking_spot, checked_spot};
 
+use crate::in_line::{pass_others, wait_on};
 use crate::walker::Walker;
 use rmecore::{CoreCall, Kind, Stage, Word};
 use rmeworld::Process;
-
-/// How far a wait has come: from which index on nobody was passed, whether the first of those was looked at, how many steps
-/// that took, and whether the last of them was blocked.
-#[derive(Clone, Copy)]
-pub struct Passed {
-    pub next: u64,
-    pub looked: bool,
-    pub taken: u64,
-    pub is_blocked: bool,
-}
 
 /// Rereads the own choosing.
 fn read_choosing(walker: &mut Walker) -> u64
@@ -135,89 +127,6 @@ fn peek_others(walker: &mut Walker) -> (u64, u64)
     (greatest, taken)
 }
 
-/// Whether a waiter with this number goes past process `j`, whose number was read.
-fn passes(number: u64, own: u64, value: u64, j: u64) -> bool
-    ensures { result ≡ ((value == 0) || is_before number own value j) }
-{
-    value == 0 || (number, own) < (value, j)
-}
-
-/// Looks at process `j`: whether it is in no doorway.
-fn look(walker: &mut Walker, number: u64, j: u64) -> bool
-    requires clear { IsClear walker.old }
-    requires other { (j < walker.old.setup.layout.procs) × (j ≢ walker.old.by) }
-    requires at { spot_now walker.old ≡ waits_at walker.old number j false }
-    ensures at { spot_now walker.new ≡ waits_at walker.old number j result }
-    ensures unanswered { Unanswered walker.old 1 (if result then 0 else 1) walker.new }
-    ensures clear { IsClear walker.new }
-    ensures same { IsSame walker.old walker.new }
-{
-    let _pass = walker.by();
-    let value = walker.load(Kind::Look, Word::Choosing(j));
-    value == 0
-}
-
-/// Weighs the number of process `j`: whether the waiter goes past it.
-fn weigh(walker: &mut Walker, number: u64, j: u64) -> bool
-    requires clear { IsClear walker.old }
-    requires other { (j < walker.old.setup.layout.procs) × (j ≢ walker.old.by) }
-    requires at { spot_now walker.old ≡ waits_at walker.old number j true }
-    ensures passed { result ≡ true → spot_now walker.new ≡ waits_at walker.old number (j + 1) false }
-    ensures stays { result ≡ false → spot_now walker.new ≡ waits_at walker.old number j true }
-    ensures unanswered { Unanswered walker.old 1 (if result then 0 else 1) walker.new }
-    ensures clear { IsClear walker.new }
-    ensures same { IsSame walker.old walker.new }
-{
-    let own = walker.by();
-    let value = walker.load(Kind::Weigh, Word::Number(j));
-    passes(number, own, value, j)
-}
-
-/// Looks at the others from an index on and weighs their numbers, up to the last or to a blocked reading.
-fn pass_others(walker: &mut Walker, number: u64, from: u64) -> Passed
-    requires from { from ≤ 64 }
-    requires clear { IsClear walker.old }
-    requires at { spot_now walker.old ≡ waits_at walker.old number from false }
-    ensures at { spot_now walker.new ≡ waits_at walker.old number result.next result.looked }
-    ensures passed { result.is_blocked ≡ false → spot_now walker.new ≡ free_spot (Wait number [] None) (spot_now walker.old).mended }
-    ensures unanswered { Unanswered walker.old result.taken (if result.is_blocked then 1 else 0) walker.new }
-    ensures few { result.taken ≤ 130 }
-    ensures next { result.next ≤ 64 }
-    ensures clear { IsClear walker.new }
-    ensures same { IsSame walker.old walker.new }
-{
-    let own = walker.by();
-    let procs = walker.procs();
-    let mut taken = 0;
-    for j in from..procs {
-        if j != own {
-            if !look(walker, number, j) {
-                return Passed {
-                    next: j,
-                    looked: false,
-                    taken: taken + 1,
-                    is_blocked: true,
-                };
-            }
-            if !weigh(walker, number, j) {
-                return Passed {
-                    next: j,
-                    looked: true,
-                    taken: taken + 2,
-                    is_blocked: true,
-                };
-            }
-            taken += 2;
-        }
-    }
-    Passed {
-        next: from.max(procs),
-        looked: false,
-        taken,
-        is_blocked: false,
-    }
-}
-
 /// Rereads the own words, as far as they are 0: with none there all three are. Else it tells where it stands then, and how many
 /// steps that were.
 fn reread_own(walker: &mut Walker) -> Option<(Stage, u64)>
@@ -287,13 +196,12 @@ fn through_doorway(walker: &mut Walker) -> (Stage, u64)
 
 /// From right behind the start of a lock past the others in the line, as far as nothing is in the way. Tells where it stands
 /// then, how many steps that were, and whether the last of them was blocked.
-pub fn stand_in_line(walker: &mut Walker) -> (Stage, u64, bool)
+fn stand_in_line(walker: &mut Walker) -> (Stage, u64, bool)
     requires at { spot_now walker.old ≡ free_spot (Reread Lock []) (spot_now walker.old).mended }
     ensures at { spot_now walker.new ≡ free_spot (place_of walker.old.setup.layout.procs walker.old.by result.0) (spot_now walker.old).mended }
     ensures unanswered { Unanswered walker.old result.1 (if result.2 then 1 else 0) walker.new }
     ensures few { result.1 ≤ 200 }
     ensures waits { result.2 ≡ true → is_waiting (spot_now walker.new).lock ≡ true }
-    ensures clear { IsClear walker.new }
     ensures same { IsSame walker.old walker.new }
     ensures begun { Begun CallOf.Lock walker.old.setup.layout.procs (spot_now walker.new) }
 {
@@ -318,8 +226,7 @@ pub fn stand_in_line(walker: &mut Walker) -> (Stage, u64, bool)
 }
 
 /// Enters, past all others.
-pub fn mark(walker: &mut Walker, number: u64)
-    requires clear { IsClear walker.old }
+fn mark(walker: &mut Walker, number: u64)
     requires at { spot_now walker.old ≡ free_spot (Wait number [] None) (spot_now walker.old).mended }
     ensures comes { (spot_now walker.new ≡ checking_spot walker.old) × Unanswered walker.old 1 0 walker.new }
     ensures clear { IsClear walker.new }
@@ -331,7 +238,7 @@ pub fn mark(walker: &mut Walker, number: u64)
 }
 
 /// Asks whether the lock is ruined.
-pub fn check(walker: &mut Walker) -> u64
+fn check(walker: &mut Walker) -> u64
     requires clear { IsClear walker.old }
     requires at { spot_now walker.old ≡ checking_spot walker.old }
     ensures advances { Advances walker.old Gets (DataAt 0) result walker.new }
@@ -339,6 +246,18 @@ pub fn check(walker: &mut Walker) -> u64
 {
     let _pass = walker.by();
     walker.load(Kind::Get, Word::Data(0))
+}
+
+/// Enters past all others, and asks whether the lock is ruined: whether it is.
+fn come_in(walker: &mut Walker, number: u64) -> bool
+    requires at { spot_now walker.old ≡ free_spot (Wait number [] None) (spot_now walker.old).mended }
+    ensures at { spot_now walker.new ≡ checked_spot result }
+    ensures clean { result ≡ false → EndsIn walker.old 2 Answer.Clean walker.new }
+    ensures ruined { result ≡ true → Unanswered walker.old 2 0 walker.new }
+    ensures same { IsSame walker.old walker.new }
+{
+    mark(walker, number);
+    check(walker) == 1
 }
 
 /// How far the fast path of a lock has led: to a place outside the section, where the last step was blocked or where the
@@ -351,14 +270,21 @@ pub enum Reached {
     Ruined,
 }
 
+/// How far an entry has led, from whether the lock was ruined.
+fn entered(is_ruined: bool) -> Reached
+    ensures { result ≡ (if is_ruined then Reached.Ruined else Reached.Clean) }
+{
+    if is_ruined {
+        Reached::Ruined
+    } else {
+        Reached::Clean
+    }
+}
+
 /// From right behind the start of a lock into the section, as far as nothing is in the way. Tells how many steps that were.
-pub fn enter(walker: &mut Walker) -> (Reached, u64)
+fn enter(walker: &mut Walker) -> (Reached, u64)
     requires at { spot_now walker.old ≡ free_spot (Reread Lock []) (spot_now walker.old).mended }
-    ensures blocked { (stage : StageOf) → result.0 ≡ Reached.Blocked stage → (spot_now walker.new ≡ free_spot (place_of walker.old.setup.layout.procs walker.old.by stage) (spot_now walker.old).mended) × Unanswered walker.old result.1 1 walker.new × Begun CallOf.Lock walker.old.setup.layout.procs (spot_now walker.new) × (is_waiting (spot_now walker.new).lock ≡ true) }
-    ensures stands { (stage : StageOf) → result.0 ≡ Reached.Stands stage → (spot_now walker.new ≡ free_spot (place_of walker.old.setup.layout.procs walker.old.by stage) (spot_now walker.old).mended) × Unanswered walker.old result.1 0 walker.new × Begun CallOf.Lock walker.old.setup.layout.procs (spot_now walker.new) }
-    ensures clean { result.0 ≡ Reached.Clean → (spot_now walker.new ≡ checked_spot false) × EndsIn walker.old result.1 Answer.Clean walker.new }
-    ensures ruined { result.0 ≡ Reached.Ruined → (spot_now walker.new ≡ checked_spot true) × Unanswered walker.old result.1 0 walker.new }
-    ensures same { IsSame walker.old walker.new }
+    ensures { Enters walker.old result.0 result.1 walker.new }
 {
     let procs = walker.procs();
     let (stage, taken, is_blocked) = stand_in_line(walker);
@@ -371,15 +297,54 @@ pub fn enter(walker: &mut Walker) -> (Reached, u64)
             next,
             looked: false,
         } if next >= procs => {
-            mark(walker, number);
-            let ruined = check(walker);
-            if ruined == 1 {
-                (Reached::Ruined, taken + 2)
-            } else {
-                (Reached::Clean, taken + 2)
-            }
+            let is_ruined = come_in(walker, number);
+            (entered(is_ruined), taken + 2)
         }
         _ => (Reached::Stands(stage), taken),
+    }
+}
+
+/// From behind a blocked reading into the section, as far as nothing is in the way. Tells how many steps that were.
+fn enter_later(walker: &mut Walker, number: u64, next: u64, looked: bool) -> (Reached, u64)
+    requires next { next < walker.old.setup.layout.procs }
+    requires other { next ≢ walker.old.by }
+    requires at { spot_now walker.old ≡ waits_at walker.old number next looked }
+    ensures { Enters walker.old result.0 result.1 walker.new }
+{
+    let _pass = walker.by();
+    let passed = wait_on(walker, number, next, looked);
+    if passed.is_blocked {
+        let there = Stage::Wait {
+            number,
+            next: passed.next,
+            looked: passed.looked,
+        };
+        return (Reached::Blocked(there), passed.taken);
+    }
+    let is_ruined = come_in(walker, number);
+    (entered(is_ruined), passed.taken + 2)
+}
+
+/// The fast path of a lock from where it stands, if it has one from there: from its start, and from behind a blocked reading.
+pub fn go_in(walker: &mut Walker, stage: Stage) -> Option<(Reached, u64)>
+    requires under { IsUnder CallOf.Lock (spot_now walker.old) }
+    requires free { (spot_now walker.old).errand ≡ Free }
+    requires at { (spot_now walker.old).lock ≡ place_of walker.old.setup.layout.procs walker.old.by stage }
+    ensures some { IfSome result (λ r. Enters walker.old r.0 r.1 walker.new) }
+    ensures none { result ≡ None → walker.new ≡ walker.old }
+{
+    let own = walker.by();
+    let procs = walker.procs();
+    match stage {
+        Stage::ReadingChoosing {
+            call: CoreCall::Lock,
+        } => Some(enter(walker)),
+        Stage::Wait {
+            number,
+            next,
+            looked,
+        } if next < procs && next != own => Some(enter_later(walker, number, next, looked)),
+        _ => None,
     }
 }
 

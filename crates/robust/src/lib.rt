@@ -6,6 +6,7 @@ mod drive;
 mod fast_append;
 mod fast_path;
 pub mod gathering;
+mod in_line;
 pub mod lab;
 pub mod laws;
 mod locking;

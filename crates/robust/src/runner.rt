@@ -23,11 +23,11 @@ ghost use Rattle.robust.specs.Working.{seat_of};
 ghost use Rattle.runs.specs.Pass.{Advances, Looks, IsPass, fresh, spot_now, moved_spot};
 
 use crate::fast_append::append;
-use crate::fast_path::{Reached, bar, enter, leave};
+use crate::fast_path::{Reached, bar, go_in, leave};
 use crate::walker::Walker;
 use plans::CrashPlan;
 use redomail::Layout;
-use rmecore::{Access, Body, CoreCall, Kind, Refusal, Stage, Word};
+use rmecore::{Access, Body, Kind, Refusal, Stage, Word};
 use rmeworld::{Answer, Call, Outcome, Process};
 use runs::{LockFault, Setup};
 use std::marker::Model;
@@ -196,8 +196,8 @@ impl Runner {
         self.process.feed(value)
     }
 
-    /// The fast path of a lock that has just been started, where the plan never falls: its steps up to its answer or to a
-    /// blocked reading, or as far as nothing is in the way. The askings before them are counted behind them.
+    /// The fast path of a lock that has just been started or was blocked, where the plan never falls: its steps up to its answer
+    /// or to a blocked reading, or as far as nothing is in the way. The askings before them are counted behind them.
     fn fast_lock<C: CrashPlan>(&mut self, plan: &mut C) -> Option<Option<Answer>>
         requires begun { Begun Lock self.old.pass.setup.layout.procs (spot_now self.old.pass) }
         ensures ran { IfSome result (λ o. (mine : List TakenStep) × Ran self.old o self.new mine × Calm (length mine) (C.asked plan.old) (C.asked plan.new) (C.fallen plan.old) (C.fallen plan.new)) }
@@ -205,18 +205,11 @@ impl Runner {
         ensures on { result ≡ None → (mine : List TakenStep) × Going self.old mine self.new × Calm (length mine) (C.asked plan.old) (C.asked plan.new) (C.fallen plan.old) (C.fallen plan.new) }
         ensures begun { result ≡ None → Begun Lock self.new.pass.setup.layout.procs (spot_now self.new.pass) }
     {
-        let Some(
-            Stage::ReadingChoosing {
-                call: CoreCall::Lock,
-            },
-        ) = self.process.stage()
-        else {
-            return None;
-        };
         if !plan.is_calm() {
             return None;
         }
-        let (reached, taken) = enter(&mut self.walker);
+        let stage = self.process.stage()?;
+        let (reached, taken) = go_in(&mut self.walker, stage)?;
         self.steps = self.steps.saturating_add(taken);
         count_calm(plan, taken);
         match reached {

@@ -1,13 +1,12 @@
 use Rattle.std.proofs.Common.{◌≡◌, ◌+◌, ◌≤◌, false}
 use Rattle.runs.specs.Pass.{spot_now}
-use Rattle.robust.specs.FastPath.{IsClear, IsSame, Unanswered, waits_at}
-use Rattle.robust.proofs.fast_path.pass_others.Given as goal
+use Rattle.robust.specs.FastPath.{IsSame, Unanswered, waits_at}
+use Rattle.robust.proofs.in_line.pass_others.Given as goal
 
 abbrev pub invariant-loop-j : goal.invariant-loop-j
 invariant-loop-j l = record {
   at : spot_now l.walker ≡ waits_at l.fn.walker l.number l.j false;
   unanswered : Unanswered l.fn.walker l.taken 0 l.walker;
-  clear : IsClear l.walker;
   same : IsSame l.fn.walker l.walker;
   few : l.taken ≤ l.j + l.j;
   most : l.j ≤ 64;

@@ -1,7 +1,7 @@
 use Rattle.std.proofs.Common.{◌≡◌, ◌==◌, ◌||◌, ℕ, true, false, sym, ap, ◌∙◌}
 use Rattle.rmecore.specs.Place.{is_before}
 use Rattle.robust.proofs.Waits.{weighed, weigh_blocked}
-use Rattle.robust.proofs.fast_path.weigh.Goals as goal
+use Rattle.robust.proofs.in_line.weigh.Goals as goal
 
 pub returns-clause-passed : goal.returns-clause-passed
 returns-clause-passed c = λ h.

@@ -1,0 +1,66 @@
+-- How far the fast path of a lock leads, put together from its parts.
+use Rattle.std.proofs.Common.{◌≡◌, ℕ, ◌+◌, Bool, true, false, if◌then◌else◌, refl, sym, ap, ◌∙◌, subst, inl, inr}
+use Rattle.std.proofs.lemmas.Bool.{cases_Bool}
+use Rattle.rmecore.specs.Place.{Place}
+use Rattle.rmecore.specs.Machine.{place_of}
+use Rattle.rmecore.specs.declared.stage.Stage.{Stage}
+use Rattle.rmeworld.specs.Refused.{is_waiting}
+use Rattle.rmeworld.specs.Spot.{Spot, Free}
+use Rattle.rmeworld.specs.declared.answer.Answer.TheVariants.{Clean}
+use Rattle.rmeworld.specs.declared.call.Call.TheVariants.{Lock}
+use Rattle.runs.specs.Pass.{Pass, spot_now}
+use Rattle.runs.specs.Under.{IsUnder, UnderBy, Begun, under_place}
+use Rattle.robust.specs.FastPath.{free_spot, IsSame, Unanswered, EndsIn, Enters, checked_spot}
+use Rattle.robust.specs.declared.fast_path.Reached.{Reached}
+use Rattle.robust.specs.declared.fast_path.Reached.TheVariants as Reaches
+use Rattle.robust.proofs.FreeSteps.{unanswered_then, ends_then}
+use Rattle.robust.proofs.Peeks.{same_then}
+
+-- behind the line, by the two steps of the entry
+pub enters_in : (x y z : Pass) (k : ℕ) (r : Bool) (e : Reached) → e ≡ (if r then Reaches.Ruined else Reaches.Clean) → Unanswered x k 0 y → IsSame x y → spot_now z ≡ checked_spot r → (r ≡ false → EndsIn y 2 Clean z) → (r ≡ true → Unanswered y 2 0 z) → IsSame y z → (spot_now x).barred ≡ false → Enters x e (k + 2) z
+enters_in x y z k true e is p s at clean ruined t free = record {
+  blocked = λ b h. absurd (cc);
+  stands = λ b h. absurd (cc);
+  clean = λ h. absurd (cc);
+  ruined = λ h. (at, unanswered_then x y z k 2 0 p (ruined refl));
+  same = same_then x y z s t;
+  barred = free;
+}
+enters_in x y z k false e is p s at clean ruined t free = record {
+  blocked = λ b h. absurd (cc);
+  stands = λ b h. absurd (cc);
+  clean = λ h. (at, ends_then x y z k 2 Clean p (clean refl));
+  ruined = λ h. absurd (cc);
+  same = same_then x y z s t;
+  barred = free;
+}
+
+module _ (x y : Pass) (k : ℕ) (t : Stage) (at : spot_now y ≡ free_spot (place_of x.setup.layout.procs x.by t) (spot_now x).mended) (same : IsSame x y) (begun : Begun Lock x.setup.layout.procs (spot_now y)) (free : (spot_now x).barred ≡ false) where
+  pub enters_blocked : Unanswered x k 1 y → is_waiting (spot_now y).lock ≡ true → Enters x (Reaches.Blocked t) k y
+  enters_blocked p waits = record {
+    blocked = λ u h. (at ∙ ap (λ (q : Stage). free_spot (place_of x.setup.layout.procs x.by q) (spot_now x).mended) (let e : t ≡ u = cc in e), p, begun, waits);
+    stands = λ u h. absurd (cc);
+    clean = λ h. absurd (cc);
+    ruined = λ h. absurd (cc);
+    same = same;
+    barred = free;
+  }
+
+  pub enters_stands : Unanswered x k 0 y → Enters x (Reaches.Stands t) k y
+  enters_stands p = record {
+    blocked = λ u h. absurd (cc);
+    stands = λ u h. (at ∙ ap (λ (q : Stage). free_spot (place_of x.setup.layout.procs x.by q) (spot_now x).mended) (let e : t ≡ u = cc in e), p, begun);
+    clean = λ h. absurd (cc);
+    ruined = λ h. absurd (cc);
+    same = same;
+    barred = free;
+  }
+
+-- a lock under way that was not turned away
+pub free_place : (s : Spot) (t : Place) → IsUnder Lock s → s.errand ≡ Free → s.lock ≡ t → under_place Lock true t ≡ false → s ≡ free_spot t s.mended
+free_place s t under free at not =
+    let u : under_place Lock s.barred s.lock ≡ true = subst (UnderBy Lock s.lock s.barred) free under in
+    elim (cases_Bool s.barred) [
+    | inl e ↦ (let f : under_place Lock true t ≡ true = ap (λ (b : Bool). under_place Lock b t) (sym e) ∙ ap (under_place Lock s.barred) (sym at) ∙ u in absurd (cc))
+    | inr e ↦ λ i. record { lock = at i; mended = s.mended; barred = e i; errand = free i }
+    ]

@@ -61,6 +61,6 @@ pub free_place : (s : Spot) (t : Place) → IsUnder Lock s → s.errand ≡ Free
 free_place s t under free at not =
     let u : under_place Lock s.barred s.lock ≡ true = subst (UnderBy Lock s.lock s.barred) free under in
     elim (cases_Bool s.barred) [
-    | inl e ↦ (let f : under_place Lock true t ≡ true = ap (λ (b : Bool). under_place Lock b t) (sym e) ∙ ap (under_place Lock s.barred) (sym at) ∙ u in absurd (cc))
-    | inr e ↦ λ i. record { lock = at i; mended = s.mended; barred = e i; errand = free i }
+      | inl e ↦ (let f : under_place Lock true t ≡ true = ap (λ (b : Bool). under_place Lock b t) (sym e) ∙ ap (under_place Lock s.barred) (sym at) ∙ u in absurd (cc))
+      | inr e ↦ λ i. record { lock = at i; mended = s.mended; barred = e i; errand = free i }
     ]

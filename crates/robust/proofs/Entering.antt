@@ -8,6 +8,7 @@ use Rattle.rmeworld.specs.Refused.{is_waiting}
 use Rattle.rmeworld.specs.Spot.{Spot, Free}
 use Rattle.rmeworld.specs.declared.answer.Answer.TheVariants.{Clean}
 use Rattle.rmeworld.specs.declared.call.Call.TheVariants.{Lock}
+use Rattle.runs.specs.declared.setup.Setup.{Setup}
 use Rattle.runs.specs.Pass.{Pass, spot_now}
 use Rattle.runs.specs.Under.{IsUnder, UnderBy, Begun, under_place}
 use Rattle.robust.specs.FastPath.{free_spot, IsSame, Unanswered, EndsIn, Enters, checked_spot}
@@ -55,6 +56,23 @@ module _ (x y : Pass) (k : ℕ) (t : Stage) (at : spot_now y ≡ free_spot (plac
     same = same;
     barred = free;
   }
+
+-- some steps before it
+pub enters_then : (x y z : Pass) (j k : ℕ) (r : Reached) → Unanswered x j 0 y → IsSame x y → (spot_now y).mended ≡ (spot_now x).mended → (spot_now x).barred ≡ false → Enters y r k z → Enters x r (j + k) z
+enters_then x y z j k r p s mended free e = record {
+  blocked = λ t h. (let b = e.blocked t h in (there t b.0, unanswered_then x y z j k 1 p b.1, begun b.2, b.3));
+  stands = λ t h. (let b = e.stands t h in (there t b.0, unanswered_then x y z j k 0 p b.1, begun b.2));
+  clean = λ h. (let b = e.clean h in (b.0, ends_then x y z j k Clean p b.1));
+  ruined = λ h. (let b = e.ruined h in (b.0, unanswered_then x y z j k 0 p b.1));
+  same = same_then x y z s e.same;
+  barred = free;
+}
+  where
+    there : (t : Stage) → spot_now z ≡ free_spot (place_of y.setup.layout.procs y.by t) (spot_now y).mended → spot_now z ≡ free_spot (place_of x.setup.layout.procs x.by t) (spot_now x).mended
+    there t at = at ∙ (λ i. free_spot (place_of (s.0 i).layout.procs (s.1 i) t) (mended i))
+
+    begun : Begun Lock y.setup.layout.procs (spot_now z) → Begun Lock x.setup.layout.procs (spot_now z)
+    begun b = subst (λ (u : Setup). Begun Lock u.layout.procs (spot_now z)) s.0 b
 
 -- a lock under way that was not turned away
 pub free_place : (s : Spot) (t : Place) → IsUnder Lock s → s.errand ≡ Free → s.lock ≡ t → under_place Lock true t ≡ false → s ≡ free_spot t s.mended

@@ -17,7 +17,7 @@ ghost use Rattle.runs.specs.Under.{Begun, IsUnder};
 ghost use Rattle.rmeworld.specs.Spot.{Free};
 ghost use Rattle.robust.specs.FastPath.{free_spot, IsClear, IsSame, Unanswered, Comes, Way, waits_at, EndsIn, Enters, checking_spot, checked_spot};
 
-use crate::in_line::{pass_others, wait_on};
+use crate::in_line::wait_on;
 use crate::walker::Walker;
 use rmecore::{CoreCall, Kind, Stage, Word};
 use rmeworld::Process;
@@ -194,37 +194,6 @@ fn through_doorway(walker: &mut Walker) -> (Stage, u64)
     (stage, peeks + 6)
 }
 
-/// From right behind the start of a lock past the others in the line, as far as nothing is in the way. Tells where it stands
-/// then, how many steps that were, and whether the last of them was blocked.
-fn stand_in_line(walker: &mut Walker) -> (Stage, u64, bool)
-    requires at { spot_now walker.old ≡ free_spot (Reread Lock []) (spot_now walker.old).mended }
-    ensures at { spot_now walker.new ≡ free_spot (place_of walker.old.setup.layout.procs walker.old.by result.0) (spot_now walker.old).mended }
-    ensures unanswered { Unanswered walker.old result.1 (if result.2 then 1 else 0) walker.new }
-    ensures few { result.1 ≤ 200 }
-    ensures waits { result.2 ≡ true → is_waiting (spot_now walker.new).lock ≡ true }
-    ensures same { IsSame walker.old walker.new }
-    ensures begun { Begun CallOf.Lock walker.old.setup.layout.procs (spot_now walker.new) }
-{
-    let (stage, taken) = through_doorway(walker);
-    let _pass = walker.by();
-    match stage {
-        Stage::Wait {
-            number,
-            next,
-            looked: false,
-        } if next <= 64 => {
-            let passed = pass_others(walker, number, next);
-            let there = Stage::Wait {
-                number,
-                next: passed.next,
-                looked: passed.looked,
-            };
-            (there, taken + passed.taken, passed.is_blocked)
-        }
-        _ => (stage, taken, false),
-    }
-}
-
 /// Enters, past all others.
 fn mark(walker: &mut Walker, number: u64)
     requires at { spot_now walker.old ≡ free_spot (Wait number [] None) (spot_now walker.old).mended }
@@ -281,35 +250,13 @@ fn entered(is_ruined: bool) -> Reached
     }
 }
 
-/// From right behind the start of a lock into the section, as far as nothing is in the way. Tells how many steps that were.
-fn enter(walker: &mut Walker) -> (Reached, u64)
-    requires at { spot_now walker.old ≡ free_spot (Reread Lock []) (spot_now walker.old).mended }
-    ensures { Enters walker.old result.0 result.1 walker.new }
-{
-    let procs = walker.procs();
-    let (stage, taken, is_blocked) = stand_in_line(walker);
-    if is_blocked {
-        return (Reached::Blocked(stage), taken);
-    }
-    match stage {
-        Stage::Wait {
-            number,
-            next,
-            looked: false,
-        } if next >= procs => {
-            let is_ruined = come_in(walker, number);
-            (entered(is_ruined), taken + 2)
-        }
-        _ => (Reached::Stands(stage), taken),
-    }
-}
-
-/// From behind a blocked reading into the section, as far as nothing is in the way. Tells how many steps that were.
-fn enter_later(walker: &mut Walker, number: u64, next: u64, looked: bool) -> (Reached, u64)
-    requires next { next < walker.old.setup.layout.procs }
-    requires other { next ≢ walker.old.by }
+/// From a place in the line into the section, as far as nothing is in the way. Tells how many steps that were.
+fn enter_from_line(walker: &mut Walker, number: u64, next: u64, looked: bool) -> (Reached, u64)
+    requires next { next ≤ 64 }
+    requires other { looked ≡ true → (next < walker.old.setup.layout.procs) × (next ≢ walker.old.by) }
     requires at { spot_now walker.old ≡ waits_at walker.old number next looked }
-    ensures { Enters walker.old result.0 result.1 walker.new }
+    ensures enters { Enters walker.old result.0 result.1 walker.new }
+    ensures few { result.1 ≤ 133 }
 {
     let _pass = walker.by();
     let passed = wait_on(walker, number, next, looked);
@@ -323,6 +270,25 @@ fn enter_later(walker: &mut Walker, number: u64, next: u64, looked: bool) -> (Re
     }
     let is_ruined = come_in(walker, number);
     (entered(is_ruined), passed.taken + 2)
+}
+
+/// From right behind the start of a lock into the section, as far as nothing is in the way. Tells how many steps that were.
+fn enter(walker: &mut Walker) -> (Reached, u64)
+    requires at { spot_now walker.old ≡ free_spot (Reread Lock []) (spot_now walker.old).mended }
+    ensures { Enters walker.old result.0 result.1 walker.new }
+{
+    let (stage, taken) = through_doorway(walker);
+    match stage {
+        Stage::Wait {
+            number,
+            next,
+            looked: false,
+        } if next <= 64 => {
+            let (reached, behind) = enter_from_line(walker, number, next, false);
+            (reached, taken + behind)
+        }
+        _ => (Reached::Stands(stage), taken),
+    }
 }
 
 /// The fast path of a lock from where it stands, if it has one from there: from its start, and from behind a blocked reading.
@@ -343,7 +309,7 @@ pub fn go_in(walker: &mut Walker, stage: Stage) -> Option<(Reached, u64)>
             number,
             next,
             looked,
-        } if next < procs && next != own => Some(enter_later(walker, number, next, looked)),
+        } if next < procs && next != own => Some(enter_from_line(walker, number, next, looked)),
         _ => None,
     }
 }

@@ -95,11 +95,10 @@ pub fn pass_others(walker: &mut Walker, number: u64, from: u64) -> Passed
     }
 }
 
-/// Goes on behind a blocked reading: process `next` is looked at once more, or weighed once more where it was looked at, and
-/// then the others behind it.
+/// Goes on in the line: process `next` is looked at, or weighed where it was looked at, and then the others behind it.
 pub fn wait_on(walker: &mut Walker, number: u64, next: u64, looked: bool) -> Passed
-    requires next { next < walker.old.setup.layout.procs }
-    requires other { next ≢ walker.old.by }
+    requires next { next ≤ 64 }
+    requires other { looked ≡ true → (next < walker.old.setup.layout.procs) × (next ≢ walker.old.by) }
     requires at { spot_now walker.old ≡ waits_at walker.old number next looked }
     ensures at { spot_now walker.new ≡ waits_at walker.old number result.next result.looked }
     ensures passed { result.is_blocked ≡ false → spot_now walker.new ≡ free_spot (Wait number [] None) (spot_now walker.old).mended }

@@ -7,10 +7,10 @@ use Rattle.runs.specs.Pass.{spot_now}
 use Rattle.robust.specs.FastPath.{Unanswered}
 use Rattle.robust.proofs.Straight.{wait_begun}
 use Rattle.robust.proofs.Entering.{enters_in, enters_blocked}
-use Rattle.robust.proofs.fast_path.enter_later.Goals as goal
+use Rattle.robust.proofs.fast_path.enter_from_line.Goals as goal
 
-pub returns-then-passed : goal.returns-then-passed
-returns-then-passed c =
+pub returns-then-passed-clause-enters : goal.returns-then-passed-clause-enters
+returns-then-passed-clause-enters c =
     let x = c.args.walker.now in
     let s = c.wait_on-passed in
     let free : (spot_now x).barred ≡ false = ap (λ (q : Spot). q.barred) c.requires.at in
@@ -20,8 +20,8 @@ returns-then-passed c =
     let begun = wait_begun x y c.args.number s.result.next s.result.looked c.by-pass.ensures.pass.size.layout.few s.ensures.at in
     enters_blocked x y k (AtWait c.args.number s.result.next s.result.looked) s.ensures.at s.ensures.same begun free p (subst (λ t. is_waiting t.lock ≡ true) (sym s.ensures.at) refl)
 
-pub returns : goal.returns
-returns c =
+pub returns-clause-enters : goal.returns-clause-enters
+returns-clause-enters c =
     let x = c.args.walker.now in
     let s = c.wait_on-passed in
     let free : (spot_now x).barred ≡ false = ap (λ (q : Spot). q.barred) c.requires.at in

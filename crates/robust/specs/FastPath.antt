@@ -1,5 +1,5 @@
 -- The fast path of a lock: steps that a member takes in a row, told by its passes alone.
-use Rattle.std.specs.Prelude.{◌≡◌, ℕ, Bool, true, false, if◌then◌else◌, List, [], ◌∷◌, length, None}
+use Rattle.std.specs.Prelude.{◌≡◌, ℕ, Bool, true, false, if◌then◌else◌, List, [], ◌∷◌, length, Option, Some, None}
 use Rattle.rmecore.specs.Place.{Place, Inside, Leaving}
 use Rattle.rmecore.specs.Machine.{place_of}
 use Rattle.rmecore.specs.declared.stage.Stage.TheVariants.{Wait as AtWait}
@@ -16,6 +16,8 @@ use Rattle.rmecore.specs.declared.stage.Stage.{Stage}
 use Rattle.rmeworld.specs.Refused.{is_waiting}
 use Rattle.rmeworld.specs.declared.answer.Answer.TheVariants.{Clean}
 use Rattle.rmeworld.specs.declared.call.Call.TheVariants.{Lock}
+use Rattle.robust.specs.declared.fast_path.Led.{Led}
+use Rattle.robust.specs.declared.fast_path.Led.TheVariants as Leads
 use Rattle.robust.specs.declared.fast_path.Reached.{Reached}
 use Rattle.robust.specs.declared.fast_path.Reached.TheVariants as Reaches
 
@@ -75,3 +77,9 @@ pub record Enters (x : Pass) (r : Reached) (k : ℕ) (y : Pass) : Type 0 where
   pub ruined : r ≡ Reaches.Ruined → (spot_now y ≡ checked_spot true) × Unanswered x k 0 y
   pub same : IsSame x y
   pub barred : (spot_now x).barred ≡ false
+
+-- what a call is told of it: nothing yet where it was blocked, and none where the general way goes on
+abbrev pub told_by : Led → Option (Option Answer)
+told_by Leads.Blocked = Some None
+told_by Leads.Entered = Some (Some Clean)
+told_by Leads.Further = None

@@ -9,18 +9,18 @@ ghost use Rattle.rmeworld.specs.Refused.{is_waiting};
 ghost use Rattle.rmeworld.specs.Stand.{spot_of as standing_at};
 ghost use Rattle.rmeworld.specs.declared.errand.Errand.TheVariants as Errand;
 ghost use Rattle.rmeworld.specs.declared.call.Call.TheVariants as CallOf;
-ghost use Rattle.rmeworld.specs.declared.answer.Answer.TheVariants as Answer;
+ghost use Rattle.rmeworld.specs.declared.answer.Answer.TheVariants as AnswerOf;
 ghost use Rattle.rmecore.specs.declared.kind.Kind.TheVariants.{Get as Gets, Mark as Marks};
 ghost use Rattle.rmecore.specs.declared.word.Word.TheVariants.{Data as DataAt, Inside as InsideOf};
 ghost use Rattle.runs.specs.Pass.{Advances, IsPass, spot_now};
 ghost use Rattle.runs.specs.Under.{Begun, IsUnder};
 ghost use Rattle.rmeworld.specs.Spot.{Free};
-ghost use Rattle.robust.specs.FastPath.{free_spot, IsClear, IsSame, Unanswered, Comes, Way, waits_at, EndsIn, Enters, checking_spot, checked_spot};
+ghost use Rattle.robust.specs.FastPath.{free_spot, IsClear, IsSame, Unanswered, Comes, Way, waits_at, EndsIn, Enters, checking_spot, checked_spot, told_by};
 
 use crate::in_line::wait_on;
 use crate::walker::Walker;
 use rmecore::{CoreCall, Kind, Stage, Word};
-use rmeworld::Process;
+use rmeworld::{Answer, Process};
 
 /// Rereads the own choosing.
 fn read_choosing(walker: &mut Walker) -> u64
@@ -104,6 +104,7 @@ fn greater(a: u64, b: u64) -> u64
 }
 
 /// Reads the numbers of all others, in the doorway. Tells the greatest, and how many steps that were.
+#[inline(always)]
 fn peek_others(walker: &mut Walker) -> (u64, u64)
     requires clear { IsClear walker.old }
     requires at { spot_now walker.old ≡ free_spot (Door (others walker.old.setup.layout.procs walker.old.by) 0) (spot_now walker.old).mended }
@@ -129,6 +130,7 @@ fn peek_others(walker: &mut Walker) -> (u64, u64)
 
 /// Rereads the own words, as far as they are 0: with none there all three are. Else it tells where it stands then, and how many
 /// steps that were.
+#[inline(always)]
 fn reread_own(walker: &mut Walker) -> Option<(Stage, u64)>
     requires at { spot_now walker.old ≡ free_spot (Reread Lock []) (spot_now walker.old).mended }
     ensures stands { IfSome result (λ r. Way walker.old r.1 walker.new (place_of walker.old.setup.layout.procs walker.old.by r.0)) }
@@ -162,6 +164,7 @@ fn reread_own(walker: &mut Walker) -> Option<(Stage, u64)>
 
 /// From right behind the start of a lock into the line, as far as the process's words are all 0 and a number is left. Tells
 /// where it stands then, and how many steps that were.
+#[inline(always)]
 fn through_doorway(walker: &mut Walker) -> (Stage, u64)
     requires at { spot_now walker.old ≡ free_spot (Reread Lock []) (spot_now walker.old).mended }
     ensures way { Way walker.old result.1 walker.new (place_of walker.old.setup.layout.procs walker.old.by result.0) }
@@ -218,10 +221,11 @@ fn check(walker: &mut Walker) -> u64
 }
 
 /// Enters past all others, and asks whether the lock is ruined: whether it is.
+#[inline(always)]
 fn come_in(walker: &mut Walker, number: u64) -> bool
     requires at { spot_now walker.old ≡ free_spot (Wait number [] None) (spot_now walker.old).mended }
     ensures at { spot_now walker.new ≡ checked_spot result }
-    ensures clean { result ≡ false → EndsIn walker.old 2 Answer.Clean walker.new }
+    ensures clean { result ≡ false → EndsIn walker.old 2 AnswerOf.Clean walker.new }
     ensures ruined { result ≡ true → Unanswered walker.old 2 0 walker.new }
     ensures same { IsSame walker.old walker.new }
 {
@@ -239,6 +243,26 @@ pub enum Reached {
     Ruined,
 }
 
+/// What the fast path of a lock has led to, for who called it: a blocked reading, an entry with nothing to mend, or neither, and
+/// the general way goes on.
+#[derive(Clone, Copy)]
+pub enum Led {
+    Blocked,
+    Entered,
+    Further,
+}
+
+/// What a call of the lock is told: nothing yet, where it was blocked.
+pub fn told(led: Led) -> Option<Option<Answer>>
+    ensures { result ≡ told_by led }
+{
+    match led {
+        Led::Blocked => Some(None),
+        Led::Entered => Some(Some(Answer::Clean)),
+        Led::Further => None,
+    }
+}
+
 /// How far an entry has led, from whether the lock was ruined.
 fn entered(is_ruined: bool) -> Reached
     ensures { result ≡ (if is_ruined then Reached.Ruined else Reached.Clean) }
@@ -251,6 +275,7 @@ fn entered(is_ruined: bool) -> Reached
 }
 
 /// From a place in the line into the section, as far as nothing is in the way. Tells how many steps that were.
+#[inline(always)]
 fn enter_from_line(walker: &mut Walker, number: u64, next: u64, looked: bool) -> (Reached, u64)
     requires next { next ≤ 64 }
     requires other { looked ≡ true → (next < walker.old.setup.layout.procs) × (next ≢ walker.old.by) }
@@ -273,6 +298,7 @@ fn enter_from_line(walker: &mut Walker, number: u64, next: u64, looked: bool) ->
 }
 
 /// From right behind the start of a lock into the section, as far as nothing is in the way. Tells how many steps that were.
+#[inline(always)]
 fn enter(walker: &mut Walker) -> (Reached, u64)
     requires at { spot_now walker.old ≡ free_spot (Reread Lock []) (spot_now walker.old).mended }
     ensures { Enters walker.old result.0 result.1 walker.new }
@@ -292,6 +318,7 @@ fn enter(walker: &mut Walker) -> (Reached, u64)
 }
 
 /// The fast path of a lock from where it stands, if it has one from there: from its start, and from behind a blocked reading.
+#[inline(always)]
 pub fn go_in(walker: &mut Walker, stage: Stage) -> Option<(Reached, u64)>
     requires under { IsUnder CallOf.Lock (spot_now walker.old) }
     requires free { (spot_now walker.old).errand ≡ Free }
@@ -357,7 +384,7 @@ fn unmark(walker: &mut Walker)
 pub fn leave(walker: &mut Walker)
     requires at { spot_now walker.old ≡ free_spot Leaving (spot_now walker.old).mended }
     ensures at { spot_now walker.new ≡ free_spot Rest (spot_now walker.old).mended }
-    ensures ends { EndsIn walker.old 2 Answer.Unlocked walker.new }
+    ensures ends { EndsIn walker.old 2 AnswerOf.Unlocked walker.new }
     ensures same { IsSame walker.old walker.new }
 {
     drop_number(walker);

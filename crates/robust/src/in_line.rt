@@ -53,6 +53,7 @@ fn weigh(walker: &mut Walker, number: u64, j: u64) -> bool
 }
 
 /// Looks at the others from an index on and weighs their numbers, up to the last or to a blocked reading.
+#[inline(always)]
 pub fn pass_others(walker: &mut Walker, number: u64, from: u64) -> Passed
     requires from { from ≤ 64 }
     requires at { spot_now walker.old ≡ waits_at walker.old number from false }
@@ -96,6 +97,7 @@ pub fn pass_others(walker: &mut Walker, number: u64, from: u64) -> Passed
 }
 
 /// Goes on in the line: process `next` is looked at, or weighed where it was looked at, and then the others behind it.
+#[inline(always)]
 pub fn wait_on(walker: &mut Walker, number: u64, next: u64, looked: bool) -> Passed
     requires next { next ≤ 64 }
     requires other { looked ≡ true → (next < walker.old.setup.layout.procs) × (next ≢ walker.old.by) }

@@ -17,13 +17,13 @@ ghost use Rattle.runs.specs.Faults.{refusal_now, AnsweredIn};
 ghost use Rattle.runs.specs.Tabled.{table_steps};
 ghost use Rattle.runs.specs.Under.{Begun, Fits, Leaves};
 ghost use Rattle.plans.specs.Plans.{so_many_more};
-ghost use Rattle.robust.specs.FastPath.{free_spot};
+ghost use Rattle.robust.specs.FastPath.{free_spot, told_by};
 ghost use Rattle.robust.specs.FastAppend.{HasFastWay};
 ghost use Rattle.robust.specs.Working.{seat_of};
 ghost use Rattle.runs.specs.Pass.{Advances, Looks, IsPass, fresh, spot_now, moved_spot};
 
 use crate::fast_append::append;
-use crate::fast_path::{Reached, bar, go_in, leave};
+use crate::fast_path::{Led, Reached, bar, go_in, leave, told};
 use crate::walker::Walker;
 use plans::CrashPlan;
 use redomail::Layout;
@@ -198,36 +198,41 @@ impl Runner {
 
     /// The fast path of a lock that has just been started or was blocked, where the plan never falls: its steps up to its answer
     /// or to a blocked reading, or as far as nothing is in the way. The askings before them are counted behind them.
-    fn fast_lock<C: CrashPlan>(&mut self, plan: &mut C) -> Option<Option<Answer>>
+    #[inline(always)]
+    fn fast_lock<C: CrashPlan>(&mut self, plan: &mut C) -> Led
         requires begun { Begun Lock self.old.pass.setup.layout.procs (spot_now self.old.pass) }
-        ensures ran { IfSome result (λ o. (mine : List TakenStep) × Ran self.old o self.new mine × Calm (length mine) (C.asked plan.old) (C.asked plan.new) (C.fallen plan.old) (C.fallen plan.new)) }
-        ensures still { IfSome result (Still Lock self.new) }
-        ensures on { result ≡ None → (mine : List TakenStep) × Going self.old mine self.new × Calm (length mine) (C.asked plan.old) (C.asked plan.new) (C.fallen plan.old) (C.fallen plan.new) }
-        ensures begun { result ≡ None → Begun Lock self.new.pass.setup.layout.procs (spot_now self.new.pass) }
+        ensures ran { IfSome (told_by result) (λ o. (mine : List TakenStep) × Ran self.old o self.new mine × Calm (length mine) (C.asked plan.old) (C.asked plan.new) (C.fallen plan.old) (C.fallen plan.new)) }
+        ensures still { IfSome (told_by result) (Still Lock self.new) }
+        ensures on { told_by result ≡ None → (mine : List TakenStep) × Going self.old mine self.new × Calm (length mine) (C.asked plan.old) (C.asked plan.new) (C.fallen plan.old) (C.fallen plan.new) }
+        ensures begun { told_by result ≡ None → Begun Lock self.new.pass.setup.layout.procs (spot_now self.new.pass) }
     {
         if !plan.is_calm() {
-            return None;
+            return Led::Further;
         }
-        let stage = self.process.stage()?;
-        let (reached, taken) = go_in(&mut self.walker, stage)?;
+        let Some(stage) = self.process.stage() else {
+            return Led::Further;
+        };
+        let Some((reached, taken)) = go_in(&mut self.walker, stage) else {
+            return Led::Further;
+        };
         self.steps = self.steps.saturating_add(taken);
         count_calm(plan, taken);
         match reached {
             Reached::Blocked(stage) => {
                 self.process.seam_stand(stage);
-                Some(None)
+                Led::Blocked
             }
             Reached::Stands(stage) => {
                 self.process.seam_stand(stage);
-                None
+                Led::Further
             }
             Reached::Clean => {
                 self.process.seam_stand_clean();
-                Some(Some(Answer::Clean))
+                Led::Entered
             }
             Reached::Ruined => {
                 bar(&mut self.process);
-                None
+                Led::Further
             }
         }
     }
@@ -241,9 +246,27 @@ impl Runner {
         ensures begun { result ≡ None → Begun call.now self.new.pass.setup.layout.procs (spot_now self.new.pass) }
     {
         match call {
-            Call::Lock => self.fast_lock(plan),
+            Call::Lock if self.is_at_start() => told(self.fast_lock(plan)),
+            Call::Lock => told(self.fast_lock_later(plan)),
             _ => None,
         }
+    }
+
+    /// Whether a call of the lock has just been started.
+    fn is_at_start(&self) -> bool {
+        matches!(self.process.stage(), Some(Stage::ReadingChoosing { .. }))
+    }
+
+    /// The same as `fast_lock`, for a lock that was blocked: a copy of its own, so that an uncontended lock pays nothing for it.
+    #[inline(never)]
+    fn fast_lock_later<C: CrashPlan>(&mut self, plan: &mut C) -> Led
+        requires begun { Begun Lock self.old.pass.setup.layout.procs (spot_now self.old.pass) }
+        ensures ran { IfSome (told_by result) (λ o. (mine : List TakenStep) × Ran self.old o self.new mine × Calm (length mine) (C.asked plan.old) (C.asked plan.new) (C.fallen plan.old) (C.fallen plan.new)) }
+        ensures still { IfSome (told_by result) (Still Lock self.new) }
+        ensures on { told_by result ≡ None → (mine : List TakenStep) × Going self.old mine self.new × Calm (length mine) (C.asked plan.old) (C.asked plan.new) (C.fallen plan.old) (C.fallen plan.new) }
+        ensures begun { told_by result ≡ None → Begun Lock self.new.pass.setup.layout.procs (spot_now self.new.pass) }
+    {
+        self.fast_lock(plan)
     }
 
     /// Whether the process is a holder with nothing to mend and no call under way.

@@ -8,6 +8,8 @@ use Rattle.redomail.specs.declared.layout.Layout.{Layout}
 use Rattle.rmeworld.specs.declared.call.Call.TheVariants.{Lock}
 use Rattle.rmeworld.specs.declared.answer.Answer.TheVariants.{NumbersSpent as SpentAnswer}
 use Rattle.runs.specs.declared.lock_fault.LockFault.{LockFault}
+use Rattle.runs.specs.declared.setup.Setup.{Setup}
+use Rattle.one_lock.specs.declared.lab.spec.Spec.{Spec}
 use Rattle.one_lock.specs.declared.lab.lab_fault.LabFault.{LabFault}
 use Rattle.one_lock.specs.declared.lab.ending.Ending.{Ending}
 use Rattle.one_lock.specs.declared.lab.lab_fault.LabFault.TheVariants.{BadSpec, OutOfMemory as WantsMemory, Member, Reply}
@@ -15,6 +17,7 @@ use Rattle.one_lock.specs.declared.lab.ending.Ending.TheVariants.{AllSent, Fault
 use Rattle.runs.specs.declared.lock_fault.LockFault.TheVariants.{Crashed, NotYet, NumbersSpent, NotRecoverable, AlreadyIn, NotOwner, NotInconsistent, BadIndex, BadWidth, OutOfMemory}
 use Rattle.one_lock.specs.Answers.{IsAnswered, EndsAtLock}
 use Rattle.one_lock.specs.Endings.{HaveAllSent, WantedMemory, fault_by, IsOfLeast, MayEnd, MayEndLab}
+use Rattle.one_lock.specs.Lab.{setup_of}
 use Rattle.one_lock.specs.Member.{Seat, Goes, of_wait, new_seats}
 use Rattle.one_lock.specs.Shown.{place_of}
 use Rattle.one_lock.proofs.Seats.{new_count, number_at}
@@ -52,8 +55,8 @@ pub none_wanted : (es : List Ending) → All (λ e. e ≢ Fault OutOfMemory) es 
 none_wanted es none one = All-contains (λ (e : Ending). e ≢ Fault OutOfMemory) es (Fault OutOfMemory) none one refl
 
 -- each worker has ended as one with its number may
-abbrev pub EachMay : List Ending → Type 0
-EachMay es = (p : ℕ) (e : Ending) → slice_get es p ≡ Some e → MayEnd p e
+abbrev pub EachMay : Option Setup → List Ending → Type 0
+EachMay named es = (p : ℕ) (e : Ending) → slice_get es p ≡ Some e → MayEnd named p e
 
 -- what is mapped to this
 mapped_from : {D : Type 0} (f : D → Ending) (o : Option D) (e : Ending) → option_map f o ≡ Some e → (d : D) × (o ≡ Some d) × (f d ≡ e)
@@ -61,9 +64,9 @@ mapped_from f None e is = absurd (let none : Option Ending = None in let same : 
 mapped_from f (Some d) e is = (d, refl, (let same : Some (f d) ≡ Some e = is in cc))
 
 -- workers that were handed back, told by where the members of a new arena stand
-pub each_may : {D : Type 0} (f : D → Ending) (g : D → Seat) (l : Layout) (n : ℕ) (ds looked : List D) → looked ≡ ds → All (λ d. MayEnd (g d).process (f d)) ds → map (λ d. place_of (g d)) ds ≡ map place_of (new_seats l n) → EachMay (map f looked)
-each_may {D = D} f g l n ds looked is may places p e at =
-    let P : D → Type 0 = λ d. MayEnd (g d).process (f d) in
+pub each_may : {D : Type 0} (named : Option Setup) (f : D → Ending) (g : D → Seat) (l : Layout) (n : ℕ) (ds looked : List D) → looked ≡ ds → All (λ d. MayEnd named (g d).process (f d)) ds → map (λ d. place_of (g d)) ds ≡ map place_of (new_seats l n) → EachMay named (map f looked)
+each_may {D = D} named f g l n ds looked is may places p e at =
+    let P : D → Type 0 = λ d. MayEnd named (g d).process (f d) in
     let place : D → ℕ × Layout = λ d. place_of (g d) in
     let here : slice_get (map f ds) p ≡ Some e = subst (λ (xs : List D). slice_get (map f xs) p ≡ Some e) is at in
     let one = mapped_from f (slice_get ds p) e (sym (slice_get-map f ds p) ∙ here) in
@@ -73,46 +76,46 @@ each_may {D = D} f g l n ds looked is may places p e at =
     let got : get_or ds p d ≡ d = get_or_from_slice_get ds p d d one.1 in
     let stands : place_of (g d) ≡ (p, l) = sym (ap place got) ∙ sym (get_or-map place ds p d (place d) within) ∙ ap (λ (xs : List (ℕ × Layout)). get_or xs p (place d)) places ∙ number_at l n p (place d) (subst (λ (k : ℕ). p < k) count within) in
     let it : P d = subst P got (All-get_or P ds p d within may) in
-    subst (MayEnd p) one.2 (subst (λ (k : ℕ). MayEnd k (f d)) (ap (λ (x : ℕ × Layout). x.0) stands) it)
+    subst (MayEnd named p) one.2 (subst (λ (k : ℕ). MayEnd named k (f d)) (ap (λ (x : ℕ × Layout). x.0) stands) it)
 
 -- how a call may end a worker that a crash does not end
-pub ended_by : (m new : Seat) (to : ℕ) (e : LockFault) → Goes m new → of_wait e ≡ true → (e ≡ Crashed → ⊥) → EndsAtLock m None to e → MayEnd new.process (Fault e)
-ended_by m new to NumbersSpent goes wait crash spent =
-    inl (refl, record { standing = m.standing; from = m.steps; to = to; answered = subst (λ (p : ℕ). IsAnswered p m.standing Lock None m.steps to (Some SpentAnswer)) (sym goes.0) spent })
-ended_by m new to NotRecoverable goes wait crash told = inr (inl refl)
-ended_by m new to OutOfMemory goes wait crash told = inr (inr refl)
-ended_by m new to Crashed goes wait crash told = absurd (crash refl)
-ended_by m new to NotYet goes wait crash told = absurd (true≢false (sym wait))
-ended_by m new to AlreadyIn goes wait crash told = absurd (true≢false (sym wait))
-ended_by m new to NotOwner goes wait crash told = absurd (true≢false (sym wait))
-ended_by m new to NotInconsistent goes wait crash told = absurd (true≢false (sym wait))
-ended_by m new to BadIndex goes wait crash told = absurd (true≢false (sym wait))
-ended_by m new to BadWidth goes wait crash told = absurd (true≢false (sym wait))
+pub ended_by : (named : Option Setup) (m new : Seat) (to : ℕ) (e : LockFault) → Goes m new → of_wait e ≡ true → (e ≡ Crashed → ⊥) → EndsAtLock named m None to e → MayEnd named new.process (Fault e)
+ended_by named m new to NumbersSpent goes wait crash spent =
+    inl (refl, record { standing = m.standing; from = m.steps; to = to; answered = subst (λ (p : ℕ). IsAnswered named p m.standing Lock None m.steps to (Some SpentAnswer)) (sym goes.0) spent })
+ended_by named m new to NotRecoverable goes wait crash told = inr (inl refl)
+ended_by named m new to OutOfMemory goes wait crash told = inr (inr refl)
+ended_by named m new to Crashed goes wait crash told = absurd (crash refl)
+ended_by named m new to NotYet goes wait crash told = absurd (true≢false (sym wait))
+ended_by named m new to AlreadyIn goes wait crash told = absurd (true≢false (sym wait))
+ended_by named m new to NotOwner goes wait crash told = absurd (true≢false (sym wait))
+ended_by named m new to NotInconsistent goes wait crash told = absurd (true≢false (sym wait))
+ended_by named m new to BadIndex goes wait crash told = absurd (true≢false (sym wait))
+ended_by named m new to BadWidth goes wait crash told = absurd (true≢false (sym wait))
 
 -- what is told of worker p where one has ended so, for which memory was not wanted
-told_early : (n p : ℕ) (e : Ending) (fault : LabFault) → p < n → MayEnd p e → (e ≡ Fault OutOfMemory → ⊥) → fault_by p e ≡ Some fault → MayEndLab n fault
-told_early n p AllSent fault below may unwanted told = absurd (let none : Option LabFault = None in let e : none ≡ Some fault = told in cc)
-told_early n p (Fault why) fault below (inl spent) unwanted told =
+told_early : (s : Spec) (p : ℕ) (e : Ending) (fault : LabFault) → p < s.procs → MayEnd (Some (setup_of s)) p e → (e ≡ Fault OutOfMemory → ⊥) → fault_by p e ≡ Some fault → MayEndLab s fault
+told_early s p AllSent fault below may unwanted told = absurd (let none : Option LabFault = None in let e : none ≡ Some fault = told in cc)
+told_early s p (Fault why) fault below (inl spent) unwanted told =
     let e : Member p why ≡ fault = cc in
-    subst (MayEndLab n) e (below, inl spent)
-told_early n p (Fault why) fault below (inr (inl ruined)) unwanted told =
+    subst (MayEndLab s) e (below, inl spent)
+told_early s p (Fault why) fault below (inr (inl ruined)) unwanted told =
     let e : Member p why ≡ fault = cc in
-    subst (MayEndLab n) e (below, inr ruined)
-told_early n p (Fault why) fault below (inr (inr wants)) unwanted told = absurd (unwanted (ap Fault wants))
-told_early n p (Refused reply) fault below may unwanted told =
+    subst (MayEndLab s) e (below, inr ruined)
+told_early s p (Fault why) fault below (inr (inr wants)) unwanted told = absurd (unwanted (ap Fault wants))
+told_early s p (Refused reply) fault below may unwanted told =
     let e : Reply p reply ≡ fault = cc in
-    subst (MayEndLab n) e (below, may.0, may.1)
+    subst (MayEndLab s) e (below, may.0, may.1)
 
-of_least : (es : List Ending) (n : ℕ) (fault : LabFault) → length es ≡ n → EachMay es → (WantedMemory es → ⊥) → IsOfLeast es fault → MayEndLab n fault
-of_least es n fault count may none least =
+of_least : (es : List Ending) (s : Spec) (fault : LabFault) → length es ≡ s.procs → EachMay (Some (setup_of s)) es → (WantedMemory es → ⊥) → IsOfLeast es fault → MayEndLab s fault
+of_least es s fault count may none least =
     let within = slice_get_within es least.p least.ending least.at in
     let is : get_or es least.p least.ending ≡ least.ending = get_or_from_slice_get es least.p least.ending least.ending least.at in
-    told_early n least.p least.ending fault (subst (λ (k : ℕ). least.p < k) count within) (may least.p least.ending least.at)
+    told_early s least.p least.ending fault (subst (λ (k : ℕ). least.p < k) count within) (may least.p least.ending least.at)
     (λ wants. none (subst (Contains es) (is ∙ wants) (Contains-get_or es least.p least.ending within))) least.told
 
 -- what the workers of a lab may have told early
-pub may_end_lab : (es : List Ending) (n : ℕ) (fault : LabFault) → length es ≡ n → EachMay es → (WantedMemory es → fault ≡ WantsMemory) → fault ≢ BadSpec → (fault ≢ WantsMemory → IsOfLeast es fault) → MayEndLab n fault
-may_end_lab es n BadSpec count may wanted sized least = absurd (sized refl)
-may_end_lab es n WantsMemory count may wanted sized least = tt
-may_end_lab es n (Member p why) count may wanted sized least = of_least es n (Member p why) count may (λ wants. let e : Member p why ≡ WantsMemory = wanted wants in cc) (least (λ e. cc))
-may_end_lab es n (Reply p reply) count may wanted sized least = of_least es n (Reply p reply) count may (λ wants. let e : Reply p reply ≡ WantsMemory = wanted wants in cc) (least (λ e. cc))
+pub may_end_lab : (es : List Ending) (s : Spec) (fault : LabFault) → length es ≡ s.procs → EachMay (Some (setup_of s)) es → (WantedMemory es → fault ≡ WantsMemory) → fault ≢ BadSpec → (fault ≢ WantsMemory → IsOfLeast es fault) → MayEndLab s fault
+may_end_lab es s BadSpec count may wanted sized least = absurd (sized refl)
+may_end_lab es s WantsMemory count may wanted sized least = tt
+may_end_lab es s (Member p why) count may wanted sized least = of_least es s (Member p why) count may (λ wants. let e : Member p why ≡ WantsMemory = wanted wants in cc) (least (λ e. cc))
+may_end_lab es s (Reply p reply) count may wanted sized least = of_least es s (Reply p reply) count may (λ wants. let e : Reply p reply ≡ WantsMemory = wanted wants in cc) (least (λ e. cc))

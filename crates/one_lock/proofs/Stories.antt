@@ -1,11 +1,12 @@
 -- What is known of the world under the lock stays known at each happening.
-use Rattle.std.proofs.Common.{◌≡◌, ℕ, ◌+◌, List, [], ◌∷◌, ◌++◌, refl, sym, ap, ◌∙◌, subst, arith}
+use Rattle.std.proofs.Common.{◌≡◌, ℕ, ◌+◌, List, [], ◌∷◌, ◌++◌, refl, sym, ap, ◌∙◌, subst, arith, Option, Some, None}
 use Rattle.rmeworld.specs.Spot.{Happening, Begins, Falls, Moves, Glances}
 use Rattle.rmeworld.specs.World.{at_first, Can, onward, Story, last_scene, event_deeds, deeds}
 use Rattle.rmeworld.specs.WorldState.{WorldState, scene_of, Takes, new_world}
 use Rattle.rmeworld.proofs.StoryGrows.{story_more, last_more, deeds_more}
 use Rattle.rmeworld.proofs.Worlds.{new_scene}
-use Rattle.one_lock.specs.Story.{steps_of, IsTold}
+use Rattle.runs.specs.declared.setup.Setup.{Setup}
+use Rattle.one_lock.specs.Story.{steps_of, IsTold, AreSizes}
 
 pub steps_more : (es : List Happening) (e : Happening) → steps_of (es ++ e ∷ []) ≡ steps_of (e ∷ []) + steps_of es
 steps_more [] (Begins p call) = refl
@@ -42,3 +43,8 @@ told_first s is =
       done = ap (λ (w : WorldState). w.history) (sym is);
       counted = refl;
     }
+
+-- no happening changes the sizes
+pub still_sized : (named : Option Setup) (s : WorldState) (e : Happening) (new : WorldState) → Takes s e new → AreSizes named s.layout s.limit → AreSizes named new.layout new.limit
+still_sized None s e new takes are = tt
+still_sized (Some named) s e new takes are = (takes.layout ∙ are.0, takes.limit ∙ are.1)

@@ -21,7 +21,8 @@ use Rattle.one_lock.specs.declared.opening.Opening.{Opening}
 use Rattle.one_lock.specs.declared.member_state.MemberState.{MemberState}
 use Rattle.one_lock.specs.declared.member_state.MemberState.TheVariants.{Mended}
 use Rattle.one_lock.specs.Member.{Seat, is_lost}
-use Rattle.one_lock.specs.Story.{IsTold}
+use Rattle.runs.specs.declared.setup.Setup.{Setup}
+use Rattle.one_lock.specs.Story.{IsTold, AreSizes}
 
 abbrev pub crash_by : Bool → ℕ → WorldState → WorldState
 crash_by true p s = crashed s p
@@ -62,12 +63,13 @@ Opens p o s = (refusal_of_crash o.crash p s ≡ None) × (refusal_of_start o.cal
 abbrev pub IsBlocked : ℕ → WorldState → Type 0
 IsBlocked p s = (tally_at (advanced s p).tallies p).blocked ≢ (tally_at s.tallies p).blocked
 
--- Some run from all words 0 ends in a world in which a step of p, opened so, is refused nothing, gives this answer, and is
+-- Some run from all words 0 ends in a world with the sizes that are named, in which a step of p, opened so, is refused nothing, gives this answer, and is
 -- blocked or not.
-pub record Gives (p : ℕ) (o : Opening) (answer : Option Answer) (blocked : Bool) : Type 0 where
+pub record Gives (named : Option Setup) (p : ℕ) (o : Opening) (answer : Option Answer) (blocked : Bool) : Type 0 where
   pub world : WorldState
   pub steps : ℕ
   pub told : IsTold world steps
+  pub sizes : AreSizes named world.layout world.limit
   pub opens : Opens p o world
   pub accepted : advance_refusal (opened o p world) p ≡ None
   pub given : (stepped (opened o p world) p).answer ≡ answer
@@ -86,9 +88,9 @@ opening_after first [] = first
 opening_after first (b ∷ bs) = further
 
 -- p took these steps of a call, the last one first, and none of them gave an answer
-abbrev pub HasTaken : ℕ → Opening → List Bool → Type 0
-HasTaken p first [] = Unit {0}
-HasTaken p first (b ∷ bs) = HasTaken p first bs × Gives p (opening_after first bs) None b
+abbrev pub HasTaken : Option Setup → ℕ → Opening → List Bool → Type 0
+HasTaken named p first [] = Unit {0}
+HasTaken named p first (b ∷ bs) = HasTaken named p first bs × Gives named p (opening_after first bs) None b
 
 abbrev pub count_blocked : List Bool → ℕ
 count_blocked [] = 0
@@ -108,18 +110,18 @@ spent (Some (suc turns)) = Some turns
 
 -- A call of p took a member's own steps from one count to another. Its last step gave this answer, those before it gave none,
 -- and no more of those were blocked than it had turns. Without an answer just as many were blocked, and the last was too.
-pub record IsAnswered (p : ℕ) (standing : MemberState) (call : Call) (turns : Option ℕ) (from to : ℕ) (answer : Option Answer) : Type 0 where
+pub record IsAnswered (named : Option Setup) (p : ℕ) (standing : MemberState) (call : Call) (turns : Option ℕ) (from to : ℕ) (answer : Option Answer) : Type 0 where
   pub before : List Bool
   pub blocked : Bool
-  pub taken : HasTaken p (first_of standing call) before
-  pub given : Gives p (opening_after (first_of standing call) before) answer blocked
+  pub taken : HasTaken named p (first_of standing call) before
+  pub given : Gives named p (opening_after (first_of standing call) before) answer blocked
   pub counted : to ≡ from + suc (length before)
   pub few : Suffice turns (count_blocked before)
   pub gives_up : IsNone answer → (blocked ≡ true) × (turns ≡ Some (count_blocked before))
 
 -- The result of a member's call is what its process was answered, or the call was cut off.
-pub record Answered {T : Type 0} (by : Option Answer → Result T LockFault) (old : Seat) (call : Call) (turns : Option ℕ) (new : Seat) (result : Result T LockFault) : Type 0 where
-  pub told : (result ≡ Err Crashed) ⊎ ((result ≡ Err OutOfMemory) ⊎ ((answer : Option Answer) × (IsAnswered old.process old.standing call turns old.steps new.steps answer × (result ≡ by answer))))
+pub record Answered {T : Type 0} (named : Option Setup) (by : Option Answer → Result T LockFault) (old : Seat) (call : Call) (turns : Option ℕ) (new : Seat) (result : Result T LockFault) : Type 0 where
+  pub told : (result ≡ Err Crashed) ⊎ ((result ≡ Err OutOfMemory) ⊎ ((answer : Option Answer) × (IsAnswered named old.process old.standing call turns old.steps new.steps answer × (result ≡ by answer))))
 
 -- by what its process was answered: a lock, which has waited as often as it may where there is no answer; a recovery; a
 -- mending; a reading of the board; what answers nothing; and a task
@@ -147,15 +149,15 @@ reply_by (Some (Mail reply)) = reply
 reply_by _ = Done
 
 -- A task of a process that is in and has mended was given an answer, and answers so.
-pub record IsReply (p : ℕ) (call : Call) (reply : Reply) : Type 0 where
+pub record IsReply (named : Option Setup) (p : ℕ) (call : Call) (reply : Reply) : Type 0 where
   pub answer : Answer
   pub from : ℕ
   pub to : ℕ
-  pub answered : IsAnswered p Mended call None from to (Some answer)
+  pub answered : IsAnswered named p Mended call None from to (Some answer)
   pub is : reply ≡ reply_by (Some answer)
 
 -- A whole call of the mailbox that ends for what its lock was answered, and so took no step but the lock's, up to this count.
-abbrev pub EndsAtLock : Seat → Option ℕ → ℕ → LockFault → Type 0
-EndsAtLock old turns to NotYet = IsAnswered old.process old.standing Lock turns old.steps to None
-EndsAtLock old turns to SpentFault = IsAnswered old.process old.standing Lock turns old.steps to (Some NumbersSpent)
-EndsAtLock old turns to _ = Unit {0}
+abbrev pub EndsAtLock : Option Setup → Seat → Option ℕ → ℕ → LockFault → Type 0
+EndsAtLock named old turns to NotYet = IsAnswered named old.process old.standing Lock turns old.steps to None
+EndsAtLock named old turns to SpentFault = IsAnswered named old.process old.standing Lock turns old.steps to (Some NumbersSpent)
+EndsAtLock named old turns to _ = Unit {0}

@@ -8,8 +8,11 @@ use Rattle.redomail.specs.declared.reply.Reply.TheVariants.{Stored, Already}
 use Rattle.rmeworld.specs.declared.call.Call.TheVariants.{Lock}
 use Rattle.rmeworld.specs.declared.answer.Answer.TheVariants.{NumbersSpent as SpentAnswer}
 use Rattle.runs.specs.declared.lock_fault.LockFault.TheVariants.{NumbersSpent, NotRecoverable, OutOfMemory}
+use Rattle.runs.specs.declared.setup.Setup.{Setup}
+use Rattle.one_lock.specs.declared.lab.spec.Spec.{Spec}
 use Rattle.one_lock.specs.declared.member_state.MemberState.{MemberState}
 use Rattle.one_lock.specs.Answers.{IsAnswered}
+use Rattle.one_lock.specs.Lab.{setup_of}
 
 -- each worker has sent all its messages
 abbrev pub HaveAllSent : List Ending → Type 0
@@ -33,23 +36,24 @@ pub record IsOfLeast (endings : List Ending) (fault : LabFault) : Type 0 where
   pub before : HaveAllSent (take p endings)
   pub told : fault_by p ending ≡ Some fault
 
--- A lock of p, with no end of turns, was answered that no number is left: its last step read the limit in its doorway.
-pub record WasSpent (p : ℕ) : Type 0 where
+-- A lock of p, with no end of turns, was answered that no number is left: its last step read the limit in its doorway, in a
+-- world with the sizes that are named.
+pub record WasSpent (named : Option Setup) (p : ℕ) : Type 0 where
   pub standing : MemberState
   pub from : ℕ
   pub to : ℕ
-  pub answered : IsAnswered p standing Lock None from to (Some SpentAnswer)
+  pub answered : IsAnswered named p standing Lock None from to (Some SpentAnswer)
 
 -- How worker p may end: all its messages are shown; or a lock of it was answered that no number is left; or it is told that the
 -- lock is ruined, or wants memory; or one of its messages was answered by a reply that doesn't show it.
-abbrev pub MayEnd : ℕ → Ending → Type 0
-MayEnd p AllSent = Unit {0}
-MayEnd p (Fault why) = ((why ≡ NumbersSpent) × WasSpent p) ⊎ (why ≡ NotRecoverable) ⊎ (why ≡ OutOfMemory)
-MayEnd p (Refused reply) = (reply ≢ Stored) × (reply ≢ Already)
+abbrev pub MayEnd : Option Setup → ℕ → Ending → Type 0
+MayEnd named p AllSent = Unit {0}
+MayEnd named p (Fault why) = ((why ≡ NumbersSpent) × WasSpent named p) ⊎ (why ≡ NotRecoverable) ⊎ (why ≡ OutOfMemory)
+MayEnd named p (Refused reply) = (reply ≢ Stored) × (reply ≢ Already)
 
--- what may end a lab of so many workers early
-abbrev pub MayEndLab : ℕ → LabFault → Type 0
-MayEndLab procs BadSpec = ⊥
-MayEndLab procs WantsMemory = Unit {0}
-MayEndLab procs (Member p why) = (p < procs) × (((why ≡ NumbersSpent) × WasSpent p) ⊎ (why ≡ NotRecoverable))
-MayEndLab procs (Reply p reply) = (p < procs) × (reply ≢ Stored) × (reply ≢ Already)
+-- what may end a lab with these sizes early
+abbrev pub MayEndLab : Spec → LabFault → Type 0
+MayEndLab s BadSpec = ⊥
+MayEndLab s WantsMemory = Unit {0}
+MayEndLab s (Member p why) = (p < s.procs) × (((why ≡ NumbersSpent) × WasSpent (Some (setup_of s)) p) ⊎ (why ≡ NotRecoverable))
+MayEndLab s (Reply p reply) = (p < s.procs) × (reply ≢ Stored) × (reply ≢ Already)

@@ -2,6 +2,7 @@
 use Rattle.std.specs.Prelude.{◌≡◌, ◌≢◌, ℕ, zero, suc, ◌+◌, ◌*◌, ◌<◌, ◌^◌, ◌⊎◌, List, [], ◌∷◌, ◌++◌, length, filter}
 use Rattle.redomail.specs.declared.message.Message.{Message}
 use Rattle.redomail.specs.Mailbox.{message, is_by}
+use Rattle.runs.specs.declared.setup.Setup.{Setup}
 use Rattle.one_lock.specs.declared.lab.spec.Spec.{Spec}
 
 -- a number isn't 1 to `most`
@@ -13,6 +14,10 @@ abbrev pub IsBadSpec : Spec → ℕ → Type 0
 IsBadSpec s gates =
     IsOutside 64 s.procs ⊎ IsOutside (2 ^ 62) s.limit ⊎ IsOutside 65536 s.cap ⊎ IsOutside 8 s.width ⊎ IsOutside 4096 s.messages
     ⊎ (gates ≢ s.procs)
+
+-- the sizes of a lab's arena
+abbrev pub setup_of : Spec → Setup
+setup_of s = record { layout = record { procs = s.procs; cap = s.cap; width = s.width }; limit = s.limit }
 
 -- the first words of the value of worker p's message with this number: word j is 1,000,000 * p + seq + j
 abbrev pub words_sent : ℕ → ℕ → ℕ → List ℕ

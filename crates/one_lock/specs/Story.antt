@@ -1,10 +1,12 @@
 -- One world under one lock: what is known whenever the lock is free.
-use Rattle.std.specs.Prelude.{◌≡◌, ℕ, suc, List, [], ◌∷◌}
+use Rattle.std.specs.Prelude.{◌≡◌, ℕ, suc, List, [], ◌∷◌, Option, Some, None}
 use Rattle.rmeworld.specs.Spot.{Happening, Begins, Falls, Moves, Glances}
 use Rattle.rmeworld.specs.World.{at_first, Story, last_scene, deeds}
 use Rattle.rmeworld.specs.Replayed.{image_of}
 use Rattle.rmeworld.specs.WorldState.{WorldState, scene_of}
 use Rattle.rmeworld.specs.declared.image.Image.{Image}
+use Rattle.redomail.specs.declared.layout.Layout.{Layout}
+use Rattle.runs.specs.declared.setup.Setup.{Setup}
 
 -- how many of the happenings are steps, loads or stores of one word
 abbrev pub steps_of : List Happening → ℕ
@@ -27,6 +29,11 @@ pub record IsTold (s : WorldState) (steps : ℕ) : Type 0 where
 pub record Held : Type 0 where
   pub world : WorldState
   pub total : ℕ
+
+-- a world has the sizes that are named; of none that are named nothing is said
+abbrev pub AreSizes : Option Setup → Layout → ℕ → Type 0
+AreSizes None layout limit = Unit {0}
+AreSizes (Some named) layout limit = (layout ≡ named.layout) × (limit ≡ named.limit)
 
 -- some run of so many steps, from all words 0, ends in a world with these sizes and words
 abbrev pub IsLeftBy : ℕ → Image → Type 0

@@ -4,9 +4,11 @@ ghost use Rattle.std.specs.Prelude.{◌≡◌, ◌≤◌, IfOk, IfErr, OnOk, Non
 ghost use Rattle.rmecore.specs.Simulated.{cause};
 ghost use Rattle.rmeworld.specs.WorldState.{new_refusal};
 ghost use Rattle.one_lock.specs.Member.{new_seats, AreAll};
+ghost use Rattle.one_lock.specs.Story.{AreSizes};
 
 use crate::member::Member;
 use crate::shared::Shared;
+use crate::sizes::{AnySizes, Sizes};
 use redomail::Layout;
 use rmecore::Refusal;
 use rmeworld::World;
@@ -38,6 +40,28 @@ impl Arena {
         ensures arena { IfOk result (λ members. All (λ m. m.layout.procs ≡ L.parts) members.items) }
         ensures all { IfOk result (λ members. AreAll L.parts members.items) }
     {
+        Arena::of_sizes::<L, AnySizes>(alloc, procs, limit, cap, width, blank)
+    }
+
+    /// The same, of members whose type may name the sizes.
+    pub(crate) fn of_sizes<L: Ledger, S: Sizes>(
+        alloc: Global,
+        procs: u64,
+        limit: u64,
+        cap: u64,
+        width: u64,
+        blank: Blank,
+    ) -> Result<Vec<Member<L, S>>, Refusal>
+        requires sizes { AreSizes S.named (record { procs = procs; cap = cap; width = width }) limit }
+        requires name { blank.name ≡ L.name }
+        requires parts { blank.parts ≡ L.parts }
+        requires each { blank.parts ≡ procs }
+        ensures accepted { OnOk result (new_refusal (record { procs = procs; cap = cap; width = width }) limit ≡ None) }
+        ensures refused { IfErr result (λ e. new_refusal (record { procs = procs; cap = cap; width = width }) limit ≡ cause e) }
+        ensures ok { IfOk result (λ members. members.items ≡ new_seats (record { procs = procs; cap = cap; width = width }) procs) }
+        ensures arena { IfOk result (λ members. All (λ m. m.layout.procs ≡ L.parts) members.items) }
+        ensures all { IfOk result (λ members. AreAll L.parts members.items) }
+    {
         let world = World::new(alloc, procs, limit, cap, width)?;
         let layout = Layout { procs, cap, width };
         let (book, all) = blank.open::<L>();
@@ -47,12 +71,12 @@ impl Arena {
 }
 
 /// One member for each process, each with one part of the ledger.
-fn members_of<L: Ledger>(
+fn members_of<L: Ledger, S: Sizes>(
     alloc: Global,
     layout: Layout,
-    shared: Arc<Mutex<Shared<L>>>,
+    shared: Arc<Mutex<Shared<L, S>>>,
     mut all: Share<L>,
-) -> Result<Vec<Member<L>>, Refusal>
+) -> Result<Vec<Member<L, S>>, Refusal>
     requires few { layout.procs ≤ 64 }
     requires parts { all.parts ≡ layout.procs }
     requires none { all.amount ≡ 0 }

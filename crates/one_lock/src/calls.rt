@@ -9,6 +9,7 @@ ghost use Rattle.one_lock.specs.Member.{Goes, AskedEach, AskedOnceMore, Counts, 
 
 use crate::member::Member;
 use crate::member_state::MemberState;
+use crate::sizes::Sizes;
 use plans::CrashPlan;
 use redomail::Reply;
 use rmecore::{Body, Found};
@@ -87,7 +88,7 @@ fn word_read(answer: Option<Answer>) -> u64
     }
 }
 
-impl<L: Ledger> Member<L> {
+impl<L: Ledger, S: Sizes> Member<L, S> {
     /// Enters the section, also after a crash. After a crash inside the answer is `OwnerDied`. `NotYet` after one blocked
     /// reading more than `turns`; the next lock waits on with the same number.
     pub fn lock_within<R: Wait, P: CrashPlan>(
@@ -104,7 +105,7 @@ impl<L: Ledger> Member<L> {
         ensures goes { Goes self.old self.new }
         ensures stands { is_in self.old.standing ≡ false → self.new.standing ≡ stands_entered result }
         ensures faults { is_in self.old.standing ≡ false → IfErr result (λ e. of_lock e ≡ true) }
-        ensures answered { is_in self.old.standing ≡ false → Answered entry_by self.old Call.Lock (Some turns) self.new result }
+        ensures answered { is_in self.old.standing ≡ false → Answered S.named entry_by self.old Call.Lock (Some turns) self.new result }
     {
         self.lock_by(rt, plan, Some(turns))
     }
@@ -119,7 +120,7 @@ impl<L: Ledger> Member<L> {
         ensures goes { Goes self.old self.new }
         ensures stands { is_in self.old.standing ≡ false → self.new.standing ≡ stands_entered result }
         ensures faults { is_in self.old.standing ≡ false → IfErr result (λ e. of_wait e ≡ true) }
-        ensures answered { is_in self.old.standing ≡ false → Answered entry_by self.old Call.Lock None self.new result }
+        ensures answered { is_in self.old.standing ≡ false → Answered S.named entry_by self.old Call.Lock None self.new result }
     {
         self.lock_by(rt, plan, None)
     }
@@ -141,7 +142,7 @@ impl<L: Ledger> Member<L> {
         ensures goes { Goes self.old self.new }
         ensures stands { is_in self.old.standing ≡ false → self.new.standing ≡ stands_entered result }
         ensures faults { is_in self.old.standing ≡ false → IfErr result (λ e. of_lock e ≡ true) }
-        ensures answered { is_in self.old.standing ≡ false → Answered entry_by self.old Call.Lock turns self.new result }
+        ensures answered { is_in self.old.standing ≡ false → Answered S.named entry_by self.old Call.Lock turns self.new result }
     {
         if self.standing.is_in() {
             return Err(LockFault::AlreadyIn);
@@ -166,7 +167,7 @@ impl<L: Ledger> Member<L> {
         ensures goes { Goes self.old self.new }
         ensures stands { is_in self.old.standing ≡ false → self.new.standing ≡ stands_found result }
         ensures faults { is_in self.old.standing ≡ false → IfErr result (λ e. of_steps e ≡ true) }
-        ensures answered { is_in self.old.standing ≡ false → Answered found_by self.old Call.Recover None self.new result }
+        ensures answered { is_in self.old.standing ≡ false → Answered S.named found_by self.old Call.Recover None self.new result }
     {
         if self.standing.is_in() {
             return Err(LockFault::AlreadyIn);
@@ -191,7 +192,7 @@ impl<L: Ledger> Member<L> {
         ensures goes { Goes self.old self.new }
         ensures stands { self.old.standing ≡ MemberState.Unmended → self.new.standing ≡ stands_mended result }
         ensures faults { self.old.standing ≡ MemberState.Unmended → IfErr result (λ e. of_consistent e ≡ true) }
-        ensures answered { self.old.standing ≡ MemberState.Unmended → Answered mended_by self.old Call.Consistent None self.new result }
+        ensures answered { self.old.standing ≡ MemberState.Unmended → Answered S.named mended_by self.old Call.Consistent None self.new result }
     {
         if self.standing != MemberState::Unmended {
             return Err(LockFault::NotInconsistent);
@@ -211,7 +212,7 @@ impl<L: Ledger> Member<L> {
         ensures goes { Goes self.old self.new }
         ensures stands { is_in self.old.standing ≡ true → self.new.standing ≡ stands_out result }
         ensures faults { is_in self.old.standing ≡ true → IfErr result (λ e. of_steps e ≡ true) }
-        ensures answered { is_in self.old.standing ≡ true → Answered (λ _. Ok tt) self.old Call.Unlock None self.new result }
+        ensures answered { is_in self.old.standing ≡ true → Answered S.named (λ _. Ok tt) self.old Call.Unlock None self.new result }
     {
         if !self.standing.is_in() {
             return Err(LockFault::NotOwner);
@@ -238,7 +239,7 @@ impl<L: Ledger> Member<L> {
         ensures goes { Goes self.old self.new }
         ensures stands { is_in self.old.standing ≡ true → i < 4 → self.new.standing ≡ stands_still self.old.standing result }
         ensures faults { is_in self.old.standing ≡ true → i < 4 → IfErr result (λ e. of_steps e ≡ true) }
-        ensures answered { is_in self.old.standing ≡ true → i < 4 → Answered word_by self.old (Call.Get i) None self.new result }
+        ensures answered { is_in self.old.standing ≡ true → i < 4 → Answered S.named word_by self.old (Call.Get i) None self.new result }
     {
         if !self.standing.is_in() {
             return Err(LockFault::NotOwner);
@@ -270,7 +271,7 @@ impl<L: Ledger> Member<L> {
         ensures goes { Goes self.old self.new }
         ensures stands { is_in self.old.standing ≡ true → i < 4 → self.new.standing ≡ stands_still self.old.standing result }
         ensures faults { is_in self.old.standing ≡ true → i < 4 → IfErr result (λ e. of_steps e ≡ true) }
-        ensures answered { is_in self.old.standing ≡ true → i < 4 → Answered (λ _. Ok tt) self.old (Call.Put i value) None self.new result }
+        ensures answered { is_in self.old.standing ≡ true → i < 4 → Answered S.named (λ _. Ok tt) self.old (Call.Put i value) None self.new result }
     {
         if !self.standing.is_in() {
             return Err(LockFault::NotOwner);
@@ -303,8 +304,8 @@ impl<L: Ledger> Member<L> {
         ensures goes { Goes self.old self.new }
         ensures stands { is_in self.old.standing ≡ false → length value ≡ self.old.layout.width → self.new.standing ≡ stands_out result }
         ensures faults { is_in self.old.standing ≡ false → length value ≡ self.old.layout.width → IfErr result (λ e. of_lock e ≡ true) }
-        ensures at_lock { IfErr result (EndsAtLock self.old (Some turns) self.new.steps) }
-        ensures answered { IfOk result (λ reply. IsReply self.old.process (Call.Append seq value) reply) }
+        ensures at_lock { IfErr result (EndsAtLock S.named self.old (Some turns) self.new.steps) }
+        ensures answered { IfOk result (λ reply. IsReply S.named self.old.process (Call.Append seq value) reply) }
     {
         self.append_by(rt, seq, value, plan, Some(turns))
     }
@@ -327,8 +328,8 @@ impl<L: Ledger> Member<L> {
         ensures goes { Goes self.old self.new }
         ensures stands { is_in self.old.standing ≡ false → length value ≡ self.old.layout.width → self.new.standing ≡ stands_out result }
         ensures faults { is_in self.old.standing ≡ false → length value ≡ self.old.layout.width → IfErr result (λ e. of_wait e ≡ true) }
-        ensures at_lock { IfErr result (EndsAtLock self.old None self.new.steps) }
-        ensures answered { IfOk result (λ reply. IsReply self.old.process (Call.Append seq value) reply) }
+        ensures at_lock { IfErr result (EndsAtLock S.named self.old None self.new.steps) }
+        ensures answered { IfOk result (λ reply. IsReply S.named self.old.process (Call.Append seq value) reply) }
     {
         self.append_by(rt, seq, value, plan, None)
     }
@@ -353,8 +354,8 @@ impl<L: Ledger> Member<L> {
         ensures goes { Goes self.old self.new }
         ensures stands { is_in self.old.standing ≡ false → length value ≡ self.old.layout.width → self.new.standing ≡ stands_out result }
         ensures faults { is_in self.old.standing ≡ false → length value ≡ self.old.layout.width → IfErr result (λ e. of_lock e ≡ true) }
-        ensures at_lock { IfErr result (EndsAtLock self.old turns self.new.steps) }
-        ensures answered { IfOk result (λ reply. IsReply self.old.process (Call.Append seq value) reply) }
+        ensures at_lock { IfErr result (EndsAtLock S.named self.old turns self.new.steps) }
+        ensures answered { IfOk result (λ reply. IsReply S.named self.old.process (Call.Append seq value) reply) }
     {
         if value.width() != self.layout.width {
             return Err(LockFault::BadWidth);
@@ -377,8 +378,8 @@ impl<L: Ledger> Member<L> {
         ensures goes { Goes self.old self.new }
         ensures stands { is_in self.old.standing ≡ false → self.new.standing ≡ stands_out result }
         ensures faults { is_in self.old.standing ≡ false → IfErr result (λ e. of_lock e ≡ true) }
-        ensures at_lock { IfErr result (EndsAtLock self.old (Some turns) self.new.steps) }
-        ensures answered { IfOk result (λ reply. IsReply self.old.process Call.Close reply) }
+        ensures at_lock { IfErr result (EndsAtLock S.named self.old (Some turns) self.new.steps) }
+        ensures answered { IfOk result (λ reply. IsReply S.named self.old.process Call.Close reply) }
     {
         self.mail_by(rt, plan, Call::Close, Some(turns))
     }
@@ -393,8 +394,8 @@ impl<L: Ledger> Member<L> {
         ensures goes { Goes self.old self.new }
         ensures stands { is_in self.old.standing ≡ false → self.new.standing ≡ stands_out result }
         ensures faults { is_in self.old.standing ≡ false → IfErr result (λ e. of_wait e ≡ true) }
-        ensures at_lock { IfErr result (EndsAtLock self.old None self.new.steps) }
-        ensures answered { IfOk result (λ reply. IsReply self.old.process Call.Close reply) }
+        ensures at_lock { IfErr result (EndsAtLock S.named self.old None self.new.steps) }
+        ensures answered { IfOk result (λ reply. IsReply S.named self.old.process Call.Close reply) }
     {
         self.mail_by(rt, plan, Call::Close, None)
     }
@@ -419,8 +420,8 @@ impl<L: Ledger> Member<L> {
         ensures goes { Goes self.old self.new }
         ensures stands { is_in self.old.standing ≡ false → self.new.standing ≡ stands_out result }
         ensures faults { is_in self.old.standing ≡ false → IfErr result (λ e. of_lock e ≡ true) }
-        ensures at_lock { IfErr result (EndsAtLock self.old turns self.new.steps) }
-        ensures answered { IfOk result (λ reply. IsReply self.old.process call reply) }
+        ensures at_lock { IfErr result (EndsAtLock S.named self.old turns self.new.steps) }
+        ensures answered { IfOk result (λ reply. IsReply S.named self.old.process call reply) }
     {
         if self.standing.is_in() {
             return Err(LockFault::AlreadyIn);
@@ -456,7 +457,7 @@ impl<L: Ledger> Member<L> {
         ensures faults { IfOk result (λ reply. IfErr reply (λ e. e ≡ LockFault.NotRecoverable)) }
         ensures lost { OnErr result (self.new.standing ≡ MemberState.Lost) }
         ensures only { IfErr result (λ e. (e ≡ LockFault.Crashed) ⊎ (e ≡ LockFault.OutOfMemory)) }
-        ensures answered { IfOk result (λ answer. IfOk answer (λ reply. IsReply self.old.process call reply)) }
+        ensures answered { IfOk result (λ answer. IfOk answer (λ reply. IsReply S.named self.old.process call reply)) }
     {
         let mended = self.mend(rt, plan)?;
         let reply = match mended {

@@ -7,6 +7,7 @@ ghost use Rattle.one_lock.specs.Story.{IsLeftBy};
 
 use crate::gather_fault::GatherFault;
 use crate::member::Member;
+use crate::sizes::Sizes;
 use rmeworld::Image;
 use std::sync::ledger::{Ledger, Share};
 use std::sync::{Arc, Wait};
@@ -14,10 +15,10 @@ use std::sync::{Arc, Wait};
 /// Takes all members of an arena back, and tells what outlives them. The shares of all members, merged, are the whole ledger:
 /// the world has come by as many steps as they took together. After a fault the members are handed back, and nothing was
 /// merged. `OutOfMemory`: there was no room for the image; they may be gathered again.
-pub fn gather<L: Ledger, R: Wait>(
+pub fn gather<L: Ledger, S: Sizes, R: Wait>(
     rt: &R,
-    members: Vec<Member<L>>,
-) -> Result<Image, (Vec<Member<L>>, GatherFault)>
+    members: Vec<Member<L, S>>,
+) -> Result<Image, (Vec<Member<L, S>>, GatherFault)>
     requires arena { All (λ m. m.layout.procs ≡ L.parts) members.items }
     ensures all { OnOk result (AreAll L.parts members.items) }
     ensures missing { IfErr result (λ e. e.1 ≡ GatherFault.NotAll → AreAll L.parts members.items → ⊥) }
@@ -48,7 +49,7 @@ pub fn gather<L: Ledger, R: Wait>(
 
 /// The shares of these members as one.
 #[tactic(auto, using(crate::proofs::Steps::steps_more))]
-fn merged<L: Ledger>(members: Vec<Member<L>>) -> Option<Share<L>>
+fn merged<L: Ledger, S: Sizes>(members: Vec<Member<L, S>>) -> Option<Share<L>>
     ensures some { vec_len members ≢ 0 → IsSome result }
     ensures parts { IfSome result (λ all. all.parts ≡ vec_len members) }
     ensures amount { IfSome result (λ all. all.amount ≡ steps_taken members.items) }

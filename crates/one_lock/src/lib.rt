@@ -13,6 +13,7 @@ pub mod member;
 pub mod member_state;
 mod opening;
 mod shared;
+pub mod sizes;
 
 pub use arena::Arena;
 pub use gather_fault::GatherFault;
@@ -21,3 +22,4 @@ pub use lab::run_lab;
 pub use member::Member;
 pub use member_state::MemberState;
 pub use runs::Entry;
+pub use sizes::{AnySizes, Sizes};

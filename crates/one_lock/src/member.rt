@@ -8,6 +8,7 @@ ghost use Rattle.one_lock.specs.Answers.{Gives, IsAnswered, spent};
 use crate::member_state::MemberState;
 use crate::opening::Opening;
 use crate::shared::{Shared, Turn};
+use crate::sizes::{AnySizes, Sizes};
 use crossbeam_utils::Backoff;
 use plans::CrashPlan;
 use redomail::Layout;
@@ -20,16 +21,16 @@ use std::sync::{Arc, Mutex, Wait};
 /// One process's way to the world. It may move to a thread. Its share of the ledger counts its own steps, and takes no
 /// bytes; those of its last call it counts itself.
 #[derive(Drop)]
-pub struct Member<L: Ledger> {
+pub struct Member<L: Ledger, S: Sizes = AnySizes> {
     pub(super) process: u64,
     pub(super) layout: Layout,
     pub(super) standing: MemberState,
-    pub(super) shared: Arc<Mutex<Shared<L>>>,
+    pub(super) shared: Arc<Mutex<Shared<L, S>>>,
     pub(super) share: Share<L>,
     pub(super) counted: u64,
 }
 
-impl<L: Ledger> Model for Member<L> {
+impl<L: Ledger, S: Sizes> Model for Member<L, S> {
     ghost use Rattle.std.specs.Prelude.{◌≡◌, ◌<◌};
     ghost use Rattle.one_lock.specs.Member.{Seat};
 
@@ -53,16 +54,16 @@ fn is_spent(left: &mut Option<u64>) -> bool
     false
 }
 
-impl<L: Ledger> Member<L> {
+impl<L: Ledger, S: Sizes> Member<L, S> {
     ghost use Rattle.std.specs.Prelude.{Err, ◌⊎◌};
 
     /// A member whose process is at rest.
     pub(super) fn new(
         process: u64,
         layout: Layout,
-        shared: Arc<Mutex<Shared<L>>>,
+        shared: Arc<Mutex<Shared<L, S>>>,
         share: Share<L>,
-    ) -> Member<L>
+    ) -> Member<L, S>
         requires part { share.parts ≡ 1 }
         requires few { process < 64 }
         ensures { result ≡ record { process = process; layout = layout; standing = MemberState.Out; steps = share.amount; counted = 0 } }
@@ -138,7 +139,7 @@ impl<L: Ledger> Member<L> {
         ensures ok { OnOk result (self.new ≡ record self.old { steps = self.old.steps + 1; counted = one_more self.old.counted }) }
         ensures err { OnErr result (self.new ≡ record self.old { standing = MemberState.Lost }) }
         ensures only { IfErr result (λ e. (e ≡ LockFault.Crashed) ⊎ (e ≡ LockFault.OutOfMemory)) }
-        ensures gives { IfOk result (λ turn. Gives self.old.process opening turn.answer turn.blocked) }
+        ensures gives { IfOk result (λ turn. Gives S.named self.old.process opening turn.answer turn.blocked) }
     {
         self.ask(plan)?;
         let turn = self
@@ -175,7 +176,7 @@ impl<L: Ledger> Member<L> {
         ensures lost { OnErr result (self.new.standing ≡ MemberState.Lost) }
         ensures only { IfErr result (λ e. (e ≡ LockFault.Crashed) ⊎ (e ≡ LockFault.OutOfMemory)) }
         ensures patient { IsNone turns → IfOk result (λ answer. IsSome answer) }
-        ensures answered { IfOk result (λ answer. IsAnswered self.old.process self.old.standing call turns self.old.steps self.new.steps answer) }
+        ensures answered { IfOk result (λ answer. IsAnswered S.named self.old.process self.old.standing call turns self.old.steps self.new.steps answer) }
     {
         self.counted = 0;
         self.pursue(rt, plan, call, turns)
@@ -201,7 +202,7 @@ impl<L: Ledger> Member<L> {
         ensures lost { OnErr result (self.new.standing ≡ MemberState.Lost) }
         ensures only { IfErr result (λ e. (e ≡ LockFault.Crashed) ⊎ (e ≡ LockFault.OutOfMemory)) }
         ensures patient { IsNone turns → IfOk result (λ answer. IsSome answer) }
-        ensures answered { IfOk result (λ answer. IsAnswered self.old.process self.old.standing call turns self.old.steps self.new.steps answer) }
+        ensures answered { IfOk result (λ answer. IsAnswered S.named self.old.process self.old.standing call turns self.old.steps self.new.steps answer) }
     {
         let mut left = turns;
         let mut opening = Opening {

@@ -6,28 +6,31 @@ ghost use Rattle.rmeworld.specs.Replayed.{advanced, stepped, started, crashed, s
 ghost use Rattle.rmeworld.specs.ImageRules.{IsLawfulImage};
 ghost use Rattle.rmeworld.specs.WorldState.{new_world};
 ghost use Rattle.one_lock.specs.Answers.{opened, Opens, Gives, Refuses, RefusesToOpen};
+ghost use Rattle.one_lock.specs.Story.{AreSizes};
 
 use crate::opening::Opening;
+use crate::sizes::Sizes;
 use rmecore::Refusal;
 use rmeworld::{Answer, Call, Image, World};
-use std::marker::Model;
+use std::marker::{Model, PhantomData};
 use std::sync::ledger::{Book, Ledger, Share};
 
 /// The world that all members step in, and the book that counts their steps.
 #[derive(Drop)]
-pub struct Shared<L: Ledger> {
+pub struct Shared<L: Ledger, S: Sizes> {
     world: World,
     book: Book<L>,
+    sizes: PhantomData<S>,
 }
 
-impl<L: Ledger> Model for Shared<L> {
-    ghost use Rattle.one_lock.specs.Story.{Held, IsTold};
+impl<L: Ledger, S: Sizes> Model for Shared<L, S> {
+    ghost use Rattle.one_lock.specs.Story.{Held, IsTold, AreSizes};
 
     ghost Value = { Held };
 
     ghost view = { λ s. record { world = s.world; total = s.book.total } };
 
-    ghost invariant = { λ s. IsTold s.world s.book.total };
+    ghost invariant = { λ s. IsTold s.world s.book.total × AreSizes S.named s.world.layout s.world.limit };
 }
 
 /// What a step tells the member that took it.
@@ -39,16 +42,21 @@ pub struct Turn {
     pub blocked: bool,
 }
 
-impl<L: Ledger> Shared<L> {
+impl<L: Ledger, S: Sizes> Shared<L, S> {
     ghost use Rattle.one_lock.specs.Story.{IsLeftBy, IsTold};
 
     /// A new world, and a book that has counted nothing.
-    pub fn new(world: World, book: Book<L>) -> Shared<L>
+    pub fn new(world: World, book: Book<L>) -> Shared<L, S>
+        requires sizes { AreSizes S.named world.layout world.limit }
         requires world { world ≡ new_world world.layout world.limit }
         requires book { book.total ≡ 0 }
         ensures { result ≡ record { world = world; total = 0 } }
     {
-        Shared { world, book }
+        Shared {
+            world,
+            book,
+            sizes: PhantomData,
+        }
     }
 
     /// One step of a process, with what comes before it. The book and the share grow by one.
@@ -58,7 +66,7 @@ impl<L: Ledger> Shared<L> {
         ensures share { OnOk result (share.new.amount ≡ share.old.amount + 1) }
         ensures uncounted { OnErr result ((self.new.total ≡ self.old.total) × (share.new.amount ≡ share.old.amount)) }
         ensures parts { share.new.parts ≡ share.old.parts }
-        ensures gives { IfOk result (λ turn. Gives p opening turn.answer turn.blocked) }
+        ensures gives { IfOk result (λ turn. Gives S.named p opening turn.answer turn.blocked) }
         ensures refused { IfErr result (Refuses p opening self.old.world) }
     {
         self.told();
@@ -66,9 +74,10 @@ impl<L: Ledger> Shared<L> {
         self.advance(share, p)
     }
 
-    /// What is known whenever the lock is free: the world is one that some run has come to.
+    /// What is known whenever the lock is free: the world is one that some run has come to, and has the sizes that are named.
     fn told(&self)
-        ensures { IsTold self.now.world self.now.total }
+        ensures run { IsTold self.now.world self.now.total }
+        ensures sizes { AreSizes S.named self.now.world.layout self.now.world.limit }
     {
         let _ = &self.world;
     }

@@ -10,6 +10,7 @@ use crate::lab::ending::Ending;
 use crate::lab::sending::{is_crash, is_sent, value_sent};
 use crate::lab::{Gate, LabFault, Spec};
 use crate::member::Member;
+use crate::sizes::Sizes;
 use redomail::Reply;
 use rmecore::Body;
 use runs::LockFault;
@@ -22,36 +23,36 @@ use std::thread::{Promise, PromisedHandle, Scope, Threads};
 
 /// A worker that has ended, with the member that it was given.
 #[derive(Drop)]
-pub struct Done<L: Ledger> {
-    pub member: Member<L>,
+pub struct Done<L: Ledger, S: Sizes> {
+    pub member: Member<L, S>,
     pub ending: Ending,
 }
 
 /// That a worker hands back the member that it was given, and has ended as workers do.
 #[derive(Drop)]
-pub struct HandsBack<L: Ledger>(pub Snapshot<Member<L>>);
+pub struct HandsBack<L: Ledger, S: Sizes>(pub Snapshot<Member<L, S>>);
 
-impl<L: Ledger> Promise<Done<L>> for HandsBack<L> {
+impl<L: Ledger, S: Sizes> Promise<Done<L, S>> for HandsBack<L, S> {
     ghost use Rattle.std.specs.Prelude.{◌≡◌};
     ghost use Rattle.one_lock.specs.Endings.{MayEnd};
     ghost use Rattle.one_lock.specs.Shown.{place_of};
 
-    ghost kept_by = { λ promise done. (place_of done.member ≡ place_of promise.0.value) × MayEnd done.member.process done.ending };
+    ghost kept_by = { λ promise done. (place_of done.member ≡ place_of promise.0.value) × MayEnd S.named done.member.process done.ending };
 }
 
 /// Sends the messages of a worker, numbered from 1, each again until it is answered. An answer is told to the gate.
-fn work<L: Ledger, G: Gate + Drop, R: Wait>(
+fn work<L: Ledger, S: Sizes, G: Gate + Drop, R: Wait>(
     rt: &R,
-    mut member: Member<L>,
+    mut member: Member<L, S>,
     mut gate: G,
     spec: Spec,
-) -> Done<L>
+) -> Done<L, S>
     requires most { spec.messages ≤ 4096 }
     requires least { 1 ≤ spec.width }
     requires wide { spec.width ≤ 8 }
     requires ready { CanSend spec.width member }
     ensures place { place_of result.member ≡ place_of member }
-    ensures ends { MayEnd result.member.process result.ending }
+    ensures ends { MayEnd S.named result.member.process result.ending }
 {
     let p = member.process();
     for seq in 1..spec.messages + 1 {
@@ -75,9 +76,9 @@ fn work<L: Ledger, G: Gate + Drop, R: Wait>(
 
 /// Sends one message until it is answered. Last of all the gate hears of the answer.
 #[tactic(auto, using(crate::proofs::Endings::ended_by))]
-fn send<L: Ledger, G: Gate, R: Wait>(
+fn send<L: Ledger, S: Sizes, G: Gate, R: Wait>(
     rt: &R,
-    member: &mut Member<L>,
+    member: &mut Member<L, S>,
     gate: &mut G,
     seq: u64,
     value: Body,
@@ -86,7 +87,7 @@ fn send<L: Ledger, G: Gate, R: Wait>(
     ensures place { place_of member.new ≡ place_of member.old }
     ensures ready { is_in member.new.standing ≡ false }
     ensures told { OnOk result ((asking : G) × G.heard asking seq gate.new) }
-    ensures ends { IfErr result (λ why. MayEnd member.new.process (Ending.Fault why)) }
+    ensures ends { IfErr result (λ why. MayEnd S.named member.new.process (Ending.Fault why)) }
 {
     for _ in rt.forever() {
         match member.append(rt, seq, value, gate) {
@@ -106,26 +107,31 @@ fn send<L: Ledger, G: Gate, R: Wait>(
 
 /// Runs all workers, each in a thread of its own, and answers them once all have ended. Where a thread can't be made it
 /// returns too once those that run have ended.
-pub fn work_all<L: Ledger + Send + Sync, G: Gate + Send + Drop, R: Threads + Wait + Sync>(
+pub fn work_all<
+    L: Ledger + Send + Sync,
+    S: Sizes + Send + Sync,
+    G: Gate + Send + Drop,
+    R: Threads + Wait + Sync,
+>(
     rt: &R,
     alloc: Global,
     spec: Spec,
-    members: Vec<Member<L>>,
+    members: Vec<Member<L, S>>,
     gates: Vec<G>,
-) -> Result<Vec<Done<L>>, AllocError>
+) -> Result<Vec<Done<L, S>>, AllocError>
     requires gates { vec_len gates ≡ vec_len members }
     requires messages { spec.messages ≤ 4096 }
     requires width { (1 ≤ spec.width) × (spec.width ≤ 8) }
     requires ready { All (CanSend spec.width) members.items }
     ensures places { IfOk result (λ all. map (λ d. place_of d.member) all.items ≡ map place_of members.items) }
-    ensures ends { IfOk result (λ all. All (λ d. MayEnd d.member.process d.ending) all.items) }
+    ensures ends { IfOk result (λ all. All (λ d. MayEnd S.named d.member.process d.ending) all.items) }
 {
     thread::scope(
         thread::scope_env(),
         rt,
-        |scope| -> Result<Vec<Done<L>>, AllocError>
+        |scope| -> Result<Vec<Done<L, S>>, AllocError>
             requires { IsSend G.row × IsSync R.row × (vec_len gates ≡ vec_len members) × (spec.messages ≤ 4096) × (1 ≤ spec.width) × (spec.width ≤ 8) × All (CanSend spec.width) members.items }
-            ensures { IfOk result (λ all. (map (λ d. place_of d.member) all.items ≡ map place_of members.items) × All (λ d. MayEnd d.member.process d.ending) all.items) }
+            ensures { IfOk result (λ all. (map (λ d. place_of d.member) all.items ≡ map place_of members.items) × All (λ d. MayEnd S.named d.member.process d.ending) all.items) }
         {
             let threads = start_all(scope, rt, alloc, spec, members, gates)?;
             join_all(rt, alloc, threads)
@@ -134,14 +140,21 @@ pub fn work_all<L: Ledger + Send + Sync, G: Gate + Send + Drop, R: Threads + Wai
 }
 
 /// A thread of the scope for each worker, by process.
-fn start_all<'s, E: 's, L: Ledger + Send + Sync + 's, G: Gate + Send + Drop + 's, R: Wait + Sync>(
+fn start_all<
+    's,
+    E: 's,
+    L: Ledger + Send + Sync + 's,
+    S: Sizes + Send + Sync + 's,
+    G: Gate + Send + Drop + 's,
+    R: Wait + Sync,
+>(
     scope: &Scope<'s, E>,
     rt: &'s R,
     alloc: Global,
     spec: Spec,
-    members: Vec<Member<L>>,
+    members: Vec<Member<L, S>>,
     gates: Vec<G>,
-) -> Result<Vec<PromisedHandle<Done<L>, HandsBack<L>>>, AllocError>
+) -> Result<Vec<PromisedHandle<Done<L, S>, HandsBack<L, S>>>, AllocError>
     requires gates { vec_len gates ≡ vec_len members }
     requires messages { spec.messages ≤ 4096 }
     requires width { (1 ≤ spec.width) × (spec.width ≤ 8) }
@@ -155,7 +168,7 @@ fn start_all<'s, E: 's, L: Ledger + Send + Sync + 's, G: Gate + Send + Drop + 's
             unreachable!()
         };
         let promise = HandsBack(Snapshot::of(&member));
-        let job = move || -> Done<L>
+        let job = move || -> Done<L, S>
             requires { IsSend G.row × IsSync R.row × (spec.messages ≤ 4096) × (1 ≤ spec.width) × (spec.width ≤ 8) × CanSend spec.width member }
         { work(rt, member, gate, spec) };
         let Ok(thread) = scope.spawn_with(promise, job) else {
@@ -167,13 +180,13 @@ fn start_all<'s, E: 's, L: Ledger + Send + Sync + 's, G: Gate + Send + Drop + 's
 }
 
 /// What these threads hand back, once they have ended.
-fn join_all<L: Ledger, R: Threads>(
+fn join_all<L: Ledger, S: Sizes, R: Threads>(
     rt: &R,
     alloc: Global,
-    threads: Vec<PromisedHandle<Done<L>, HandsBack<L>>>,
-) -> Result<Vec<Done<L>>, AllocError>
+    threads: Vec<PromisedHandle<Done<L, S>, HandsBack<L, S>>>,
+) -> Result<Vec<Done<L, S>>, AllocError>
     ensures places { IfOk result (λ all. map (λ d. place_of d.member) all.items ≡ map (λ h. place_of h.promise.0.value) threads.items) }
-    ensures ends { IfOk result (λ all. All (λ d. MayEnd d.member.process d.ending) all.items) }
+    ensures ends { IfOk result (λ all. All (λ d. MayEnd S.named d.member.process d.ending) all.items) }
 {
     let mut all = Vec::new(alloc);
     for thread in threads {
@@ -184,7 +197,7 @@ fn join_all<L: Ledger, R: Threads>(
 
 /// The fault that is told of how these workers ended, if any ended early: want of memory of any of them, else what ended the
 /// least.
-pub fn first_fault<L: Ledger>(ended: &[Done<L>]) -> Option<LabFault>
+pub fn first_fault<L: Ledger, S: Sizes>(ended: &[Done<L, S>]) -> Option<LabFault>
     ensures none { IsNone result ↔ HaveAllSent (map (λ d. d.ending) ended.now) }
     ensures memory { (result ≡ Some LabFault.OutOfMemory) ↔ WantedMemory (map (λ d. d.ending) ended.now) }
     ensures least { IfSome result (λ fault. fault ≢ LabFault.OutOfMemory → IsOfLeast (map (λ d. d.ending) ended.now) fault) }
@@ -198,7 +211,7 @@ pub fn first_fault<L: Ledger>(ended: &[Done<L>]) -> Option<LabFault>
 
 /// Whether one of these workers ended for want of memory.
 #[tactic(auto, using(crate::proofs::Endings::one_wanted))]
-fn want_memory<L: Ledger>(ended: &[Done<L>]) -> bool
+fn want_memory<L: Ledger, S: Sizes>(ended: &[Done<L, S>]) -> bool
     ensures { IsTrue result ↔ WantedMemory (map (λ d. d.ending) ended.now) }
 {
     for done in ended {
@@ -210,7 +223,7 @@ fn want_memory<L: Ledger>(ended: &[Done<L>]) -> bool
 }
 
 /// What ended the least worker that has ended early.
-fn least_fault<L: Ledger>(ended: &[Done<L>]) -> Option<LabFault>
+fn least_fault<L: Ledger, S: Sizes>(ended: &[Done<L, S>]) -> Option<LabFault>
     ensures none { IsNone result → HaveAllSent (map (λ d. d.ending) ended.now) }
     ensures least { IfSome result (λ fault. IsOfLeast (map (λ d. d.ending) ended.now) fault) }
 {
@@ -225,10 +238,10 @@ fn least_fault<L: Ledger>(ended: &[Done<L>]) -> Option<LabFault>
 }
 
 /// The members of workers that have ended.
-pub fn members_of<L: Ledger>(
+pub fn members_of<L: Ledger, S: Sizes>(
     alloc: Global,
-    ended: Vec<Done<L>>,
-) -> Result<Vec<Member<L>>, AllocError>
+    ended: Vec<Done<L, S>>,
+) -> Result<Vec<Member<L, S>>, AllocError>
     ensures { IfOk result (λ all. map place_of all.items ≡ map (λ d. place_of d.member) ended.items) }
 {
     let mut members = Vec::with_capacity(alloc, ended.len())?;

@@ -1,8 +1,8 @@
 //! The laboratory over the plain reference.
 
-ghost use Rattle.std.specs.Prelude.{◌≡◌, ◌⊎◌, ◌↔◌, IfOk, IfErr, IsErrOf, vec_len};
+ghost use Rattle.std.specs.Prelude.{◌≡◌, ◌⊎◌, ◌↔◌, IfOk, IfErr, IsErrOf, Some, vec_len};
 ghost use Rattle.one_lock.specs.Endings.{MayEndLab};
-ghost use Rattle.one_lock.specs.Lab.{IsBadSpec};
+ghost use Rattle.one_lock.specs.Lab.{IsBadSpec, setup_of};
 ghost use Rattle.one_lock.specs.Shown.{AreShown};
 
 use crate::arena::Arena;
@@ -11,6 +11,7 @@ use crate::gathering::gather;
 use crate::lab::crew::{first_fault, members_of, work_all};
 use crate::lab::showing::shown;
 use crate::lab::{Gate, LabFault, LabResult, Spec};
+use crate::sizes::Sizes;
 use redomail::Layout;
 use std::alloc::Global;
 use std::marker::Brand;
@@ -29,32 +30,32 @@ pub fn run_lab<G: Gate + Send + Drop, R: Threads + Wait + Sync>(
     gates: Vec<G>,
 ) -> Result<LabResult, LabFault>
     ensures bad_spec { IsErrOf result LabFault.BadSpec ↔ IsBadSpec spec (vec_len gates) }
-    ensures ends { IfErr result (λ fault. (fault ≡ LabFault.BadSpec) ⊎ MayEndLab spec.procs fault) }
+    ensures ends { IfErr result (λ fault. (fault ≡ LabFault.BadSpec) ⊎ MayEndLab spec fault) }
     ensures shown { IfOk result (λ lab. AreShown (record { procs = spec.procs; cap = spec.cap; width = spec.width }) lab.messages.items) }
 {
     if spec.is_bad(gates.len() as u64) {
         return Err(LabFault::BadSpec);
     }
-    run::<Brand, G, R>(rt, alloc, spec, gates, Blank::new(spec.procs))
+    run::<Brand, Brand, G, R>(rt, alloc, spec, gates, Blank::new(spec.procs))
 }
 
 /// The lab, with sizes within the limits and a gate for each worker, over a ledger with a part for each of them.
-fn run<L: Ledger + Send + Sync, G: Gate + Send + Drop, R: Threads + Wait + Sync>(
-    rt: &R,
-    alloc: Global,
-    spec: Spec,
-    gates: Vec<G>,
-    blank: Blank,
-) -> Result<LabResult, LabFault>
+fn run<
+    L: Ledger + Send + Sync,
+    S: Sizes + Send + Sync,
+    G: Gate + Send + Drop,
+    R: Threads + Wait + Sync,
+>(rt: &R, alloc: Global, spec: Spec, gates: Vec<G>, blank: Blank) -> Result<LabResult, LabFault>
     requires sizes { IsBadSpec spec (vec_len gates) → ⊥ }
     requires name { blank.name ≡ L.name }
     requires parts { blank.parts ≡ L.parts }
     requires each { blank.parts ≡ spec.procs }
-    ensures ends { IfErr result (MayEndLab spec.procs) }
+    requires named { S.named ≡ Some (setup_of spec) }
+    ensures ends { IfErr result (MayEndLab spec) }
     ensures shown { IfOk result (λ lab. AreShown (record { procs = spec.procs; cap = spec.cap; width = spec.width }) lab.messages.items) }
 {
-    let Ok(members) = Arena::new::<L, R>(
-        rt, alloc, spec.procs, spec.limit, spec.cap, spec.width, blank,
+    let Ok(members) = Arena::of_sizes::<L, S>(
+        alloc, spec.procs, spec.limit, spec.cap, spec.width, blank,
     ) else {
         return Err(LabFault::OutOfMemory);
     };

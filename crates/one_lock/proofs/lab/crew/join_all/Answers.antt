@@ -13,5 +13,5 @@ loop-thread-preserved g c =
     let items = c.in_ok-push.ensures.items in
     record {
       places = ap (λ l. map (λ d. place_of d.member) l ++ map (λ h. place_of h.promise.0.value) left) items ∙ moved_on (λ d. place_of d.member) (λ h. place_of h.promise.0.value) c.loop-thread.all.items c.join.result c.in-Some.thread _ left _ i.places c.in-Some.ensures.steps.0 c.join.ensures.0;
-      ends = subst (All (λ d. MayEnd d.member.process d.ending)) (sym items) (All-push (λ d. MayEnd d.member.process d.ending) c.loop-thread.all.items c.join.result i.ends c.join.ensures.1);
+      ends = subst (All (λ d. MayEnd g.S.Sizes.named d.member.process d.ending)) (sym items) (All-push (λ d. MayEnd g.S.Sizes.named d.member.process d.ending) c.loop-thread.all.items c.join.result i.ends c.join.ensures.1);
     }

@@ -7,5 +7,5 @@ use Rattle.one_lock.proofs.lab.crew.join_all.Given as goal
 abbrev pub invariant-loop-thread : goal.invariant-loop-thread
 invariant-loop-thread g l = record {
   places : map (λ d. place_of d.member) l.all.items ++ map (λ h. place_of h.promise.0.value) (into_iter_items l.thread-iterator) ≡ map (λ h. place_of h.promise.0.value) l.fn.threads.items;
-  ends : All (λ d. MayEnd d.member.process d.ending) l.all.items;
+  ends : All (λ d. MayEnd g.S.Sizes.named d.member.process d.ending) l.all.items;
 }

@@ -1,4 +1,4 @@
-use Rattle.std.proofs.Common.{rules, ◌≡◌, ℕ, List, length, map, All, Result, Ok, Err, IfOk, OnOk, slice_index, sym, ap, ◌∙◌, subst}
+use Rattle.std.proofs.Common.{rules, ◌≡◌, ℕ, List, length, map, All, Result, Ok, Err, IfOk, OnOk, slice_index, sym, ap, ◌∙◌, subst, Option, Some, refl}
 use Rattle.std.proofs.lemmas.List.{length-map}
 use Rattle.redomail.specs.declared.layout.Layout.{Layout}
 use Rattle.redomail.specs.declared.message.Message.{Message}
@@ -7,11 +7,12 @@ use Rattle.redomail.specs.Layout.{words_of}
 use Rattle.redomail.specs.Shape.{entries}
 use Rattle.rmeworld.specs.declared.image.Image.{Image}
 use Rattle.rmeworld.specs.ImageRules.{IsLawfulImage}
+use Rattle.runs.specs.declared.setup.Setup.{Setup}
 use Rattle.one_lock.specs.declared.lab.lab_fault.LabFault.{LabFault}
 use Rattle.one_lock.specs.Shown.{AreShown, CanSend, place_of}
 use Rattle.one_lock.specs.Member.{steps_taken}
-use Rattle.one_lock.specs.Story.{IsLeftBy}
-use Rattle.one_lock.proofs.Endings.{each_may, may_end_lab}
+use Rattle.one_lock.specs.Story.{IsLeftBy, AreSizes}
+use Rattle.one_lock.proofs.Endings.{EachMay, each_may, may_end_lab}
 use Rattle.one_lock.proofs.Seats.{same_fit, same_count, new_count, new_ready}
 use Rattle.one_lock.proofs.lab.running.run.Goals as goal
 
@@ -28,9 +29,14 @@ returns-in-Some-clause-ends g c =
     let same = c.in-Ok-work_all.ensures.places in
     let members : length ended ≡ length c.in-Ok.members.items = sym (length-map ended (λ d. place_of d.member)) ∙ ap length same ∙ length-map c.in-Ok.members.items place_of in
     let all : length ended ≡ c.args.spec.procs = members ∙ ap length c.in-Ok.ensures.ok ∙ new_count l c.args.spec.procs in
-    may_end_lab (map (λ d. d.ending) c.as_slice.result.now) c.args.spec.procs c.in-Some.fault (length-map c.as_slice.result.now (λ d. d.ending) ∙ ap length looked ∙ all)
-    (each_may (λ d. d.ending) (λ d. d.member) l c.args.spec.procs ended c.as_slice.result.now looked c.in-Ok-work_all.ensures.ends (same ∙ ap (map place_of) c.in-Ok.ensures.ok))
+    may_end_lab (map (λ d. d.ending) c.as_slice.result.now) c.args.spec c.in-Some.fault (length-map c.as_slice.result.now (λ d. d.ending) ∙ ap length looked ∙ all)
+    (subst (λ (named : Option Setup). EachMay named (map (λ d. d.ending) c.as_slice.result.now)) c.requires.named (each_may g.S.Sizes.named (λ d. d.ending) (λ d. d.member) l c.args.spec.procs ended c.as_slice.result.now looked c.in-Ok-work_all.ensures.ends (same ∙ ap (map place_of) c.in-Ok.ensures.ok)))
     (λ wanted. let e = c.in-Some.ensures.memory.1 wanted in cc) c.in-Some.ensures.bad_spec c.in-Some.ensures.least
+
+pub of_sizes-requires-clause-sizes : goal.of_sizes-requires-clause-sizes
+of_sizes-requires-clause-sizes g c =
+    let l : Layout = record { procs = c.args.spec.procs; cap = c.args.spec.cap; width = c.args.spec.width } in
+    subst (λ (named : Option Setup). AreSizes named l c.args.spec.limit) (sym c.requires.named) (refl, refl)
 
 pub gather-requires : goal.gather-requires
 gather-requires g c =

@@ -4,7 +4,7 @@ use Rattle.redomail.specs.declared.layout.Layout.{Layout}
 use Rattle.rmeworld.proofs.Beginning.{sized}
 use Rattle.one_lock.specs.Member.{new_seats, AreAll}
 use Rattle.one_lock.proofs.Seats.{new_arena, new_all}
-use Rattle.one_lock.proofs.arena.Arena.new.Goals as goal
+use Rattle.one_lock.proofs.arena.Arena.of_sizes.Goals as goal
 
 pub returns-clause-arena : goal.returns-clause-arena
 returns-clause-arena g c =

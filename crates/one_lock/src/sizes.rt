@@ -1,0 +1,28 @@
+//! The sizes of an arena's world, for contracts alone.
+
+ghost use Rattle.std.specs.Prelude.{Option};
+ghost use Rattle.runs.specs.declared.setup.Setup.{Setup};
+
+use std::marker::Brand;
+
+/// Which sizes the world has that an arena's members step in. A member's type names them where it is made so, and then each
+/// step that its contract speaks of is a step of a world with these sizes.
+pub trait Sizes {
+    ghost named: { Option Setup };
+}
+
+impl Sizes for Brand {
+    ghost use Rattle.std.specs.Prelude.{None};
+
+    ghost named = { None };
+}
+
+/// Sizes that a member's type doesn't name.
+#[derive(Drop)]
+pub struct AnySizes;
+
+impl Sizes for AnySizes {
+    ghost use Rattle.std.specs.Prelude.{None};
+
+    ghost named = { None };
+}

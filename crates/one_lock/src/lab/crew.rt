@@ -2,6 +2,9 @@
 
 ghost use Rattle.std.specs.Prelude.{◌≡◌, ◌≢◌, ◌≤◌, ◌⊎◌, ◌↔◌, Some, All, IsNone, IsTrue, IfOk, IfErr, OnOk, IfSome, false, length, map, vec_len};
 ghost use Rattle.std.specs.Thread.{IsSend, IsSync};
+ghost use Rattle.rmeworld.specs.declared.call.Call.TheVariants.{Append};
+ghost use Rattle.one_lock.specs.declared.lab.spec.Spec.{Spec as SpecOf};
+ghost use Rattle.one_lock.specs.Answers.{IsReply};
 ghost use Rattle.one_lock.specs.Endings.{HaveAllSent, WantedMemory, IsOfLeast, MayEnd};
 ghost use Rattle.one_lock.specs.Member.{is_in};
 ghost use Rattle.one_lock.specs.Shown.{CanSend, place_of};
@@ -28,16 +31,16 @@ pub struct Done<L: Ledger, S: Sizes> {
     pub ending: Ending,
 }
 
-/// That a worker hands back the member that it was given, and has ended as workers do.
+/// That a worker of a lab with these sizes hands back the member that it was given, and has ended as workers do.
 #[derive(Drop)]
-pub struct HandsBack<L: Ledger, S: Sizes>(pub Snapshot<Member<L, S>>);
+pub struct HandsBack<L: Ledger, S: Sizes>(pub Snapshot<Member<L, S>>, pub Spec);
 
 impl<L: Ledger, S: Sizes> Promise<Done<L, S>> for HandsBack<L, S> {
     ghost use Rattle.std.specs.Prelude.{◌≡◌};
     ghost use Rattle.one_lock.specs.Endings.{MayEnd};
     ghost use Rattle.one_lock.specs.Shown.{place_of};
 
-    ghost kept_by = { λ promise done. (place_of done.member ≡ place_of promise.0.value) × MayEnd S.named done.member.process done.ending };
+    ghost kept_by = { λ promise done. (place_of done.member ≡ place_of promise.0.value) × MayEnd S.named promise.1 done.member.process done.ending };
 }
 
 /// Sends the messages of a worker, numbered from 1, each again until it is answered. An answer is told to the gate.
@@ -52,7 +55,7 @@ fn work<L: Ledger, S: Sizes, G: Gate + Drop, R: Wait>(
     requires wide { spec.width ≤ 8 }
     requires ready { CanSend spec.width member }
     ensures place { place_of result.member ≡ place_of member }
-    ensures ends { MayEnd S.named result.member.process result.ending }
+    ensures ends { MayEnd S.named spec result.member.process result.ending }
 {
     let p = member.process();
     for seq in 1..spec.messages + 1 {
@@ -87,7 +90,8 @@ fn send<L: Ledger, S: Sizes, G: Gate, R: Wait>(
     ensures place { place_of member.new ≡ place_of member.old }
     ensures ready { is_in member.new.standing ≡ false }
     ensures told { OnOk result ((asking : G) × G.heard asking seq gate.new) }
-    ensures ends { IfErr result (λ why. MayEnd S.named member.new.process (Ending.Fault why)) }
+    ensures answered { IfOk result (λ reply. IsReply S.named member.old.process (Append seq value) reply) }
+    ensures ends { IfErr result (λ why. (s : SpecOf) → MayEnd S.named s member.new.process (Ending.Fault why)) }
 {
     for _ in rt.forever() {
         match member.append(rt, seq, value, gate) {
@@ -124,14 +128,14 @@ pub fn work_all<
     requires width { (1 ≤ spec.width) × (spec.width ≤ 8) }
     requires ready { All (CanSend spec.width) members.items }
     ensures places { IfOk result (λ all. map (λ d. place_of d.member) all.items ≡ map place_of members.items) }
-    ensures ends { IfOk result (λ all. All (λ d. MayEnd S.named d.member.process d.ending) all.items) }
+    ensures ends { IfOk result (λ all. All (λ d. MayEnd S.named spec d.member.process d.ending) all.items) }
 {
     thread::scope(
         thread::scope_env(),
         rt,
         |scope| -> Result<Vec<Done<L, S>>, AllocError>
             requires { IsSend G.row × IsSync R.row × (vec_len gates ≡ vec_len members) × (spec.messages ≤ 4096) × (1 ≤ spec.width) × (spec.width ≤ 8) × All (CanSend spec.width) members.items }
-            ensures { IfOk result (λ all. (map (λ d. place_of d.member) all.items ≡ map place_of members.items) × All (λ d. MayEnd S.named d.member.process d.ending) all.items) }
+            ensures { IfOk result (λ all. (map (λ d. place_of d.member) all.items ≡ map place_of members.items) × All (λ d. MayEnd S.named spec d.member.process d.ending) all.items) }
         {
             let threads = start_all(scope, rt, alloc, spec, members, gates)?;
             join_all(rt, alloc, threads)
@@ -159,7 +163,8 @@ fn start_all<
     requires messages { spec.messages ≤ 4096 }
     requires width { (1 ≤ spec.width) × (spec.width ≤ 8) }
     requires ready { All (CanSend spec.width) members.items }
-    ensures { IfOk result (λ threads. map (λ h. place_of h.promise.0.value) threads.items ≡ map place_of members.items) }
+    ensures places { IfOk result (λ threads. map (λ h. place_of h.promise.0.value) threads.items ≡ map place_of members.items) }
+    ensures spec { IfOk result (λ threads. All (λ h. h.promise.1 ≡ spec) threads.items) }
 {
     let mut threads = Vec::new(alloc);
     let mut gates = gates.into_iter();
@@ -167,7 +172,7 @@ fn start_all<
         let Some(gate) = gates.next() else {
             unreachable!()
         };
-        let promise = HandsBack(Snapshot::of(&member));
+        let promise = HandsBack(Snapshot::of(&member), spec);
         let job = move || -> Done<L, S>
             requires { IsSend G.row × IsSync R.row × (spec.messages ≤ 4096) × (1 ≤ spec.width) × (spec.width ≤ 8) × CanSend spec.width member }
         { work(rt, member, gate, spec) };
@@ -186,7 +191,7 @@ fn join_all<L: Ledger, S: Sizes, R: Threads>(
     threads: Vec<PromisedHandle<Done<L, S>, HandsBack<L, S>>>,
 ) -> Result<Vec<Done<L, S>>, AllocError>
     ensures places { IfOk result (λ all. map (λ d. place_of d.member) all.items ≡ map (λ h. place_of h.promise.0.value) threads.items) }
-    ensures ends { IfOk result (λ all. All (λ d. MayEnd S.named d.member.process d.ending) all.items) }
+    ensures ends { (spec : SpecOf) → All (λ h. h.promise.1 ≡ spec) threads.items → IfOk result (λ all. All (λ d. MayEnd S.named spec d.member.process d.ending) all.items) }
 {
     let mut all = Vec::new(alloc);
     for thread in threads {

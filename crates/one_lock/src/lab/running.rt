@@ -1,7 +1,7 @@
 //! The laboratory over the plain reference.
 
-ghost use Rattle.std.specs.Prelude.{◌≡◌, ◌⊎◌, ◌↔◌, IfOk, IfErr, IsErrOf, Some, vec_len};
-ghost use Rattle.one_lock.specs.Endings.{MayEndLab};
+ghost use Rattle.std.specs.Prelude.{◌≡◌, ◌⊎◌, ◌↔◌, ◌<◌, ℕ, IfOk, IfErr, OnOk, IsErrOf, Some, vec_len};
+ghost use Rattle.one_lock.specs.Endings.{MayEndLab, WereSent};
 ghost use Rattle.one_lock.specs.Lab.{IsBadSpec, setup_of};
 ghost use Rattle.one_lock.specs.Shown.{AreShown};
 
@@ -31,6 +31,7 @@ pub fn run_lab<G: Gate + Send + Drop, R: Threads + Wait + Sync>(
 ) -> Result<LabResult, LabFault>
     ensures bad_spec { IsErrOf result LabFault.BadSpec ↔ IsBadSpec spec (vec_len gates) }
     ensures ends { IfErr result (λ fault. (fault ≡ LabFault.BadSpec) ⊎ MayEndLab spec fault) }
+    ensures sent { OnOk result ((p : ℕ) → p < spec.procs → WereSent (Some (setup_of spec)) spec.width p spec.messages) }
     ensures shown { IfOk result (λ lab. AreShown (record { procs = spec.procs; cap = spec.cap; width = spec.width }) lab.messages.items) }
 {
     if spec.is_bad(gates.len() as u64) {
@@ -52,6 +53,7 @@ fn run<
     requires each { blank.parts ≡ spec.procs }
     requires named { S.named ≡ Some (setup_of spec) }
     ensures ends { IfErr result (MayEndLab spec) }
+    ensures sent { OnOk result ((p : ℕ) → p < spec.procs → WereSent (Some (setup_of spec)) spec.width p spec.messages) }
     ensures shown { IfOk result (λ lab. AreShown (record { procs = spec.procs; cap = spec.cap; width = spec.width }) lab.messages.items) }
 {
     let Ok(members) = Arena::of_sizes::<L, S>(

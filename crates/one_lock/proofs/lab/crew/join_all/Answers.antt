@@ -1,6 +1,7 @@
-use Rattle.std.proofs.Common.{◌∙◌, ◌++◌, map, All, sym, ap, subst}
+use Rattle.std.proofs.Common.{◌≡◌, ◌∙◌, ◌++◌, map, All, sym, ap, subst}
 use Rattle.std.specs.Vec.Iter.{into_iter_items}
-use Rattle.std.proofs.lemmas.List.Elements.{All-push}
+use Rattle.std.proofs.lemmas.List.Elements.{All-head, All-push, All-tail}
+use Rattle.one_lock.specs.declared.lab.spec.Spec.{Spec}
 use Rattle.one_lock.specs.Endings.{MayEnd}
 use Rattle.one_lock.specs.Shown.{place_of}
 use Rattle.one_lock.proofs.Seats.{moved_on}
@@ -10,8 +11,18 @@ pub loop-thread-preserved : goal.loop-thread-preserved
 loop-thread-preserved g c =
     let i = c.loop-thread.invariant in
     let left = into_iter_items c.next.new.self in
+    let e = c.in-Some.ensures.steps.0 in
     let items = c.in_ok-push.ensures.items in
     record {
-      places = ap (λ l. map (λ d. place_of d.member) l ++ map (λ h. place_of h.promise.0.value) left) items ∙ moved_on (λ d. place_of d.member) (λ h. place_of h.promise.0.value) c.loop-thread.all.items c.join.result c.in-Some.thread _ left _ i.places c.in-Some.ensures.steps.0 c.join.ensures.0;
-      ends = subst (All (λ d. MayEnd g.S.Sizes.named d.member.process d.ending)) (sym items) (All-push (λ d. MayEnd g.S.Sizes.named d.member.process d.ending) c.loop-thread.all.items c.join.result i.ends c.join.ensures.1);
+      places = ap (λ l. map (λ d. place_of d.member) l ++ map (λ h. place_of h.promise.0.value) left) items ∙ moved_on (λ d. place_of d.member) (λ h. place_of h.promise.0.value) c.loop-thread.all.items c.join.result c.in-Some.thread _ left _ i.places e c.join.ensures.0;
+      ends = λ s all.
+          let old = i.ends s all in
+          let rest = subst (All (λ h. h.promise.1 ≡ s)) e old.0 in
+          let here = subst (λ (t : Spec). MayEnd g.S.Sizes.named t c.join.result.member.process c.join.result.ending) (All-head (λ h. h.promise.1 ≡ s) c.in-Some.thread left rest) c.join.ensures.1 in (
+            All-tail (λ h. h.promise.1 ≡ s) c.in-Some.thread left rest,
+            subst (All (λ d. MayEnd g.S.Sizes.named s d.member.process d.ending)) (sym items) (All-push (λ d. MayEnd g.S.Sizes.named s d.member.process d.ending) c.loop-thread.all.items c.join.result old.1 here),
+          );
     }
+
+pub returns-clause-ends : goal.returns-clause-ends
+returns-clause-ends g c = λ s all. (c.loop-thread.invariant.ends s all).1

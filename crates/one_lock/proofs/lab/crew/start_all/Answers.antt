@@ -1,6 +1,6 @@
-use Rattle.std.proofs.Common.{◌∙◌, ◌++◌, map, All, ap, subst, arith}
+use Rattle.std.proofs.Common.{◌≡◌, ◌∙◌, ◌++◌, map, All, ap, sym, subst, arith}
 use Rattle.std.specs.Vec.Iter.{into_iter_items}
-use Rattle.std.proofs.lemmas.List.Elements.{All-tail}
+use Rattle.std.proofs.lemmas.List.Elements.{All-push, All-tail}
 use Rattle.one_lock.specs.Shown.{CanSend, place_of}
 use Rattle.one_lock.proofs.Seats.{moved_on}
 use Rattle.one_lock.proofs.lab.crew.start_all.Goals as goal
@@ -14,5 +14,6 @@ loop-member-preserved g c =
     record {
       places = ap (λ l. map (λ h. place_of h.promise.0.value) l ++ map place_of left) items ∙ moved_on (λ h. place_of h.promise.0.value) place_of c.loop-member.threads.items c.in-Ok.thread c.in-Some.member _ left _ i.places e.0 ((λ k. place_of (c.in-Ok.ensures.ok k).0.value) ∙ ap place_of c.of.ensures);
       gates = (let n = c.in-Some-next.ensures in omega (arith, i.gates, e.1, n.len));
+      spec = subst (All (λ h. h.promise.1 ≡ c.args.spec)) (sym items) (All-push (λ h. h.promise.1 ≡ c.args.spec) c.loop-member.threads.items c.in-Ok.thread i.spec (λ k. (c.in-Ok.ensures.ok k).1));
       ready = All-tail (CanSend c.args.spec.width) c.in-Some.member left (subst (All (CanSend c.args.spec.width)) e.0 i.ready);
     }

@@ -1,4 +1,5 @@
-use Rattle.std.proofs.Common.{◌≡◌}
+use Rattle.std.proofs.Common.{◌≡◌, ℕ, ◌≤◌, ◌<◌}
+use Rattle.one_lock.specs.Endings.{WasSent}
 use Rattle.one_lock.specs.Shown.{CanSend, place_of}
 use Rattle.one_lock.proofs.lab.crew.work.Given as goal
 
@@ -6,4 +7,5 @@ abbrev pub invariant-loop-seq : goal.invariant-loop-seq
 invariant-loop-seq g l = record {
   place : place_of l.member ≡ place_of l.fn.member;
   ready : CanSend l.fn.spec.width l.member;
+  sent : (seq : ℕ) → 1 ≤ seq → seq < l.seq → WasSent g.S.Sizes.named l.fn.spec.width l.fn.member.process seq;
 }

@@ -1,5 +1,4 @@
 use Rattle.std.proofs.Common.{rules, ◌≡◌, ℕ, List, length, map, All, Result, Ok, Err, IfOk, OnOk, slice_index, sym, ap, ◌∙◌, subst, Option, Some, refl}
-use Rattle.std.proofs.lemmas.List.{length-map}
 use Rattle.redomail.specs.declared.layout.Layout.{Layout}
 use Rattle.redomail.specs.declared.message.Message.{Message}
 use Rattle.redomail.specs.Content.{IsContent}
@@ -10,10 +9,12 @@ use Rattle.rmeworld.specs.ImageRules.{IsLawfulImage}
 use Rattle.runs.specs.declared.setup.Setup.{Setup}
 use Rattle.one_lock.specs.declared.lab.lab_fault.LabFault.{LabFault}
 use Rattle.one_lock.specs.Shown.{AreShown, CanSend, place_of}
+use Rattle.one_lock.specs.Endings.{HaveAllSent}
+use Rattle.one_lock.specs.Lab.{setup_of}
 use Rattle.one_lock.specs.Member.{steps_taken}
 use Rattle.one_lock.specs.Story.{IsLeftBy, AreSizes}
-use Rattle.one_lock.proofs.Endings.{EachMay, each_may, may_end_lab}
-use Rattle.one_lock.proofs.Seats.{same_fit, same_count, new_count, new_ready}
+use Rattle.one_lock.proofs.Endings.{lab_ended, all_sent, may_end_lab}
+use Rattle.one_lock.proofs.Seats.{same_fit, same_count, new_ready}
 use Rattle.one_lock.proofs.lab.running.run.Goals as goal
 
 pub work_all-requires-clause-ready : goal.work_all-requires-clause-ready
@@ -23,15 +24,18 @@ work_all-requires-clause-ready g c =
 
 pub returns-in-Some-clause-ends : goal.returns-in-Some-clause-ends
 returns-in-Some-clause-ends g c =
-    let l : Layout = record { procs = c.args.spec.procs; cap = c.args.spec.cap; width = c.args.spec.width } in
-    let ended = c.in-Ok-work_all.ended.items in
-    let looked : c.as_slice.result.now ≡ ended = c.as_slice.ensures.value in
-    let same = c.in-Ok-work_all.ensures.places in
-    let members : length ended ≡ length c.in-Ok.members.items = sym (length-map ended (λ d. place_of d.member)) ∙ ap length same ∙ length-map c.in-Ok.members.items place_of in
-    let all : length ended ≡ c.args.spec.procs = members ∙ ap length c.in-Ok.ensures.ok ∙ new_count l c.args.spec.procs in
-    may_end_lab (map (λ d. d.ending) c.as_slice.result.now) c.args.spec c.in-Some.fault (length-map c.as_slice.result.now (λ d. d.ending) ∙ ap length looked ∙ all)
-    (subst (λ (named : Option Setup). EachMay named (map (λ d. d.ending) c.as_slice.result.now)) c.requires.named (each_may g.S.Sizes.named (λ d. d.ending) (λ d. d.member) l c.args.spec.procs ended c.as_slice.result.now looked c.in-Ok-work_all.ensures.ends (same ∙ ap (map place_of) c.in-Ok.ensures.ok)))
-    (λ wanted. let e = c.in-Some.ensures.memory.1 wanted in cc) c.in-Some.ensures.bad_spec c.in-Some.ensures.least
+    let ended = lab_ended g.S.Sizes.named c.args.spec (λ d. d.ending) (λ d. d.member) c.in-Ok-work_all.ended.items c.as_slice.result.now c.requires.named c.as_slice.ensures.value c.in-Ok-work_all.ensures.ends (c.in-Ok-work_all.ensures.places ∙ ap (map place_of) c.in-Ok.ensures.ok) in
+    may_end_lab (map (λ d. d.ending) c.as_slice.result.now) c.args.spec c.in-Some.fault ended.0 ended.1 (λ wanted. let e = c.in-Some.ensures.memory.1 wanted in cc) c.in-Some.ensures.bad_spec c.in-Some.ensures.least
+
+on_ok : {T : Type 0} (r : Result T LabFault) (P : Type 0) → P → OnOk r P
+on_ok (Ok lab) P p = p
+on_ok (Err e) P p = tt
+
+pub returns-in-Ok-gather-clause-sent : goal.returns-in-Ok-gather-clause-sent
+returns-in-Ok-gather-clause-sent g c =
+    let ended = lab_ended g.S.Sizes.named c.args.spec (λ d. d.ending) (λ d. d.member) c.in-Ok-work_all.ended.items c.as_slice.result.now c.requires.named c.as_slice.ensures.value c.in-Ok-work_all.ensures.ends (c.in-Ok-work_all.ensures.places ∙ ap (map place_of) c.in-Ok.ensures.ok) in
+    let sent : HaveAllSent (map (λ d. d.ending) c.as_slice.result.now) = search (rules, c.in_default-first_fault.ensures, c.in_default-first_fault.is) in
+    on_ok c.shown.result _ (all_sent (Some (setup_of c.args.spec)) c.args.spec (map (λ d. d.ending) c.as_slice.result.now) ended.0 ended.1 sent)
 
 pub of_sizes-requires-clause-sizes : goal.of_sizes-requires-clause-sizes
 of_sizes-requires-clause-sizes g c =

@@ -26,6 +26,7 @@ use Rattle.runs.specs.Reading.{cells_of, RunsShow}
 use Rattle.runs.specs.Rule.{Begins as Starts}
 use Rattle.runs.specs.Running.{Seated}
 use Rattle.runs.specs.Runs.{before, taken, happenings, spelled, own, IsRun, end_of}
+use Rattle.robust.specs.LabRuns.{AreShownByRun}
 use Rattle.robust.specs.Worked.{sizes_of}
 use Rattle.robust.specs.Sending.{OfStart, IsSending, AreSending, HasSent}
 use Rattle.robust.proofs.Appended.{own_taken, own_passed, among_more}
@@ -171,10 +172,15 @@ module _ (z : Setup) (width k : ℕ) (first : Seated) (others : List Seated) (ru
       let m = member_at Has p (first ∷ others) there (all_have h) in
       subst (λ (q : ℕ). AreSending width k q (own q run) × IsAmong q k (shown_by z run)) m.1 m.2
 
--- the lab's messages
-pub lab_sent : (s : Spec) (xs : List Seated) (image : Image) (messages : List Message) → IsLayout (sizes_of s).layout → All (λ (x : Seated). x.pass.setup ≡ sizes_of s) xs → All (HasSent s.width s.messages) xs → Gathers xs image → EveryMessageWasSent → RunsShow
-    → messages ≡ entries (sizes_of s).layout (words_of image.cells) (slice_index image.cells 2) → IsNumbered (sizes_of s).layout (words_of image.cells) (slice_index image.cells 2) → AreAllSent s messages
-lab_sent s xs image messages layout setups sent g was shows are numbered =
+-- the run that all members of a lab were gathered from, where each has sent its own
+record HasRun (s : Spec) (image : Image) : Type 0 where
+  run : List TakenStep
+  legal : IsRun (sizes_of s) run
+  each : (p : ℕ) → p < s.procs → AreSending s.width s.messages p (own p run) × IsAmong p s.messages (shown_by (sizes_of s) run)
+  shown : shown_by (sizes_of s) run ≡ entries (sizes_of s).layout (words_of image.cells) (slice_index image.cells 2)
+
+has_run : (s : Spec) (xs : List Seated) (image : Image) → IsLayout (sizes_of s).layout → All (λ (x : Seated). x.pass.setup ≡ sizes_of s) xs → All (HasSent s.width s.messages) xs → Gathers xs image → RunsShow → HasRun s image
+has_run s xs image layout setups sent g shows =
     let z = sizes_of s in
     let Known : Seated → Type 0 = λ x. (x.pass.setup ≡ z) × HasSent s.width s.messages x in
     let known : All Known (g.first ∷ g.others) = subst (All Known) g.are (all_both (λ (x : Seated). x.pass.setup ≡ z) (HasSent s.width s.messages) xs setups sent) in
@@ -183,9 +189,26 @@ lab_sent s xs image messages layout setups sent g was shows are numbered =
     let words : words_of image.cells ≡ cells_of z g.run =
     ap (λ (i : Image). words_of i.cells) (g.words ∙ ap (λ (u : Setup). image_at u (end_of u g.run)) same) ∙ cells_counted z g.run legal in
     let count : slice_index image.cells 2 ≡ cells_of z g.run 2 = ap (λ (w : Words). w 2) words in
-    let shown = shown_entries z g.run layout legal shows ∙ (λ i. entries z.layout (sym words i) (sym count i)) in
-    let each = λ (p : ℕ) (below : p < s.procs). each_has z s.width s.messages g.first g.others g.run g.told known p (subst (λ (l : List Seated). has_member p l ≡ true) g.are (g.all p (subst (λ (u : Setup). p < u.layout.procs) (sym same) below))) in
-    subst (AreAllSent s) (sym are) (are_all_sent s g.run (words_of image.cells) (slice_index image.cells 2) layout legal numbered was shown (λ p below. (each p below).0) (λ p below. (each p below).1))
+    record {
+      run = g.run;
+      legal = legal;
+      each = λ (p : ℕ) (below : p < s.procs). each_has z s.width s.messages g.first g.others g.run g.told known p (subst (λ (l : List Seated). has_member p l ≡ true) g.are (g.all p (subst (λ (u : Setup). p < u.layout.procs) (sym same) below)));
+      shown = shown_entries z g.run layout legal shows ∙ (λ i. entries z.layout (sym words i) (sym count i));
+    }
+
+-- the lab's messages
+pub lab_sent : (s : Spec) (xs : List Seated) (image : Image) (messages : List Message) → IsLayout (sizes_of s).layout → All (λ (x : Seated). x.pass.setup ≡ sizes_of s) xs → All (HasSent s.width s.messages) xs → Gathers xs image → EveryMessageWasSent → RunsShow
+    → messages ≡ entries (sizes_of s).layout (words_of image.cells) (slice_index image.cells 2) → IsNumbered (sizes_of s).layout (words_of image.cells) (slice_index image.cells 2) → AreAllSent s messages
+lab_sent s xs image messages layout setups sent g was shows are numbered =
+    let r = has_run s xs image layout setups sent g shows in
+    subst (AreAllSent s) (sym are) (are_all_sent s r.run (words_of image.cells) (slice_index image.cells 2) layout r.legal numbered was r.shown (λ p below. (r.each p below).0) (λ p below. (r.each p below).1))
+
+-- and the run that shows them
+pub lab_shown : (s : Spec) (xs : List Seated) (image : Image) (messages : List Message) → IsLayout (sizes_of s).layout → All (λ (x : Seated). x.pass.setup ≡ sizes_of s) xs → All (HasSent s.width s.messages) xs → Gathers xs image → RunsShow
+    → messages ≡ entries (sizes_of s).layout (words_of image.cells) (slice_index image.cells 2) → AreShownByRun s messages
+lab_shown s xs image messages layout setups sent g shows are =
+    let r = has_run s xs image layout setups sent g shows in
+    record { run = r.run; legal = r.legal; sending = λ p below. (r.each p below).0; shown = are ∙ sym r.shown }
 
 pub gathered_layout : (s : Setup) (xs : List Seated) (image : Image) → All (λ (x : Seated). x.pass.setup ≡ s) xs → Gathers xs image → layout_of image ≡ s.layout
 gathered_layout s xs image setups g =

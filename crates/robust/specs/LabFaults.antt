@@ -16,6 +16,7 @@ use Rattle.robust.specs.declared.lab.worker.Done.{Done}
 use Rattle.one_lock.specs.declared.lab.ending.Ending.{Ending}
 use Rattle.one_lock.specs.declared.lab.ending.Ending.TheVariants.{AllSent, Fault, Refused}
 use Rattle.one_lock.specs.Endings.{fault_by}
+use Rattle.one_lock.specs.Lab.{setup_of}
 use Rattle.runs.specs.Calls.{answers_from}
 use Rattle.runs.specs.Headline.{judged_by}
 use Rattle.runs.specs.Pass.{own_of}
@@ -51,10 +52,6 @@ abbrev pub EndsSo : Spec → Seated → Ending → Type 0
 EndsSo s x AllSent = HasShown s.messages x
 EndsSo s x (Fault why) = ((why ≡ fault.NumbersSpent) × WasSpent x.pass.setup (own_of x.pass)) ⊎ ((why ≡ fault.NotRecoverable) × HasReadRuin (own_of x.pass))
 EndsSo s x (Refused reply) = ((reply ≡ Full) ⊎ (reply ≡ Closed)) × ((seq : ℕ) × (1 ≤ seq) × (seq ≤ s.messages) × RefusedAt x seq reply)
-
--- the sizes of a lab's arena
-abbrev pub setup_of : Spec → Setup
-setup_of s = record { layout = record { procs = s.procs; cap = s.cap; width = s.width }; limit = s.limit }
 
 -- What may end a lab early: want of memory; a worker that was answered that no number is left, in a run of such workers; or a
 -- mailbox with less room than messages.

@@ -21,6 +21,7 @@ pub mod Making
 pub mod Working
 pub mod Sending
 pub mod LabFaults
+pub mod LabRuns
 pub mod Worked
 pub mod FastAppend
 pub mod FastPath

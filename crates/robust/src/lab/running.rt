@@ -9,6 +9,7 @@ ghost use Rattle.rmeworld.specs.ImageRules.{layout_of, IsLawfulImage};
 ghost use Rattle.one_lock.specs.declared.lab.spec.Spec.{Spec as SpecOf};
 ghost use Rattle.one_lock.specs.Lab.{AreAllSent, IsBadSpec};
 ghost use Rattle.robust.specs.LabFaults.{EndsLab, IsFirstFault};
+ghost use Rattle.robust.specs.LabRuns.{AreShownByRun};
 ghost use Rattle.robust.specs.Making.{fresh_members};
 ghost use Rattle.robust.specs.Worked.{seat_done, seat_promised, sizes_of, HasWorked};
 ghost use Rattle.robust.specs.Sending.{IsNew};
@@ -41,6 +42,7 @@ pub fn run_lab<G: Gate + Send + Drop, R: Threads + Wait + Sync>(
     gates: Vec<G>,
 ) -> Result<LabResult, LabFault>
     ensures all { IfOk result (λ r. AreAllSent spec r.messages.items) }
+    ensures run { IfOk result (λ r. AreShownByRun spec r.messages.items) }
     ensures bad_spec { IsErrOf result LabFault.BadSpec ↔ IsBadSpec spec (vec_len gates) }
     ensures ends { IfErr result (λ fault. (fault ≡ LabFault.BadSpec) ⊎ EndsLab spec fault) }
 {
@@ -59,6 +61,7 @@ fn run<G: Gate + Send + Drop, R: Threads + Wait + Sync>(
 ) -> Result<LabResult, LabFault>
     requires { IsBadSpec spec (vec_len gates) → ⊥ }
     ensures all { IfOk result (λ r. AreAllSent spec r.messages.items) }
+    ensures run { IfOk result (λ r. AreShownByRun spec r.messages.items) }
     ensures ends { IfErr result (EndsLab spec) }
 {
     laws::runs_show();

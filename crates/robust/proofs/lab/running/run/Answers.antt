@@ -7,12 +7,13 @@ use Rattle.robust.specs.declared.lab.worker.Done.{Done}
 use Rattle.runs.specs.Gathering.{Gathers}
 use Rattle.one_lock.specs.Lab.{AreAllSent}
 use Rattle.robust.specs.LabFaults.{IsFirstFault}
+use Rattle.robust.specs.LabRuns.{AreShownByRun}
 use Rattle.runs.specs.Running.{Seated}
 use Rattle.runs.proofs.Glanced.{both_ok}
 use Rattle.robust.specs.Worked.{sizes_of}
 use Rattle.robust.specs.Sending.{HasSent}
 use Rattle.robust.specs.Working.{seats_of}
-use Rattle.robust.proofs.AllSent.{lab_sent, gathered_layout}
+use Rattle.robust.proofs.AllSent.{lab_sent, lab_shown, gathered_layout}
 use Rattle.robust.proofs.LabEnds.{member_of, lab_ends}
 use Rattle.robust.proofs.Worked.{one_arena, none_missing, all_setups, good_sizes, good_messages, good_layout, members_seats, members_sent}
 use Rattle.robust.proofs.lab.running.run.Goals as goal
@@ -60,6 +61,20 @@ returns-in-None-clause-all g c =
     both_ok (λ r. r.messages.items ≡ entries z.layout (words_of image.cells) (slice_index image.cells 2)) (λ r. AreAllSent spec r.messages.items) (IsNumbered z.layout (words_of image.cells) (slice_index image.cells 2)) c.shown.result c.shown.ensures.messages
     c.shown.ensures.numbered
     (λ r is numbered. lab_sent spec xs image r.messages.items layout (all_setups s.0 z xs seats) sent c.in-Ok-gather.ensures.gathered c.messages_were_sent.ensures.sent c.runs_show.ensures is numbered)
+
+pub returns-in-None-clause-run : goal.returns-in-None-clause-run
+returns-in-None-clause-run g c =
+    let spec = c.args.spec in
+    let z = sizes_of spec in
+    let s = c.in_ok-members.ensures.seats in
+    let xs = c.in-Ok-members_of.members.items in
+    let image = c.in-Ok-gather.image in
+    let seats = ap seats_of c.in-Ok-members_of.ensures ∙ members_seats c.in-Ok.ended.items ∙ c.in-Ok.ensures.seats ∙ s.1 in
+    let ended = subst (All (λ done. done.ending ≡ AllSent)) c.as_slice.ensures.value (c.first_fault-early.ensures.none c.in-None.is) in
+    let sent = subst (All (HasSent spec.width spec.messages)) (sym c.in-Ok-members_of.ensures) (members_sent spec c.in-Ok.ended.items c.in-Ok.ensures.worked ended) in
+    let layout = good_layout spec (vec_len c.args.gates) c.requires in
+    both_ok (λ r. r.messages.items ≡ entries z.layout (words_of image.cells) (slice_index image.cells 2)) (λ r. AreShownByRun spec r.messages.items) (IsNumbered z.layout (words_of image.cells) (slice_index image.cells 2)) c.shown.result c.shown.ensures.messages
+    c.shown.ensures.numbered (λ r is numbered. lab_shown spec xs image r.messages.items layout (all_setups s.0 z xs seats) sent c.in-Ok-gather.ensures.gathered c.runs_show.ensures is)
 
 pub returns-in-Ok-gather-clause-ends : goal.returns-in-Ok-gather-clause-ends
 returns-in-Ok-gather-clause-ends g c =

@@ -208,7 +208,7 @@ pub lab_shown : (s : Spec) (xs : List Seated) (image : Image) (messages : List M
     → messages ≡ entries (sizes_of s).layout (words_of image.cells) (slice_index image.cells 2) → AreShownByRun s messages
 lab_shown s xs image messages layout setups sent g shows are =
     let r = has_run s xs image layout setups sent g shows in
-    record { run = r.run; legal = r.legal; sending = λ p below. (r.each p below).0; shown = are ∙ sym r.shown }
+    record { run = r.run; works = record { legal = r.legal; sending = λ p below. (r.each p below).0 }; shown = are ∙ sym r.shown }
 
 pub gathered_layout : (s : Setup) (xs : List Seated) (image : Image) → All (λ (x : Seated). x.pass.setup ≡ s) xs → Gathers xs image → layout_of image ≡ s.layout
 gathered_layout s xs image setups g =

@@ -27,6 +27,7 @@ use Rattle.one_lock.specs.declared.lab.ending.Ending.TheVariants.{AllSent, Fault
 use Rattle.runs.specs.Gathering.{Gathers, IsGlance, has_member, image_at}
 use Rattle.runs.specs.Headline.{judged_by, shown_by}
 use Rattle.one_lock.specs.Endings.{fault_by}
+use Rattle.robust.specs.LabRuns.{IsLabRun}
 use Rattle.robust.specs.LabFaults.{IsFirstFault, EndsSo, EndsLab, WasSpent}
 use Rattle.runs.specs.Reading.{cells_of, RunsShow, LoadsTell}
 use Rattle.runs.specs.Ruins.{AreInOrder, NobodyRuins}
@@ -148,6 +149,15 @@ lab_ends s ended image cause layout setups worked f g lawful was closes shows lo
         let there : has_member p (g.first ∷ g.others) ≡ true = subst (λ (l : List Seated). has_member p l ≡ true) g.are (g.all p (subst (λ (u : Setup). p < u.layout.procs) (sym same) low)) in
         each_holds Q more g.first g.others (length g.others) g.run g.told keeps p there
 
+    of_front : (front rest : List TakenStep) → g.run ≡ front ++ rest → IsLabRun s front
+    of_front front rest split =
+        record {
+          legal = legal_front z front rest (subst (IsRun z) split legal);
+          sending = λ q low.
+              (let F : TakenStep → Type 0 = λ e. OfStart (IsSending s.width s.messages q) e.step.start in
+              all_left F (own q front) (own q rest) (subst (All F) (ap (own q) split ∙ own-append q front rest) (sending q low)));
+        }
+
     O : ℕ → List TakenStep → Type 0
     O p es = AreInOrder None es
 
@@ -187,12 +197,7 @@ lab_ends s ended image cause layout setups worked f g lawful was closes shows lo
     by : (e : Ending) → EndsSo s x e → fault_by x.pass.by e ≡ Some cause → EndsLab s cause
     by AllSent h is = absurd (cc)
     by (Fault why) (inl spent) is =
-        let split : g.run ≡ x.pass.seen ++ starts.0 = starts.1 in
-        let front : IsRun z x.pass.seen = legal_front z x.pass.seen starts.0 (subst (IsRun z) split legal) in
-        let sends : (q : ℕ) → q < s.procs → AreSending s.width s.messages q (own q x.pass.seen) = λ q low.
-        (let F : TakenStep → Type 0 = λ e. OfStart (IsSending s.width s.messages q) e.step.start in
-        all_left F (own q x.pass.seen) (own q starts.0) (subst (All F) (ap (own q) split ∙ own-append q x.pass.seen starts.0) (sending q low))) in
-        subst (EndsLab s) (same_fault (Member x.pass.by why) cause is) (below, spent.0, (x.pass.seen, front, sends, subst (λ (u : Setup). WasSpent u (own x.pass.by x.pass.seen)) setup spent.1))
+        subst (EndsLab s) (same_fault (Member x.pass.by why) cause is) (below, spent.0, (x.pass.seen, of_front x.pass.seen starts.0 starts.1, subst (λ (u : Setup). WasSpent u (own x.pass.by x.pass.seen)) setup spent.1))
     by (Fault why) (inr ruin) is = absurd (none_read z x.pass.seen starts.0 x.pass.by layout (subst (IsRun z) starts.1 legal) (λ p low. subst (λ (es : List TakenStep). AreInOrder None (own p es)) starts.1 (ordered p low)) loads nobody ruin.1)
     by (Refused reply) h is =
         let at = h.1.3 in
@@ -203,7 +208,7 @@ lab_ends s ended image cause layout setups worked f g lawful was closes shows lo
         elim h.0 [
           | inl full ↦
               (let told = subst (λ (r : Reply). ReplyTells z.layout x.pass.by seq r (judged_by z at.front).mail) full tells in
-              subst (EndsLab s) (same_fault (Replied x.pass.by reply) cause is) (below, full, little_room s g.run at.front rest split layout legal sending w n numbered was shown room x.pass.by seq below h.1.1 h.1.2 told.0 told.1))
+              subst (EndsLab s) (same_fault (Replied x.pass.by reply) cause is) (below, full, little_room s g.run at.front rest split layout legal sending w n numbered was shown room x.pass.by seq below h.1.1 h.1.2 told.0 told.1, (at.front, of_front at.front rest split, (seq, h.1.1, h.1.2, tells))))
           | inr closed ↦
               (let told = subst (λ (r : Reply). ReplyTells z.layout x.pass.by seq r (judged_by z at.front).mail) closed tells in
               absurd (never_closed s g.run at.front rest split layout legal sending closes told.0))

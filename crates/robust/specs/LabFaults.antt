@@ -22,8 +22,9 @@ use Rattle.runs.specs.Headline.{judged_by}
 use Rattle.runs.specs.Pass.{own_of}
 use Rattle.runs.specs.Ruins.{HasReadRuin}
 use Rattle.runs.specs.Running.{Seated}
-use Rattle.runs.specs.Runs.{own, IsRun}
-use Rattle.robust.specs.Sending.{AreSending, HasShown}
+use Rattle.runs.specs.Runs.{own}
+use Rattle.robust.specs.LabRuns.{IsLabRun}
+use Rattle.robust.specs.Sending.{HasShown}
 
 -- the fault is that of the first of these workers that has ended early
 pub record IsFirstFault (ended : List Done) (cause : LabFault) : Type 0 where
@@ -53,12 +54,12 @@ EndsSo s x AllSent = HasShown s.messages x
 EndsSo s x (Fault why) = ((why ≡ fault.NumbersSpent) × WasSpent x.pass.setup (own_of x.pass)) ⊎ ((why ≡ fault.NotRecoverable) × HasReadRuin (own_of x.pass))
 EndsSo s x (Refused reply) = ((reply ≡ Full) ⊎ (reply ≡ Closed)) × ((seq : ℕ) × (1 ≤ seq) × (seq ≤ s.messages) × RefusedAt x seq reply)
 
--- What may end a lab early: want of memory; a worker that was answered that no number is left, in a run of such workers; or a
--- mailbox with less room than messages.
+-- What may end a lab early: want of memory; a worker that was answered that no number is left, in a run of such workers; or, in one,
+-- a mailbox that was full when one of its messages was to be stored, and has less room than messages.
 abbrev pub EndsLab : Spec → LabFault → Type 0
 EndsLab s BadSpec = ⊥
 EndsLab s OutOfMemory = Unit {0}
-EndsLab s (Member p why) =
-    (p < s.procs) × (why ≡ fault.NumbersSpent)
-    × ((es : List TakenStep) × IsRun (setup_of s) es × ((q : ℕ) → q < s.procs → AreSending s.width s.messages q (own q es)) × WasSpent (setup_of s) (own p es))
-EndsLab s (Replied p reply) = (p < s.procs) × (reply ≡ Full) × (s.cap < s.procs * s.messages)
+EndsLab s (Member p why) = (p < s.procs) × (why ≡ fault.NumbersSpent) × ((es : List TakenStep) × IsLabRun s es × WasSpent (setup_of s) (own p es))
+EndsLab s (Replied p reply) =
+    (p < s.procs) × (reply ≡ Full) × (s.cap < s.procs * s.messages)
+    × ((es : List TakenStep) × IsLabRun s es × ((seq : ℕ) × (1 ≤ seq) × (seq ≤ s.messages) × ReplyTells (setup_of s).layout p seq reply (judged_by (setup_of s) es).mail))

@@ -20,8 +20,8 @@ pub use Rattle.one_lock.specs.Endings
 pub mod Making
 pub mod Working
 pub mod Sending
-pub mod LabFaults
 pub mod LabRuns
+pub mod LabFaults
 pub mod Worked
 pub mod FastAppend
 pub mod FastPath

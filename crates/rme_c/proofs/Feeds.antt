@@ -1,5 +1,5 @@
 -- A step where no call is under way, and what a step tells.
-use Rattle.std.proofs.Common.{◌≡◌, ℕ, ◌+◌, ◌==◌, not, Bool, true, false, if◌then◌else◌, is_none, length, Option, Some, None, refl, sym, ap, ◌∙◌, subst}
+use Rattle.std.proofs.Common.{◌≡◌, ℕ, ◌+◌, ◌<◌, ◌≤◌, ◌==◌, not, Bool, true, false, if◌then◌else◌, is_none, length, Option, Some, None, refl, sym, ap, ◌∙◌, subst, arith}
 use Rattle.rmecore.specs.Machine.{place_of, next_access as lock_access, after_access, progress}
 use Rattle.rmecore.specs.Place.{Place}
 use Rattle.rmecore.specs.declared.core_done.CoreDone.{CoreDone}
@@ -53,25 +53,27 @@ idle_stays p Lost v eight fits idle = refl
 idle_stays p (Lock t) v eight fits idle = let s : Stand = stand_at p (Lock t) in free_stays s refl (lock_access (standing s)) v idle
 idle_stays p (Within c) v eight fits idle = let busy = has_chore p eight c fits in let bad : true ≡ false = sym idle ∙ busy in cc
 
-idle_told : (o : Option Access) (x : Outcome) → is_none o ≡ true → told_by o x ≡ 7
-idle_told None x e = refl
-idle_told (Some a) x e = cc
+idle_told : (o : Option Access) (x : Outcome) (next : Option Access) → is_none o ≡ true → told_by o x next ≡ 7
+idle_told None x next e = refl
+idle_told (Some a) x next e = cc
 
-busy_told : (o : Option Access) (x : Outcome) → is_none o ≡ false → told_by o x ≡ told_as x.answer x.progress.blocked
-busy_told None x e = cc
-busy_told (Some a) x e = refl
+busy_told : (o : Option Access) (x : Outcome) (next : Option Access) → is_none o ≡ false → told_by o x next ≡ told_as x.answer x.progress.blocked next
+busy_told None x next e = cc
+busy_told (Some a) x next e = refl
 
 -- where no call is under way nothing changes
 pub feed_idle : (p : RmeProcess) (x : Position) (v : ℕ) → x ≡ position_of p → length p.value ≡ 8 → Fits p x → is_none (next_access (stand_at p x)) ≡ true → stand_of p ≡ stepped (stand_of p) v
 feed_idle p x v here eight fits idle = subst (λ y. stand_at p y ≡ stepped (stand_at p y) v) here (sym (idle_stays p x v eight fits idle))
 
 pub feed_idle_told : (p : RmeProcess) (x : Position) (v : ℕ) → x ≡ position_of p → is_none (next_access (stand_at p x)) ≡ true → 7 ≡ told (stand_of p) v
-feed_idle_told p x v here idle = subst (λ y. 7 ≡ told (stand_at p y) v) here (sym (idle_told (next_access (stand_at p x)) (outcome (stand_at p x) (next_access (stand_at p x)) v) idle))
+feed_idle_told p x v here idle = subst (λ y. 7 ≡ told (stand_at p y) v) here (sym (idle_told (next_access (stand_at p x)) (outcome (stand_at p x) (next_access (stand_at p x)) v) (next_access (stepped (stand_at p x) v)) idle))
 
-pub feed_told : (p : RmeProcess) (x : Position) (v : ℕ) (a : Option Answer) (b : Bool) → x ≡ position_of p → is_none (next_access (stand_at p x)) ≡ false → a ≡ answered p x v → b ≡ is_blocked p x v → told_as a b ≡ told (stand_of p) v
-feed_told p x v a b here busy answer blocked =
-    subst (λ y. told_as a b ≡ told (stand_at p y) v) here
-    ((λ i. told_as (answer i) (blocked i)) ∙ sym (busy_told (next_access (stand_at p x)) (outcome (stand_at p x) (next_access (stand_at p x)) v) busy))
+pub feed_told : (p : RmeProcess) (x : Position) (v : ℕ) (a : Option Answer) (b : Bool) (o : Option Access) → x ≡ position_of p → is_none (next_access (stand_at p x)) ≡ false → a ≡ answered p x v → b ≡ is_blocked p x v
+    → o ≡ next_access (stepped (stand_of p) v) → told_as a b o ≡ told (stand_of p) v
+feed_told p x v a b o here busy answer blocked follows =
+    ap (told_as a b) follows
+    ∙ subst (λ y. told_as a b (next_access (stepped (stand_at p y) v)) ≡ told (stand_at p y) v) here
+    ((λ i. told_as (answer i) (blocked i) (next_access (stepped (stand_at p x) v))) ∙ sym (busy_told (next_access (stand_at p x)) (outcome (stand_at p x) (next_access (stand_at p x)) v) (next_access (stepped (stand_at p x) v)) busy))
 
 busy_at : (p : RmeProcess) (x : Position) → position_of p ≡ x → is_none (next_access (stand_at p x)) ≡ false → is_none (next_access (stand_of p)) ≡ false
 busy_at p x here busy = subst (λ y. is_none (next_access (stand_at p y)) ≡ false) (sym here) busy
@@ -81,14 +83,15 @@ none_is None e = refl
 none_is (Some a) e = cc
 
 -- where no call is under way
-pub idle_fed : (p : RmeProcess) (x : Position) (v : ℕ) → x ≡ position_of p → length p.value ≡ 8 → Fits p x → is_none (next_access (stand_at p x)) ≡ true → IsFed p v p (record { store = 0; place = 0; value = 0 }) 7
-idle_fed p x v here eight fits idle =
+pub idle_fed : (p : RmeProcess) (x : Position) (v : ℕ) → x ≡ position_of p → length p.value ≡ 8 → Fits p x → is_none (next_access (stand_at p x)) ≡ true → (b : RmeAccess) → IsFed p v p b (record { store = 0; place = 0; value = 0 }) 7
+idle_fed p x v here eight fits idle b =
     let idles : is_none (next_access (stand_of p)) ≡ true = subst (λ y. is_none (next_access (stand_at p y)) ≡ true) here idle in
     let none : next_access (stand_of p) ≡ None = none_is (next_access (stand_of p)) idles in
     record {
       exact = feed_idle p x v here eight fits idle;
       told = feed_idle_told p x v here idle;
-      next = sym (λ i. shown p.procs (outcome (stand_of p) (none i) v).answer (none i));
+      next = λ _. sym (λ i. shown p.procs (outcome (stand_of p) (none i) v).answer (none i));
+      kept = λ h. absurd (omega (arith, h));
       steps = rw idles refl;
     }
 
@@ -97,7 +100,7 @@ fits_landing p q from to true h = (h.0, (h.1, tt))
 fits_landing p q from to false h = h
 
 -- a step of the lock's part, by its landing
-module _ (p : RmeProcess) (t : Stage) (v : ℕ) (r : Landing) (q : RmeProcess) (a : RmeAccess) where
+module _ (p : RmeProcess) (t : Stage) (v : ℕ) (r : Landing) (q : RmeProcess) (b a : RmeAccess) where
   abbrev now : Stand
   now = stand_at p (Lock t)
 
@@ -111,7 +114,7 @@ module _ (p : RmeProcess) (t : Stage) (v : ℕ) (r : Landing) (q : RmeProcess) (
       → place_of p.procs p.index r.to ≡ after_access (standing now) (lock_access (standing now)) v
       → r.done ≡ (progress (standing now) (lock_access (standing now)) v).done
       → r.blocked ≡ (progress (standing now) (lock_access (standing now)) v).blocked
-      → IsLanding p r q a → IsFed p v q a r.code
+      → IsLanding p r q b a → IsFed p v q b a r.code
   lands_fed here fits busy place done blocked is =
       let to : Place = after_access (standing now) (lock_access (standing now)) v in
       let enters = all_entered (standing now) v (all_allowed (standing now)) in
@@ -129,28 +132,34 @@ module _ (p : RmeProcess) (t : Stage) (v : ℕ) (r : Landing) (q : RmeProcess) (
       let blocks : r.blocked ≡ (outcome now (next_access now) v).progress.blocked = blocked ∙ sym (ap (λ (o : Outcome). o.progress.blocked) outcomes) in
       let exact : stand_of q ≡ stepped (stand_of p) v =
       ap stand_of is.process ∙ exact' ∙ ap (λ y. stepped (stand_at p y) v) (sym here) in
+      let follows : next_access (stand_at p x) ≡ next_access (stepped (stand_of p) v) = ap next_access (stepped' ∙ ap (λ y. stepped (stand_at p y) v) (sym here)) in
       record {
         exact = exact;
-        told = is.code ∙ feed_told p (Lock t) v told_of r.blocked (sym here) busy answers blocks;
+        told = is.code ∙ feed_told p (Lock t) v told_of r.blocked (next_access (stand_at p x)) (sym here) busy answers blocks follows;
         next =
-            is.next
+            λ small.
+            is.next small
             ∙ (λ i. shown p.procs (answers i) (next_access (stand_at p x)))
             ∙ ap (λ (y : Position). shown p.procs (outcome (stand_at p y) (next_access (stand_at p y)) v).answer (next_access (stand_at p x))) (sym here)
             ∙ ap (λ (s : Stand). shown p.procs (outcome (stand_of p) (next_access (stand_of p)) v).answer (next_access s)) (sym (ap stand_of is.process ∙ ap (λ y. stand_at q' y) stands'));
+        kept = is.kept;
         steps = rw (busy_at p (Lock t) here busy) (ap (λ (z : RmeProcess). z.steps) is.process);
       }
 
 -- a step that is taken, written down as numbers, and told
-pub step_fed : (p : RmeProcess) (x : Position) (v : ℕ) (m q : RmeProcess) (y : Position) (t : Told) (a : RmeAccess) (code n : ℕ) (o : Option Access)
+pub step_fed : (p : RmeProcess) (x : Position) (v : ℕ) (m q : RmeProcess) (y : Position) (t : Told) (b a : RmeAccess) (code n : ℕ) (o : Option Access)
     → position_of p ≡ x → is_none (next_access (stand_at p x)) ≡ false → IsStep p x v m y t
-    → position_of q ≡ y → stand_at q y ≡ stand_at m y → a ≡ shown n t.answer o → n ≡ p.procs → o ≡ next_access (stand_at q y)
-    → code ≡ told_as t.answer t.blocked → q.steps ≡ held (p.steps + 1) → IsFed p v q a code
-step_fed p x v m q y t a code n o here busy step there same shows procs wants tells steps =
+    → position_of q ≡ y → stand_at q y ≡ stand_at m y → (code < 64 → a ≡ shown n t.answer o) → (64 ≤ code → a ≡ b) → n ≡ p.procs → o ≡ next_access (stand_at q y)
+    → code ≡ told_as t.answer t.blocked o → q.steps ≡ held (p.steps + 1) → IsFed p v q b a code
+step_fed p x v m q y t b a code n o here busy step there same shows kept procs wants tells steps =
+    let stepped' : stand_at q y ≡ stepped (stand_of p) v = same ∙ step.exact ∙ ap (λ z. stepped (stand_at p z) v) (sym here) in
     record {
-      exact = ap (λ z. stand_at q z) there ∙ same ∙ step.exact ∙ ap (λ z. stepped (stand_at p z) v) (sym here);
-      told = tells ∙ feed_told p x v t.answer t.blocked (sym here) busy step.answer step.blocked;
+      exact = ap (λ z. stand_at q z) there ∙ stepped';
+      told = tells ∙ feed_told p x v t.answer t.blocked o (sym here) busy step.answer step.blocked (wants ∙ ap next_access stepped');
+      kept = kept;
       next =
-          shows
+          λ small.
+          shows small
           ∙ (λ i. shown (procs i) (step.answer i) (wants i))
           ∙ ap (λ (z : Position). shown p.procs (outcome (stand_at p z) (next_access (stand_at p z)) v).answer (next_access (stand_at q y))) (sym here)
           ∙ ap (λ (z : Position). shown p.procs (outcome (stand_of p) (next_access (stand_of p)) v).answer (next_access (stand_at q z))) (sym there);

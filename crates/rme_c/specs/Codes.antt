@@ -14,7 +14,7 @@ use Rattle.redomail.specs.Layout.{held}
 use Rattle.rmeworld.specs.declared.answer.Answer.{Answer}
 use Rattle.rmeworld.specs.declared.answer.Answer.TheVariants as answer
 use Rattle.rmeworld.specs.declared.outcome.Outcome.{Outcome}
-use Rattle.rmeworld.specs.Stand.{Stand, next_access, outcome}
+use Rattle.rmeworld.specs.Stand.{Stand, next_access, outcome, stepped}
 use Rattle.rme_c.specs.declared.process.RmeAccess.{RmeAccess}
 
 -- where a word stands in the block of n processes: three lock words each, then the data words
@@ -70,18 +70,28 @@ abbrev pub refusal_code : Option Refusal → ℕ
 refusal_code None = 0
 refusal_code (Some r) = unwrap_or (number_of r) 16
 
--- what a step was: an answer, 16 where it was blocked, 0 where its call goes on, and 7 where there was no step
-abbrev pub told_as : Option Answer → Bool → ℕ
-told_as (Some a) blocked = answer_code a
-told_as None true = 16
-told_as None false = 0
+-- where a call goes on: 64 and the place of the lock word that it loads next, else 0
+abbrev pub goes_as : Option Access → ℕ
+goes_as None = 0
+goes_as (Some (Load kind (word.Choosing p))) = 64 + 3 * p
+goes_as (Some (Load kind (word.Number p))) = 64 + (3 * p + 1)
+goes_as (Some (Load kind (word.Inside p))) = 64 + (3 * p + 2)
+goes_as (Some (Load kind (word.Data i))) = 0
+goes_as (Some (Store kind word v)) = 0
 
-abbrev pub told_by : Option Access → Outcome → ℕ
-told_by None o = 7
-told_by (Some a) o = told_as o.answer o.progress.blocked
+-- what a step was, with the access that comes next: an answer, 16 where it was blocked, how its call goes on, and 7 where there
+-- was no step
+abbrev pub told_as : Option Answer → Bool → Option Access → ℕ
+told_as (Some a) blocked next = answer_code a
+told_as None true next = 16
+told_as None false next = goes_as next
+
+abbrev pub told_by : Option Access → Outcome → Option Access → ℕ
+told_by None o next = 7
+told_by (Some a) o next = told_as o.answer o.progress.blocked next
 
 abbrev pub told : Stand → ℕ → ℕ
-told s v = told_by (next_access s) (outcome s (next_access s) v)
+told s v = told_by (next_access s) (outcome s (next_access s) v) (next_access (stepped s v))
 
 -- what is shown behind a step: the next access, or the board word that is answered
 abbrev pub shown : ℕ → Option Answer → Option Access → RmeAccess

@@ -1,5 +1,5 @@
 -- What a step from a position is.
-use Rattle.std.specs.Prelude.{◌≡◌, ℕ, ◌+◌, ◌==◌, not, is_none, if◌then◌else◌, Bool, Option}
+use Rattle.std.specs.Prelude.{◌≡◌, ℕ, ◌+◌, ◌<◌, ◌≤◌, ◌==◌, not, is_none, if◌then◌else◌, Bool, Option}
 use Rattle.redomail.specs.declared.layout.Layout.{Layout}
 use Rattle.redomail.specs.Layout.{held}
 use Rattle.rmeworld.specs.Answered.{by_lock}
@@ -28,17 +28,20 @@ pub record IsStep (p : RmeProcess) (x : Position) (v : ℕ) (q : RmeProcess) (y 
   pub blocked : t.blocked ≡ is_blocked p x v
   pub fits : Fits q y
 
--- a process that has landed: its numbers are those of the stage, and of what the call ends with there
-pub record IsLanding (p : RmeProcess) (r : Landing) (q : RmeProcess) (a : RmeAccess) : Type 0 where
+-- a process that has landed: its numbers are those of the stage, and of what the call ends with there. What was shown before
+-- stays where the number tells the access
+pub record IsLanding (p : RmeProcess) (r : Landing) (q : RmeProcess) (b a : RmeAccess) : Type 0 where
   pub process : q ≡ record p { unmended = q.unmended; position = q.position; steps = held (p.steps + 1) }
   pub mended : (q.unmended == 0) ≡ mended_done (p.unmended == 0) r.done
   pub position : (l : Layout) → FitsAt l (landing (checks_done r.done) r.to) → by_parts (stage_of q.position) (chore_of l q.position) ≡ landing (checks_done r.done) r.to
-  pub code : r.code ≡ told_as (by_lock (not (p.barred == 0)) r.done) r.blocked
-  pub next : a ≡ shown p.procs (by_lock (not (p.barred == 0)) r.done) (next_access (stand_at p (landing (checks_done r.done) r.to)))
+  pub code : r.code ≡ told_as (by_lock (not (p.barred == 0)) r.done) r.blocked (next_access (stand_at p (landing (checks_done r.done) r.to)))
+  pub next : r.code < 64 → a ≡ shown p.procs (by_lock (not (p.barred == 0)) r.done) (next_access (stand_at p (landing (checks_done r.done) r.to)))
+  pub kept : 64 ≤ r.code → a ≡ b
 
--- the process was fed with this value: where it stands then, what was told and what was shown
-pub record IsFed (p : RmeProcess) (v : ℕ) (q : RmeProcess) (a : RmeAccess) (r : ℕ) : Type 0 where
+-- the process was fed with this value: where it stands then, what was told, and what is shown where that does not tell it
+pub record IsFed (p : RmeProcess) (v : ℕ) (q : RmeProcess) (b a : RmeAccess) (r : ℕ) : Type 0 where
   pub exact : stand_of q ≡ stepped (stand_of p) v
   pub told : r ≡ told (stand_of p) v
-  pub next : a ≡ shown p.procs (outcome (stand_of p) (next_access (stand_of p)) v).answer (next_access (stand_of q))
+  pub next : r < 64 → a ≡ shown p.procs (outcome (stand_of p) (next_access (stand_of p)) v).answer (next_access (stand_of q))
+  pub kept : 64 ≤ r → a ≡ b
   pub steps : q.steps ≡ if is_none (next_access (stand_of p)) then p.steps else held (p.steps + 1)

@@ -1,9 +1,9 @@
 //! The numbers of accesses, answers and refusals.
 
-ghost use Rattle.std.specs.Prelude.{◌≡◌, ◌≤◌, IfSome};
+ghost use Rattle.std.specs.Prelude.{◌≡◌, ◌<◌, ◌≤◌, IfSome, None};
 ghost use Rattle.rmecore.specs.Machine.{word_of};
 ghost use Rattle.rmeworld.specs.Stand.{InWords};
-ghost use Rattle.rme_c.specs.Codes.{place as place_at, wanted as wanted_by, found_code as code_of_found, reply_code as code_of_reply, answer_code as code_of_answer, answer_word as word_of_answer, refusal_code as code_of_refusal, told_as, shown as shown_by};
+ghost use Rattle.rme_c.specs.Codes.{place as place_at, wanted as wanted_by, found_code as code_of_found, reply_code as code_of_reply, answer_code as code_of_answer, answer_word as word_of_answer, refusal_code as code_of_refusal, told_as, goes_as, shown as shown_by};
 
 use crate::process::RmeAccess;
 use redomail::Reply;
@@ -68,7 +68,8 @@ pub fn wanted(procs: u64, access: Access) -> RmeAccess
 
 #[inline(always)]
 fn found_code(found: Found) -> u64
-    ensures { result ≡ code_of_found found }
+    ensures is { result ≡ code_of_found found }
+    ensures small { result < 64 }
 {
     match found {
         Found::Idle => 23,
@@ -81,7 +82,8 @@ fn found_code(found: Found) -> u64
 
 #[inline(always)]
 fn reply_code(reply: Reply) -> u64
-    ensures { result ≡ code_of_reply reply }
+    ensures is { result ≡ code_of_reply reply }
+    ensures small { result < 64 }
 {
     match reply {
         Reply::Stored => 28,
@@ -102,7 +104,8 @@ fn reply_code(reply: Reply) -> u64
 /// The number of an answer.
 #[inline(always)]
 fn answer_code(answer: Answer) -> u64
-    ensures { result ≡ code_of_answer answer }
+    ensures is { result ≡ code_of_answer answer }
+    ensures small { result < 64 }
 {
     match answer {
         Answer::Clean => 17,
@@ -127,19 +130,7 @@ fn answer_word(answer: Answer) -> u64
     }
 }
 
-/// What a step was, as a number.
-#[inline(always)]
-pub fn code(told: Told) -> u64
-    ensures { result ≡ told_as told.answer told.blocked }
-{
-    match told.answer {
-        Some(answer) => answer_code(answer),
-        None if told.blocked => 16,
-        None => 0,
-    }
-}
-
-/// What is shown behind a step.
+/// What is shown of the access that comes next, or of an answer.
 #[inline(always)]
 pub fn shown(procs: u64, answer: Option<Answer>, next: Option<Access>) -> RmeAccess
     requires procs { procs ≤ 64 }
@@ -154,6 +145,48 @@ pub fn shown(procs: u64, answer: Option<Answer>, next: Option<Access>) -> RmeAcc
         },
         (None, Some(access)) => wanted(procs, access),
         (None, None) => NOTHING,
+    }
+}
+
+/// The call goes on: the number of the lock word that it loads next, or its next access.
+#[inline(always)]
+fn goes_on(procs: u64, after: Option<Access>, next: &mut RmeAccess) -> u64
+    requires procs { procs ≤ 64 }
+    requires word { IfSome after (λ a. InWords procs (word_of a)) }
+    ensures code { result ≡ goes_as after }
+    ensures next { result < 64 → next.new ≡ shown_by procs None after }
+    ensures kept { 64 ≤ result → next.new ≡ next.old }
+{
+    match after {
+        Some(Access::Load(_, Word::Choosing(j))) => 64 + 3 * j,
+        Some(Access::Load(_, Word::Number(j))) => 64 + (3 * j + 1),
+        Some(Access::Load(_, Word::Inside(j))) => 64 + (3 * j + 2),
+        Some(Access::Load(_, Word::Data(_)) | Access::Store(_, _, _)) | None => {
+            *next = shown(procs, None, after);
+            0
+        }
+    }
+}
+
+/// Tells a step: its number, and the access that comes next or the word that is answered, unless the number tells it.
+#[inline(always)]
+pub fn tell(procs: u64, told: Told, after: Option<Access>, next: &mut RmeAccess) -> u64
+    requires procs { procs ≤ 64 }
+    requires word { IfSome after (λ a. InWords procs (word_of a)) }
+    ensures code { result ≡ told_as told.answer told.blocked after }
+    ensures next { result < 64 → next.new ≡ shown_by procs told.answer after }
+    ensures kept { 64 ≤ result → next.new ≡ next.old }
+{
+    match told.answer {
+        Some(answer) => {
+            *next = shown(procs, told.answer, after);
+            answer_code(answer)
+        }
+        None if told.blocked => {
+            *next = shown(procs, None, after);
+            16
+        }
+        None => goes_on(procs, after, next),
     }
 }
 

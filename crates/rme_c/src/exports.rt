@@ -13,7 +13,7 @@ ghost use Rattle.rme_c.specs.declared.chore.Chore.TheVariants as ChoreOf;
 ghost use Rattle.rme_c.specs.declared.position.Position.TheVariants as PositionOf;
 
 use crate::accesses::next_at;
-use crate::answers::{NOTHING, code, refusal_code, shown, wanted};
+use crate::answers::{NOTHING, refusal_code, tell, wanted};
 use crate::blocks::{block_words, image, is_block};
 use crate::chore::Chore;
 use crate::lock_arms::{lock_feed, quick_feed, scan_feed};
@@ -114,14 +114,13 @@ fn chore_feed(p: &mut RmeProcess, chore: Chore, value: u64, next: &mut RmeAccess
     requires here { position_of p.old ≡ PositionOf.Within chore }
     requires fits { Fits p.old (PositionOf.Within chore) }
     requires eight { length p.old.value ≡ 8 }
-    ensures { IsFed p.old value p.new next.new result }
+    ensures { IsFed p.old value p.new next.old next.new result }
 {
     let _whole = *p;
     let (to, told) = chore_step(p, chore, value);
     stand(p, to);
     p.steps = p.steps.saturating_add(1);
-    *next = shown(p.procs, told.answer, next_at(p, to));
-    code(told)
+    tell(p.procs, told, next_at(p, to), next)
 }
 
 /// Takes the step of the ruin check.
@@ -130,14 +129,13 @@ fn check_feed(p: &mut RmeProcess, value: u64, next: &mut RmeAccess) -> u64
     requires here { position_of p.old ≡ PositionOf.Within ChoreOf.Checking }
     requires fits { Fits p.old (PositionOf.Within ChoreOf.Checking) }
     requires eight { length p.old.value ≡ 8 }
-    ensures { IsFed p.old value p.new next.new result }
+    ensures { IsFed p.old value p.new next.old next.new result }
 {
     let _whole = *p;
     let (behind, told) = checked(p, value);
     stand(p, behind);
     p.steps = p.steps.saturating_add(1);
-    *next = shown(p.procs, told.answer, next_at(p, behind));
-    code(told)
+    tell(p.procs, told, next_at(p, behind), next)
 }
 
 /// Takes the step that comes next at a stage of the lock's part, if there is one.
@@ -146,7 +144,7 @@ fn whole_feed(p: &mut RmeProcess, stage: Stage, value: u64, next: &mut RmeAccess
     requires here { position_of p.old ≡ PositionOf.Lock stage }
     requires fits { Fits p.old (PositionOf.Lock stage) }
     requires eight { length p.old.value ≡ 8 }
-    ensures { IsFed p.old value p.new next.new result }
+    ensures { IsFed p.old value p.new next.old next.new result }
 {
     let _whole = *p;
     if is_idle(p, Position::Lock(stage)) {
@@ -160,7 +158,7 @@ fn whole_feed(p: &mut RmeProcess, stage: Stage, value: u64, next: &mut RmeAccess
 #[inline(never)]
 fn any_feed(p: &mut RmeProcess, value: u64, next: &mut RmeAccess) -> u64
     requires eight { length p.old.value ≡ 8 }
-    ensures { IsFed p.old value p.new next.new result }
+    ensures { IsFed p.old value p.new next.old next.new result }
 {
     let _whole = *p;
     match position_now(p) {
@@ -179,7 +177,7 @@ fn scan_on(p: &mut RmeProcess, stage: Stage, value: u64, next: &mut RmeAccess) -
     requires here { position_of p.old ≡ PositionOf.Lock stage }
     requires fits { Fits p.old (PositionOf.Lock stage) }
     requires eight { length p.old.value ≡ 8 }
-    ensures { IsFed p.old value p.new next.new result }
+    ensures { IsFed p.old value p.new next.old next.new result }
 {
     let _whole = *p;
     match scan_feed(p, stage, value, next) {
@@ -194,7 +192,7 @@ fn stage_feed(p: &mut RmeProcess, stage: Stage, value: u64, next: &mut RmeAccess
     requires here { position_of p.old ≡ PositionOf.Lock stage }
     requires fits { Fits p.old (PositionOf.Lock stage) }
     requires eight { length p.old.value ≡ 8 }
-    ensures { IsFed p.old value p.new next.new result }
+    ensures { IsFed p.old value p.new next.old next.new result }
 {
     let _whole = *p;
     match quick_feed(p, stage, value, next) {
@@ -207,7 +205,7 @@ fn stage_feed(p: &mut RmeProcess, stage: Stage, value: u64, next: &mut RmeAccess
 #[inline(always)]
 fn short_feed(p: &mut RmeProcess, value: u64, next: &mut RmeAccess) -> u64
     requires eight { length p.old.value ≡ 8 }
-    ensures { IsFed p.old value p.new next.new result }
+    ensures { IsFed p.old value p.new next.old next.new result }
 {
     let _whole = *p;
     match lock_stage(p) {
@@ -233,14 +231,16 @@ pub extern "C" fn rme_next(p: &RmeProcess, next: &mut RmeAccess) -> u64
     }
 }
 
-/// Takes the step that comes next, with the value that it read, and answers what it was: 0 where the call goes on, 16 where
-/// it was blocked, from 17 on the answer that ends the call, 7 where no call is under way. It shows the next access with it,
-/// or the board word that is answered.
+/// Takes the step that comes next, with the value that it read, and answers what it was: from 64 on where the call goes on with
+/// a load of a lock word, whose place is the number less 64; 0 where it goes on otherwise, 16 where it was blocked, from 17 on
+/// the answer that ends the call, 7 where no call is under way. Below 64 it shows the next access, or the board word that is
+/// answered.
 #[unsafe(no_mangle)]
 pub extern "C" fn rme_feed(p: &mut RmeProcess, value: u64, next: &mut RmeAccess) -> u64
     ensures exact { stand_of p.new ≡ stepped (stand_of p.old) value }
     ensures told { result ≡ told_of (stand_of p.old) value }
-    ensures next { next.new ≡ shown_of p.old.procs (outcome (stand_of p.old) (next_access (stand_of p.old)) value).answer (next_access (stand_of p.new)) }
+    ensures next { result < 64 → next.new ≡ shown_of p.old.procs (outcome (stand_of p.old) (next_access (stand_of p.old)) value).answer (next_access (stand_of p.new)) }
+    ensures kept { 64 ≤ result → next.new ≡ next.old }
     ensures steps { p.new.steps ≡ if is_none (next_access (stand_of p.old)) then p.old.steps else held (p.old.steps + 1) }
 {
     let _whole = *p;

@@ -23,7 +23,7 @@ fn goes(p: &mut RmeProcess, to: Stage, next: &mut RmeAccess) -> Landing
     ensures to { result.to ≡ to }
     ensures done { result.done ≡ None }
     ensures free { result.blocked ≡ false }
-    ensures numbers { IsLanding p.old result p.new next.new }
+    ensures numbers { IsLanding p.old result p.new next.old next.new }
 {
     lands(p, to, None, false, next)
 }
@@ -36,7 +36,7 @@ fn ends(p: &mut RmeProcess, to: Stage, done: CoreDone, next: &mut RmeAccess) -> 
     ensures to { result.to ≡ to }
     ensures done { result.done ≡ Some done }
     ensures free { result.blocked ≡ false }
-    ensures numbers { IsLanding p.old result p.new next.new }
+    ensures numbers { IsLanding p.old result p.new next.old next.new }
 {
     lands(p, to, Some(done), false, next)
 }
@@ -55,7 +55,7 @@ fn after_door(
     ensures place { place_of p.old.procs p.old.index result.to ≡ after_access (standing_at p.old (StageOf.Door from greatest)) (next_access (standing_at p.old (StageOf.Door from greatest))) value }
     ensures done { result.done ≡ (progress (standing_at p.old (StageOf.Door from greatest)) (next_access (standing_at p.old (StageOf.Door from greatest))) value).done }
     ensures free { result.blocked ≡ (progress (standing_at p.old (StageOf.Door from greatest)) (next_access (standing_at p.old (StageOf.Door from greatest))) value).blocked }
-    ensures numbers { IsLanding p.old result p.new next.new }
+    ensures numbers { IsLanding p.old result p.new next.old next.new }
 {
     let call = CoreCall::Lock;
     match first(p, from) {
@@ -96,7 +96,7 @@ fn after_look(
     ensures place { place_of p.old.procs p.old.index result.to ≡ after_access (standing_at p.old (StageOf.Wait number from false)) (next_access (standing_at p.old (StageOf.Wait number from false))) value }
     ensures done { result.done ≡ (progress (standing_at p.old (StageOf.Wait number from false)) (next_access (standing_at p.old (StageOf.Wait number from false))) value).done }
     ensures blocked { result.blocked ≡ (progress (standing_at p.old (StageOf.Wait number from false)) (next_access (standing_at p.old (StageOf.Wait number from false))) value).blocked }
-    ensures numbers { IsLanding p.old result p.new next.new }
+    ensures numbers { IsLanding p.old result p.new next.old next.new }
 {
     match first(p, from) {
         Some(_) if value != 0 => {
@@ -133,7 +133,7 @@ fn after_weigh(
     ensures place { place_of p.old.procs p.old.index result.to ≡ after_access (standing_at p.old (StageOf.Wait number from true)) (next_access (standing_at p.old (StageOf.Wait number from true))) value }
     ensures done { result.done ≡ (progress (standing_at p.old (StageOf.Wait number from true)) (next_access (standing_at p.old (StageOf.Wait number from true))) value).done }
     ensures blocked { result.blocked ≡ (progress (standing_at p.old (StageOf.Wait number from true)) (next_access (standing_at p.old (StageOf.Wait number from true))) value).blocked }
-    ensures numbers { IsLanding p.old result p.new next.new }
+    ensures numbers { IsLanding p.old result p.new next.old next.new }
 {
     match first(p, from) {
         Some(j) if passes(p.index, number, value, j) => {
@@ -171,7 +171,7 @@ fn after_wait(
     ensures place { place_of p.old.procs p.old.index result.to ≡ after_access (standing_at p.old (StageOf.Wait number from looked)) (next_access (standing_at p.old (StageOf.Wait number from looked))) value }
     ensures done { result.done ≡ (progress (standing_at p.old (StageOf.Wait number from looked)) (next_access (standing_at p.old (StageOf.Wait number from looked))) value).done }
     ensures blocked { result.blocked ≡ (progress (standing_at p.old (StageOf.Wait number from looked)) (next_access (standing_at p.old (StageOf.Wait number from looked))) value).blocked }
-    ensures numbers { IsLanding p.old result p.new next.new }
+    ensures numbers { IsLanding p.old result p.new next.old next.new }
 {
     if looked {
         after_weigh(p, number, from, value, next)
@@ -187,7 +187,7 @@ fn by_machine(p: &mut RmeProcess, stage: Stage, value: u64, next: &mut RmeAccess
     ensures place { place_of p.old.procs p.old.index result.to ≡ after_access (standing_at p.old stage) (next_access (standing_at p.old stage)) value }
     ensures done { result.done ≡ (progress (standing_at p.old stage) (next_access (standing_at p.old stage)) value).done }
     ensures blocked { result.blocked ≡ (progress (standing_at p.old stage) (next_access (standing_at p.old stage)) value).blocked }
-    ensures numbers { IsLanding p.old result p.new next.new }
+    ensures numbers { IsLanding p.old result p.new next.old next.new }
 {
     let mut machine = LockProcess::new(p.procs, p.limit, p.index);
     machine.seam_stand(stage);
@@ -203,7 +203,7 @@ fn scanned(p: &mut RmeProcess, stage: Stage, value: u64, next: &mut RmeAccess) -
     ensures place { IfSome result (λ r. place_of p.old.procs p.old.index r.to ≡ after_access (standing_at p.old stage) (next_access (standing_at p.old stage)) value) }
     ensures done { IfSome result (λ r. r.done ≡ (progress (standing_at p.old stage) (next_access (standing_at p.old stage)) value).done) }
     ensures blocked { IfSome result (λ r. r.blocked ≡ (progress (standing_at p.old stage) (next_access (standing_at p.old stage)) value).blocked) }
-    ensures numbers { IfSome result (λ r. IsLanding p.old r p.new next.new) }
+    ensures numbers { IfSome result (λ r. IsLanding p.old r p.new next.old next.new) }
     ensures busy { IfSome result (λ _. is_idle (place_of p.old.procs p.old.index stage) ≡ false) }
     ensures none { result ≡ None → (p.new ≡ p.old) × (next.new ≡ next.old) }
 {
@@ -230,7 +230,7 @@ fn shortly(p: &mut RmeProcess, stage: Stage, value: u64, next: &mut RmeAccess) -
     ensures place { IfSome result (λ r. place_of p.old.procs p.old.index r.to ≡ after_access (standing_at p.old stage) (next_access (standing_at p.old stage)) value) }
     ensures done { IfSome result (λ r. r.done ≡ (progress (standing_at p.old stage) (next_access (standing_at p.old stage)) value).done) }
     ensures blocked { IfSome result (λ r. r.blocked ≡ (progress (standing_at p.old stage) (next_access (standing_at p.old stage)) value).blocked) }
-    ensures numbers { IfSome result (λ r. IsLanding p.old r p.new next.new) }
+    ensures numbers { IfSome result (λ r. IsLanding p.old r p.new next.old next.new) }
     ensures busy { IfSome result (λ _. is_idle (place_of p.old.procs p.old.index stage) ≡ false) }
     ensures none { result ≡ None → (p.new ≡ p.old) × (next.new ≡ next.old) }
 {
@@ -274,7 +274,7 @@ fn shortly(p: &mut RmeProcess, stage: Stage, value: u64, next: &mut RmeAccess) -
 pub fn scan_feed(p: &mut RmeProcess, stage: Stage, value: u64, next: &mut RmeAccess) -> Option<u64>
     requires here { position_of p.old ≡ Position.Lock stage }
     requires fits { Fits p.old (Position.Lock stage) }
-    ensures fed { IfSome result (λ code. IsFed p.old value p.new next.new code) }
+    ensures fed { IfSome result (λ code. IsFed p.old value p.new next.old next.new code) }
     ensures none { result ≡ None → (p.new ≡ p.old) × (next.new ≡ next.old) }
 {
     match scanned(p, stage, value, next) {
@@ -288,7 +288,7 @@ pub fn scan_feed(p: &mut RmeProcess, stage: Stage, value: u64, next: &mut RmeAcc
 pub fn quick_feed(p: &mut RmeProcess, stage: Stage, value: u64, next: &mut RmeAccess) -> Option<u64>
     requires here { position_of p.old ≡ Position.Lock stage }
     requires fits { Fits p.old (Position.Lock stage) }
-    ensures fed { IfSome result (λ code. IsFed p.old value p.new next.new code) }
+    ensures fed { IfSome result (λ code. IsFed p.old value p.new next.old next.new code) }
     ensures none { result ≡ None → (p.new ≡ p.old) × (next.new ≡ next.old) }
 {
     match shortly(p, stage, value, next) {
@@ -302,7 +302,7 @@ pub fn lock_feed(p: &mut RmeProcess, stage: Stage, value: u64, next: &mut RmeAcc
     requires here { position_of p.old ≡ Position.Lock stage }
     requires fits { Fits p.old (Position.Lock stage) }
     requires busy { is_none (next_access_of (stand_at p.old (Position.Lock stage))) ≡ false }
-    ensures { IsFed p.old value p.new next.new result }
+    ensures { IsFed p.old value p.new next.old next.new result }
 {
     by_machine(p, stage, value, next).code
 }

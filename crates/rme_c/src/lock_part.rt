@@ -7,7 +7,7 @@ ghost use Rattle.rme_c.specs.Positions.{landing, Fits};
 ghost use Rattle.rme_c.specs.Steps.{IsLanding};
 
 use crate::accesses::next_at;
-use crate::answers::{Told, code, shown};
+use crate::answers::{Told, tell};
 use crate::chore::Chore;
 use crate::position::{Position, numbers};
 use crate::process::{RmeAccess, RmeProcess};
@@ -92,16 +92,15 @@ pub fn lands(
     ensures to { result.to ≡ to }
     ensures done { result.done ≡ done }
     ensures blocked { result.blocked ≡ blocked }
-    ensures numbers { IsLanding p.old result p.new next.new }
+    ensures numbers { IsLanding p.old result p.new next.old next.new }
 {
     let position = behind(p, enters(done), to);
     let answer = answer(p.barred != 0, done);
-    let shows = shown(p.procs, answer, next_at(p, position));
+    let after = next_at(p, position);
     p.unmended = unmended(p.unmended, done);
     p.position = numbers(p.position, position);
     p.steps = p.steps.saturating_add(1);
-    *next = shows;
-    let code = code(Told { answer, blocked });
+    let code = tell(p.procs, Told { answer, blocked }, after, next);
     Landing {
         to,
         done,

@@ -23,3 +23,9 @@ returns-in-None-clause-next c = c.short_feed.ensures.next
 
 pub returns-in-None-clause-steps : goal.returns-in-None-clause-steps
 returns-in-None-clause-steps c = c.short_feed.ensures.steps
+
+pub returns-in-Some-clause-kept : goal.returns-in-Some-clause-kept
+returns-in-Some-clause-kept c = c.scan_on.ensures.kept
+
+pub returns-in-None-clause-kept : goal.returns-in-None-clause-kept
+returns-in-None-clause-kept c = c.short_feed.ensures.kept

@@ -20,6 +20,11 @@ _Static_assert(sizeof(_Atomic uint64_t) == 8 && sizeof(struct rme_header) <= RME
 
 /* ---- accesses ---- */
 
+static inline uint64_t load(const _Atomic uint64_t *words, uint64_t place)
+{
+    return atomic_load_explicit(&words[place], memory_order_seq_cst);
+}
+
 /* The access that the machine has named. A word that the block does not have reads 0, and no store goes there. */
 static inline uint64_t take(const struct rme_seat *s, const struct rme_access *access)
 {
@@ -48,9 +53,12 @@ static void rest(uint64_t turn)
 /* Takes the steps of the call under way, from this access on, to its answer, or to so many blocked readings and one more. */
 static inline __attribute__((always_inline)) uint64_t finish(struct rme_seat *s, struct rme_access *access, uint64_t turns)
 {
+    const _Atomic uint64_t *words = s->words;
     uint64_t turn = 0, told;
     for (;;) {
         told = rme_feed(&s->machine, take(s, access), access);
+        while (told >= RME_LOAD)
+            told = rme_feed(&s->machine, load(words, told - RME_LOAD), access);
         if (told == 0)
             continue;
         if (told != RME_BLOCKED || turn >= turns)

@@ -42,13 +42,15 @@ enum rme_refusal {
     RME_BAD_WIDTH
 };
 
-/* What rme_feed answers: 0 the call goes on, RME_NOTHING_TO_DO, RME_BLOCKED (the same word is read again), or how the call
+/* What rme_feed answers: RME_LOAD and the place of the word that comes next, which is loaded (the access shown is as before);
+ * 0 the call goes on with the access shown, RME_NOTHING_TO_DO, RME_BLOCKED (the word shown is read again), or how the call
  * ended. */
 enum rme_answer {
     RME_BLOCKED = 16, RME_CLEAN, RME_OWNER_DIED, RME_NUMBERS_SPENT, RME_NOT_RECOVERABLE, RME_UNLOCKED, RME_WITHDRAWN,
     RME_FOUND_IDLE, RME_FOUND_LEFT, RME_FOUND_DOORWAY, RME_FOUND_WAITING, RME_FOUND_INSIDE,
     RME_STORED, RME_ALREADY, RME_OUT_OF_ORDER, RME_FULL, RME_CLOSED, RME_CLOSED_NOW, RME_ALREADY_CLOSED,
-    RME_MENDED, RME_NOTHING_TO_MEND, RME_WORD, RME_DONE
+    RME_MENDED, RME_NOTHING_TO_MEND, RME_WORD, RME_DONE,
+    RME_LOAD = 64
 };
 
 uint64_t rme_words(uint64_t procs, uint64_t cap, uint64_t width);

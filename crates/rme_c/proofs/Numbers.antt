@@ -1,6 +1,6 @@
 -- Tests of the sizes.
-use Rattle.std.proofs.Common.{◌≡◌, ◌<◌, ◌≤◌, true, refl, inl, inr}
-use Rattle.std.proofs.lemmas.Bool.{cases_Bool, lt-ltb, le-leb}
+use Rattle.std.proofs.Common.{◌≡◌, ◌<◌, ◌≤◌, true, false, nat_lt, refl, inl, inr}
+use Rattle.std.proofs.lemmas.Bool.{cases_Bool, lt-ltb, le-ltb, le-leb}
 use Rattle.redomail.specs.declared.layout.Layout.{Layout}
 use Rattle.redomail.specs.Layout.{IsLayout}
 use Rattle.rme_c.specs.declared.process.RmeProcess.{RmeProcess}
@@ -11,6 +11,9 @@ use Rattle.rme_c.specs.Positions.{is_layout, is_placed, stage_of, chore_of, by_p
 pub layout_holds : (l : Layout) → IsLayout l → is_layout l ≡ true
 layout_holds l h =
     rw (le-leb l.procs 64 h.few, le-leb l.cap 65536 h.small, le-leb 1 l.width h.least, le-leb l.width 8 h.most) refl
+
+pub unplaced : (p : RmeProcess) → p.procs ≤ p.index → position_of p ≡ Lost
+unplaced p beyond = let no : nat_lt p.index p.procs ≡ false = le-ltb p.index p.procs beyond in rw no refl
 
 pub placed_holds : (p : RmeProcess) → p.index < p.procs → p.procs ≤ 64 → is_placed p ≡ true
 placed_holds p below few = rw (lt-ltb p.index p.procs below, le-leb p.procs 64 few) refl

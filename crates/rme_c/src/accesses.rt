@@ -18,7 +18,7 @@ use rmecore::{Access, Kind, Stage, Word};
 pub fn first(p: &RmeProcess, from: u64) -> Option<u64>
     requires { p.now.index < p.now.procs }
     ensures first { result ≡ first_of (above p.now.procs p.now.index from) }
-    ensures room { IfSome result (λ j. j < u64.MAX) }
+    ensures within { IfSome result (λ j. j < p.now.procs) }
 {
     let j = if from == p.index { from + 1 } else { from };
     if j < p.procs { Some(j) } else { None }

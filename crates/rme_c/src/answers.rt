@@ -130,6 +130,18 @@ fn answer_word(answer: Answer) -> u64
     }
 }
 
+/// What is shown of an answer.
+#[inline(always)]
+fn answered(answer: Answer) -> RmeAccess
+    ensures { result ≡ record { store = 0; place = 0; value = word_of_answer answer } }
+{
+    RmeAccess {
+        store: 0,
+        place: 0,
+        value: answer_word(answer),
+    }
+}
+
 /// What is shown of the access that comes next, or of an answer.
 #[inline(always)]
 pub fn shown(procs: u64, answer: Option<Answer>, next: Option<Access>) -> RmeAccess
@@ -138,11 +150,7 @@ pub fn shown(procs: u64, answer: Option<Answer>, next: Option<Access>) -> RmeAcc
     ensures { result ≡ shown_by procs answer next }
 {
     match (answer, next) {
-        (Some(answer), _) => RmeAccess {
-            store: 0,
-            place: 0,
-            value: answer_word(answer),
-        },
+        (Some(answer), _) => answered(answer),
         (None, Some(access)) => wanted(procs, access),
         (None, None) => NOTHING,
     }
@@ -179,7 +187,7 @@ pub fn tell(procs: u64, told: Told, after: Option<Access>, next: &mut RmeAccess)
 {
     match told.answer {
         Some(answer) => {
-            *next = shown(procs, told.answer, after);
+            *next = answered(answer);
             answer_code(answer)
         }
         None if told.blocked => {

@@ -171,6 +171,19 @@ fn any_feed(p: &mut RmeProcess, value: u64, next: &mut RmeAccess) -> u64
     }
 }
 
+/// No call is under way, where the process is none of its world's.
+#[inline(always)]
+fn nowhere(p: &mut RmeProcess, value: u64, next: &mut RmeAccess) -> u64
+    requires beyond { p.old.procs ≤ p.old.index }
+    requires eight { length p.old.value ≡ 8 }
+    ensures { IsFed p.old value p.new next.old next.new result }
+{
+    let _whole = *p;
+    let _ = value;
+    *next = NOTHING;
+    7
+}
+
 /// Takes the step of a scan.
 #[inline(always)]
 fn scan_on(p: &mut RmeProcess, stage: Stage, value: u64, next: &mut RmeAccess) -> u64
@@ -244,6 +257,15 @@ pub extern "C" fn rme_feed(p: &mut RmeProcess, value: u64, next: &mut RmeAccess)
     ensures steps { p.new.steps ≡ if is_none (next_access (stand_of p.old)) then p.old.steps else held (p.old.steps + 1) }
 {
     let _whole = *p;
+    if p.procs > 64 {
+        return any_feed(p, value, next);
+    }
+    if p.index >= p.procs {
+        return nowhere(p, value, next);
+    }
+    if p.steps == u64::MAX {
+        return any_feed(p, value, next);
+    }
     match scan_stage(p) {
         Some(stage) => scan_on(p, stage, value, next),
         None => short_feed(p, value, next),

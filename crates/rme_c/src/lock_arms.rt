@@ -1,8 +1,8 @@
 //! The lock's part, stage by stage: where a step leads. Each way out makes its numbers at once.
 
 ghost use Rattle.std.specs.Prelude.{◌≡◌, ℕ, ◌+◌, ◌<◌, ◌≤◌, ◌==◌, ◌||◌, IfSome, Some, None, true, false, is_none};
-ghost use Rattle.rmecore.specs.Place.{is_before};
-ghost use Rattle.rmecore.specs.Machine.{place_of, after_access, progress, next_access};
+ghost use Rattle.rmecore.specs.Place.{above, is_before};
+ghost use Rattle.rmecore.specs.Machine.{first as first_of, place_of, after_access, progress, next_access};
 ghost use Rattle.rmecore.specs.declared.stage.Stage.TheVariants as StageOf;
 ghost use Rattle.rmecore.specs.Refused.{is_idle};
 ghost use Rattle.rmeworld.specs.Stand.{next_access as next_access_of};
@@ -12,6 +12,7 @@ ghost use Rattle.rme_c.specs.declared.position.Position.TheVariants as Position;
 
 use crate::accesses::first;
 use crate::lock_part::{Landing, lands};
+use crate::position::{Position, numbers};
 use crate::process::{RmeAccess, RmeProcess};
 use rmecore::{CoreCall, CoreDone, LockProcess, Stage};
 
@@ -41,6 +42,33 @@ fn ends(p: &mut RmeProcess, to: Stage, done: CoreDone, next: &mut RmeAccess) -> 
     lands(p, to, Some(done), false, next)
 }
 
+/// The call goes on with a peek at process `k`.
+#[inline(always)]
+fn peeks(p: &mut RmeProcess, from: u64, greatest: u64, k: u64, next: &mut RmeAccess) -> Landing
+    requires below { p.old.index < p.old.procs }
+    requires few { p.old.procs ≤ 64 }
+    requires first { first_of (above p.old.procs p.old.index from) ≡ Some k }
+    requires within { k < 64 }
+    ensures to { result.to ≡ StageOf.Door from greatest }
+    ensures done { result.done ≡ None }
+    ensures free { result.blocked ≡ false }
+    ensures numbers { IsLanding p.old result p.new next.old next.new }
+{
+    let _shown = *next;
+    let to = Stage::Door {
+        next: from,
+        greatest,
+    };
+    p.position = numbers(p.position, Position::Lock(to));
+    p.steps = p.steps.saturating_add(1);
+    Landing {
+        to,
+        done: None,
+        blocked: false,
+        code: 64 + (3 * k + 1),
+    }
+}
+
 /// A peek, or what follows the last: a number is taken, or there is none left.
 #[inline(always)]
 fn after_door(
@@ -60,11 +88,17 @@ fn after_door(
     let call = CoreCall::Lock;
     match first(p, from) {
         Some(j) => {
-            let to = Stage::Door {
-                next: j + 1,
-                greatest: greatest.max(value),
-            };
-            goes(p, to, next)
+            let greatest = greatest.max(value);
+            match first(p, j + 1) {
+                Some(k) => peeks(p, j + 1, greatest, k, next),
+                None => {
+                    let to = Stage::Door {
+                        next: j + 1,
+                        greatest,
+                    };
+                    goes(p, to, next)
+                }
+            }
         }
         None if greatest < p.limit => {
             let number = greatest + 1;

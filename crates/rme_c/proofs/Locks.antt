@@ -1,6 +1,7 @@
 -- A step of the lock's part, in the numbers of C.
-use Rattle.std.proofs.Common.{◌≡◌, ℕ, Bool, true, false, nat_lt, if◌then◌else◌, List, [], ◌∷◌, Option, Some, None, IfSome, is_none, refl, sym, inl, inr}
-use Rattle.std.proofs.lemmas.Bool.{cases_Bool}
+use Rattle.std.proofs.Common.{◌≡◌, ◌≢◌, ℕ, ◌+◌, ◌<◌, Bool, true, false, nat_lt, if◌then◌else◌, List, [], ◌∷◌, Option, Some, None, IfSome, is_none, refl, sym, ap, ◌∙◌, inl, inr}
+use Rattle.std.proofs.lemmas.Bool.{cases_Bool, cases_eq}
+use Rattle.rmecore.proofs.Scans.{above_skip}
 use Rattle.rmecore.specs.Place.{Place, Rest, Dead, Reread, Opening, Door, Shutting, Wait, Inside, Leaving, Withdrawing, Unmarking, above}
 use Rattle.rmecore.specs.Machine.{first, place_of, access, word_of, InLock}
 use Rattle.rmecore.specs.Refused.{is_idle}
@@ -61,6 +62,14 @@ wait_wants limit p k [] false = refl
 wait_wants limit p k [] true = refl
 wait_wants limit p k (j ∷ js) false = refl
 wait_wants limit p k (j ∷ js) true = refl
+
+-- the first of those that are left stands for where the scan stands
+pub above_again : (n p i j : ℕ) → (i ≢ p → j ≡ i) → (i ≡ p → j ≡ i + 1) → p < n → above n p j ≡ above n p i
+above_again n p i j other own below =
+    elim (cases_eq i p) [
+      | inl e ↦ let is : j ≡ p + 1 = own e ∙ ap (λ r. r + 1) e in ap (above n p) is ∙ (sym (above_skip n p below) ∙ ap (above n p) (sym e))
+      | inr ne ↦ ap (above n p) (other ne)
+    ]
 
 -- a door with a process left to peek at peeks at the first
 pub peeks_at : (limit p m k : ℕ) (js : List ℕ) → first js ≡ Some k → access limit p (Door js m) ≡ Some (Load Peek (Number k))

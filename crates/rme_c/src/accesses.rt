@@ -19,6 +19,7 @@ pub fn first(p: &RmeProcess, from: u64) -> Option<u64>
     requires { p.now.index < p.now.procs }
     ensures first { result ≡ first_of (above p.now.procs p.now.index from) }
     ensures within { IfSome result (λ j. j < p.now.procs) }
+    ensures left { IfSome result (λ j. above p.now.procs p.now.index j ≡ above p.now.procs p.now.index from) }
 {
     let j = if from == p.index { from + 1 } else { from };
     if j < p.procs { Some(j) } else { None }

@@ -2,70 +2,134 @@
 
 ghost use Rattle.std.specs.Prelude.{◌≡◌, ℕ, ◌+◌, ◌<◌, ◌≤◌, ◌==◌, ◌||◌, IfSome, Some, None, true, false, is_none};
 ghost use Rattle.rmecore.specs.Place.{above, is_before};
-ghost use Rattle.rmecore.specs.Machine.{first as first_of, place_of, after_access, progress, next_access};
+ghost use Rattle.rmecore.specs.Place as PlaceOf;
+ghost use Rattle.rmecore.specs.Machine.{first as first_of, place_of, after_access, progress, next_access, word_of};
+ghost use Rattle.rmecore.specs.declared.core_done.CoreDone.TheVariants as DoneOf;
 ghost use Rattle.rmecore.specs.declared.stage.Stage.TheVariants as StageOf;
 ghost use Rattle.rmecore.specs.Refused.{is_idle};
-ghost use Rattle.rmeworld.specs.Stand.{next_access as next_access_of};
+ghost use Rattle.rmeworld.specs.Stand.{next_access as next_access_of, InWords};
 ghost use Rattle.rme_c.specs.Positions.{standing_at, stand_at, position_of, Fits};
 ghost use Rattle.rme_c.specs.Steps.{IsLanding, IsFed};
 ghost use Rattle.rme_c.specs.declared.position.Position.TheVariants as Position;
 
 use crate::accesses::first;
-use crate::lock_part::{Landing, lands};
+use crate::answers::{Told, tell};
+use crate::lock_part::{Landing, comes_in, lands, leaves, runs_out};
 use crate::position::{Position, numbers};
 use crate::process::{RmeAccess, RmeProcess};
-use rmecore::{CoreCall, CoreDone, LockProcess, Stage};
+use rmecore::{Access, CoreCall, Kind, LockProcess, Stage, Word};
 
-/// The call goes on.
+/// The call goes on at this stage, with this access.
 #[inline(always)]
-fn goes(p: &mut RmeProcess, to: Stage, next: &mut RmeAccess) -> Landing
+fn goes(
+    p: &mut RmeProcess,
+    to: Stage,
+    blocked: bool,
+    access: Access,
+    next: &mut RmeAccess,
+) -> Landing
     requires below { p.old.index < p.old.procs }
     requires few { p.old.procs ≤ 64 }
+    requires next { next_access_of (stand_at p.old (Position.Lock to)) ≡ Some access }
+    requires word { InWords p.old.procs (word_of access) }
     ensures to { result.to ≡ to }
     ensures done { result.done ≡ None }
-    ensures free { result.blocked ≡ false }
+    ensures blocked { result.blocked ≡ blocked }
     ensures numbers { IsLanding p.old result p.new next.old next.new }
 {
-    lands(p, to, None, false, next)
-}
-
-/// The lock's part of the call ends.
-#[inline(always)]
-fn ends(p: &mut RmeProcess, to: Stage, done: CoreDone, next: &mut RmeAccess) -> Landing
-    requires below { p.old.index < p.old.procs }
-    requires few { p.old.procs ≤ 64 }
-    ensures to { result.to ≡ to }
-    ensures done { result.done ≡ Some done }
-    ensures free { result.blocked ≡ false }
-    ensures numbers { IsLanding p.old result p.new next.old next.new }
-{
-    lands(p, to, Some(done), false, next)
-}
-
-/// The call goes on with a peek at process `k`.
-#[inline(always)]
-fn peeks(p: &mut RmeProcess, from: u64, greatest: u64, k: u64, next: &mut RmeAccess) -> Landing
-    requires below { p.old.index < p.old.procs }
-    requires few { p.old.procs ≤ 64 }
-    requires first { first_of (above p.old.procs p.old.index from) ≡ Some k }
-    requires within { k < 64 }
-    ensures to { result.to ≡ StageOf.Door from greatest }
-    ensures done { result.done ≡ None }
-    ensures free { result.blocked ≡ false }
-    ensures numbers { IsLanding p.old result p.new next.old next.new }
-{
-    let _shown = *next;
-    let to = Stage::Door {
-        next: from,
-        greatest,
-    };
     p.position = numbers(p.position, Position::Lock(to));
     p.steps = p.steps.saturating_add(1);
+    let told = Told {
+        answer: None,
+        blocked,
+    };
+    let code = tell(p.procs, told, Some(access), next);
     Landing {
         to,
         done: None,
-        blocked: false,
-        code: 64 + (3 * k + 1),
+        blocked,
+        code,
+    }
+}
+
+/// The door, with the processes from an index on left to be peeked at.
+#[inline(always)]
+fn peeks_from(p: &mut RmeProcess, from: u64, greatest: u64, next: &mut RmeAccess) -> Landing
+    requires below { p.old.index < p.old.procs }
+    requires few { p.old.procs ≤ 64 }
+    ensures to { place_of p.old.procs p.old.index result.to ≡ PlaceOf.Door (above p.old.procs p.old.index from) greatest }
+    ensures done { result.done ≡ None }
+    ensures free { result.blocked ≡ false }
+    ensures numbers { IsLanding p.old result p.new next.old next.new }
+{
+    let own = p.index;
+    match first(p, from) {
+        Some(k) => {
+            let to = Stage::Door { next: k, greatest };
+            goes(
+                p,
+                to,
+                false,
+                Access::Load(Kind::Peek, Word::Number(k)),
+                next,
+            )
+        }
+        None => {
+            let to = Stage::Door {
+                next: from,
+                greatest,
+            };
+            let access = if greatest < p.limit {
+                Access::Store(Kind::Take, Word::Number(own), greatest + 1)
+            } else {
+                Access::Store(Kind::Shut, Word::Choosing(own), 0)
+            };
+            goes(p, to, false, access, next)
+        }
+    }
+}
+
+/// The wait, with the processes from an index on left to be passed.
+#[inline(always)]
+fn looks_from(p: &mut RmeProcess, number: u64, from: u64, next: &mut RmeAccess) -> Landing
+    requires below { p.old.index < p.old.procs }
+    requires few { p.old.procs ≤ 64 }
+    ensures to { place_of p.old.procs p.old.index result.to ≡ PlaceOf.Wait number (above p.old.procs p.old.index from) None }
+    ensures done { result.done ≡ None }
+    ensures free { result.blocked ≡ false }
+    ensures numbers { IsLanding p.old result p.new next.old next.new }
+{
+    let own = p.index;
+    let looked = false;
+    match first(p, from) {
+        Some(k) => {
+            let to = Stage::Wait {
+                number,
+                next: k,
+                looked,
+            };
+            goes(
+                p,
+                to,
+                false,
+                Access::Load(Kind::Look, Word::Choosing(k)),
+                next,
+            )
+        }
+        None => {
+            let to = Stage::Wait {
+                number,
+                next: from,
+                looked,
+            };
+            goes(
+                p,
+                to,
+                false,
+                Access::Store(Kind::Mark, Word::Inside(own), 1),
+                next,
+            )
+        }
     }
 }
 
@@ -85,26 +149,23 @@ fn after_door(
     ensures free { result.blocked ≡ (progress (standing_at p.old (StageOf.Door from greatest)) (next_access (standing_at p.old (StageOf.Door from greatest))) value).blocked }
     ensures numbers { IsLanding p.old result p.new next.old next.new }
 {
-    let call = CoreCall::Lock;
+    let own = p.index;
     match first(p, from) {
-        Some(j) => {
-            let greatest = greatest.max(value);
-            match first(p, j + 1) {
-                Some(k) => peeks(p, j + 1, greatest, k, next),
-                None => {
-                    let to = Stage::Door {
-                        next: j + 1,
-                        greatest,
-                    };
-                    goes(p, to, next)
-                }
-            }
-        }
+        Some(j) => peeks_from(p, j + 1, greatest.max(value), next),
         None if greatest < p.limit => {
-            let number = greatest + 1;
-            goes(p, Stage::Shutting { call, number }, next)
+            let to = Stage::Shutting {
+                call: CoreCall::Lock,
+                number: greatest + 1,
+            };
+            goes(
+                p,
+                to,
+                false,
+                Access::Store(Kind::Shut, Word::Choosing(own), 0),
+                next,
+            )
         }
-        None => ends(p, Stage::Rest, CoreDone::Spent, next),
+        None => runs_out(p, next),
     }
 }
 
@@ -116,81 +177,90 @@ fn passes(own: u64, number: u64, value: u64, j: u64) -> bool
     value == 0 || (number, own) < (value, j)
 }
 
-/// A look, or the mark that follows the last weigh.
+/// A look at process `j`.
 #[inline(always)]
 fn after_look(
     p: &mut RmeProcess,
     number: u64,
     from: u64,
+    j: u64,
     value: u64,
     next: &mut RmeAccess,
 ) -> Landing
     requires below { p.old.index < p.old.procs }
     requires few { p.old.procs ≤ 64 }
+    requires first { first_of (above p.old.procs p.old.index from) ≡ Some j }
+    requires within { j < p.old.procs }
     ensures place { place_of p.old.procs p.old.index result.to ≡ after_access (standing_at p.old (StageOf.Wait number from false)) (next_access (standing_at p.old (StageOf.Wait number from false))) value }
     ensures done { result.done ≡ (progress (standing_at p.old (StageOf.Wait number from false)) (next_access (standing_at p.old (StageOf.Wait number from false))) value).done }
     ensures blocked { result.blocked ≡ (progress (standing_at p.old (StageOf.Wait number from false)) (next_access (standing_at p.old (StageOf.Wait number from false))) value).blocked }
     ensures numbers { IsLanding p.old result p.new next.old next.new }
 {
-    match first(p, from) {
-        Some(_) if value != 0 => {
-            let to = Stage::Wait {
-                number,
-                next: from,
-                looked: false,
-            };
-            lands(p, to, None, true, next)
-        }
-        Some(_) => {
-            let to = Stage::Wait {
-                number,
-                next: from,
-                looked: true,
-            };
-            goes(p, to, next)
-        }
-        None => ends(p, Stage::Inside, CoreDone::In, next),
+    if value != 0 {
+        let to = Stage::Wait {
+            number,
+            next: from,
+            looked: false,
+        };
+        return goes(
+            p,
+            to,
+            true,
+            Access::Load(Kind::Look, Word::Choosing(j)),
+            next,
+        );
     }
+    let to = Stage::Wait {
+        number,
+        next: from,
+        looked: true,
+    };
+    goes(
+        p,
+        to,
+        false,
+        Access::Load(Kind::Weigh, Word::Number(j)),
+        next,
+    )
 }
 
-/// A weigh.
+/// A weigh of process `j`.
 #[inline(always)]
 fn after_weigh(
     p: &mut RmeProcess,
     number: u64,
     from: u64,
+    j: u64,
     value: u64,
     next: &mut RmeAccess,
 ) -> Landing
     requires below { p.old.index < p.old.procs }
     requires few { p.old.procs ≤ 64 }
+    requires first { first_of (above p.old.procs p.old.index from) ≡ Some j }
+    requires within { j < p.old.procs }
     ensures place { place_of p.old.procs p.old.index result.to ≡ after_access (standing_at p.old (StageOf.Wait number from true)) (next_access (standing_at p.old (StageOf.Wait number from true))) value }
     ensures done { result.done ≡ (progress (standing_at p.old (StageOf.Wait number from true)) (next_access (standing_at p.old (StageOf.Wait number from true))) value).done }
     ensures blocked { result.blocked ≡ (progress (standing_at p.old (StageOf.Wait number from true)) (next_access (standing_at p.old (StageOf.Wait number from true))) value).blocked }
     ensures numbers { IsLanding p.old result p.new next.old next.new }
 {
-    match first(p, from) {
-        Some(j) if passes(p.index, number, value, j) => {
-            let to = Stage::Wait {
-                number,
-                next: j + 1,
-                looked: false,
-            };
-            goes(p, to, next)
-        }
-        Some(_) => {
-            let to = Stage::Wait {
-                number,
-                next: from,
-                looked: true,
-            };
-            lands(p, to, None, true, next)
-        }
-        None => ends(p, Stage::Inside, CoreDone::In, next),
+    if passes(p.index, number, value, j) {
+        return looks_from(p, number, j + 1, next);
     }
+    let to = Stage::Wait {
+        number,
+        next: from,
+        looked: true,
+    };
+    goes(
+        p,
+        to,
+        true,
+        Access::Load(Kind::Weigh, Word::Number(j)),
+        next,
+    )
 }
 
-/// A step of a wait.
+/// A step of a wait: a look, a weigh, or the mark that follows the last weigh.
 #[inline(always)]
 fn after_wait(
     p: &mut RmeProcess,
@@ -207,10 +277,10 @@ fn after_wait(
     ensures blocked { result.blocked ≡ (progress (standing_at p.old (StageOf.Wait number from looked)) (next_access (standing_at p.old (StageOf.Wait number from looked))) value).blocked }
     ensures numbers { IsLanding p.old result p.new next.old next.new }
 {
-    if looked {
-        after_weigh(p, number, from, value, next)
-    } else {
-        after_look(p, number, from, value, next)
+    match first(p, from) {
+        Some(j) if looked => after_weigh(p, number, from, j, value, next),
+        Some(j) => after_look(p, number, from, j, value, next),
+        None => comes_in(p, next),
     }
 }
 
@@ -268,10 +338,20 @@ fn shortly(p: &mut RmeProcess, stage: Stage, value: u64, next: &mut RmeAccess) -
     ensures busy { IfSome result (λ _. is_idle (place_of p.old.procs p.old.index stage) ≡ false) }
     ensures none { result ≡ None → (p.new ≡ p.old) × (next.new ≡ next.old) }
 {
+    let own = p.index;
     let landing = match stage {
         Stage::ReadingChoosing { call } => {
-            let choosing = value;
-            goes(p, Stage::ReadingNumber { call, choosing }, next)
+            let to = Stage::ReadingNumber {
+                call,
+                choosing: value,
+            };
+            goes(
+                p,
+                to,
+                false,
+                Access::Load(Kind::Reread, Word::Number(own)),
+                next,
+            )
         }
         Stage::ReadingNumber { call, choosing } => {
             let to = Stage::ReadingInside {
@@ -279,25 +359,42 @@ fn shortly(p: &mut RmeProcess, stage: Stage, value: u64, next: &mut RmeAccess) -
                 choosing,
                 number: value,
             };
-            goes(p, to, next)
+            goes(
+                p,
+                to,
+                false,
+                Access::Load(Kind::Reread, Word::Inside(own)),
+                next,
+            )
         }
         Stage::ReadingInside {
             call: CoreCall::Lock,
             choosing: 0,
             number: 0,
-        } if value == 0 => goes(p, Stage::Opening, next),
-        Stage::Opening => goes(p, Stage::DOORWAY, next),
+        } if value == 0 => {
+            let access = Access::Store(Kind::Open, Word::Choosing(own), 1);
+            goes(p, Stage::Opening, false, access, next)
+        }
+        Stage::Opening => peeks_from(p, 0, 0, next),
         Stage::Shutting {
             call: CoreCall::Lock,
             number,
-        } => goes(p, Stage::waiting(number), next),
+        } => looks_from(p, number, 0, next),
         Stage::Leaving => {
-            let call = CoreCall::Unlock;
-            goes(p, Stage::Unmarking { call }, next)
+            let to = Stage::Unmarking {
+                call: CoreCall::Unlock,
+            };
+            goes(
+                p,
+                to,
+                false,
+                Access::Store(Kind::Mark, Word::Inside(own), 0),
+                next,
+            )
         }
         Stage::Unmarking {
             call: CoreCall::Unlock,
-        } => ends(p, Stage::Rest, CoreDone::Out, next),
+        } => leaves(p, next),
         _ => return None,
     };
     Some(landing)

@@ -1,6 +1,8 @@
 //! What a step of the lock's part leaves.
 
-ghost use Rattle.std.specs.Prelude.{◌≡◌, ◌<◌, ◌≤◌, ◌==◌};
+ghost use Rattle.std.specs.Prelude.{◌≡◌, ◌<◌, ◌≤◌, ◌==◌, not, Some, false};
+ghost use Rattle.rmecore.specs.declared.core_done.CoreDone.TheVariants as DoneOf;
+ghost use Rattle.rmecore.specs.declared.stage.Stage.TheVariants as StageOf;
 ghost use Rattle.rmeworld.specs.Entered.{mended_done, checks_done};
 ghost use Rattle.rmeworld.specs.Answered.{by_lock};
 ghost use Rattle.rme_c.specs.Positions.{landing, Fits};
@@ -11,6 +13,7 @@ use crate::answers::{Told, tell};
 use crate::chore::Chore;
 use crate::position::{Position, numbers};
 use crate::process::{RmeAccess, RmeProcess};
+use crate::steps::check_next;
 use rmecore::{CoreDone, Found, Stage};
 use rmeworld::Answer;
 
@@ -107,4 +110,85 @@ pub fn lands(
         blocked,
         code,
     }
+}
+
+/// The mark behind the last weigh: the ruin check comes next.
+#[inline(always)]
+pub fn comes_in(p: &mut RmeProcess, next: &mut RmeAccess) -> Landing
+    requires below { p.old.index < p.old.procs }
+    requires few { p.old.procs ≤ 64 }
+    ensures to { result.to ≡ StageOf.Inside }
+    ensures done { result.done ≡ Some DoneOf.In }
+    ensures free { result.blocked ≡ false }
+    ensures numbers { IsLanding p.old result p.new next.old next.new }
+{
+    let access = check_next(p);
+    p.unmended = 0;
+    p.position = numbers(p.position, Position::Within(Chore::Checking));
+    p.steps = p.steps.saturating_add(1);
+    let told = Told {
+        answer: None,
+        blocked: false,
+    };
+    let code = tell(p.procs, told, Some(access), next);
+    Landing {
+        to: Stage::Inside,
+        done: Some(CoreDone::In),
+        blocked: false,
+        code,
+    }
+}
+
+/// The call ends at rest, with this answer.
+#[inline(always)]
+fn ends(p: &mut RmeProcess, done: CoreDone, answer: Answer, next: &mut RmeAccess) -> Landing
+    requires answer { by_lock (not (p.old.barred == 0)) (Some done) ≡ Some answer }
+    requires checks { checks_done (Some done) ≡ false }
+    requires mended { mended_done (p.old.unmended == 0) (Some done) ≡ (p.old.unmended == 0) }
+    requires few { p.old.procs ≤ 64 }
+    ensures to { result.to ≡ StageOf.Rest }
+    ensures done { result.done ≡ Some done }
+    ensures free { result.blocked ≡ false }
+    ensures numbers { IsLanding p.old result p.new next.old next.new }
+{
+    p.position = numbers(p.position, Position::Lock(Stage::Rest));
+    p.steps = p.steps.saturating_add(1);
+    let told = Told {
+        answer: Some(answer),
+        blocked: false,
+    };
+    let code = tell(p.procs, told, None, next);
+    Landing {
+        to: Stage::Rest,
+        done: Some(done),
+        blocked: false,
+        code,
+    }
+}
+
+/// There is no number left to take.
+#[inline(always)]
+pub fn runs_out(p: &mut RmeProcess, next: &mut RmeAccess) -> Landing
+    requires few { p.old.procs ≤ 64 }
+    ensures to { result.to ≡ StageOf.Rest }
+    ensures done { result.done ≡ Some DoneOf.Spent }
+    ensures free { result.blocked ≡ false }
+    ensures numbers { IsLanding p.old result p.new next.old next.new }
+{
+    ends(p, CoreDone::Spent, Answer::NumbersSpent, next)
+}
+
+/// The last store of an unlock.
+#[inline(always)]
+pub fn leaves(p: &mut RmeProcess, next: &mut RmeAccess) -> Landing
+    requires few { p.old.procs ≤ 64 }
+    ensures to { result.to ≡ StageOf.Rest }
+    ensures done { result.done ≡ Some DoneOf.Out }
+    ensures free { result.blocked ≡ false }
+    ensures numbers { IsLanding p.old result p.new next.old next.new }
+{
+    if p.barred != 0 {
+        return ends(p, CoreDone::Out, Answer::NotRecoverable, next);
+    }
+    ends(p, CoreDone::Out, Answer::Unlocked, next)
 }

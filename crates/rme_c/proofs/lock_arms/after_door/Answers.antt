@@ -4,10 +4,6 @@ use Rattle.rmecore.proofs.MachineSteps.{door_goes}
 use Rattle.rme_c.specs.Positions.{standing_at}
 use Rattle.rme_c.proofs.lock_arms.after_door.Goals as goal
 
-pub returns-in-Some-first-clause-place : goal.returns-in-Some-first-clause-place
-returns-in-Some-first-clause-place c =
-    rw (c.peeks.ensures.to, c.max-greatest.ensures) (sym (door_goes (standing_at c.args.p.now (Door c.args.from c.args.greatest)) c.args.from c.args.greatest c.in-Some.j c.args.value (sym c.first.ensures.first ∙ c.in-Some.is)))
-
-pub returns-in-None-first-clause-place : goal.returns-in-None-first-clause-place
-returns-in-None-first-clause-place c =
-    rw (c.goes.ensures.to, c.max-greatest.ensures) (sym (door_goes (standing_at c.args.p.now (Door c.args.from c.args.greatest)) c.args.from c.args.greatest c.in-Some.j c.args.value (sym c.first.ensures.first ∙ c.in-Some.is)))
+pub returns-in-Some-clause-place : goal.returns-in-Some-clause-place
+returns-in-Some-clause-place c =
+    rw (c.peeks_from.ensures.to, c.max.ensures) (sym (door_goes (standing_at c.args.p.now (Door c.args.from c.args.greatest)) c.args.from c.args.greatest c.in-Some.j c.args.value (sym c.first.ensures.first ∙ c.in-Some.is)))

@@ -4,6 +4,6 @@ use Rattle.rmecore.proofs.MachineSteps.{wait_goes}
 use Rattle.rme_c.specs.Positions.{standing_at}
 use Rattle.rme_c.proofs.lock_arms.after_weigh.Goals as goal
 
-pub returns-in-Some-clause-place : goal.returns-in-Some-clause-place
-returns-in-Some-clause-place c =
-    rw c.goes.ensures.to (sym (wait_goes (standing_at c.args.p.now (Wait c.args.number c.args.from true)) c.args.number c.args.from c.in-Some.j c.args.value true (sym c.first.ensures.first ∙ c.in-Some.is) refl (sym c.passes.ensures ∙ c.if-passes.true)))
+pub returns-then-passes-clause-place : goal.returns-then-passes-clause-place
+returns-then-passes-clause-place c =
+    rw c.looks_from.ensures.to (sym (wait_goes (standing_at c.args.p.now (Wait c.args.number c.args.from true)) c.args.number c.args.from c.args.j c.args.value true c.requires.first refl (sym c.passes.ensures ∙ c.if-passes.true)))

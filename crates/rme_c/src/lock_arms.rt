@@ -3,52 +3,116 @@
 ghost use Rattle.std.specs.Prelude.{◌≡◌, ℕ, ◌+◌, ◌<◌, ◌≤◌, ◌==◌, ◌||◌, IfSome, Some, None, true, false, is_none};
 ghost use Rattle.rmecore.specs.Place.{above, is_before};
 ghost use Rattle.rmecore.specs.Place as PlaceOf;
-ghost use Rattle.rmecore.specs.Machine.{first as first_of, place_of, after_access, progress, next_access, word_of};
-ghost use Rattle.rmecore.specs.declared.core_done.CoreDone.TheVariants as DoneOf;
+ghost use Rattle.rmecore.specs.Machine.{first as first_of, place_of, after_access, progress, next_access};
 ghost use Rattle.rmecore.specs.declared.stage.Stage.TheVariants as StageOf;
 ghost use Rattle.rmecore.specs.Refused.{is_idle};
-ghost use Rattle.rmeworld.specs.Stand.{next_access as next_access_of, InWords};
-ghost use Rattle.rme_c.specs.Positions.{standing_at, stand_at, position_of, Fits};
+ghost use Rattle.rmeworld.specs.Stand.{next_access as next_access_of};
+ghost use Rattle.rme_c.specs.Codes.{goes_as, shown as shown_by};
+ghost use Rattle.rme_c.specs.Positions.{stage_of, standing_at, stand_at, position_of, Fits};
 ghost use Rattle.rme_c.specs.Steps.{IsLanding, IsFed};
 ghost use Rattle.rme_c.specs.declared.position.Position.TheVariants as Position;
 
 use crate::accesses::first;
-use crate::answers::{Told, tell};
 use crate::lock_part::{Landing, comes_in, lands, leaves, runs_out};
-use crate::position::{Position, numbers};
-use crate::process::{RmeAccess, RmeProcess};
-use rmecore::{Access, CoreCall, Kind, LockProcess, Stage, Word};
+use crate::position::{at, number};
+use crate::process::{RmeAccess, RmePosition, RmeProcess};
+use rmecore::{CoreCall, LockProcess, Stage};
 
-/// The call goes on at this stage, with this access.
+/// The call goes on at this stage, which these numbers stand for, with a load of the lock word at this place.
 #[inline(always)]
-fn goes(
+fn loads(
     p: &mut RmeProcess,
     to: Stage,
-    blocked: bool,
-    access: Access,
+    numbers: RmePosition,
+    place: u64,
     next: &mut RmeAccess,
 ) -> Landing
     requires below { p.old.index < p.old.procs }
     requires few { p.old.procs ≤ 64 }
-    requires next { next_access_of (stand_at p.old (Position.Lock to)) ≡ Some access }
-    requires word { InWords p.old.procs (word_of access) }
+    requires stands { stage_of numbers ≡ Some to }
+    requires next { goes_as (next_access_of (stand_at p.old (Position.Lock to))) ≡ 64 + place }
+    requires room { place < 192 }
     ensures to { result.to ≡ to }
     ensures done { result.done ≡ None }
-    ensures blocked { result.blocked ≡ blocked }
+    ensures free { result.blocked ≡ false }
     ensures numbers { IsLanding p.old result p.new next.old next.new }
 {
-    p.position = numbers(p.position, Position::Lock(to));
+    let _shown = *next;
+    p.position = numbers;
     p.steps = p.steps.saturating_add(1);
-    let told = Told {
-        answer: None,
-        blocked,
-    };
-    let code = tell(p.procs, told, Some(access), next);
     Landing {
         to,
         done: None,
-        blocked,
-        code,
+        blocked: false,
+        code: 64 + place,
+    }
+}
+
+/// The step was blocked: the same word is loaded again.
+#[inline(always)]
+fn stays(
+    p: &mut RmeProcess,
+    to: Stage,
+    numbers: RmePosition,
+    place: u64,
+    next: &mut RmeAccess,
+) -> Landing
+    requires below { p.old.index < p.old.procs }
+    requires few { p.old.procs ≤ 64 }
+    requires stands { stage_of numbers ≡ Some to }
+    requires next { shown_by p.old.procs None (next_access_of (stand_at p.old (Position.Lock to))) ≡ record { store = 0; place = place; value = 0 } }
+    ensures to { result.to ≡ to }
+    ensures done { result.done ≡ None }
+    ensures blocked { result.blocked ≡ true }
+    ensures numbers { IsLanding p.old result p.new next.old next.new }
+{
+    p.position = numbers;
+    p.steps = p.steps.saturating_add(1);
+    *next = RmeAccess {
+        store: 0,
+        place,
+        value: 0,
+    };
+    Landing {
+        to,
+        done: None,
+        blocked: true,
+        code: 16,
+    }
+}
+
+/// The call goes on with a store of an own lock word.
+#[inline(always)]
+fn stores(
+    p: &mut RmeProcess,
+    to: Stage,
+    numbers: RmePosition,
+    place: u64,
+    value: u64,
+    next: &mut RmeAccess,
+) -> Landing
+    requires below { p.old.index < p.old.procs }
+    requires few { p.old.procs ≤ 64 }
+    requires stands { stage_of numbers ≡ Some to }
+    requires goes { goes_as (next_access_of (stand_at p.old (Position.Lock to))) ≡ 0 }
+    requires next { shown_by p.old.procs None (next_access_of (stand_at p.old (Position.Lock to))) ≡ record { store = 1; place = place; value = value } }
+    ensures to { result.to ≡ to }
+    ensures done { result.done ≡ None }
+    ensures free { result.blocked ≡ false }
+    ensures numbers { IsLanding p.old result p.new next.old next.new }
+{
+    p.position = numbers;
+    p.steps = p.steps.saturating_add(1);
+    *next = RmeAccess {
+        store: 1,
+        place,
+        value,
+    };
+    Landing {
+        to,
+        done: None,
+        blocked: false,
+        code: 0,
     }
 }
 
@@ -63,28 +127,23 @@ fn peeks_from(p: &mut RmeProcess, from: u64, greatest: u64, next: &mut RmeAccess
     ensures numbers { IsLanding p.old result p.new next.old next.new }
 {
     let own = p.index;
+    let second = p.position.second;
     match first(p, from) {
         Some(k) => {
             let to = Stage::Door { next: k, greatest };
-            goes(
-                p,
-                to,
-                false,
-                Access::Load(Kind::Peek, Word::Number(k)),
-                next,
-            )
+            loads(p, to, at(6, greatest, second, k), 3 * k + 1, next)
         }
         None => {
             let to = Stage::Door {
                 next: from,
                 greatest,
             };
-            let access = if greatest < p.limit {
-                Access::Store(Kind::Take, Word::Number(own), greatest + 1)
+            let numbers = at(6, greatest, second, from);
+            if greatest < p.limit {
+                stores(p, to, numbers, 3 * own + 1, greatest + 1, next)
             } else {
-                Access::Store(Kind::Shut, Word::Choosing(own), 0)
-            };
-            goes(p, to, false, access, next)
+                stores(p, to, numbers, 3 * own, 0, next)
+            }
         }
     }
 }
@@ -100,6 +159,7 @@ fn looks_from(p: &mut RmeProcess, number: u64, from: u64, next: &mut RmeAccess) 
     ensures numbers { IsLanding p.old result p.new next.old next.new }
 {
     let own = p.index;
+    let second = p.position.second;
     let looked = false;
     match first(p, from) {
         Some(k) => {
@@ -108,13 +168,7 @@ fn looks_from(p: &mut RmeProcess, number: u64, from: u64, next: &mut RmeAccess) 
                 next: k,
                 looked,
             };
-            goes(
-                p,
-                to,
-                false,
-                Access::Load(Kind::Look, Word::Choosing(k)),
-                next,
-            )
+            loads(p, to, at(8, number, second, k), 3 * k, next)
         }
         None => {
             let to = Stage::Wait {
@@ -122,13 +176,7 @@ fn looks_from(p: &mut RmeProcess, number: u64, from: u64, next: &mut RmeAccess) 
                 next: from,
                 looked,
             };
-            goes(
-                p,
-                to,
-                false,
-                Access::Store(Kind::Mark, Word::Inside(own), 1),
-                next,
-            )
+            stores(p, to, at(8, number, second, from), 3 * own + 2, 1, next)
         }
     }
 }
@@ -150,6 +198,7 @@ fn after_door(
     ensures numbers { IsLanding p.old result p.new next.old next.new }
 {
     let own = p.index;
+    let second = p.position.second;
     match first(p, from) {
         Some(j) => peeks_from(p, j + 1, greatest.max(value), next),
         None if greatest < p.limit => {
@@ -157,13 +206,7 @@ fn after_door(
                 call: CoreCall::Lock,
                 number: greatest + 1,
             };
-            goes(
-                p,
-                to,
-                false,
-                Access::Store(Kind::Shut, Word::Choosing(own), 0),
-                next,
-            )
+            stores(p, to, at(7, greatest + 1, second, 0), 3 * own, 0, next)
         }
         None => runs_out(p, next),
     }
@@ -196,32 +239,21 @@ fn after_look(
     ensures blocked { result.blocked ≡ (progress (standing_at p.old (StageOf.Wait number from false)) (next_access (standing_at p.old (StageOf.Wait number from false))) value).blocked }
     ensures numbers { IsLanding p.old result p.new next.old next.new }
 {
+    let second = p.position.second;
     if value != 0 {
         let to = Stage::Wait {
             number,
             next: from,
             looked: false,
         };
-        return goes(
-            p,
-            to,
-            true,
-            Access::Load(Kind::Look, Word::Choosing(j)),
-            next,
-        );
+        return stays(p, to, at(8, number, second, from), 3 * j, next);
     }
     let to = Stage::Wait {
         number,
         next: from,
         looked: true,
     };
-    goes(
-        p,
-        to,
-        false,
-        Access::Load(Kind::Weigh, Word::Number(j)),
-        next,
-    )
+    loads(p, to, at(9, number, second, from), 3 * j + 1, next)
 }
 
 /// A weigh of process `j`.
@@ -243,6 +275,7 @@ fn after_weigh(
     ensures blocked { result.blocked ≡ (progress (standing_at p.old (StageOf.Wait number from true)) (next_access (standing_at p.old (StageOf.Wait number from true))) value).blocked }
     ensures numbers { IsLanding p.old result p.new next.old next.new }
 {
+    let second = p.position.second;
     if passes(p.index, number, value, j) {
         return looks_from(p, number, j + 1, next);
     }
@@ -251,13 +284,7 @@ fn after_weigh(
         next: from,
         looked: true,
     };
-    goes(
-        p,
-        to,
-        true,
-        Access::Load(Kind::Weigh, Word::Number(j)),
-        next,
-    )
+    stays(p, to, at(9, number, second, from), 3 * j + 1, next)
 }
 
 /// A step of a wait: a look, a weigh, or the mark that follows the last weigh.
@@ -339,17 +366,18 @@ fn shortly(p: &mut RmeProcess, stage: Stage, value: u64, next: &mut RmeAccess) -
     ensures none { result ≡ None → (p.new ≡ p.old) × (next.new ≡ next.old) }
 {
     let own = p.index;
+    let q = p.position;
     let landing = match stage {
         Stage::ReadingChoosing { call } => {
             let to = Stage::ReadingNumber {
                 call,
                 choosing: value,
             };
-            goes(
+            loads(
                 p,
                 to,
-                false,
-                Access::Load(Kind::Reread, Word::Number(own)),
+                at(3, q.first, value, number(call)),
+                3 * own + 1,
                 next,
             )
         }
@@ -359,11 +387,11 @@ fn shortly(p: &mut RmeProcess, stage: Stage, value: u64, next: &mut RmeAccess) -
                 choosing,
                 number: value,
             };
-            goes(
+            loads(
                 p,
                 to,
-                false,
-                Access::Load(Kind::Reread, Word::Inside(own)),
+                at(4, value, choosing, number(call)),
+                3 * own + 2,
                 next,
             )
         }
@@ -372,8 +400,14 @@ fn shortly(p: &mut RmeProcess, stage: Stage, value: u64, next: &mut RmeAccess) -
             choosing: 0,
             number: 0,
         } if value == 0 => {
-            let access = Access::Store(Kind::Open, Word::Choosing(own), 1);
-            goes(p, Stage::Opening, false, access, next)
+            stores(
+                p,
+                Stage::Opening,
+                at(5, q.first, q.second, q.third),
+                3 * own,
+                1,
+                next,
+            )
         }
         Stage::Opening => peeks_from(p, 0, 0, next),
         Stage::Shutting {
@@ -384,13 +418,7 @@ fn shortly(p: &mut RmeProcess, stage: Stage, value: u64, next: &mut RmeAccess) -
             let to = Stage::Unmarking {
                 call: CoreCall::Unlock,
             };
-            goes(
-                p,
-                to,
-                false,
-                Access::Store(Kind::Mark, Word::Inside(own), 0),
-                next,
-            )
+            stores(p, to, at(13, q.first, q.second, 2), 3 * own + 2, 0, next)
         }
         Stage::Unmarking {
             call: CoreCall::Unlock,

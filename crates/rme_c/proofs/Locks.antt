@@ -1,7 +1,7 @@
 -- A step of the lock's part, in the numbers of C.
-use Rattle.std.proofs.Common.{◌≡◌, ◌≢◌, ℕ, ◌+◌, ◌<◌, Bool, true, false, nat_lt, if◌then◌else◌, List, [], ◌∷◌, Option, Some, None, IfSome, is_none, refl, sym, ap, ◌∙◌, inl, inr}
+use Rattle.std.proofs.Common.{◌≡◌, ◌≢◌, ℕ, ◌+◌, ◌<◌, Bool, true, false, nat_lt, if◌then◌else◌, List, [], ◌∷◌, Option, Some, None, IfSome, is_none, refl, sym, ap, ◌∙◌, inl, inr, arith}
 use Rattle.std.proofs.lemmas.Bool.{cases_Bool, cases_eq}
-use Rattle.rmecore.proofs.Scans.{above_skip}
+use Rattle.rmecore.proofs.Scans.{above_skip, above_past}
 use Rattle.rmecore.specs.Place.{Place, Rest, Dead, Reread, Opening, Door, Shutting, Wait, Inside, Leaving, Withdrawing, Unmarking, above}
 use Rattle.rmecore.specs.Machine.{first, place_of, access, word_of, InLock}
 use Rattle.rmecore.specs.Refused.{is_idle}
@@ -70,6 +70,14 @@ above_again n p i j other own below =
       | inl e ↦ let is : j ≡ p + 1 = own e ∙ ap (λ r. r + 1) e in ap (above n p) is ∙ (sym (above_skip n p below) ∙ ap (above n p) (sym e))
       | inr ne ↦ ap (above n p) (other ne)
     ]
+
+empty : (js : List ℕ) → first js ≡ None → js ≡ []
+empty [] e = refl
+empty (j ∷ js) e = cc
+
+-- where nobody is left the end of the processes stands for where the scan stands
+pub above_none : (n p i : ℕ) → first (above n p i) ≡ None → above n p n ≡ above n p i
+above_none n p i e = above_past n p n (omega arith) ∙ sym (empty (above n p i) e)
 
 -- a door with a process left to peek at peeks at the first
 pub peeks_at : (limit p m k : ℕ) (js : List ℕ) → first js ≡ Some k → access limit p (Door js m) ≡ Some (Load Peek (Number k))

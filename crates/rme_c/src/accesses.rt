@@ -1,6 +1,6 @@
 //! The step that comes next.
 
-ghost use Rattle.std.specs.Prelude.{◌≡◌, ◌<◌, ◌≤◌, IfSome};
+ghost use Rattle.std.specs.Prelude.{◌≡◌, ◌<◌, ◌≤◌, IfSome, None};
 ghost use Rattle.rmecore.specs.Place.{above};
 ghost use Rattle.rmecore.specs.Machine.{first as first_of, next_access as lock_access, word_of};
 ghost use Rattle.rmeworld.specs.Stand.{next_access, InWords};
@@ -19,6 +19,7 @@ pub fn first(p: &RmeProcess, from: u64) -> Option<u64>
     requires { p.now.index < p.now.procs }
     ensures first { result ≡ first_of (above p.now.procs p.now.index from) }
     ensures within { IfSome result (λ j. j < p.now.procs) }
+    ensures none { result ≡ None → above p.now.procs p.now.index p.now.procs ≡ above p.now.procs p.now.index from }
     ensures left { IfSome result (λ j. above p.now.procs p.now.index j ≡ above p.now.procs p.now.index from) }
 {
     let j = if from == p.index { from + 1 } else { from };

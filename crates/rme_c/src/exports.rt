@@ -263,7 +263,8 @@ pub extern "C" fn rme_feed(p: &mut RmeProcess, value: u64, next: &mut RmeAccess)
     if p.index >= p.procs {
         return nowhere(p, value, next);
     }
-    if p.steps == u64::MAX {
+    let steps = p.steps.wrapping_add(1);
+    if steps == 0 {
         return any_feed(p, value, next);
     }
     match scan_stage(p) {

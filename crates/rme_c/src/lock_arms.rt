@@ -135,10 +135,10 @@ fn peeks_from(p: &mut RmeProcess, from: u64, greatest: u64, next: &mut RmeAccess
         }
         None => {
             let to = Stage::Door {
-                next: from,
+                next: p.procs,
                 greatest,
             };
-            let numbers = at(6, greatest, second, from);
+            let numbers = at(6, greatest, second, p.procs);
             if greatest < p.limit {
                 stores(p, to, numbers, 3 * own + 1, greatest + 1, next)
             } else {
@@ -173,10 +173,11 @@ fn looks_from(p: &mut RmeProcess, number: u64, from: u64, next: &mut RmeAccess) 
         None => {
             let to = Stage::Wait {
                 number,
-                next: from,
+                next: p.procs,
                 looked,
             };
-            stores(p, to, at(8, number, second, from), 3 * own + 2, 1, next)
+            let numbers = at(8, number, second, p.procs);
+            stores(p, to, numbers, 3 * own + 2, 1, next)
         }
     }
 }
@@ -217,7 +218,7 @@ fn after_door(
 fn passes(own: u64, number: u64, value: u64, j: u64) -> bool
     ensures { result ≡ ((value == 0) || is_before number own value j) }
 {
-    value == 0 || (number, own) < (value, j)
+    value == 0 || number < value || (number == value && own < j)
 }
 
 /// A look at process `j`.

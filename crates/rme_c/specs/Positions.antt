@@ -31,10 +31,10 @@ stage_of q =
     else if q.at == 3 then Some (stage.ReadingNumber (call_of q.third) q.second)
     else if q.at == 4 then Some (stage.ReadingInside (call_of q.third) q.second q.first)
     else if q.at == 5 then Some stage.Opening
-    else if q.at == 6 then Some (stage.Door q.third q.first)
+    else if q.at == 256 then Some (stage.Door q.third q.first)
     else if q.at == 7 then Some (stage.Shutting (call_of q.third) q.first)
-    else if q.at == 8 then Some (stage.Wait q.first q.third false)
-    else if q.at == 9 then Some (stage.Wait q.first q.third true)
+    else if q.at == 257 then Some (stage.Wait q.first q.third false)
+    else if q.at == 258 then Some (stage.Wait q.first q.third true)
     else if q.at == 10 then Some stage.Inside
     else if q.at == 11 then Some stage.Leaving
     else if q.at == 12 then Some stage.Withdrawing

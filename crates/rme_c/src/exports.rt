@@ -129,6 +129,7 @@ fn check_feed(p: &mut RmeProcess, value: u64, next: &mut RmeAccess) -> u64
     requires here { position_of p.old ≡ PositionOf.Within ChoreOf.Checking }
     requires fits { Fits p.old (PositionOf.Within ChoreOf.Checking) }
     requires eight { length p.old.value ≡ 8 }
+    requires room { p.old.steps < u64.MAX }
     ensures { IsFed p.old value p.new next.old next.new result }
 {
     let _whole = *p;
@@ -190,6 +191,7 @@ fn scan_on(p: &mut RmeProcess, stage: Stage, value: u64, next: &mut RmeAccess) -
     requires here { position_of p.old ≡ PositionOf.Lock stage }
     requires fits { Fits p.old (PositionOf.Lock stage) }
     requires eight { length p.old.value ≡ 8 }
+    requires room { p.old.steps < u64.MAX }
     ensures { IsFed p.old value p.new next.old next.new result }
 {
     let _whole = *p;
@@ -205,6 +207,7 @@ fn stage_feed(p: &mut RmeProcess, stage: Stage, value: u64, next: &mut RmeAccess
     requires here { position_of p.old ≡ PositionOf.Lock stage }
     requires fits { Fits p.old (PositionOf.Lock stage) }
     requires eight { length p.old.value ≡ 8 }
+    requires room { p.old.steps < u64.MAX }
     ensures { IsFed p.old value p.new next.old next.new result }
 {
     let _whole = *p;
@@ -218,6 +221,7 @@ fn stage_feed(p: &mut RmeProcess, stage: Stage, value: u64, next: &mut RmeAccess
 #[inline(always)]
 fn short_feed(p: &mut RmeProcess, value: u64, next: &mut RmeAccess) -> u64
     requires eight { length p.old.value ≡ 8 }
+    requires room { p.old.steps < u64.MAX }
     ensures { IsFed p.old value p.new next.old next.new result }
 {
     let _whole = *p;

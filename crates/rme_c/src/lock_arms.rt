@@ -29,9 +29,10 @@ fn loads(
 ) -> Landing
     requires below { p.old.index < p.old.procs }
     requires few { p.old.procs ≤ 64 }
+    requires room { p.old.steps < u64.MAX }
     requires stands { stage_of numbers ≡ Some to }
     requires next { goes_as (next_access_of (stand_at p.old (Position.Lock to))) ≡ 64 + place }
-    requires room { place < 192 }
+    requires word { place < 192 }
     ensures to { result.to ≡ to }
     ensures done { result.done ≡ None }
     ensures free { result.blocked ≡ false }
@@ -39,7 +40,7 @@ fn loads(
 {
     let _shown = *next;
     p.position = numbers;
-    p.steps = p.steps.saturating_add(1);
+    p.steps += 1;
     Landing {
         to,
         done: None,
@@ -59,6 +60,7 @@ fn stays(
 ) -> Landing
     requires below { p.old.index < p.old.procs }
     requires few { p.old.procs ≤ 64 }
+    requires room { p.old.steps < u64.MAX }
     requires stands { stage_of numbers ≡ Some to }
     requires next { shown_by p.old.procs None (next_access_of (stand_at p.old (Position.Lock to))) ≡ record { store = 0; place = place; value = 0 } }
     ensures to { result.to ≡ to }
@@ -67,7 +69,7 @@ fn stays(
     ensures numbers { IsLanding p.old result p.new next.old next.new }
 {
     p.position = numbers;
-    p.steps = p.steps.saturating_add(1);
+    p.steps += 1;
     *next = RmeAccess {
         store: 0,
         place,
@@ -93,6 +95,7 @@ fn stores(
 ) -> Landing
     requires below { p.old.index < p.old.procs }
     requires few { p.old.procs ≤ 64 }
+    requires room { p.old.steps < u64.MAX }
     requires stands { stage_of numbers ≡ Some to }
     requires goes { goes_as (next_access_of (stand_at p.old (Position.Lock to))) ≡ 0 }
     requires next { shown_by p.old.procs None (next_access_of (stand_at p.old (Position.Lock to))) ≡ record { store = 1; place = place; value = value } }
@@ -102,7 +105,7 @@ fn stores(
     ensures numbers { IsLanding p.old result p.new next.old next.new }
 {
     p.position = numbers;
-    p.steps = p.steps.saturating_add(1);
+    p.steps += 1;
     *next = RmeAccess {
         store: 1,
         place,
@@ -121,6 +124,7 @@ fn stores(
 fn peeks_from(p: &mut RmeProcess, from: u64, greatest: u64, next: &mut RmeAccess) -> Landing
     requires below { p.old.index < p.old.procs }
     requires few { p.old.procs ≤ 64 }
+    requires room { p.old.steps < u64.MAX }
     ensures to { place_of p.old.procs p.old.index result.to ≡ PlaceOf.Door (above p.old.procs p.old.index from) greatest }
     ensures done { result.done ≡ None }
     ensures free { result.blocked ≡ false }
@@ -131,14 +135,14 @@ fn peeks_from(p: &mut RmeProcess, from: u64, greatest: u64, next: &mut RmeAccess
     match first(p, from) {
         Some(k) => {
             let to = Stage::Door { next: k, greatest };
-            loads(p, to, at(6, greatest, second, k), 3 * k + 1, next)
+            loads(p, to, at(256, greatest, second, k), 3 * k + 1, next)
         }
         None => {
             let to = Stage::Door {
                 next: p.procs,
                 greatest,
             };
-            let numbers = at(6, greatest, second, p.procs);
+            let numbers = at(256, greatest, second, p.procs);
             if greatest < p.limit {
                 stores(p, to, numbers, 3 * own + 1, greatest + 1, next)
             } else {
@@ -153,6 +157,7 @@ fn peeks_from(p: &mut RmeProcess, from: u64, greatest: u64, next: &mut RmeAccess
 fn looks_from(p: &mut RmeProcess, number: u64, from: u64, next: &mut RmeAccess) -> Landing
     requires below { p.old.index < p.old.procs }
     requires few { p.old.procs ≤ 64 }
+    requires room { p.old.steps < u64.MAX }
     ensures to { place_of p.old.procs p.old.index result.to ≡ PlaceOf.Wait number (above p.old.procs p.old.index from) None }
     ensures done { result.done ≡ None }
     ensures free { result.blocked ≡ false }
@@ -168,7 +173,7 @@ fn looks_from(p: &mut RmeProcess, number: u64, from: u64, next: &mut RmeAccess) 
                 next: k,
                 looked,
             };
-            loads(p, to, at(8, number, second, k), 3 * k, next)
+            loads(p, to, at(257, number, second, k), 3 * k, next)
         }
         None => {
             let to = Stage::Wait {
@@ -176,7 +181,7 @@ fn looks_from(p: &mut RmeProcess, number: u64, from: u64, next: &mut RmeAccess) 
                 next: p.procs,
                 looked,
             };
-            let numbers = at(8, number, second, p.procs);
+            let numbers = at(257, number, second, p.procs);
             stores(p, to, numbers, 3 * own + 2, 1, next)
         }
     }
@@ -193,6 +198,7 @@ fn after_door(
 ) -> Landing
     requires below { p.old.index < p.old.procs }
     requires few { p.old.procs ≤ 64 }
+    requires room { p.old.steps < u64.MAX }
     ensures place { place_of p.old.procs p.old.index result.to ≡ after_access (standing_at p.old (StageOf.Door from greatest)) (next_access (standing_at p.old (StageOf.Door from greatest))) value }
     ensures done { result.done ≡ (progress (standing_at p.old (StageOf.Door from greatest)) (next_access (standing_at p.old (StageOf.Door from greatest))) value).done }
     ensures free { result.blocked ≡ (progress (standing_at p.old (StageOf.Door from greatest)) (next_access (standing_at p.old (StageOf.Door from greatest))) value).blocked }
@@ -201,6 +207,7 @@ fn after_door(
     let own = p.index;
     let second = p.position.second;
     match first(p, from) {
+        Some(j) if value == 0 => peeks_from(p, j + 1, greatest, next),
         Some(j) => peeks_from(p, j + 1, greatest.max(value), next),
         None if greatest < p.limit => {
             let to = Stage::Shutting {
@@ -218,7 +225,7 @@ fn after_door(
 fn passes(own: u64, number: u64, value: u64, j: u64) -> bool
     ensures { result ≡ ((value == 0) || is_before number own value j) }
 {
-    value == 0 || number < value || (number == value && own < j)
+    value == 0 || (number, own) < (value, j)
 }
 
 /// A look at process `j`.
@@ -233,6 +240,7 @@ fn after_look(
 ) -> Landing
     requires below { p.old.index < p.old.procs }
     requires few { p.old.procs ≤ 64 }
+    requires room { p.old.steps < u64.MAX }
     requires first { first_of (above p.old.procs p.old.index from) ≡ Some j }
     requires within { j < p.old.procs }
     ensures place { place_of p.old.procs p.old.index result.to ≡ after_access (standing_at p.old (StageOf.Wait number from false)) (next_access (standing_at p.old (StageOf.Wait number from false))) value }
@@ -247,14 +255,14 @@ fn after_look(
             next: from,
             looked: false,
         };
-        return stays(p, to, at(8, number, second, from), 3 * j, next);
+        return stays(p, to, at(257, number, second, from), 3 * j, next);
     }
     let to = Stage::Wait {
         number,
         next: from,
         looked: true,
     };
-    loads(p, to, at(9, number, second, from), 3 * j + 1, next)
+    loads(p, to, at(258, number, second, from), 3 * j + 1, next)
 }
 
 /// A weigh of process `j`.
@@ -269,6 +277,7 @@ fn after_weigh(
 ) -> Landing
     requires below { p.old.index < p.old.procs }
     requires few { p.old.procs ≤ 64 }
+    requires room { p.old.steps < u64.MAX }
     requires first { first_of (above p.old.procs p.old.index from) ≡ Some j }
     requires within { j < p.old.procs }
     ensures place { place_of p.old.procs p.old.index result.to ≡ after_access (standing_at p.old (StageOf.Wait number from true)) (next_access (standing_at p.old (StageOf.Wait number from true))) value }
@@ -277,6 +286,9 @@ fn after_weigh(
     ensures numbers { IsLanding p.old result p.new next.old next.new }
 {
     let second = p.position.second;
+    if value == 0 {
+        return looks_from(p, number, j + 1, next);
+    }
     if passes(p.index, number, value, j) {
         return looks_from(p, number, j + 1, next);
     }
@@ -285,7 +297,7 @@ fn after_weigh(
         next: from,
         looked: true,
     };
-    stays(p, to, at(9, number, second, from), 3 * j + 1, next)
+    stays(p, to, at(258, number, second, from), 3 * j + 1, next)
 }
 
 /// A step of a wait: a look, a weigh, or the mark that follows the last weigh.
@@ -300,6 +312,7 @@ fn after_wait(
 ) -> Landing
     requires below { p.old.index < p.old.procs }
     requires few { p.old.procs ≤ 64 }
+    requires room { p.old.steps < u64.MAX }
     ensures place { place_of p.old.procs p.old.index result.to ≡ after_access (standing_at p.old (StageOf.Wait number from looked)) (next_access (standing_at p.old (StageOf.Wait number from looked))) value }
     ensures done { result.done ≡ (progress (standing_at p.old (StageOf.Wait number from looked)) (next_access (standing_at p.old (StageOf.Wait number from looked))) value).done }
     ensures blocked { result.blocked ≡ (progress (standing_at p.old (StageOf.Wait number from looked)) (next_access (standing_at p.old (StageOf.Wait number from looked))) value).blocked }
@@ -332,6 +345,7 @@ fn by_machine(p: &mut RmeProcess, stage: Stage, value: u64, next: &mut RmeAccess
 fn scanned(p: &mut RmeProcess, stage: Stage, value: u64, next: &mut RmeAccess) -> Option<Landing>
     requires below { p.old.index < p.old.procs }
     requires few { p.old.procs ≤ 64 }
+    requires room { p.old.steps < u64.MAX }
     ensures place { IfSome result (λ r. place_of p.old.procs p.old.index r.to ≡ after_access (standing_at p.old stage) (next_access (standing_at p.old stage)) value) }
     ensures done { IfSome result (λ r. r.done ≡ (progress (standing_at p.old stage) (next_access (standing_at p.old stage)) value).done) }
     ensures blocked { IfSome result (λ r. r.blocked ≡ (progress (standing_at p.old stage) (next_access (standing_at p.old stage)) value).blocked) }
@@ -359,6 +373,7 @@ fn scanned(p: &mut RmeProcess, stage: Stage, value: u64, next: &mut RmeAccess) -
 fn shortly(p: &mut RmeProcess, stage: Stage, value: u64, next: &mut RmeAccess) -> Option<Landing>
     requires below { p.old.index < p.old.procs }
     requires few { p.old.procs ≤ 64 }
+    requires room { p.old.steps < u64.MAX }
     ensures place { IfSome result (λ r. place_of p.old.procs p.old.index r.to ≡ after_access (standing_at p.old stage) (next_access (standing_at p.old stage)) value) }
     ensures done { IfSome result (λ r. r.done ≡ (progress (standing_at p.old stage) (next_access (standing_at p.old stage)) value).done) }
     ensures blocked { IfSome result (λ r. r.blocked ≡ (progress (standing_at p.old stage) (next_access (standing_at p.old stage)) value).blocked) }
@@ -434,6 +449,7 @@ fn shortly(p: &mut RmeProcess, stage: Stage, value: u64, next: &mut RmeAccess) -
 pub fn scan_feed(p: &mut RmeProcess, stage: Stage, value: u64, next: &mut RmeAccess) -> Option<u64>
     requires here { position_of p.old ≡ Position.Lock stage }
     requires fits { Fits p.old (Position.Lock stage) }
+    requires room { p.old.steps < u64.MAX }
     ensures fed { IfSome result (λ code. IsFed p.old value p.new next.old next.new code) }
     ensures none { result ≡ None → (p.new ≡ p.old) × (next.new ≡ next.old) }
 {
@@ -448,6 +464,7 @@ pub fn scan_feed(p: &mut RmeProcess, stage: Stage, value: u64, next: &mut RmeAcc
 pub fn quick_feed(p: &mut RmeProcess, stage: Stage, value: u64, next: &mut RmeAccess) -> Option<u64>
     requires here { position_of p.old ≡ Position.Lock stage }
     requires fits { Fits p.old (Position.Lock stage) }
+    requires room { p.old.steps < u64.MAX }
     ensures fed { IfSome result (λ code. IsFed p.old value p.new next.old next.new code) }
     ensures none { result ≡ None → (p.new ≡ p.old) × (next.new ≡ next.old) }
 {

@@ -117,6 +117,7 @@ pub fn lands(
 pub fn comes_in(p: &mut RmeProcess, next: &mut RmeAccess) -> Landing
     requires below { p.old.index < p.old.procs }
     requires few { p.old.procs ≤ 64 }
+    requires room { p.old.steps < u64.MAX }
     ensures to { result.to ≡ StageOf.Inside }
     ensures done { result.done ≡ Some DoneOf.In }
     ensures free { result.blocked ≡ false }
@@ -125,7 +126,7 @@ pub fn comes_in(p: &mut RmeProcess, next: &mut RmeAccess) -> Landing
     let access = check_next(p);
     p.unmended = 0;
     p.position = numbers(p.position, Position::Within(Chore::Checking));
-    p.steps = p.steps.saturating_add(1);
+    p.steps += 1;
     let told = Told {
         answer: None,
         blocked: false,
@@ -146,13 +147,14 @@ fn ends(p: &mut RmeProcess, done: CoreDone, answer: Answer, next: &mut RmeAccess
     requires checks { checks_done (Some done) ≡ false }
     requires mended { mended_done (p.old.unmended == 0) (Some done) ≡ (p.old.unmended == 0) }
     requires few { p.old.procs ≤ 64 }
+    requires room { p.old.steps < u64.MAX }
     ensures to { result.to ≡ StageOf.Rest }
     ensures done { result.done ≡ Some done }
     ensures free { result.blocked ≡ false }
     ensures numbers { IsLanding p.old result p.new next.old next.new }
 {
     p.position = numbers(p.position, Position::Lock(Stage::Rest));
-    p.steps = p.steps.saturating_add(1);
+    p.steps += 1;
     let told = Told {
         answer: Some(answer),
         blocked: false,
@@ -170,6 +172,7 @@ fn ends(p: &mut RmeProcess, done: CoreDone, answer: Answer, next: &mut RmeAccess
 #[inline(always)]
 pub fn runs_out(p: &mut RmeProcess, next: &mut RmeAccess) -> Landing
     requires few { p.old.procs ≤ 64 }
+    requires room { p.old.steps < u64.MAX }
     ensures to { result.to ≡ StageOf.Rest }
     ensures done { result.done ≡ Some DoneOf.Spent }
     ensures free { result.blocked ≡ false }
@@ -182,6 +185,7 @@ pub fn runs_out(p: &mut RmeProcess, next: &mut RmeAccess) -> Landing
 #[inline(always)]
 pub fn leaves(p: &mut RmeProcess, next: &mut RmeAccess) -> Landing
     requires few { p.old.procs ≤ 64 }
+    requires room { p.old.steps < u64.MAX }
     ensures to { result.to ≡ StageOf.Rest }
     ensures done { result.done ≡ Some DoneOf.Out }
     ensures free { result.blocked ≡ false }

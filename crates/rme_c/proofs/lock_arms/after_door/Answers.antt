@@ -1,4 +1,6 @@
-use Rattle.std.proofs.Common.{sym, ◌∙◌}
+use Rattle.std.proofs.Common.{◌≡◌, ◌+◌, max, sym, ap, ◌∙◌, arith}
+use Rattle.rmecore.specs.Place.{above}
+use Rattle.rmecore.specs.Place as PlaceOf
 use Rattle.rmecore.specs.declared.stage.Stage.TheVariants.{Door}
 use Rattle.rmecore.proofs.MachineSteps.{door_goes}
 use Rattle.rme_c.specs.Positions.{standing_at}
@@ -6,4 +8,10 @@ use Rattle.rme_c.proofs.lock_arms.after_door.Goals as goal
 
 pub returns-in-Some-clause-place : goal.returns-in-Some-clause-place
 returns-in-Some-clause-place c =
-    rw (c.peeks_from.ensures.to, c.max.ensures) (sym (door_goes (standing_at c.args.p.now (Door c.args.from c.args.greatest)) c.args.from c.args.greatest c.in-Some.j c.args.value (sym c.first.ensures.first ∙ c.in-Some.is)))
+    let p = c.args.p.now in
+    let same : max c.args.greatest c.args.value ≡ c.args.greatest = omega (arith, c.if-value-eq0.true) in
+    rw c.peeks_from.ensures.to (ap (λ g. PlaceOf.Door (above p.procs p.index (c.in-Some.j + 1)) g) (sym same) ∙ sym (door_goes (standing_at p (Door c.args.from c.args.greatest)) c.args.from c.args.greatest c.in-Some.j c.args.value (sym c.first.ensures.first ∙ c.in-Some.is)))
+
+pub returns-in-Some-2-clause-place : goal.returns-in-Some-2-clause-place
+returns-in-Some-2-clause-place c =
+    rw (c.peeks_from-in-Some-2.ensures.to, c.max.ensures) (sym (door_goes (standing_at c.args.p.now (Door c.args.from c.args.greatest)) c.args.from c.args.greatest c.in-Some.j c.args.value (sym c.first.ensures.first ∙ c.in-Some.is)))

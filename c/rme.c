@@ -53,12 +53,12 @@ static void rest(uint64_t turn)
 /* Takes the steps of the call under way, from this access on, to its answer, or to so many blocked readings and one more. */
 static inline __attribute__((always_inline)) uint64_t finish(struct rme_seat *s, struct rme_access *access, uint64_t turns)
 {
-    const _Atomic uint64_t *words = s->words;
+    const _Atomic uint64_t *told_words = s->words - RME_LOAD; /* behind the header's page, so still in the mapping */
     uint64_t turn = 0, told;
     for (;;) {
         told = rme_feed(&s->machine, take(s, access), access);
         while (told >= RME_LOAD)
-            told = rme_feed(&s->machine, load(words, told - RME_LOAD), access);
+            told = rme_feed(&s->machine, load(told_words, told), access);
         if (told == 0)
             continue;
         if (told != RME_BLOCKED || turn >= turns)

@@ -34,7 +34,7 @@ stage_of q =
     else if q.at == 256 then Some (stage.Door q.third q.first)
     else if q.at == 7 then Some (stage.Shutting (call_of q.third) q.first)
     else if q.at == 257 then Some (stage.Wait q.first q.third false)
-    else if q.at == 258 then Some (stage.Wait q.first q.third true)
+    else if nat_lt 257 q.at then Some (stage.Wait q.first q.third true)
     else if q.at == 10 then Some stage.Inside
     else if q.at == 11 then Some stage.Leaving
     else if q.at == 12 then Some stage.Withdrawing

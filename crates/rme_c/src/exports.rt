@@ -21,7 +21,7 @@ use crate::position::{
     Position, is_checking, is_idle, lock_stage, position_now, scan_stage, stand,
 };
 use crate::process::{RmeAccess, RmeCall, RmePosition, RmeProcess};
-use crate::starts::{size_refusal, start};
+use crate::starts::{quick_start, size_refusal, start};
 use crate::steps::{checked, chore_step};
 use redomail::Layout;
 use rmecore::Stage;
@@ -95,6 +95,18 @@ pub extern "C" fn rme_crash(p: &mut RmeProcess)
     };
 }
 
+/// Starts any call.
+#[inline(never)]
+fn any_start(p: &mut RmeProcess, call: &RmeCall, next: &mut RmeAccess) -> u64
+    ensures status { result ≡ code_of_refusal (start_cause (stand_of p.old) call.now) }
+    ensures started { result ≡ 0 → IfSome (call_by p.old.width call.now) (λ c. stand_of p.new ≡ started (stand_of p.old) c) }
+    ensures next { result ≡ 0 → next.new ≡ shown_of p.old.procs None (next_access (stand_of p.new)) }
+    ensures steps { result ≡ 0 → p.new.steps ≡ 0 }
+    ensures refused { result ≢ 0 → (p.new ≡ p.old) × (next.new ≡ next.old) }
+{
+    refusal_code(start(p, call, next))
+}
+
 /// Starts a call and shows its first step, or answers the number of the refusal: of the sizes, of the call's code (13), of
 /// the start. Nothing changes then.
 #[unsafe(no_mangle)]
@@ -105,7 +117,10 @@ pub extern "C" fn rme_start(p: &mut RmeProcess, call: &RmeCall, next: &mut RmeAc
     ensures steps { result ≡ 0 → p.new.steps ≡ 0 }
     ensures refused { result ≢ 0 → (p.new ≡ p.old) × (next.new ≡ next.old) }
 {
-    refusal_code(start(p, call, next))
+    match quick_start(p, call, next) {
+        Some(refused) => refusal_code(refused),
+        None => any_start(p, call, next),
+    }
 }
 
 /// Takes the step of a chore.
@@ -125,17 +140,17 @@ fn chore_feed(p: &mut RmeProcess, chore: Chore, value: u64, next: &mut RmeAccess
 
 /// Takes the step of the ruin check.
 #[inline(always)]
-fn check_feed(p: &mut RmeProcess, value: u64, next: &mut RmeAccess) -> u64
+fn check_feed(p: &mut RmeProcess, value: u64, steps: u64, next: &mut RmeAccess) -> u64
     requires here { position_of p.old ≡ PositionOf.Within ChoreOf.Checking }
     requires fits { Fits p.old (PositionOf.Within ChoreOf.Checking) }
     requires eight { length p.old.value ≡ 8 }
-    requires room { p.old.steps < u64.MAX }
+    requires steps { steps ≡ p.old.steps + 1 }
     ensures { IsFed p.old value p.new next.old next.new result }
 {
     let _whole = *p;
     let (behind, told) = checked(p, value);
     stand(p, behind);
-    p.steps = p.steps.saturating_add(1);
+    p.steps = steps;
     tell(p.procs, told, next_at(p, behind), next)
 }
 
@@ -187,15 +202,15 @@ fn nowhere(p: &mut RmeProcess, value: u64, next: &mut RmeAccess) -> u64
 
 /// Takes the step of a scan.
 #[inline(always)]
-fn scan_on(p: &mut RmeProcess, stage: Stage, value: u64, next: &mut RmeAccess) -> u64
+fn scan_on(p: &mut RmeProcess, stage: Stage, value: u64, steps: u64, next: &mut RmeAccess) -> u64
     requires here { position_of p.old ≡ PositionOf.Lock stage }
     requires fits { Fits p.old (PositionOf.Lock stage) }
     requires eight { length p.old.value ≡ 8 }
-    requires room { p.old.steps < u64.MAX }
+    requires steps { steps ≡ p.old.steps + 1 }
     ensures { IsFed p.old value p.new next.old next.new result }
 {
     let _whole = *p;
-    match scan_feed(p, stage, value, next) {
+    match scan_feed(p, stage, value, steps, next) {
         Some(code) => code,
         None => any_feed(p, value, next),
     }
@@ -203,15 +218,15 @@ fn scan_on(p: &mut RmeProcess, stage: Stage, value: u64, next: &mut RmeAccess) -
 
 /// Takes the step that comes next at a stage of the lock's part, by a short way where there is one.
 #[inline(always)]
-fn stage_feed(p: &mut RmeProcess, stage: Stage, value: u64, next: &mut RmeAccess) -> u64
+fn stage_feed(p: &mut RmeProcess, stage: Stage, value: u64, steps: u64, next: &mut RmeAccess) -> u64
     requires here { position_of p.old ≡ PositionOf.Lock stage }
     requires fits { Fits p.old (PositionOf.Lock stage) }
     requires eight { length p.old.value ≡ 8 }
-    requires room { p.old.steps < u64.MAX }
+    requires steps { steps ≡ p.old.steps + 1 }
     ensures { IsFed p.old value p.new next.old next.new result }
 {
     let _whole = *p;
-    match quick_feed(p, stage, value, next) {
+    match quick_feed(p, stage, value, steps, next) {
         Some(code) => code,
         None => any_feed(p, value, next),
     }
@@ -219,16 +234,30 @@ fn stage_feed(p: &mut RmeProcess, stage: Stage, value: u64, next: &mut RmeAccess
 
 /// Takes the step that comes next, by a short way where there is one.
 #[inline(always)]
-fn short_feed(p: &mut RmeProcess, value: u64, next: &mut RmeAccess) -> u64
+fn short_feed(p: &mut RmeProcess, value: u64, steps: u64, next: &mut RmeAccess) -> u64
     requires eight { length p.old.value ≡ 8 }
-    requires room { p.old.steps < u64.MAX }
+    requires steps { steps ≡ p.old.steps + 1 }
     ensures { IsFed p.old value p.new next.old next.new result }
 {
     let _whole = *p;
     match lock_stage(p) {
-        Some(stage) => stage_feed(p, stage, value, next),
-        None if value != 1 && is_checking(p) => check_feed(p, value, next),
+        Some(stage) => stage_feed(p, stage, value, steps, next),
+        None if value != 1 && is_checking(p) => check_feed(p, value, steps, next),
         None => any_feed(p, value, next),
+    }
+}
+
+/// Takes the step that comes next, by a short way where there is one. Those of a scan are the most, so they come first.
+#[inline(always)]
+fn counted_feed(p: &mut RmeProcess, value: u64, steps: u64, next: &mut RmeAccess) -> u64
+    requires eight { length p.old.value ≡ 8 }
+    requires steps { steps ≡ p.old.steps + 1 }
+    ensures { IsFed p.old value p.new next.old next.new result }
+{
+    let _whole = *p;
+    match scan_stage(p) {
+        Some(stage) => scan_on(p, stage, value, steps, next),
+        None => short_feed(p, value, steps, next),
     }
 }
 
@@ -267,13 +296,9 @@ pub extern "C" fn rme_feed(p: &mut RmeProcess, value: u64, next: &mut RmeAccess)
     if p.index >= p.procs {
         return nowhere(p, value, next);
     }
-    let steps = p.steps.wrapping_add(1);
-    if steps == 0 {
-        return any_feed(p, value, next);
-    }
-    match scan_stage(p) {
-        Some(stage) => scan_on(p, stage, value, next),
-        None => short_feed(p, value, next),
+    match p.steps.checked_add(1) {
+        Some(steps) => counted_feed(p, value, steps, next),
+        None => any_feed(p, value, next),
     }
 }
 

@@ -25,11 +25,12 @@ fn loads(
     to: Stage,
     numbers: RmePosition,
     place: u64,
+    steps: u64,
     next: &mut RmeAccess,
 ) -> Landing
     requires below { p.old.index < p.old.procs }
     requires few { p.old.procs ≤ 64 }
-    requires room { p.old.steps < u64.MAX }
+    requires steps { steps ≡ p.old.steps + 1 }
     requires stands { stage_of numbers ≡ Some to }
     requires next { goes_as (next_access_of (stand_at p.old (Position.Lock to))) ≡ 64 + place }
     requires word { place < 192 }
@@ -40,7 +41,7 @@ fn loads(
 {
     let _shown = *next;
     p.position = numbers;
-    p.steps += 1;
+    p.steps = steps;
     Landing {
         to,
         done: None,
@@ -56,11 +57,12 @@ fn stays(
     to: Stage,
     numbers: RmePosition,
     place: u64,
+    steps: u64,
     next: &mut RmeAccess,
 ) -> Landing
     requires below { p.old.index < p.old.procs }
     requires few { p.old.procs ≤ 64 }
-    requires room { p.old.steps < u64.MAX }
+    requires steps { steps ≡ p.old.steps + 1 }
     requires stands { stage_of numbers ≡ Some to }
     requires next { shown_by p.old.procs None (next_access_of (stand_at p.old (Position.Lock to))) ≡ record { store = 0; place = place; value = 0 } }
     ensures to { result.to ≡ to }
@@ -69,7 +71,7 @@ fn stays(
     ensures numbers { IsLanding p.old result p.new next.old next.new }
 {
     p.position = numbers;
-    p.steps += 1;
+    p.steps = steps;
     *next = RmeAccess {
         store: 0,
         place,
@@ -91,11 +93,12 @@ fn stores(
     numbers: RmePosition,
     place: u64,
     value: u64,
+    steps: u64,
     next: &mut RmeAccess,
 ) -> Landing
     requires below { p.old.index < p.old.procs }
     requires few { p.old.procs ≤ 64 }
-    requires room { p.old.steps < u64.MAX }
+    requires steps { steps ≡ p.old.steps + 1 }
     requires stands { stage_of numbers ≡ Some to }
     requires goes { goes_as (next_access_of (stand_at p.old (Position.Lock to))) ≡ 0 }
     requires next { shown_by p.old.procs None (next_access_of (stand_at p.old (Position.Lock to))) ≡ record { store = 1; place = place; value = value } }
@@ -105,7 +108,7 @@ fn stores(
     ensures numbers { IsLanding p.old result p.new next.old next.new }
 {
     p.position = numbers;
-    p.steps += 1;
+    p.steps = steps;
     *next = RmeAccess {
         store: 1,
         place,
@@ -121,10 +124,16 @@ fn stores(
 
 /// The door, with the processes from an index on left to be peeked at.
 #[inline(always)]
-fn peeks_from(p: &mut RmeProcess, from: u64, greatest: u64, next: &mut RmeAccess) -> Landing
+fn peeks_from(
+    p: &mut RmeProcess,
+    from: u64,
+    greatest: u64,
+    steps: u64,
+    next: &mut RmeAccess,
+) -> Landing
     requires below { p.old.index < p.old.procs }
     requires few { p.old.procs ≤ 64 }
-    requires room { p.old.steps < u64.MAX }
+    requires steps { steps ≡ p.old.steps + 1 }
     ensures to { place_of p.old.procs p.old.index result.to ≡ PlaceOf.Door (above p.old.procs p.old.index from) greatest }
     ensures done { result.done ≡ None }
     ensures free { result.blocked ≡ false }
@@ -135,7 +144,7 @@ fn peeks_from(p: &mut RmeProcess, from: u64, greatest: u64, next: &mut RmeAccess
     match first(p, from) {
         Some(k) => {
             let to = Stage::Door { next: k, greatest };
-            loads(p, to, at(256, greatest, second, k), 3 * k + 1, next)
+            loads(p, to, at(256, greatest, second, k), 3 * k + 1, steps, next)
         }
         None => {
             let to = Stage::Door {
@@ -144,9 +153,9 @@ fn peeks_from(p: &mut RmeProcess, from: u64, greatest: u64, next: &mut RmeAccess
             };
             let numbers = at(256, greatest, second, p.procs);
             if greatest < p.limit {
-                stores(p, to, numbers, 3 * own + 1, greatest + 1, next)
+                stores(p, to, numbers, 3 * own + 1, greatest + 1, steps, next)
             } else {
-                stores(p, to, numbers, 3 * own, 0, next)
+                stores(p, to, numbers, 3 * own, 0, steps, next)
             }
         }
     }
@@ -154,10 +163,16 @@ fn peeks_from(p: &mut RmeProcess, from: u64, greatest: u64, next: &mut RmeAccess
 
 /// The wait, with the processes from an index on left to be passed.
 #[inline(always)]
-fn looks_from(p: &mut RmeProcess, number: u64, from: u64, next: &mut RmeAccess) -> Landing
+fn looks_from(
+    p: &mut RmeProcess,
+    number: u64,
+    from: u64,
+    steps: u64,
+    next: &mut RmeAccess,
+) -> Landing
     requires below { p.old.index < p.old.procs }
     requires few { p.old.procs ≤ 64 }
-    requires room { p.old.steps < u64.MAX }
+    requires steps { steps ≡ p.old.steps + 1 }
     ensures to { place_of p.old.procs p.old.index result.to ≡ PlaceOf.Wait number (above p.old.procs p.old.index from) None }
     ensures done { result.done ≡ None }
     ensures free { result.blocked ≡ false }
@@ -173,7 +188,7 @@ fn looks_from(p: &mut RmeProcess, number: u64, from: u64, next: &mut RmeAccess) 
                 next: k,
                 looked,
             };
-            loads(p, to, at(257, number, second, k), 3 * k, next)
+            loads(p, to, at(257, number, second, k), 3 * k, steps, next)
         }
         None => {
             let to = Stage::Wait {
@@ -182,7 +197,7 @@ fn looks_from(p: &mut RmeProcess, number: u64, from: u64, next: &mut RmeAccess) 
                 looked,
             };
             let numbers = at(257, number, second, p.procs);
-            stores(p, to, numbers, 3 * own + 2, 1, next)
+            stores(p, to, numbers, 3 * own + 2, 1, steps, next)
         }
     }
 }
@@ -194,11 +209,12 @@ fn after_door(
     from: u64,
     greatest: u64,
     value: u64,
+    steps: u64,
     next: &mut RmeAccess,
 ) -> Landing
     requires below { p.old.index < p.old.procs }
     requires few { p.old.procs ≤ 64 }
-    requires room { p.old.steps < u64.MAX }
+    requires steps { steps ≡ p.old.steps + 1 }
     ensures place { place_of p.old.procs p.old.index result.to ≡ after_access (standing_at p.old (StageOf.Door from greatest)) (next_access (standing_at p.old (StageOf.Door from greatest))) value }
     ensures done { result.done ≡ (progress (standing_at p.old (StageOf.Door from greatest)) (next_access (standing_at p.old (StageOf.Door from greatest))) value).done }
     ensures free { result.blocked ≡ (progress (standing_at p.old (StageOf.Door from greatest)) (next_access (standing_at p.old (StageOf.Door from greatest))) value).blocked }
@@ -207,16 +223,24 @@ fn after_door(
     let own = p.index;
     let second = p.position.second;
     match first(p, from) {
-        Some(j) if value == 0 => peeks_from(p, j + 1, greatest, next),
-        Some(j) => peeks_from(p, j + 1, greatest.max(value), next),
+        Some(j) if value == 0 => peeks_from(p, j + 1, greatest, steps, next),
+        Some(j) => peeks_from(p, j + 1, greatest.max(value), steps, next),
         None if greatest < p.limit => {
             let to = Stage::Shutting {
                 call: CoreCall::Lock,
                 number: greatest + 1,
             };
-            stores(p, to, at(7, greatest + 1, second, 0), 3 * own, 0, next)
+            stores(
+                p,
+                to,
+                at(7, greatest + 1, second, 0),
+                3 * own,
+                0,
+                steps,
+                next,
+            )
         }
-        None => runs_out(p, next),
+        None => runs_out(p, steps, next),
     }
 }
 
@@ -236,11 +260,12 @@ fn after_look(
     from: u64,
     j: u64,
     value: u64,
+    steps: u64,
     next: &mut RmeAccess,
 ) -> Landing
     requires below { p.old.index < p.old.procs }
     requires few { p.old.procs ≤ 64 }
-    requires room { p.old.steps < u64.MAX }
+    requires steps { steps ≡ p.old.steps + 1 }
     requires first { first_of (above p.old.procs p.old.index from) ≡ Some j }
     requires within { j < p.old.procs }
     ensures place { place_of p.old.procs p.old.index result.to ≡ after_access (standing_at p.old (StageOf.Wait number from false)) (next_access (standing_at p.old (StageOf.Wait number from false))) value }
@@ -255,14 +280,14 @@ fn after_look(
             next: from,
             looked: false,
         };
-        return stays(p, to, at(257, number, second, from), 3 * j, next);
+        return stays(p, to, at(257, number, second, from), 3 * j, steps, next);
     }
     let to = Stage::Wait {
         number,
         next: from,
         looked: true,
     };
-    loads(p, to, at(258, number, second, from), 3 * j + 1, next)
+    loads(p, to, at(258, number, second, from), 3 * j + 1, steps, next)
 }
 
 /// A weigh of process `j`.
@@ -273,11 +298,12 @@ fn after_weigh(
     from: u64,
     j: u64,
     value: u64,
+    steps: u64,
     next: &mut RmeAccess,
 ) -> Landing
     requires below { p.old.index < p.old.procs }
     requires few { p.old.procs ≤ 64 }
-    requires room { p.old.steps < u64.MAX }
+    requires steps { steps ≡ p.old.steps + 1 }
     requires first { first_of (above p.old.procs p.old.index from) ≡ Some j }
     requires within { j < p.old.procs }
     ensures place { place_of p.old.procs p.old.index result.to ≡ after_access (standing_at p.old (StageOf.Wait number from true)) (next_access (standing_at p.old (StageOf.Wait number from true))) value }
@@ -287,17 +313,17 @@ fn after_weigh(
 {
     let second = p.position.second;
     if value == 0 {
-        return looks_from(p, number, j + 1, next);
+        return looks_from(p, number, j + 1, steps, next);
     }
     if passes(p.index, number, value, j) {
-        return looks_from(p, number, j + 1, next);
+        return looks_from(p, number, j + 1, steps, next);
     }
     let to = Stage::Wait {
         number,
         next: from,
         looked: true,
     };
-    stays(p, to, at(258, number, second, from), 3 * j + 1, next)
+    stays(p, to, at(258, number, second, from), 3 * j + 1, steps, next)
 }
 
 /// A step of a wait: a look, a weigh, or the mark that follows the last weigh.
@@ -308,20 +334,21 @@ fn after_wait(
     from: u64,
     looked: bool,
     value: u64,
+    steps: u64,
     next: &mut RmeAccess,
 ) -> Landing
     requires below { p.old.index < p.old.procs }
     requires few { p.old.procs ≤ 64 }
-    requires room { p.old.steps < u64.MAX }
+    requires steps { steps ≡ p.old.steps + 1 }
     ensures place { place_of p.old.procs p.old.index result.to ≡ after_access (standing_at p.old (StageOf.Wait number from looked)) (next_access (standing_at p.old (StageOf.Wait number from looked))) value }
     ensures done { result.done ≡ (progress (standing_at p.old (StageOf.Wait number from looked)) (next_access (standing_at p.old (StageOf.Wait number from looked))) value).done }
     ensures blocked { result.blocked ≡ (progress (standing_at p.old (StageOf.Wait number from looked)) (next_access (standing_at p.old (StageOf.Wait number from looked))) value).blocked }
     ensures numbers { IsLanding p.old result p.new next.old next.new }
 {
     match first(p, from) {
-        Some(j) if looked => after_weigh(p, number, from, j, value, next),
-        Some(j) => after_look(p, number, from, j, value, next),
-        None => comes_in(p, next),
+        Some(j) if looked => after_weigh(p, number, from, j, value, steps, next),
+        Some(j) => after_look(p, number, from, j, value, steps, next),
+        None => comes_in(p, steps, next),
     }
 }
 
@@ -342,10 +369,16 @@ fn by_machine(p: &mut RmeProcess, stage: Stage, value: u64, next: &mut RmeAccess
 
 /// Where a step of a scan leads. At any other nothing changes.
 #[inline(always)]
-fn scanned(p: &mut RmeProcess, stage: Stage, value: u64, next: &mut RmeAccess) -> Option<Landing>
+fn scanned(
+    p: &mut RmeProcess,
+    stage: Stage,
+    value: u64,
+    steps: u64,
+    next: &mut RmeAccess,
+) -> Option<Landing>
     requires below { p.old.index < p.old.procs }
     requires few { p.old.procs ≤ 64 }
-    requires room { p.old.steps < u64.MAX }
+    requires steps { steps ≡ p.old.steps + 1 }
     ensures place { IfSome result (λ r. place_of p.old.procs p.old.index r.to ≡ after_access (standing_at p.old stage) (next_access (standing_at p.old stage)) value) }
     ensures done { IfSome result (λ r. r.done ≡ (progress (standing_at p.old stage) (next_access (standing_at p.old stage)) value).done) }
     ensures blocked { IfSome result (λ r. r.blocked ≡ (progress (standing_at p.old stage) (next_access (standing_at p.old stage)) value).blocked) }
@@ -357,12 +390,12 @@ fn scanned(p: &mut RmeProcess, stage: Stage, value: u64, next: &mut RmeAccess) -
         Stage::Door {
             next: from,
             greatest,
-        } => Some(after_door(p, from, greatest, value, next)),
+        } => Some(after_door(p, from, greatest, value, steps, next)),
         Stage::Wait {
             number,
             next: from,
             looked,
-        } => Some(after_wait(p, number, from, looked, value, next)),
+        } => Some(after_wait(p, number, from, looked, value, steps, next)),
         _ => None,
     }
 }
@@ -370,10 +403,16 @@ fn scanned(p: &mut RmeProcess, stage: Stage, value: u64, next: &mut RmeAccess) -
 /// Where the step that comes next leads, where it is one of a lock or an unlock that finds no trace of a crash, and of no scan.
 /// At any other nothing changes.
 #[inline(always)]
-fn shortly(p: &mut RmeProcess, stage: Stage, value: u64, next: &mut RmeAccess) -> Option<Landing>
+fn shortly(
+    p: &mut RmeProcess,
+    stage: Stage,
+    value: u64,
+    steps: u64,
+    next: &mut RmeAccess,
+) -> Option<Landing>
     requires below { p.old.index < p.old.procs }
     requires few { p.old.procs ≤ 64 }
-    requires room { p.old.steps < u64.MAX }
+    requires steps { steps ≡ p.old.steps + 1 }
     ensures place { IfSome result (λ r. place_of p.old.procs p.old.index r.to ≡ after_access (standing_at p.old stage) (next_access (standing_at p.old stage)) value) }
     ensures done { IfSome result (λ r. r.done ≡ (progress (standing_at p.old stage) (next_access (standing_at p.old stage)) value).done) }
     ensures blocked { IfSome result (λ r. r.blocked ≡ (progress (standing_at p.old stage) (next_access (standing_at p.old stage)) value).blocked) }
@@ -394,6 +433,7 @@ fn shortly(p: &mut RmeProcess, stage: Stage, value: u64, next: &mut RmeAccess) -
                 to,
                 at(3, q.first, value, number(call)),
                 3 * own + 1,
+                steps,
                 next,
             )
         }
@@ -408,6 +448,7 @@ fn shortly(p: &mut RmeProcess, stage: Stage, value: u64, next: &mut RmeAccess) -
                 to,
                 at(4, value, choosing, number(call)),
                 3 * own + 2,
+                steps,
                 next,
             )
         }
@@ -422,23 +463,32 @@ fn shortly(p: &mut RmeProcess, stage: Stage, value: u64, next: &mut RmeAccess) -
                 at(5, q.first, q.second, q.third),
                 3 * own,
                 1,
+                steps,
                 next,
             )
         }
-        Stage::Opening => peeks_from(p, 0, 0, next),
+        Stage::Opening => peeks_from(p, 0, 0, steps, next),
         Stage::Shutting {
             call: CoreCall::Lock,
             number,
-        } => looks_from(p, number, 0, next),
+        } => looks_from(p, number, 0, steps, next),
         Stage::Leaving => {
             let to = Stage::Unmarking {
                 call: CoreCall::Unlock,
             };
-            stores(p, to, at(13, q.first, q.second, 2), 3 * own + 2, 0, next)
+            stores(
+                p,
+                to,
+                at(13, q.first, q.second, 2),
+                3 * own + 2,
+                0,
+                steps,
+                next,
+            )
         }
         Stage::Unmarking {
             call: CoreCall::Unlock,
-        } => leaves(p, next),
+        } => leaves(p, steps, next),
         _ => return None,
     };
     Some(landing)
@@ -446,14 +496,20 @@ fn shortly(p: &mut RmeProcess, stage: Stage, value: u64, next: &mut RmeAccess) -
 
 /// Takes a step of the lock's part, if it is one of a scan.
 #[inline(always)]
-pub fn scan_feed(p: &mut RmeProcess, stage: Stage, value: u64, next: &mut RmeAccess) -> Option<u64>
+pub fn scan_feed(
+    p: &mut RmeProcess,
+    stage: Stage,
+    value: u64,
+    steps: u64,
+    next: &mut RmeAccess,
+) -> Option<u64>
     requires here { position_of p.old ≡ Position.Lock stage }
     requires fits { Fits p.old (Position.Lock stage) }
-    requires room { p.old.steps < u64.MAX }
+    requires steps { steps ≡ p.old.steps + 1 }
     ensures fed { IfSome result (λ code. IsFed p.old value p.new next.old next.new code) }
     ensures none { result ≡ None → (p.new ≡ p.old) × (next.new ≡ next.old) }
 {
-    match scanned(p, stage, value, next) {
+    match scanned(p, stage, value, steps, next) {
         Some(landing) => Some(landing.code),
         None => None,
     }
@@ -461,14 +517,20 @@ pub fn scan_feed(p: &mut RmeProcess, stage: Stage, value: u64, next: &mut RmeAcc
 
 /// Takes a step of the lock's part, if it is one of a lock or an unlock that finds no trace of a crash, and of no scan.
 #[inline(always)]
-pub fn quick_feed(p: &mut RmeProcess, stage: Stage, value: u64, next: &mut RmeAccess) -> Option<u64>
+pub fn quick_feed(
+    p: &mut RmeProcess,
+    stage: Stage,
+    value: u64,
+    steps: u64,
+    next: &mut RmeAccess,
+) -> Option<u64>
     requires here { position_of p.old ≡ Position.Lock stage }
     requires fits { Fits p.old (Position.Lock stage) }
-    requires room { p.old.steps < u64.MAX }
+    requires steps { steps ≡ p.old.steps + 1 }
     ensures fed { IfSome result (λ code. IsFed p.old value p.new next.old next.new code) }
     ensures none { result ≡ None → (p.new ≡ p.old) × (next.new ≡ next.old) }
 {
-    match shortly(p, stage, value, next) {
+    match shortly(p, stage, value, steps, next) {
         Some(landing) => Some(landing.code),
         None => None,
     }

@@ -1,6 +1,6 @@
 //! What a step of the lock's part leaves.
 
-ghost use Rattle.std.specs.Prelude.{◌≡◌, ◌<◌, ◌≤◌, ◌==◌, not, Some, false};
+ghost use Rattle.std.specs.Prelude.{◌≡◌, ◌+◌, ◌<◌, ◌≤◌, ◌==◌, not, Some, false};
 ghost use Rattle.rmecore.specs.declared.core_done.CoreDone.TheVariants as DoneOf;
 ghost use Rattle.rmecore.specs.declared.stage.Stage.TheVariants as StageOf;
 ghost use Rattle.rmeworld.specs.Entered.{mended_done, checks_done};
@@ -114,10 +114,10 @@ pub fn lands(
 
 /// The mark behind the last weigh: the ruin check comes next.
 #[inline(always)]
-pub fn comes_in(p: &mut RmeProcess, next: &mut RmeAccess) -> Landing
+pub fn comes_in(p: &mut RmeProcess, steps: u64, next: &mut RmeAccess) -> Landing
     requires below { p.old.index < p.old.procs }
     requires few { p.old.procs ≤ 64 }
-    requires room { p.old.steps < u64.MAX }
+    requires steps { steps ≡ p.old.steps + 1 }
     ensures to { result.to ≡ StageOf.Inside }
     ensures done { result.done ≡ Some DoneOf.In }
     ensures free { result.blocked ≡ false }
@@ -126,7 +126,7 @@ pub fn comes_in(p: &mut RmeProcess, next: &mut RmeAccess) -> Landing
     let access = check_next(p);
     p.unmended = 0;
     p.position = numbers(p.position, Position::Within(Chore::Checking));
-    p.steps += 1;
+    p.steps = steps;
     let told = Told {
         answer: None,
         blocked: false,
@@ -142,19 +142,25 @@ pub fn comes_in(p: &mut RmeProcess, next: &mut RmeAccess) -> Landing
 
 /// The call ends at rest, with this answer.
 #[inline(always)]
-fn ends(p: &mut RmeProcess, done: CoreDone, answer: Answer, next: &mut RmeAccess) -> Landing
+fn ends(
+    p: &mut RmeProcess,
+    done: CoreDone,
+    answer: Answer,
+    steps: u64,
+    next: &mut RmeAccess,
+) -> Landing
     requires answer { by_lock (not (p.old.barred == 0)) (Some done) ≡ Some answer }
     requires checks { checks_done (Some done) ≡ false }
     requires mended { mended_done (p.old.unmended == 0) (Some done) ≡ (p.old.unmended == 0) }
     requires few { p.old.procs ≤ 64 }
-    requires room { p.old.steps < u64.MAX }
+    requires steps { steps ≡ p.old.steps + 1 }
     ensures to { result.to ≡ StageOf.Rest }
     ensures done { result.done ≡ Some done }
     ensures free { result.blocked ≡ false }
     ensures numbers { IsLanding p.old result p.new next.old next.new }
 {
     p.position = numbers(p.position, Position::Lock(Stage::Rest));
-    p.steps += 1;
+    p.steps = steps;
     let told = Told {
         answer: Some(answer),
         blocked: false,
@@ -170,29 +176,29 @@ fn ends(p: &mut RmeProcess, done: CoreDone, answer: Answer, next: &mut RmeAccess
 
 /// There is no number left to take.
 #[inline(always)]
-pub fn runs_out(p: &mut RmeProcess, next: &mut RmeAccess) -> Landing
+pub fn runs_out(p: &mut RmeProcess, steps: u64, next: &mut RmeAccess) -> Landing
     requires few { p.old.procs ≤ 64 }
-    requires room { p.old.steps < u64.MAX }
+    requires steps { steps ≡ p.old.steps + 1 }
     ensures to { result.to ≡ StageOf.Rest }
     ensures done { result.done ≡ Some DoneOf.Spent }
     ensures free { result.blocked ≡ false }
     ensures numbers { IsLanding p.old result p.new next.old next.new }
 {
-    ends(p, CoreDone::Spent, Answer::NumbersSpent, next)
+    ends(p, CoreDone::Spent, Answer::NumbersSpent, steps, next)
 }
 
 /// The last store of an unlock.
 #[inline(always)]
-pub fn leaves(p: &mut RmeProcess, next: &mut RmeAccess) -> Landing
+pub fn leaves(p: &mut RmeProcess, steps: u64, next: &mut RmeAccess) -> Landing
     requires few { p.old.procs ≤ 64 }
-    requires room { p.old.steps < u64.MAX }
+    requires steps { steps ≡ p.old.steps + 1 }
     ensures to { result.to ≡ StageOf.Rest }
     ensures done { result.done ≡ Some DoneOf.Out }
     ensures free { result.blocked ≡ false }
     ensures numbers { IsLanding p.old result p.new next.old next.new }
 {
     if p.barred != 0 {
-        return ends(p, CoreDone::Out, Answer::NotRecoverable, next);
+        return ends(p, CoreDone::Out, Answer::NotRecoverable, steps, next);
     }
-    ends(p, CoreDone::Out, Answer::Unlocked, next)
+    ends(p, CoreDone::Out, Answer::Unlocked, steps, next)
 }

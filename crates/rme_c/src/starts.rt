@@ -1,6 +1,6 @@
 //! Sizes, and starts of calls.
 
-ghost use Rattle.std.specs.Prelude.{◌≡◌, ◌≤◌, ◌<◌, true, false, not, nat_lt, OnOk, OnErr, IfErr, IfSome, IsSome, Some, None, [], ◌∷◌, length, take};
+ghost use Rattle.std.specs.Prelude.{◌≡◌, ◌≤◌, ◌<◌, true, false, not, nat_lt, OnOk, OnErr, IfErr, IfSome, IsSome, IsTrue, Some, None, [], ◌∷◌, length, take};
 ghost use Rattle.redomail.specs.Layout.{IsLayout};
 ghost use Rattle.rmeworld.specs.Refused.{Needs, is_idle, is_inside, is_waiting, first_cause, start_refusal};
 ghost use Rattle.rmeworld.specs.Stand.{spot_of, started, next_access, IsSize};
@@ -243,7 +243,7 @@ fn start_read(p: &mut RmeProcess, call: Call, next: &mut RmeAccess) -> Result<()
 }
 
 /// Starts a call, whichever it is.
-#[inline(never)]
+#[inline(always)]
 fn start_any(p: &mut RmeProcess, call: &RmeCall, next: &mut RmeAccess) -> Option<Refusal>
     requires sized { IsSize (layout_of p.old) }
     requires below { p.old.index < p.old.procs }
@@ -259,7 +259,40 @@ fn start_any(p: &mut RmeProcess, call: &RmeCall, next: &mut RmeAccess) -> Option
     }
 }
 
+/// Whether the process is one of a world's.
+#[inline(always)]
+fn is_sized(p: &RmeProcess) -> bool
+    ensures cause { IsTrue result → size_cause (layout_of p.now) p.now.limit p.now.index ≡ None }
+    ensures sized { IsTrue result → IsSize (layout_of p.now) × (p.now.index < p.now.procs) }
+{
+    size_refusal(layout(p), p.limit, p.index).is_none()
+}
+
+/// Starts a lock at rest, or an unlock of who has nothing to mend, as they mostly come. Any other start changes nothing here.
+#[inline(always)]
+pub fn quick_start(
+    p: &mut RmeProcess,
+    call: &RmeCall,
+    next: &mut RmeAccess,
+) -> Option<Option<Refusal>>
+    ensures cause { IfSome result (λ r. r ≡ start_cause (stand_of p.old) call.now) }
+    ensures started { result ≡ Some None → IfSome (call_by p.old.width call.now) (λ c. stand_of p.new ≡ started (stand_of p.old) c) }
+    ensures fresh { result ≡ Some None → p.new.steps ≡ 0 }
+    ensures next { result ≡ Some None → next.new ≡ shown_of p.old.procs None (next_access (stand_of p.new)) }
+    ensures refused { IfSome result (λ r. IsSome r → (p.new ≡ p.old) × (next.new ≡ next.old)) }
+    ensures other { result ≡ None → (p.new ≡ p.old) × (next.new ≡ next.old) }
+{
+    match call.code {
+        1 if p.position.at == 0 && is_sized(p) => Some(start_read(p, Call::Lock, next).err()),
+        2 if p.position.at == 10 && p.unmended == 0 && is_sized(p) => {
+            Some(start_read(p, Call::Unlock, next).err())
+        }
+        _ => None,
+    }
+}
+
 /// Starts a call and shows its first step, or says why it is refused. A refused call changes nothing.
+#[inline(always)]
 pub fn start(p: &mut RmeProcess, call: &RmeCall, next: &mut RmeAccess) -> Option<Refusal>
     ensures cause { result ≡ start_cause (stand_of p.old) call.now }
     ensures started { result ≡ None → IfSome (call_by p.old.width call.now) (λ c. stand_of p.new ≡ started (stand_of p.old) c) }
@@ -271,9 +304,5 @@ pub fn start(p: &mut RmeProcess, call: &RmeCall, next: &mut RmeAccess) -> Option
     if refused.is_some() {
         return refused;
     }
-    match call.code {
-        1 => start_read(p, Call::Lock, next).err(),
-        2 if p.unmended == 0 => start_read(p, Call::Unlock, next).err(),
-        _ => start_any(p, call, next),
-    }
+    start_any(p, call, next)
 }

@@ -12,9 +12,8 @@ pub returns : goal.returns
 returns c =
     let p = c.args.p.now in
     let to = c.checked-behind.result.0 in
-    let steps : c.stand.new.p.steps ≡ p.steps = ap (λ (z : RmeProcess). z.steps) c.stand.ensures.same ∙ ap (λ (z : RmeProcess). z.steps) c.checked-behind.ensures.same in
     let procs : c.stand.new.p.procs ≡ p.procs = ap (λ (z : RmeProcess). z.procs) c.stand.ensures.same ∙ ap (λ (z : RmeProcess). z.procs) c.checked-behind.ensures.same in
-    let counts : c.saturating_add-p.result ≡ held (p.steps + 1) = omega (arith, c.saturating_add-p.ensures, steps) in
+    let counts : c.args.steps ≡ held (p.steps + 1) = omega (arith, c.requires.steps, c.ranges.steps) in
     step_fed p (Within Checking) c.args.value c.checked-behind.new.p _ to c.checked-behind.result.1 _ _ _ c.stand.new.p.procs _ c.requires.here (has_chore p c.requires.eight Checking c.requires.fits) c.checked-behind.ensures.step c.stand.ensures.is
     (ap (λ (z : RmeProcess). stand_at z to) c.stand.ensures.same)
     c.tell.ensures.next c.tell.ensures.kept procs c.next_at.ensures.next c.tell.ensures.code counts

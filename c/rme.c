@@ -20,19 +20,14 @@ _Static_assert(sizeof(_Atomic uint64_t) == 8 && sizeof(struct rme_header) <= RME
 
 /* ---- accesses ---- */
 
-static inline uint64_t load(const _Atomic uint64_t *words, uint64_t place)
-{
-    return atomic_load_explicit(&words[place], memory_order_seq_cst);
-}
-
 /* The access that the machine has named. A word that the block does not have reads 0, and no store goes there. */
 static inline uint64_t take(const struct rme_seat *s, const struct rme_access *access)
 {
     if (access->place >= s->count)
         return 0;
     if (access->store == 0)
-        return atomic_load_explicit(&s->words[access->place], memory_order_seq_cst);
-    atomic_store_explicit(&s->words[access->place], access->value, memory_order_seq_cst);
+        return atomic_load(&s->words[access->place]);
+    atomic_store(&s->words[access->place], access->value);
     return 0;
 }
 
@@ -50,20 +45,20 @@ static void rest(uint64_t turn)
     }
 }
 
-/* Takes the steps of the call under way, from this access on, to its answer, or to so many blocked readings and one more. */
+/* Takes the steps of the call under way, from this access on, to its answer, or to so many blocked readings and one more. From
+ * RME_LOAD on the machine tells a lock word of 64 processes at most: they lie in the page behind the header's. */
 static inline __attribute__((always_inline)) uint64_t finish(struct rme_seat *s, struct rme_access *access, uint64_t turns)
 {
-    const _Atomic uint64_t *told_words = s->words - RME_LOAD; /* behind the header's page, so still in the mapping */
+    const _Atomic uint64_t *words = s->words - RME_LOAD;
     uint64_t turn = 0, told;
-    for (;;) {
-        told = rme_feed(&s->machine, take(s, access), access);
-        while (told >= RME_LOAD)
-            told = rme_feed(&s->machine, load(told_words, told), access);
-        if (told == 0)
-            continue;
+    for (;; rest(turn++)) {
+        do {
+            told = rme_feed(&s->machine, take(s, access), access);
+            while (told >= RME_LOAD)
+                told = rme_feed(&s->machine, atomic_load(&words[told]), access);
+        } while (told == 0);
         if (told != RME_BLOCKED || turn >= turns)
             return told;
-        rest(turn++);
     }
 }
 
@@ -179,24 +174,19 @@ int rme_create(const char *path, uint64_t procs, uint64_t cap, uint64_t width)
     };
     if (header.words == 0)
         return EINVAL;
-    char *name = malloc(strlen(path) + 8);
-    if (!name)
-        return ENOMEM;
-    sprintf(name, "%s.XXXXXX", path);
-    int error = 0, file = mkostemp(name, O_CLOEXEC);
-    if (file < 0) {
-        error = errno;
-        free(name);
-        return error;
-    }
-    error = posix_fallocate(file, 0, (off_t)(RME_HEADER + header.words * 8));
+    char name[4096];
+    if (snprintf(name, sizeof name, "%s.XXXXXX", path) >= (int)sizeof name)
+        return ENAMETOOLONG;
+    int file = mkostemp(name, O_CLOEXEC);
+    if (file < 0)
+        return errno;
+    int error = posix_fallocate(file, 0, (off_t)(RME_HEADER + header.words * 8));
     if (!error && pwrite(file, &header, sizeof header, 0) != (ssize_t)sizeof header)
         error = EIO;
     if (!error && link(name, path))
         error = errno;
     unlink(name);
     close(file);
-    free(name);
     return error;
 }
 

@@ -92,6 +92,7 @@ idle_fed p x v here eight fits idle b =
       told = feed_idle_told p x v here idle;
       next = λ _. sym (λ i. shown p.procs (outcome (stand_of p) (none i) v).answer (none i));
       kept = λ h. absurd (omega (arith, h));
+      few = omega arith;
       steps = rw idles refl;
     }
 
@@ -143,20 +144,22 @@ module _ (p : RmeProcess) (t : Stage) (v : ℕ) (r : Landing) (q : RmeProcess) (
             ∙ ap (λ (y : Position). shown p.procs (outcome (stand_at p y) (next_access (stand_at p y)) v).answer (next_access (stand_at p x))) (sym here)
             ∙ ap (λ (s : Stand). shown p.procs (outcome (stand_of p) (next_access (stand_of p)) v).answer (next_access s)) (sym (ap stand_of is.process ∙ ap (λ y. stand_at q' y) stands'));
         kept = is.kept;
+        few = is.few;
         steps = rw (busy_at p (Lock t) here busy) (ap (λ (z : RmeProcess). z.steps) is.process);
       }
 
 -- a step that is taken, written down as numbers, and told
 pub step_fed : (p : RmeProcess) (x : Position) (v : ℕ) (m q : RmeProcess) (y : Position) (t : Told) (b a : RmeAccess) (code n : ℕ) (o : Option Access)
     → position_of p ≡ x → is_none (next_access (stand_at p x)) ≡ false → IsStep p x v m y t
-    → position_of q ≡ y → stand_at q y ≡ stand_at m y → (code < 64 → a ≡ shown n t.answer o) → (64 ≤ code → a ≡ b) → n ≡ p.procs → o ≡ next_access (stand_at q y)
+    → position_of q ≡ y → stand_at q y ≡ stand_at m y → (code < 64 → a ≡ shown n t.answer o) → (64 ≤ code → a ≡ b) → code < 256 → n ≡ p.procs → o ≡ next_access (stand_at q y)
     → code ≡ told_as t.answer t.blocked o → q.steps ≡ held (p.steps + 1) → IsFed p v q b a code
-step_fed p x v m q y t b a code n o here busy step there same shows kept procs wants tells steps =
+step_fed p x v m q y t b a code n o here busy step there same shows kept few procs wants tells steps =
     let stepped' : stand_at q y ≡ stepped (stand_of p) v = same ∙ step.exact ∙ ap (λ z. stepped (stand_at p z) v) (sym here) in
     record {
       exact = ap (λ z. stand_at q z) there ∙ stepped';
       told = tells ∙ feed_told p x v t.answer t.blocked o (sym here) busy step.answer step.blocked (wants ∙ ap next_access stepped');
       kept = kept;
+      few = few;
       next =
           λ small.
           shows small

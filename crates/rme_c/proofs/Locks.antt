@@ -6,8 +6,6 @@ use Rattle.rmecore.specs.Place.{Place, Rest, Dead, Reread, Opening, Door, Shutti
 use Rattle.rmecore.specs.Machine.{first, place_of, access, word_of, InLock}
 use Rattle.rmecore.specs.Refused.{is_idle}
 use Rattle.rmecore.specs.declared.access.Access.{Access}
-use Rattle.rmecore.specs.declared.access.Access.TheVariants.{Load}
-use Rattle.rmecore.specs.declared.kind.Kind.TheVariants.{Peek}
 use Rattle.rmecore.specs.declared.stage.Stage.{Stage}
 use Rattle.rmecore.specs.declared.stage.Stage.TheVariants.{Rest as AtRest, Dead as AtDead, ReadingChoosing, ReadingNumber, ReadingInside, Opening as AtOpening, Door as AtDoor, Shutting as AtShutting, Wait as AtWait, Inside as AtInside, Leaving as AtLeaving, Withdrawing as AtWithdrawing, Unmarking as AtUnmarking}
 use Rattle.rmecore.specs.declared.word.Word.{Word}
@@ -78,11 +76,6 @@ empty (j ∷ js) e = cc
 -- where nobody is left the end of the processes stands for where the scan stands
 pub above_none : (n p i : ℕ) → first (above n p i) ≡ None → above n p n ≡ above n p i
 above_none n p i e = above_past n p n (omega arith) ∙ sym (empty (above n p i) e)
-
--- a door with a process left to peek at peeks at the first
-pub peeks_at : (limit p m k : ℕ) (js : List ℕ) → first js ≡ Some k → access limit p (Door js m) ≡ Some (Load Peek (Number k))
-peeks_at limit p m k [] e = cc
-peeks_at limit p m k (j ∷ js) e = cc
 
 -- no step comes next just where no call is under way
 pub idle_access : (limit n p : ℕ) (t : Stage) → is_idle (place_of n p t) ≡ is_none (access limit p (place_of n p t))

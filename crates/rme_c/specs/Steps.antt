@@ -37,6 +37,7 @@ pub record IsLanding (p : RmeProcess) (r : Landing) (q : RmeProcess) (b a : RmeA
   pub code : r.code ≡ told_as (by_lock (not (p.barred == 0)) r.done) r.blocked (next_access (stand_at p (landing (checks_done r.done) r.to)))
   pub next : r.code < 64 → a ≡ shown p.procs (by_lock (not (p.barred == 0)) r.done) (next_access (stand_at p (landing (checks_done r.done) r.to)))
   pub kept : 64 ≤ r.code → a ≡ b
+  pub few : r.code < 256
 
 -- the process was fed with this value: where it stands then, what was told, and what is shown where that does not tell it
 pub record IsFed (p : RmeProcess) (v : ℕ) (q : RmeProcess) (b a : RmeAccess) (r : ℕ) : Type 0 where
@@ -44,4 +45,5 @@ pub record IsFed (p : RmeProcess) (v : ℕ) (q : RmeProcess) (b a : RmeAccess) (
   pub told : r ≡ told (stand_of p) v
   pub next : r < 64 → a ≡ shown p.procs (outcome (stand_of p) (next_access (stand_of p)) v).answer (next_access (stand_of q))
   pub kept : 64 ≤ r → a ≡ b
+  pub few : r < 256
   pub steps : q.steps ≡ if is_none (next_access (stand_of p)) then p.steps else held (p.steps + 1)

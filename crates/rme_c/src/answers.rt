@@ -164,6 +164,7 @@ fn goes_on(procs: u64, after: Option<Access>, next: &mut RmeAccess) -> u64
     ensures code { result ≡ goes_as after }
     ensures next { result < 64 → next.new ≡ shown_by procs None after }
     ensures kept { 64 ≤ result → next.new ≡ next.old }
+    ensures few { result < 256 }
 {
     match after {
         Some(Access::Load(_, Word::Choosing(j))) => 64 + 3 * j,
@@ -184,6 +185,7 @@ pub fn tell(procs: u64, told: Told, after: Option<Access>, next: &mut RmeAccess)
     ensures code { result ≡ told_as told.answer told.blocked after }
     ensures next { result < 64 → next.new ≡ shown_by procs told.answer after }
     ensures kept { 64 ≤ result → next.new ≡ next.old }
+    ensures few { result < 256 }
 {
     match told.answer {
         Some(answer) => {

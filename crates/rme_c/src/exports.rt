@@ -287,6 +287,7 @@ pub extern "C" fn rme_feed(p: &mut RmeProcess, value: u64, next: &mut RmeAccess)
     ensures told { result ≡ told_of (stand_of p.old) value }
     ensures next { result < 64 → next.new ≡ shown_of p.old.procs (outcome (stand_of p.old) (next_access (stand_of p.old)) value).answer (next_access (stand_of p.new)) }
     ensures kept { 64 ≤ result → next.new ≡ next.old }
+    ensures few { result < 256 }
     ensures steps { p.new.steps ≡ if is_none (next_access (stand_of p.old)) then p.old.steps else held (p.old.steps + 1) }
 {
     let _whole = *p;

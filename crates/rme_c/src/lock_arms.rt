@@ -7,120 +7,15 @@ ghost use Rattle.rmecore.specs.Machine.{first as first_of, place_of, after_acces
 ghost use Rattle.rmecore.specs.declared.stage.Stage.TheVariants as StageOf;
 ghost use Rattle.rmecore.specs.Refused.{is_idle};
 ghost use Rattle.rmeworld.specs.Stand.{next_access as next_access_of};
-ghost use Rattle.rme_c.specs.Codes.{goes_as, shown as shown_by};
-ghost use Rattle.rme_c.specs.Positions.{stage_of, standing_at, stand_at, position_of, Fits};
+ghost use Rattle.rme_c.specs.Positions.{standing_at, stand_at, position_of, Fits};
 ghost use Rattle.rme_c.specs.Steps.{IsLanding, IsFed};
 ghost use Rattle.rme_c.specs.declared.position.Position.TheVariants as Position;
 
 use crate::accesses::first;
-use crate::lock_part::{Landing, comes_in, lands, leaves, runs_out};
+use crate::lock_part::{Landing, comes_in, lands, leaves, loads, runs_out, stays, stores};
 use crate::position::{at, number};
-use crate::process::{RmeAccess, RmePosition, RmeProcess};
+use crate::process::{RmeAccess, RmeProcess};
 use rmecore::{CoreCall, LockProcess, Stage};
-
-/// The call goes on at this stage, which these numbers stand for, with a load of the lock word at this place.
-#[inline(always)]
-fn loads(
-    p: &mut RmeProcess,
-    to: Stage,
-    numbers: RmePosition,
-    place: u64,
-    steps: u64,
-    next: &mut RmeAccess,
-) -> Landing
-    requires below { p.old.index < p.old.procs }
-    requires few { p.old.procs ≤ 64 }
-    requires steps { steps ≡ p.old.steps + 1 }
-    requires stands { stage_of numbers ≡ Some to }
-    requires next { goes_as (next_access_of (stand_at p.old (Position.Lock to))) ≡ 64 + place }
-    requires word { place < 192 }
-    ensures to { result.to ≡ to }
-    ensures done { result.done ≡ None }
-    ensures free { result.blocked ≡ false }
-    ensures numbers { IsLanding p.old result p.new next.old next.new }
-{
-    let _shown = *next;
-    p.position = numbers;
-    p.steps = steps;
-    Landing {
-        to,
-        done: None,
-        blocked: false,
-        code: 64 + place,
-    }
-}
-
-/// The step was blocked: the same word is loaded again.
-#[inline(always)]
-fn stays(
-    p: &mut RmeProcess,
-    to: Stage,
-    numbers: RmePosition,
-    place: u64,
-    steps: u64,
-    next: &mut RmeAccess,
-) -> Landing
-    requires below { p.old.index < p.old.procs }
-    requires few { p.old.procs ≤ 64 }
-    requires steps { steps ≡ p.old.steps + 1 }
-    requires stands { stage_of numbers ≡ Some to }
-    requires next { shown_by p.old.procs None (next_access_of (stand_at p.old (Position.Lock to))) ≡ record { store = 0; place = place; value = 0 } }
-    ensures to { result.to ≡ to }
-    ensures done { result.done ≡ None }
-    ensures blocked { result.blocked ≡ true }
-    ensures numbers { IsLanding p.old result p.new next.old next.new }
-{
-    p.position = numbers;
-    p.steps = steps;
-    *next = RmeAccess {
-        store: 0,
-        place,
-        value: 0,
-    };
-    Landing {
-        to,
-        done: None,
-        blocked: true,
-        code: 16,
-    }
-}
-
-/// The call goes on with a store of an own lock word.
-#[inline(always)]
-fn stores(
-    p: &mut RmeProcess,
-    to: Stage,
-    numbers: RmePosition,
-    place: u64,
-    value: u64,
-    steps: u64,
-    next: &mut RmeAccess,
-) -> Landing
-    requires below { p.old.index < p.old.procs }
-    requires few { p.old.procs ≤ 64 }
-    requires steps { steps ≡ p.old.steps + 1 }
-    requires stands { stage_of numbers ≡ Some to }
-    requires goes { goes_as (next_access_of (stand_at p.old (Position.Lock to))) ≡ 0 }
-    requires next { shown_by p.old.procs None (next_access_of (stand_at p.old (Position.Lock to))) ≡ record { store = 1; place = place; value = value } }
-    ensures to { result.to ≡ to }
-    ensures done { result.done ≡ None }
-    ensures free { result.blocked ≡ false }
-    ensures numbers { IsLanding p.old result p.new next.old next.new }
-{
-    p.position = numbers;
-    p.steps = steps;
-    *next = RmeAccess {
-        store: 1,
-        place,
-        value,
-    };
-    Landing {
-        to,
-        done: None,
-        blocked: false,
-        code: 0,
-    }
-}
 
 /// The door, with the processes from an index on left to be peeked at.
 #[inline(always)]

@@ -1,18 +1,21 @@
 //! What a step of the lock's part leaves.
 
-ghost use Rattle.std.specs.Prelude.{◌≡◌, ◌+◌, ◌<◌, ◌≤◌, ◌==◌, not, Some, false};
+ghost use Rattle.std.specs.Prelude.{◌≡◌, ◌+◌, ◌<◌, ◌≤◌, ◌==◌, not, Some, None, true, false};
 ghost use Rattle.rmecore.specs.declared.core_done.CoreDone.TheVariants as DoneOf;
 ghost use Rattle.rmecore.specs.declared.stage.Stage.TheVariants as StageOf;
 ghost use Rattle.rmeworld.specs.Entered.{mended_done, checks_done};
 ghost use Rattle.rmeworld.specs.Answered.{by_lock};
-ghost use Rattle.rme_c.specs.Positions.{landing, Fits};
+ghost use Rattle.rmeworld.specs.Stand.{next_access as next_access_of};
+ghost use Rattle.rme_c.specs.Codes.{goes_as, shown as shown_by};
+ghost use Rattle.rme_c.specs.Positions.{landing, stage_of, stand_at, Fits};
+ghost use Rattle.rme_c.specs.declared.position.Position.TheVariants as PositionOf;
 ghost use Rattle.rme_c.specs.Steps.{IsLanding};
 
 use crate::accesses::next_at;
 use crate::answers::{Told, tell};
 use crate::chore::Chore;
 use crate::position::{Position, numbers};
-use crate::process::{RmeAccess, RmeProcess};
+use crate::process::{RmeAccess, RmePosition, RmeProcess};
 use crate::steps::check_next;
 use rmecore::{CoreDone, Found, Stage};
 use rmeworld::Answer;
@@ -109,6 +112,110 @@ pub fn lands(
         done,
         blocked,
         code,
+    }
+}
+
+/// The call goes on at this stage, which these numbers stand for, with a load of the lock word at this place.
+#[inline(always)]
+pub fn loads(
+    p: &mut RmeProcess,
+    to: Stage,
+    numbers: RmePosition,
+    place: u64,
+    steps: u64,
+    next: &mut RmeAccess,
+) -> Landing
+    requires below { p.old.index < p.old.procs }
+    requires few { p.old.procs ≤ 64 }
+    requires steps { steps ≡ p.old.steps + 1 }
+    requires stands { stage_of numbers ≡ Some to }
+    requires next { goes_as (next_access_of (stand_at p.old (PositionOf.Lock to))) ≡ 64 + place }
+    requires word { place < 192 }
+    ensures to { result.to ≡ to }
+    ensures done { result.done ≡ None }
+    ensures free { result.blocked ≡ false }
+    ensures numbers { IsLanding p.old result p.new next.old next.new }
+{
+    let _shown = *next;
+    p.position = numbers;
+    p.steps = steps;
+    Landing {
+        to,
+        done: None,
+        blocked: false,
+        code: 64 + place,
+    }
+}
+
+/// The step was blocked: the same word is loaded again.
+#[inline(always)]
+pub fn stays(
+    p: &mut RmeProcess,
+    to: Stage,
+    numbers: RmePosition,
+    place: u64,
+    steps: u64,
+    next: &mut RmeAccess,
+) -> Landing
+    requires below { p.old.index < p.old.procs }
+    requires few { p.old.procs ≤ 64 }
+    requires steps { steps ≡ p.old.steps + 1 }
+    requires stands { stage_of numbers ≡ Some to }
+    requires next { shown_by p.old.procs None (next_access_of (stand_at p.old (PositionOf.Lock to))) ≡ record { store = 0; place = place; value = 0 } }
+    ensures to { result.to ≡ to }
+    ensures done { result.done ≡ None }
+    ensures blocked { result.blocked ≡ true }
+    ensures numbers { IsLanding p.old result p.new next.old next.new }
+{
+    p.position = numbers;
+    p.steps = steps;
+    *next = RmeAccess {
+        store: 0,
+        place,
+        value: 0,
+    };
+    Landing {
+        to,
+        done: None,
+        blocked: true,
+        code: 16,
+    }
+}
+
+/// The call goes on with a store of an own lock word.
+#[inline(always)]
+pub fn stores(
+    p: &mut RmeProcess,
+    to: Stage,
+    numbers: RmePosition,
+    place: u64,
+    value: u64,
+    steps: u64,
+    next: &mut RmeAccess,
+) -> Landing
+    requires below { p.old.index < p.old.procs }
+    requires few { p.old.procs ≤ 64 }
+    requires steps { steps ≡ p.old.steps + 1 }
+    requires stands { stage_of numbers ≡ Some to }
+    requires goes { goes_as (next_access_of (stand_at p.old (PositionOf.Lock to))) ≡ 0 }
+    requires next { shown_by p.old.procs None (next_access_of (stand_at p.old (PositionOf.Lock to))) ≡ record { store = 1; place = place; value = value } }
+    ensures to { result.to ≡ to }
+    ensures done { result.done ≡ None }
+    ensures free { result.blocked ≡ false }
+    ensures numbers { IsLanding p.old result p.new next.old next.new }
+{
+    p.position = numbers;
+    p.steps = steps;
+    *next = RmeAccess {
+        store: 1,
+        place,
+        value,
+    };
+    Landing {
+        to,
+        done: None,
+        blocked: false,
+        code: 0,
     }
 }
 

@@ -16,4 +16,4 @@ returns c =
     let counts : c.args.steps ≡ held (p.steps + 1) = omega (arith, c.requires.steps, c.ranges.steps) in
     step_fed p (Within Checking) c.args.value c.checked-behind.new.p _ to c.checked-behind.result.1 _ _ _ c.stand.new.p.procs _ c.requires.here (has_chore p c.requires.eight Checking c.requires.fits) c.checked-behind.ensures.step c.stand.ensures.is
     (ap (λ (z : RmeProcess). stand_at z to) c.stand.ensures.same)
-    c.tell.ensures.next c.tell.ensures.kept procs c.next_at.ensures.next c.tell.ensures.code counts
+    c.tell.ensures.next c.tell.ensures.kept c.tell.ensures.few procs c.next_at.ensures.next c.tell.ensures.code counts

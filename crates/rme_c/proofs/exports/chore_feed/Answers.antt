@@ -16,4 +16,4 @@ returns c =
     let counts : c.saturating_add-p.result ≡ held (p.steps + 1) = omega (arith, c.saturating_add-p.ensures, steps) in
     step_fed p (Within c.args.chore) c.args.value c.chore_step-to.new.p _ to c.chore_step-to.result.1 _ _ _ c.stand.new.p.procs _ c.requires.here (has_chore p c.requires.eight c.args.chore c.requires.fits) c.chore_step-to.ensures.step c.stand.ensures.is
     (ap (λ (z : RmeProcess). stand_at z to) c.stand.ensures.same)
-    c.tell.ensures.next c.tell.ensures.kept procs c.next_at.ensures.next c.tell.ensures.code counts
+    c.tell.ensures.next c.tell.ensures.kept c.tell.ensures.few procs c.next_at.ensures.next c.tell.ensures.code counts

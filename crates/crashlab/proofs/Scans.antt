@@ -9,7 +9,7 @@ use Rattle.rmeworld.specs.Replayed.{mail_by, or_else, the_deed}
 use Rattle.rmeworld.specs.Stand.{outcome}
 use Rattle.rmeworld.specs.declared.outcome.Outcome.{Outcome}
 use Rattle.rmeworld.proofs.Advancing.{scan_is_quiet, scan_ends_nothing}
-use Rattle.crashlab.specs.VariantStands.{IsPlain, variant_outcome}
+use Rattle.crashlab.specs.VariantStands.{IsPlain}
 use Rattle.crashlab.specs.VariantWorlds.{VariantState, stand_at, advance_refusal, unless_step, access_at, found_by, outcome_of, deeds_of, stepped, stepped_if}
 use Rattle.crashlab.proofs.LockWorlds.{plain_access, plain_outcome}
 

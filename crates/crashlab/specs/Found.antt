@@ -2,7 +2,7 @@
 use Rattle.crashlab.specs.declared.moves.Made.{Made}
 use Rattle.crashlab.specs.declared.moves.Made.TheVariants.{On, Caught}
 use Rattle.crashlab.specs.declared.variant.Variant.{Variant}
-use Rattle.std.specs.Prelude.{◌≡◌, ℕ, Bool, true, false, List, [], ◌∷◌, ◌++◌, Option, Some, Err}
+use Rattle.std.specs.Prelude.{◌≡◌, ℕ, Bool, true, false, List, [], ◌∷◌, ◌++◌, map, Option, Some, Err}
 use Rattle.rmecore.specs.declared.fault.Fault.{Fault}
 use Rattle.redomail.specs.declared.deed.Deed.{Deed}
 use Rattle.judge.specs.Kept.{Kept}
@@ -12,6 +12,10 @@ use Rattle.judge.specs.Table.{empty}
 use Rattle.rmeworld.specs.Replayed.{list_of}
 use Rattle.schedule.specs.declared.line.Line.{Line}
 use Rattle.schedule.specs.declared.line.Line.TheVariants as line
+use Rattle.rmeworld.specs.declared.call.Call.{Call}
+use Rattle.rmeworld.specs.declared.call.Call.TheVariants as call
+use Rattle.crashlab.specs.declared.moves.Due.{Due}
+use Rattle.crashlab.specs.declared.moves.Due.TheVariants.{Lock, Consistent, Append, Unlock}
 use Rattle.crashlab.specs.declared.moves.Move.{Move}
 use Rattle.crashlab.specs.declared.moves.Move.TheVariants.{Start, Step, Crash}
 use Rattle.schedule.specs.Schedules.{Scheduled}
@@ -46,19 +50,30 @@ abbrev pub Told : List Deed → Option Deed → Kept → Made → Type 0
 Told history deed judge (On answer) = StandsAfter (empty 3 64) (history ++ list_of deed) judge
 Told history deed judge Caught = IsRefused history deed
 
+-- a call of a hunt
+abbrev pub call_by : Due → Call
+call_by Lock = call.Lock
+call_by Consistent = call.Consistent
+call_by (Append seq) = call.Append seq (seq ∷ [])
+call_by Unlock = call.Unlock
+
 -- a move as a line
 abbrev pub line_by : Move → Line
-line_by (Start p call) = line.Start p call
+line_by (Start p due) = line.Start p (call_by due)
 line_by (Step p) = line.Step p 1
 line_by (Crash p) = line.Crash p
 
+-- moves as a schedule of a hunt's world
+abbrev pub route_of : List Move → Scheduled
+route_of moves = record { procs = 3; limit = 1000000; cap = 64; width = 1; lines = map line_by moves }
+
 -- whose move it is
 abbrev pub mover : Move → ℕ
-mover (Start p call) = p
+mover (Start p due) = p
 mover (Step p) = p
 mover (Crash p) = p
 
 abbrev pub is_crash : Move → Bool
-is_crash (Start p call) = false
+is_crash (Start p due) = false
 is_crash (Step p) = false
 is_crash (Crash p) = true

@@ -1,89 +1,69 @@
-//! One move of a hunt: made in the world, written into the schedule, and its deed told to the judge.
+//! One move of a hunt: made in the world, its deed told to the judge, and written down.
 
-ghost use Rattle.std.specs.Prelude.{◌≡◌, ◌+◌, ◌≤◌, IfOk, IfErr, OnOk, List, length};
-ghost use Rattle.redomail.specs.declared.deed.Deed.{Deed as DeedOf};
-ghost use Rattle.judge.specs.Table.{empty};
-ghost use Rattle.judge.specs.Stands.{StandsAfter};
+ghost use Rattle.std.specs.Prelude.{◌≡◌, ◌+◌, ◌≤◌, IfOk, IfErr, OnOk, length};
+ghost use Rattle.judge.specs.Kept.{Kept};
 ghost use Rattle.crashlab.specs.declared.variant.Variant.{Variant as VariantOf};
 ghost use Rattle.crashlab.specs.Hunts.{IsPlayed};
-ghost use Rattle.crashlab.specs.Found.{Ends, Told, with_line, line_by};
+ghost use Rattle.crashlab.specs.Found.{Ends};
 
 use crate::hunt_fault::HuntFault;
-use crate::moves::{Made, Move};
+use crate::moves::{Due, Made, Move};
+use crate::route::Route;
+use crate::telling::tell;
 use crate::variant_world::VariantWorld;
 use judge::Judge;
-use redomail::Deed;
-use rmeworld::{Answer, Call};
-use schedule::{Count, Line, Schedule};
 
-/// Makes a move in a world, of which the schedule and the judge tell so far.
+/// Makes a move in a world, of which the route and the judge tell so far.
 pub fn make(
     world: &mut VariantWorld,
     judge: &mut Judge,
-    schedule: &mut Schedule,
-    made: &Move,
+    route: &mut Route,
+    made: Move,
 ) -> Result<Made, HuntFault>
-    ensures ends { (variant : VariantOf) → IsPlayed variant schedule.old world.old judge.old → IfOk result (Ends variant schedule.new world.new judge.new) }
-    ensures grows { OnOk result (length schedule.new.lines ≤ length schedule.old.lines + 1) }
+    ensures ends { (variant : VariantOf) → IsPlayed variant route.old world.old judge.old → IfOk result (Ends variant route.new world.new judge.new) }
+    ensures grows { OnOk result (length route.new.lines ≤ length route.old.lines + 1) }
     ensures memory { IfErr result (λ e. e ≡ HuntFault.OutOfMemory) }
 {
-    match *made {
-        Move::Start(p, call) => start(world, judge, schedule, p, call, line_of(made)),
-        Move::Step(p) => step(world, judge, schedule, p),
-        Move::Crash(p) => crash(world, judge, schedule, p),
+    match made {
+        Move::Start(p, due) => start(world, route, p, due),
+        Move::Step(p) => step(world, judge, route, p),
+        Move::Crash(p) => crash(world, judge, route, p),
     }
 }
 
-/// A move as a line of a schedule.
-fn line_of(made: &Move) -> Line
-    ensures { result ≡ line_by made.now }
-{
-    match *made {
-        Move::Start(p, call) => Line::Start(p, call),
-        Move::Step(p) => Line::Step(p, Count::ONE),
-        Move::Crash(p) => Line::Crash(p),
-    }
-}
-
-/// Starts a call.
-fn start(
-    world: &mut VariantWorld,
-    judge: &mut Judge,
-    schedule: &mut Schedule,
-    p: u64,
-    call: Call,
-    line: Line,
-) -> Result<Made, HuntFault>
-    requires { line ≡ Line.Start p call }
-    ensures ends { (variant : VariantOf) → IsPlayed variant schedule.old world.old judge.old → IfOk result (Ends variant schedule.new world.new judge.new) }
-    ensures grows { OnOk result (length schedule.new.lines ≤ length schedule.old.lines + 1) }
+/// Starts a call, of which the judge hears nothing.
+#[inline(never)]
+fn start(world: &mut VariantWorld, route: &mut Route, p: u64, due: Due) -> Result<Made, HuntFault>
+    ensures ends { (variant : VariantOf) (judge : Kept) → IsPlayed variant route.old world.old judge → IfOk result (Ends variant route.new world.new judge) }
+    ensures grows { OnOk result (length route.new.lines ≤ length route.old.lines + 1) }
     ensures memory { IfErr result (λ e. e ≡ HuntFault.OutOfMemory) }
 {
-    match world.take_start(p, call) {
-        Ok(()) => tell(judge, schedule, line, None, None),
+    match world.take_start(p, due.call()) {
+        Ok(()) => {
+            route.push(Move::Start(p, due))?;
+            Ok(Made::On(None))
+        }
         Err(_) => Ok(Made::On(None)),
     }
 }
 
 /// Takes a step that may be a deed, or end its call.
+#[inline(never)]
 fn told_step(
     world: &mut VariantWorld,
     judge: &mut Judge,
-    schedule: &mut Schedule,
+    route: &mut Route,
     p: u64,
 ) -> Result<Made, HuntFault>
-    ensures ends { (variant : VariantOf) → IsPlayed variant schedule.old world.old judge.old → IfOk result (Ends variant schedule.new world.new judge.new) }
-    ensures grows { OnOk result (length schedule.new.lines ≤ length schedule.old.lines + 1) }
+    ensures ends { (variant : VariantOf) → IsPlayed variant route.old world.old judge.old → IfOk result (Ends variant route.new world.new judge.new) }
+    ensures grows { OnOk result (length route.new.lines ≤ length route.old.lines + 1) }
     ensures memory { IfErr result (λ e. e ≡ HuntFault.OutOfMemory) }
 {
-    match world.take_step(p) {
-        Ok(stepped) => tell(
-            judge,
-            schedule,
-            Line::Step(p, Count::ONE),
-            stepped.deed,
-            stepped.answer,
-        ),
+    match world.step_before(judge, p) {
+        Ok(made) => {
+            route.push(Move::Step(p))?;
+            Ok(made)
+        }
         Err(_) => Ok(Made::On(None)),
     }
 }
@@ -92,55 +72,38 @@ fn told_step(
 fn step(
     world: &mut VariantWorld,
     judge: &mut Judge,
-    schedule: &mut Schedule,
+    route: &mut Route,
     p: u64,
 ) -> Result<Made, HuntFault>
-    ensures ends { (variant : VariantOf) → IsPlayed variant schedule.old world.old judge.old → IfOk result (Ends variant schedule.new world.new judge.new) }
-    ensures grows { OnOk result (length schedule.new.lines ≤ length schedule.old.lines + 1) }
+    ensures ends { (variant : VariantOf) → IsPlayed variant route.old world.old judge.old → IfOk result (Ends variant route.new world.new judge.new) }
+    ensures grows { OnOk result (length route.new.lines ≤ length route.old.lines + 1) }
     ensures memory { IfErr result (λ e. e ≡ HuntFault.OutOfMemory) }
 {
     if !world.take_quiet_step(p) {
-        return told_step(world, judge, schedule, p);
+        return told_step(world, judge, route, p);
     }
-    tell(judge, schedule, Line::Step(p, Count::ONE), None, None)
+    route.push(Move::Step(p))?;
+    Ok(Made::On(None))
 }
 
 /// Crashes a process.
+#[inline(never)]
 fn crash(
     world: &mut VariantWorld,
     judge: &mut Judge,
-    schedule: &mut Schedule,
+    route: &mut Route,
     p: u64,
 ) -> Result<Made, HuntFault>
-    ensures ends { (variant : VariantOf) → IsPlayed variant schedule.old world.old judge.old → IfOk result (Ends variant schedule.new world.new judge.new) }
-    ensures grows { OnOk result (length schedule.new.lines ≤ length schedule.old.lines + 1) }
+    ensures ends { (variant : VariantOf) → IsPlayed variant route.old world.old judge.old → IfOk result (Ends variant route.new world.new judge.new) }
+    ensures grows { OnOk result (length route.new.lines ≤ length route.old.lines + 1) }
     ensures memory { IfErr result (λ e. e ≡ HuntFault.OutOfMemory) }
 {
     match world.take_crash(p) {
-        Ok(deed) => tell(judge, schedule, Line::Crash(p), Some(deed), None),
+        Ok(deed) => {
+            let made = tell(judge, deed, None);
+            route.push(Move::Crash(p))?;
+            Ok(made)
+        }
         Err(_) => Ok(Made::On(None)),
     }
-}
-
-/// Writes a line, and tells the judge its deed, if it has one.
-fn tell(
-    judge: &mut Judge,
-    schedule: &mut Schedule,
-    line: Line,
-    deed: Option<Deed>,
-    answer: Option<Answer>,
-) -> Result<Made, HuntFault>
-    ensures line { OnOk result (schedule.new ≡ with_line schedule.old line) }
-    ensures told { (history : List DeedOf) → StandsAfter (empty 3 64) history judge.old → IfOk result (Told history deed judge.new) }
-    ensures memory { IfErr result (λ e. e ≡ HuntFault.OutOfMemory) }
-{
-    if schedule.push(line).is_err() {
-        return Err(HuntFault::OutOfMemory);
-    }
-    if let Some(deed) = deed {
-        if judge.feed(deed).is_err() {
-            return Ok(Made::Caught);
-        }
-    }
-    Ok(Made::On(answer))
 }

@@ -3,10 +3,9 @@
 ghost use Rattle.std.specs.Prelude.{◌≡◌, ◌/◌, ◌%◌, ◌↔◌, IsTrue};
 ghost use Rattle.crashlab.specs.Found.{mover, is_crash};
 
-use crate::moves::Move;
+use crate::moves::{Due, Move};
 use redomail::Reply;
-use rmecore::Body;
-use rmeworld::{Answer, Call};
+use rmeworld::Answer;
 
 /// What a process is at.
 #[derive(Clone, Copy, Debug, PartialEq, Eq)]
@@ -14,7 +13,7 @@ enum Stage {
     /// Outside, at rest or dead.
     Outside,
     /// In a call.
-    Calling(Call),
+    Calling(Due),
     /// Inside, with no call under way.
     Inside,
 }
@@ -39,23 +38,20 @@ const UNSEEN: Sight = Sight {
 
 impl Sight {
     /// The call that a process takes up that is in none.
-    fn call(&self) -> Call {
+    fn due(&self) -> Due {
         if self.stage == Stage::Outside {
-            Call::Lock
+            Due::Lock
         } else if !self.mended {
-            Call::Consistent
+            Due::Consistent
         } else if !self.appended {
-            Call::Append {
-                seq: self.next,
-                value: body(self.next),
-            }
+            Due::Append(self.next)
         } else {
-            Call::Unlock
+            Due::Unlock
         }
     }
 
     /// The call under way was answered.
-    fn answered(&mut self, call: Call, answer: Answer) {
+    fn answered(&mut self, due: Due, answer: Answer) {
         self.stage = Stage::Inside;
         match answer {
             Answer::Clean => {
@@ -73,17 +69,9 @@ impl Sight {
                     self.next = self.next.saturating_add(1);
                 }
             }
-            Answer::NotRecoverable if call == Call::Consistent => {}
+            Answer::NotRecoverable if due == Due::Consistent => {}
             _ => self.stage = Stage::Outside,
         }
-    }
-}
-
-/// A value of one word.
-fn body(word: u64) -> Body {
-    match Body::new(&[word]) {
-        Ok(body) => body,
-        Err(_) => unreachable!(),
     }
 }
 
@@ -114,27 +102,27 @@ impl Sights {
         }
         match sight.stage {
             Stage::Calling(_) => Move::Step(p),
-            Stage::Outside | Stage::Inside => Move::Start(p, sight.call()),
+            Stage::Outside | Stage::Inside => Move::Start(p, sight.due()),
         }
     }
 
     /// A move was made, with this answer.
-    pub fn see(&mut self, made: &Move, answer: Option<Answer>) {
-        match *made {
+    pub fn see(&mut self, made: Move, answer: Option<Answer>) {
+        match made {
             Move::Crash(p) => {
                 if let Some(sight) = self.sights.get_mut(p as usize) {
                     sight.stage = Stage::Outside;
                 }
             }
-            Move::Start(p, call) => {
+            Move::Start(p, due) => {
                 if let Some(sight) = self.sights.get_mut(p as usize) {
-                    sight.stage = Stage::Calling(call);
+                    sight.stage = Stage::Calling(due);
                 }
             }
             Move::Step(p) => {
                 if let Some(sight) = self.sights.get_mut(p as usize) {
-                    if let (Stage::Calling(call), Some(answer)) = (sight.stage, answer) {
-                        sight.answered(call, answer);
+                    if let (Stage::Calling(due), Some(answer)) = (sight.stage, answer) {
+                        sight.answered(due, answer);
                     }
                 }
             }

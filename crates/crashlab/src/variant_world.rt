@@ -8,9 +8,12 @@ ghost use Rattle.rmeworld.specs.WorldState.{new_refusal};
 ghost use Rattle.crashlab.specs.VariantWorlds.{at_rest_from, new_world};
 ghost use Rattle.rmecore.specs.declared.refusal.Refusal.TheVariants.{OutOfMemory};
 
+use crate::moves::Made;
+use crate::telling::tell_step;
 use crate::variant::Variant;
 use crate::variant_memory::VariantMemory;
 use crate::variant_process::VariantProcess;
+use judge::Judge;
 use redomail::{Deed, Layout};
 use rmecore::simulated::{MOST_LIMIT, MOST_PROCS};
 use rmecore::{Access, Happened, Outer, Own, Refusal, Scan};
@@ -113,7 +116,10 @@ impl VariantWorld {
 impl VariantWorld {
     ghost use Rattle.std.specs.Prelude.{List, [], ◌∷◌, ◌++◌};
     ghost use Rattle.redomail.specs.declared.deed.Deed.{Deed as DeedOf};
+    ghost use Rattle.judge.specs.Table.{empty};
+    ghost use Rattle.judge.specs.Stands.{StandsAfter};
     ghost use Rattle.rmeworld.specs.Replayed.{list_of};
+    ghost use Rattle.crashlab.specs.Found.{Told};
     ghost use Rattle.crashlab.specs.VariantWorlds.{start_refusal, started, advance_refusal, stepped, advanced, crash_refusal, crash_deed, crashed};
     ghost use Rattle.crashlab.specs.VariantStands.{IsPlain};
     ghost use Rattle.crashlab.specs.VariantWorlds.{stand_at};
@@ -166,6 +172,28 @@ impl VariantWorld {
             deed,
             answer: outcome.answer,
         })
+    }
+
+    /// Takes the next step of process p, as `take_step` does, and tells a judge of a hunt the deed, if it is one.
+    pub(crate) fn step_before(&mut self, judge: &mut Judge, p: u64) -> Result<Made, Refusal>
+        ensures accepted { OnOk result (advance_refusal self.old p ≡ None) }
+        ensures refused { IfErr result (λ e. advance_refusal self.old p ≡ Some e) }
+        ensures told { (history : List DeedOf) → StandsAfter (empty 3 64) history judge.old → IfOk result (Told history (stepped self.old p).deed judge.new) }
+        ensures ok { OnOk result (self.new ≡ advanced self.old p) }
+        ensures err { OnErr result ((self.new ≡ self.old) × (judge.new ≡ judge.old)) }
+        ensures lock { OnOk result ((history : List DeedOf) → IsLockWorld self.old history → IsLockWorld self.new (history ++ list_of (stepped self.old p).deed)) }
+    {
+        if p >= self.layout.procs {
+            return Err(Refusal::NoSuchProcess);
+        }
+        let Some(access) = self.processes[p as usize].next() else {
+            return Err(Refusal::NothingToDo);
+        };
+        let found = load(&self.words, &self.cells, access.word());
+        let outcome = self.processes[p as usize].feed(found);
+        let made = tell_step(judge, self.layout, p, &self.cells, access, outcome);
+        store(&mut self.words, &mut self.cells, access);
+        Ok(made)
     }
 
     /// Takes the next step of process p where it is one of a scan of the lock, which is no deed and ends no call, and

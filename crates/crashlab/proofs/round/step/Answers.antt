@@ -1,7 +1,10 @@
-use Rattle.std.proofs.Common.{◌≡◌, None, refl, sym, subst}
-use Rattle.std.proofs.lemmas.List.{append-nil}
+use Rattle.std.proofs.Common.{None, refl, sym, subst, append-nil}
+use Rattle.judge.specs.Stands.{StandsAfter}
+use Rattle.judge.specs.Table.{empty}
+use Rattle.crashlab.specs.Hunts.{first_world, deeds_of_lines}
 use Rattle.crashlab.specs.LockWorlds.{IsLockWorld}
-use Rattle.crashlab.proofs.Lines.{if_told, step_ends}
+use Rattle.crashlab.specs.declared.moves.Made.TheVariants.{On}
+use Rattle.crashlab.proofs.Lines.{step_ends}
 use Rattle.crashlab.proofs.round.step.Goals as goal
 
 pub returns-then-not-take_quiet_step-clause-ends : goal.returns-then-not-take_quiet_step-clause-ends
@@ -9,8 +12,8 @@ returns-then-not-take_quiet_step-clause-ends c = rw (← (c.if-not-take_quiet_st
 
 pub returns-clause-ends : goal.returns-clause-ends
 returns-clause-ends c =
+    let step = c.if-not-take_quiet_step.ensures in
     λ variant played.
-    let step = c.if-not-take_quiet_step in
-    if_told c.tell.result c.tell.ensures.line (c.tell.ensures.told _ played.stands)
-    (λ line made told. step_ends variant _ _ _ played c.args.p (step.ensures.accepted refl) _ (step.ensures.ok refl) None (sym (step.ensures.quiet refl).0)
-    (λ h lock. subst (IsLockWorld c.take_quiet_step.new.self) (sym (append-nil h)) (step.ensures.lock refl h lock)) made _ _ line told)
+    step_ends variant _ _ _ played c.args.p (step.accepted refl) _ (step.ok refl) None (sym (step.quiet refl).0)
+    (λ h lock. subst (IsLockWorld c.take_quiet_step.new.self) (sym (append-nil h)) (step.lock refl h lock)) (On None) _ _ c.in_ok-push.ensures.line
+    (subst (λ list. StandsAfter (empty 3 64) list c.args.judge.now) (sym (append-nil (deeds_of_lines (first_world variant) c.args.route.now.lines))) played.stands)

@@ -1,9 +1,8 @@
-use Rattle.std.proofs.Common.{◌≡◌, ◌<◌, [], ℕ, List, length, slice_set, refl, sym, ap, ◌∙◌, subst, None}
+use Rattle.std.proofs.Common.{◌≡◌, ◌<◌, [], length, slice_set, refl, sym, ap, ◌∙◌, subst, None}
 use Rattle.std.proofs.lemmas.List.{append-nil}
 use Rattle.rmecore.specs.Machine.{word_of}
 use Rattle.rmecore.specs.Simulated.{own_at}
 use Rattle.redomail.specs.Layout.{words_of}
-use Rattle.redomail.specs.declared.deed.Deed.{Deed}
 use Rattle.rmeworld.specs.Advancing.{GoesOn}
 use Rattle.rmeworld.specs.Replayed.{mail_by, or_else}
 use Rattle.rmeworld.specs.Stand.{InWords, IsAllowed, StoresOwn}
@@ -15,7 +14,7 @@ use Rattle.crashlab.specs.VariantStands.{VariantStand, IsPlain, variant_next_acc
 use Rattle.crashlab.specs.VariantWorlds.{VariantState, stand_at, found_by, outcome_of, advance_refusal, stepped, advanced, advanced_if}
 use Rattle.crashlab.proofs.LockWorlds.{Stepped, step_made}
 use Rattle.crashlab.proofs.Scans.{scan_next, scan_deeds, scan_tells, accepted}
-use Rattle.crashlab.proofs.Seats.{stand_here, SameVariant, seated, seat_here, seat_stays, variant_step_stays, in_words}
+use Rattle.crashlab.proofs.Seats.{stand_here, SameVariant, seated, seat_here, seat_stays, variant_step_stays}
 use Rattle.crashlab.proofs.variant_world.VariantWorld.scan_on.Goals as goal
 
 pub load-found-requires : goal.load-found-requires

@@ -1,0 +1,65 @@
+//! The moves of a round so far.
+
+ghost use Rattle.std.specs.Prelude.{◌≡◌, ◌∷◌, [], map, take, IfOk, OnOk, IfErr};
+ghost use Rattle.crashlab.specs.Found.{line_by, route_of, with_line};
+
+use crate::hunt::{CAP, LIMIT, PROCS, WIDTH};
+use crate::hunt_fault::HuntFault;
+use crate::moves::Move;
+use schedule::Schedule;
+use std::alloc::Global;
+use std::marker::Model;
+
+/// The moves of a round so far. Contracts see the schedule that they spell; its lines, each three times as long, are made
+/// once it is asked for.
+#[derive(Drop)]
+pub struct Route {
+    moves: Vec<Move>,
+}
+
+impl Model for Route {
+    ghost use Rattle.schedule.specs.Schedules.{Scheduled};
+    ghost use Rattle.crashlab.specs.Found.{route_of};
+
+    ghost Value = { Scheduled };
+
+    ghost view = { λ r. route_of r.moves.items };
+}
+
+impl Route {
+    /// No move yet.
+    pub fn new(alloc: Global) -> Route
+        ensures { result ≡ route_of [] }
+    {
+        Route {
+            moves: Vec::new(alloc),
+        }
+    }
+
+    /// One more move.
+    pub fn push(&mut self, made: Move) -> Result<(), HuntFault>
+        ensures line { OnOk result (self.new ≡ with_line self.old (line_by made)) }
+        ensures memory { IfErr result (λ e. e ≡ HuntFault.OutOfMemory) }
+    {
+        match self.moves.push(made) {
+            Ok(()) => Ok(()),
+            Err(_) => Err(HuntFault::OutOfMemory),
+        }
+    }
+
+    /// The moves as a schedule of a hunt's world.
+    pub fn schedule(&self, alloc: Global) -> Result<Schedule, HuntFault>
+        ensures same { IfOk result (λ schedule. schedule ≡ self.now) }
+        ensures memory { IfErr result (λ e. e ≡ HuntFault.OutOfMemory) }
+    {
+        let Ok(mut schedule) = Schedule::new(alloc, PROCS, LIMIT, CAP, WIDTH) else {
+            return Err(HuntFault::OutOfMemory);
+        };
+        for made in &self.moves {
+            if schedule.push(made.line()).is_err() {
+                return Err(HuntFault::OutOfMemory);
+            }
+        }
+        Ok(schedule)
+    }
+}

@@ -1,0 +1,69 @@
+//! What the judge of a hunt hears of a move.
+
+ghost use Rattle.std.specs.Prelude.{◌≡◌, ◌∷◌, List, Some, length};
+ghost use Rattle.redomail.specs.Layout.{IsLayout, words_of, size};
+ghost use Rattle.redomail.specs.declared.deed.Deed.{Deed as DeedOf};
+ghost use Rattle.judge.specs.Table.{empty};
+ghost use Rattle.judge.specs.Stands.{StandsAfter};
+ghost use Rattle.rmeworld.specs.Replayed.{list_of, mail_by, or_else, the_deed};
+ghost use Rattle.crashlab.specs.Found.{Told};
+
+use crate::moves::Made;
+use judge::Judge;
+use redomail::{Deed, Layout};
+use rmecore::{Access, Outer};
+use rmeworld::memory::deed_of;
+use rmeworld::{Answer, Outcome};
+
+/// Tells the judge a deed.
+#[inline(never)]
+pub fn tell(judge: &mut Judge, deed: Deed, answer: Option<Answer>) -> Made
+    ensures { (history : List DeedOf) → StandsAfter (empty 3 64) history judge.old → Told history (Some deed) judge.new result }
+{
+    if judge.feed(deed).is_err() {
+        return Made::Caught;
+    }
+    Made::On(answer)
+}
+
+/// Tells the judge the deed of a step of process p, if it is one. Most steps are loads, and few of these are deeds.
+pub fn tell_step(
+    judge: &mut Judge,
+    layout: Layout,
+    p: u64,
+    cells: &[u64],
+    access: Access,
+    outcome: Outcome,
+) -> Made
+    requires size { IsLayout layout }
+    requires filled { length cells.now ≡ size layout }
+    ensures told { (history : List DeedOf) → StandsAfter (empty 3 64) history judge.old → Told history (the_deed (or_else outcome.progress.outer (mail_by layout p (words_of cells.now) access))) judge.new result }
+    ensures one { list_of (the_deed (or_else outcome.progress.outer (mail_by layout p (words_of cells.now) access))) ≡ or_else outcome.progress.outer (mail_by layout p (words_of cells.now) access) }
+{
+    match (outcome.progress.outer, access) {
+        (None, Access::Load(..)) => Made::On(outcome.answer),
+        (outer, _) => tell_deed(judge, layout, p, cells, access, outer, outcome.answer),
+    }
+}
+
+/// As `tell_step`, of a step that may be a deed.
+#[inline(never)]
+fn tell_deed(
+    judge: &mut Judge,
+    layout: Layout,
+    p: u64,
+    cells: &[u64],
+    access: Access,
+    outer: Option<Outer>,
+    answer: Option<Answer>,
+) -> Made
+    requires size { IsLayout layout }
+    requires filled { length cells.now ≡ size layout }
+    ensures told { (history : List DeedOf) → StandsAfter (empty 3 64) history judge.old → Told history (the_deed (or_else outer (mail_by layout p (words_of cells.now) access))) judge.new result }
+    ensures one { list_of (the_deed (or_else outer (mail_by layout p (words_of cells.now) access))) ≡ or_else outer (mail_by layout p (words_of cells.now) access) }
+{
+    match deed_of(layout, p, cells, access, outer) {
+        Some(deed) => tell(judge, deed, answer),
+        None => Made::On(answer),
+    }
+}

@@ -1,6 +1,6 @@
 //! One move of a hunt: made in the world, its deed told to the judge, and written down.
 
-ghost use Rattle.std.specs.Prelude.{◌≡◌, ◌+◌, ◌≤◌, IfOk, IfErr, OnOk, length};
+ghost use Rattle.std.specs.Prelude.{◌≡◌, ◌+◌, ◌≤◌, false, IfOk, IfErr, OnOk, length};
 ghost use Rattle.judge.specs.Kept.{Kept};
 ghost use Rattle.crashlab.specs.declared.variant.Variant.{Variant as VariantOf};
 ghost use Rattle.crashlab.specs.Hunts.{IsPlayed};
@@ -31,6 +31,24 @@ pub fn make(
     }
 }
 
+/// Takes the step of a move, where nothing comes of it: no deed and no answer. Any other move it leaves to `make`, and
+/// answers false.
+pub fn pass(world: &mut VariantWorld, route: &mut Route, made: Move) -> Result<bool, HuntFault>
+    ensures goes_on { (variant : VariantOf) (judge : Kept) → IsPlayed variant route.old world.old judge → OnOk result (IsPlayed variant route.new world.new judge) }
+    ensures grows { OnOk result (length route.new.lines ≤ length route.old.lines + 1) }
+    ensures same { IfOk result (λ passed. passed ≡ false → (route.new ≡ route.old) × (world.new ≡ world.old)) }
+    ensures memory { IfErr result (λ e. e ≡ HuntFault.OutOfMemory) }
+{
+    let Move::Step(p) = made else {
+        return Ok(false);
+    };
+    if !world.take_quiet_step(p) {
+        return Ok(false);
+    }
+    route.push(Move::Step(p))?;
+    Ok(true)
+}
+
 /// Starts a call, of which the judge hears nothing.
 #[inline(never)]
 fn start(world: &mut VariantWorld, route: &mut Route, p: u64, due: Due) -> Result<Made, HuntFault>
@@ -49,7 +67,7 @@ fn start(world: &mut VariantWorld, route: &mut Route, p: u64, due: Due) -> Resul
 
 /// Takes a step that may be a deed, or end its call.
 #[inline(never)]
-fn told_step(
+fn step(
     world: &mut VariantWorld,
     judge: &mut Judge,
     route: &mut Route,
@@ -66,24 +84,6 @@ fn told_step(
         }
         Err(_) => Ok(Made::On(None)),
     }
-}
-
-/// Takes a step.
-fn step(
-    world: &mut VariantWorld,
-    judge: &mut Judge,
-    route: &mut Route,
-    p: u64,
-) -> Result<Made, HuntFault>
-    ensures ends { (variant : VariantOf) → IsPlayed variant route.old world.old judge.old → IfOk result (Ends variant route.new world.new judge.new) }
-    ensures grows { OnOk result (length route.new.lines ≤ length route.old.lines + 1) }
-    ensures memory { IfErr result (λ e. e ≡ HuntFault.OutOfMemory) }
-{
-    if !world.take_quiet_step(p) {
-        return told_step(world, judge, route, p);
-    }
-    route.push(Move::Step(p))?;
-    Ok(Made::On(None))
 }
 
 /// Crashes a process.

@@ -11,7 +11,7 @@ ghost use Rattle.crashlab.specs.Found.{Told};
 use crate::moves::Made;
 use judge::Judge;
 use redomail::{Deed, Layout};
-use rmecore::{Access, Outer};
+use rmecore::Access;
 use rmeworld::memory::deed_of;
 use rmeworld::{Answer, Outcome};
 
@@ -29,20 +29,20 @@ pub fn tell(judge: &mut Judge, deed: Deed, answer: Option<Answer>) -> Made
 /// Tells the judge the deed of a step of process p, if it is one. Most steps are loads, and few of these are deeds.
 pub fn tell_step(
     judge: &mut Judge,
-    layout: Layout,
+    layout: &Layout,
     p: u64,
     cells: &[u64],
-    access: Access,
-    outcome: Outcome,
+    access: &Access,
+    outcome: &Outcome,
 ) -> Made
-    requires size { IsLayout layout }
-    requires filled { length cells.now ≡ size layout }
-    ensures told { (history : List DeedOf) → StandsAfter (empty 3 64) history judge.old → Told history (the_deed (or_else outcome.progress.outer (mail_by layout p (words_of cells.now) access))) judge.new result }
-    ensures one { list_of (the_deed (or_else outcome.progress.outer (mail_by layout p (words_of cells.now) access))) ≡ or_else outcome.progress.outer (mail_by layout p (words_of cells.now) access) }
+    requires size { IsLayout layout.now }
+    requires filled { length cells.now ≡ size layout.now }
+    ensures told { (history : List DeedOf) → StandsAfter (empty 3 64) history judge.old → Told history (the_deed (or_else outcome.now.progress.outer (mail_by layout.now p (words_of cells.now) access.now))) judge.new result }
+    ensures one { list_of (the_deed (or_else outcome.now.progress.outer (mail_by layout.now p (words_of cells.now) access.now))) ≡ or_else outcome.now.progress.outer (mail_by layout.now p (words_of cells.now) access.now) }
 {
-    match (outcome.progress.outer, access) {
+    match (&outcome.progress.outer, access) {
         (None, Access::Load(..)) => Made::On(outcome.answer),
-        (outer, _) => tell_deed(judge, layout, p, cells, access, outer, outcome.answer),
+        _ => tell_deed(judge, layout, p, cells, access, outcome),
     }
 }
 
@@ -50,20 +50,19 @@ pub fn tell_step(
 #[inline(never)]
 fn tell_deed(
     judge: &mut Judge,
-    layout: Layout,
+    layout: &Layout,
     p: u64,
     cells: &[u64],
-    access: Access,
-    outer: Option<Outer>,
-    answer: Option<Answer>,
+    access: &Access,
+    outcome: &Outcome,
 ) -> Made
-    requires size { IsLayout layout }
-    requires filled { length cells.now ≡ size layout }
-    ensures told { (history : List DeedOf) → StandsAfter (empty 3 64) history judge.old → Told history (the_deed (or_else outer (mail_by layout p (words_of cells.now) access))) judge.new result }
-    ensures one { list_of (the_deed (or_else outer (mail_by layout p (words_of cells.now) access))) ≡ or_else outer (mail_by layout p (words_of cells.now) access) }
+    requires size { IsLayout layout.now }
+    requires filled { length cells.now ≡ size layout.now }
+    ensures told { (history : List DeedOf) → StandsAfter (empty 3 64) history judge.old → Told history (the_deed (or_else outcome.now.progress.outer (mail_by layout.now p (words_of cells.now) access.now))) judge.new result }
+    ensures one { list_of (the_deed (or_else outcome.now.progress.outer (mail_by layout.now p (words_of cells.now) access.now))) ≡ or_else outcome.now.progress.outer (mail_by layout.now p (words_of cells.now) access.now) }
 {
-    match deed_of(layout, p, cells, access, outer) {
-        Some(deed) => tell(judge, deed, answer),
-        None => Made::On(answer),
+    match deed_of(*layout, p, cells, *access, outcome.progress.outer) {
+        Some(deed) => tell(judge, deed, outcome.answer),
+        None => Made::On(outcome.answer),
     }
 }

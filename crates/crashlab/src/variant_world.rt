@@ -191,7 +191,7 @@ impl VariantWorld {
         };
         let found = load(&self.words, &self.cells, access.word());
         let outcome = self.processes[p as usize].feed(found);
-        let made = tell_step(judge, self.layout, p, &self.cells, access, outcome);
+        let made = tell_step(judge, &self.layout, p, &self.cells, &access, &outcome);
         store(&mut self.words, &mut self.cells, access);
         Ok(made)
     }

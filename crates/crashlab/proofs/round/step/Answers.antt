@@ -1,19 +1,8 @@
-use Rattle.std.proofs.Common.{None, refl, sym, subst, append-nil}
-use Rattle.judge.specs.Stands.{StandsAfter}
-use Rattle.judge.specs.Table.{empty}
-use Rattle.crashlab.specs.Hunts.{first_world, deeds_of_lines}
-use Rattle.crashlab.specs.LockWorlds.{IsLockWorld}
-use Rattle.crashlab.specs.declared.moves.Made.TheVariants.{On}
+use Rattle.std.proofs.Common.{refl}
 use Rattle.crashlab.proofs.Lines.{step_ends}
 use Rattle.crashlab.proofs.round.step.Goals as goal
 
-pub returns-then-not-take_quiet_step-clause-ends : goal.returns-then-not-take_quiet_step-clause-ends
-returns-then-not-take_quiet_step-clause-ends c = rw (← (c.if-not-take_quiet_step.ensures.same refl)) c.told_step.ensures.ends
-
-pub returns-clause-ends : goal.returns-clause-ends
-returns-clause-ends c =
-    let step = c.if-not-take_quiet_step.ensures in
-    λ variant played.
-    step_ends variant _ _ _ played c.args.p (step.accepted refl) _ (step.ok refl) None (sym (step.quiet refl).0)
-    (λ h lock. subst (IsLockWorld c.take_quiet_step.new.self) (sym (append-nil h)) (step.lock refl h lock)) (On None) _ _ c.in_ok-push.ensures.line
-    (subst (λ list. StandsAfter (empty 3 64) list c.args.judge.now) (sym (append-nil (deeds_of_lines (first_world variant) c.args.route.now.lines))) played.stands)
+pub returns-in_ok-push-in-Ok-clause-ends : goal.returns-in_ok-push-in-Ok-clause-ends
+returns-in_ok-push-in-Ok-clause-ends c =
+    let it = c.in-Ok.ensures in
+    λ variant played. step_ends variant _ _ _ played c.args.p it.accepted _ it.ok _ refl it.lock c.in-Ok.made _ _ c.in_ok-push-in-Ok.ensures.line (it.told _ played.stands)

@@ -1,8 +1,0 @@
-use Rattle.std.proofs.Common.{refl}
-use Rattle.crashlab.proofs.Lines.{step_ends}
-use Rattle.crashlab.proofs.round.told_step.Goals as goal
-
-pub returns-in_ok-push-in-Ok-clause-ends : goal.returns-in_ok-push-in-Ok-clause-ends
-returns-in_ok-push-in-Ok-clause-ends c =
-    let it = c.in-Ok.ensures in
-    λ variant played. step_ends variant _ _ _ played c.args.p it.accepted _ it.ok _ refl it.lock c.in-Ok.made _ _ c.in_ok-push-in-Ok.ensures.line (it.told _ played.stands)

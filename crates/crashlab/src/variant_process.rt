@@ -109,6 +109,20 @@ impl VariantProcess {
         ensures allowed { IsPlain self.now → IfSome result (IsAllowed self.now.stand) }
         ensures own { IsPlain self.now → IfSome result (StoresOwn self.now.stand.index) }
     {
+        match (self.detour, self.change) {
+            (Detour::Straight, Change::Nothing) => self.process.next(),
+            _ => self.next_otherwise(),
+        }
+    }
+
+    /// As `next`, of a process that something may be changed of.
+    #[inline(never)]
+    fn next_otherwise(&self) -> Option<Access>
+        ensures next { result ≡ variant_next_access self.now }
+        ensures within { IfSome result (λ a. InWords self.now.stand.layout.procs (word_of a)) }
+        ensures allowed { IsPlain self.now → IfSome result (IsAllowed self.now.stand) }
+        ensures own { IsPlain self.now → IfSome result (StoresOwn self.now.stand.index) }
+    {
         if self.detour == Detour::Dropping {
             return Some(Access::Store(Kind::Drop, Word::Number(self.process.index()), 0));
         }
@@ -169,6 +183,19 @@ impl VariantProcess {
     /// Takes the next step, with the value that it read. A step that stores ignores the value, and where there is no step
     /// nothing changes.
     pub fn feed(&mut self, value: u64) -> Outcome
+        ensures exact { self.new ≡ variant_stepped self.old value }
+        ensures outcome { result ≡ variant_outcome self.old value }
+        ensures plain { IsPlain self.old → spot_of self.new.stand ≡ spot_after self.old.stand (next_access self.old.stand) value }
+    {
+        match self.variant {
+            Variant::Right => self.process.feed(value),
+            _ => self.feed_otherwise(value),
+        }
+    }
+
+    /// As `feed`, of any variant.
+    #[inline(never)]
+    fn feed_otherwise(&mut self, value: u64) -> Outcome
         ensures exact { self.new ≡ variant_stepped self.old value }
         ensures outcome { result ≡ variant_outcome self.old value }
         ensures plain { IsPlain self.old → spot_of self.new.stand ≡ spot_after self.old.stand (next_access self.old.stand) value }

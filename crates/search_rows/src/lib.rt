@@ -3,6 +3,8 @@
 
 pub mod jugs;
 #[cfg(test)]
+mod schedules;
+#[cfg(test)]
 mod searches;
 
 pub use jugs::Jugs;

@@ -1,5 +1,5 @@
 -- How a command ends: what its status, or its fault, says of what was read, what it has written, and what is to be saved.
-use Rattle.std.specs.Prelude.{◌≡◌, ◌≢◌, ◌⊎◌, ℕ, ◌-◌, ◌*◌, ◌^◌, ◌≤◌, min, Bool, false, List, [], ◌∷◌, length, codes, Option, Some, None, is_some, IfSome, Vec, Result, Ok, Err, IfOk}
+use Rattle.std.specs.Prelude.{◌≡◌, ◌≢◌, ◌⊎◌, ℕ, ◌-◌, ◌*◌, ◌^◌, ◌≤◌, min, Bool, false, List, [], ◌∷◌, codes, Option, Some, None, is_some, IfSome, Vec, Result, Ok, Err, IfOk}
 use Rattle.std.specs.declared.alloc.Global.{Global}
 use Rattle.crashlab.specs.declared.variant.Variant.{Variant}
 use Rattle.crashlab.specs.declared.variant.Variant.TheVariants.{Right}
@@ -24,10 +24,11 @@ use Rattle.schedule.specs.Runs.{Part, deeds_of}
 use Rattle.schedule.specs.Verdicts.{verdict_on}
 use Rattle.schedule.specs.Wholes.{Reading, WasRead, ReplaysSource, world_run}
 use Rattle.laboratory.specs.declared.order.Command.{Command}
-use Rattle.laboratory.specs.declared.order.Command.TheVariants.{Replay, Run, Hunt, Judge, Explain}
+use Rattle.laboratory.specs.declared.order.Command.TheVariants.{Replay, Run, Hunt, Judge, Draw, Explain}
 use Rattle.laboratory.specs.declared.order.HuntOrder.{HuntOrder}
 use Rattle.laboratory.specs.declared.order.ReplayOrder.{ReplayOrder}
 use Rattle.laboratory.specs.declared.order.RunOrder.{RunOrder}
+use Rattle.laboratory.specs.Draws.{DrawEnds}
 use Rattle.laboratory.specs.Sizes.{HuntFits, RunFits}
 use Rattle.laboratory.specs.declared.ending.Ending.{Ending}
 use Rattle.laboratory.specs.declared.fault.Fault.{Fault}
@@ -151,14 +152,5 @@ CommandEnds (Replay order) pictured old new before now end = ReplayEnds order pi
 CommandEnds (Run order) pictured old new before now end = RunEnds order end
 CommandEnds (Hunt order) pictured old new before now end = HuntEnds order before now end
 CommandEnds (Judge file) pictured old new before now end = JudgeEnds old new before now end
+CommandEnds (Draw order) pictured old new before now end = DrawEnds order pictured old new before now end × TellsReads old new end
 CommandEnds (Explain topic) pictured old new before now end = (new ≡ old) × ExplainEnds topic before now end
-
--- the schedule's header names the image's sizes, and its width or a greater one
-abbrev pub CanFit : Image → Scheduled → Type 0
-CanFit image schedule =
-    (length image.lock ≡ schedule.procs) × (image.limit ≡ schedule.limit) × (image.cap ≡ schedule.cap) × (image.width ≤ schedule.width)
-
--- the image has the sizes that the schedule's header names
-abbrev pub IsFitting : Image → Scheduled → Type 0
-IsFitting image schedule =
-    (length image.lock ≡ schedule.procs) × (image.limit ≡ schedule.limit) × (image.cap ≡ schedule.cap) × (image.width ≡ schedule.width)

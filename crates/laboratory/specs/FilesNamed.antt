@@ -2,17 +2,19 @@
 use Rattle.std.specs.Prelude.{String, Option, None}
 use Rattle.std.specs.declared.alloc.Global.{Global}
 use Rattle.laboratory.specs.declared.order.Command.{Command}
-use Rattle.laboratory.specs.declared.order.Command.TheVariants.{Replay, Judge}
+use Rattle.laboratory.specs.declared.order.Command.TheVariants.{Replay, Judge, Draw}
 
 -- the image that a world begins with
 abbrev pub image_of : Command → Option (String Global)
 image_of (Replay order) = order.image
+image_of (Draw order) = order.image
 image_of command = None
 
 -- the text that is read; none is standard input
 abbrev pub input_of : Command → Option (String Global)
 input_of (Replay order) = order.file
 input_of (Judge file) = file
+input_of (Draw order) = order.file
 input_of command = None
 
 -- where the last image is written

@@ -1,8 +1,10 @@
 pub mod Commands
+pub mod Draws
 pub mod FilesNamed
 pub mod Gates
 pub mod Lines
 pub mod Programs
+pub mod Settings
 pub mod Sizes
 pub mod Statuses
 pub mod Tallies

@@ -9,6 +9,7 @@ ghost use Rattle.laboratory.specs.FilesNamed.{save_of};
 ghost use Rattle.laboratory.specs.Programs.{Closes};
 ghost use Rattle.laboratory.specs.Statuses.{status_of};
 
+use crate::drawn::draw_order;
 use crate::ending::{Ending, status_after_verdict};
 use crate::fault::Fault;
 use crate::line::told;
@@ -107,6 +108,7 @@ pub fn ended<T: Threads + Wait + Sync, R: Source, W: Sink>(
     match command {
         Command::Replay(order) => replay_order(alloc, order, image, r, w),
         Command::Judge(_) => judge_order(alloc, r, w),
+        Command::Draw(order) => draw_order(alloc, order, image, r, w),
         Command::Hunt(order) => hunt_order(alloc, order, w),
         Command::Run(order) => run_order(rt, alloc, order, w),
         Command::Explain(topic) => explain_order(*topic, w),

@@ -4,6 +4,7 @@
 
 pub mod command;
 pub mod disk;
+pub mod drawn;
 pub mod ending;
 pub mod fault;
 pub mod folder;
@@ -14,5 +15,6 @@ mod parser;
 pub mod program;
 pub mod replaying;
 pub mod running;
+mod setting;
 pub mod tally;
 pub mod words;

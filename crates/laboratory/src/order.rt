@@ -3,6 +3,7 @@
 ghost use Rattle.std.specs.Prelude.{◌≡◌, option_copied};
 
 use crashlab::Variant;
+use drawing::Style;
 use meanings::Topic;
 
 /// `replay`: a schedule is run, and its report is printed.
@@ -44,6 +45,17 @@ pub struct HuntOrder {
     pub steps: u64,
 }
 
+/// `draw`: a schedule is run, and its run is drawn.
+#[derive(Debug, Drop, PartialEq, Eq)]
+pub struct DrawOrder {
+    pub style: Style,
+    pub variant: Variant,
+    /// The file of the image that the world begins with.
+    pub image: Option<String>,
+    /// The schedule's file; none is standard input.
+    pub file: Option<String>,
+}
+
 /// What the program is asked to do.
 #[derive(Debug, Drop, PartialEq, Eq)]
 pub enum Command {
@@ -52,6 +64,7 @@ pub enum Command {
     Hunt(HuntOrder),
     /// The verdict of a trace in a file, or on standard input.
     Judge(Option<String>),
+    Draw(DrawOrder),
     /// What this topic means; without one, the names of all topics.
     Explain(Option<Topic>),
 }
@@ -66,6 +79,7 @@ impl Command {
         match self {
             Command::Replay(order) => order.file.as_ref(),
             Command::Judge(file) => file.as_ref(),
+            Command::Draw(order) => order.file.as_ref(),
             _ => None,
         }
     }
@@ -76,6 +90,7 @@ impl Command {
     {
         match self {
             Command::Replay(order) => order.image.as_ref(),
+            Command::Draw(order) => order.image.as_ref(),
             _ => None,
         }
     }

@@ -29,6 +29,12 @@ const JUDGE_HELP: &str =
 line.\nExit status: 0 where the verdict is fine, 1 where it is against, 2 after a fault of the words or the trace, 3 after one of a \
 device or of memory.\n\nExample: rmelab judge examples/overtaken.trace";
 
+const DRAW_HELP: &str =
+    "In: a schedule, as `rme 1 procs 2 limit 10 cap 1`, then lines such as `lock 0`, `step 0 5`, \
+`crash 0`, each ended by a line feed.\nOut: its run, time downward: a column for each process, a row for each step or crash, \
+and what it tells at the right; with --svg a picture of this.\nExit status: 0 where the verdict is fine, 1 where it is against, 2 after \
+a fault of the words, the schedule or the image, 3 after one of a device or of memory.\n\nExample: rmelab draw examples/tie.rme";
+
 const EXPLAIN_HELP: &str =
     "In: nothing.\nOut: what the words name, in two sentences, and the page that defines it; without words the names of \
 all that is explained, one a line.\nExit status: 0 where the words are a name, 2 where they are none, 3 after a fault of a device or \
@@ -145,6 +151,26 @@ fn judge<'a>(alloc: Global) -> Result<Parser<'a>, AllocError> {
         .arg(file(alloc, "The trace; without it, standard input is read"))
 }
 
+fn svg<'a>(alloc: Global) -> Arg<'a> {
+    Arg::new(alloc, "svg")
+        .long("svg")
+        .help("Write a picture, as SVG")
+        .action(ArgAction::SetTrue)
+}
+
+fn draw_head<'a>(alloc: Global) -> Parser<'a> {
+    Parser::new(alloc, "draw")
+        .about("Draws the run of a schedule as a space-time diagram")
+        .after_help(DRAW_HELP)
+}
+
+fn draw<'a>(alloc: Global) -> Result<Parser<'a>, AllocError> {
+    let command = draw_head(alloc).arg(variant(alloc))?;
+    let command = command.arg(image(alloc))?;
+    let command = command.arg(svg(alloc))?;
+    command.arg(file(alloc, "The schedule; without it, standard input is read"))
+}
+
 fn explain<'a>(alloc: Global) -> Result<Parser<'a>, AllocError> {
     let words = Arg::new(alloc, "WORDS")
         .help(
@@ -179,5 +205,6 @@ pub fn parser<'a>(alloc: Global) -> Result<Parser<'a>, AllocError> {
     let whole = with(whole, run(alloc))?;
     let whole = with(whole, hunt(alloc))?;
     let whole = with(whole, judge(alloc))?;
+    let whole = with(whole, draw(alloc))?;
     with(whole, explain(alloc))
 }

@@ -1,56 +1,33 @@
 //! The command `replay`.
 
-ghost use Rattle.std.specs.Prelude.{◌≡◌, ◌⊎◌, ◌≤◌, ℕ, List, [], Ok, Err, IfErr, IfOk, IfSome, None, is_some, true, false};
-ghost use Rattle.judge.specs.Stands.{Keeps, StandsAfter};
+ghost use Rattle.std.specs.Prelude.{◌≡◌, ◌≤◌, IfOk, IfSome, None, is_some, true, false};
+ghost use Rattle.judge.specs.Stands.{Keeps};
 ghost use Rattle.judge.specs.Starts.{IsStart};
-ghost use Rattle.judge.specs.Table.{empty, State};
-ghost use Rattle.rmecore.specs.Refused.{number_of};
+ghost use Rattle.judge.specs.Table.{State};
 ghost use Rattle.rmeworld.specs.ImageRules.{IsLawfulImage};
 ghost use Rattle.rmeworld.specs.ImageStart.{IsStartOf};
 ghost use Rattle.rmeworld.specs.ImageText.{image_line};
 ghost use Rattle.schedule.specs.Plays.{tape};
 ghost use Rattle.schedule.specs.Runs.{behaviour, run_on};
-ghost use Rattle.schedule.specs.Schedules.{schedule_at};
-ghost use Rattle.schedule.specs.Wholes.{reading, WasRead};
-ghost use Rattle.laboratory.specs.Commands.{CanFit, IsEnded, IsFitting, IsLast, IsPlayed, IsReplayed, ReplayEnds, TellsReads, TellsReplay};
-ghost use Rattle.laboratory.specs.Statuses.{fault_of_header, fault_of_image, fault_on_page};
+ghost use Rattle.schedule.specs.Wholes.{reading};
+ghost use Rattle.laboratory.specs.Commands.{IsEnded, IsLast, IsPlayed, IsReplayed, ReplayEnds, TellsReads, TellsReplay};
+ghost use Rattle.laboratory.specs.Statuses.{fault_on_page};
 
 use crate::ending::{Ending, status_after_verdict};
 use crate::fault::Fault;
 use crate::json::json_report;
 use crate::order::ReplayOrder;
-use crashlab::{Variant, VariantWorld};
-use judge::{Judge, Start};
-use rmecore::Refusal;
-use rmeworld::{Image, Machine, World, read_image, start_of, widen, write_image};
-use schedule::device::write_all;
-use schedule::head::Head;
-use schedule::laws::worlds_are_never_found_out;
-use schedule::pieces::read_all;
-use schedule::{
-    Page, ReplayFault, Schedule, Sink, Source, Verdict, read_schedule, replay, replay_on,
+use crate::setting::{
+    fitting, image_read, image_world, new_judge, new_world, schedule_read, start_at, started_judge,
+    variant_world,
 };
+use crashlab::Variant;
+use judge::{Judge, Start};
+use rmeworld::{Image, Machine, write_image};
+use schedule::device::write_all;
+use schedule::laws::worlds_are_never_found_out;
+use schedule::{Page, ReplayFault, Schedule, Sink, Source, Verdict, replay, replay_on};
 use std::alloc::Global;
-
-/// What the first line of a schedule is refused with, where the world or the image can't be had.
-fn refused_header(refusal: Refusal) -> Fault
-    ensures { result ≡ fault_of_header (number_of refusal) }
-{
-    match refusal.number() {
-        Some(number) => Fault::Refused { line: 1, number },
-        None => Fault::OutOfMemory,
-    }
-}
-
-/// The rule that an image breaks, or want of memory.
-fn refused_image(refusal: Refusal) -> Fault
-    ensures { result ≡ fault_of_image refusal }
-{
-    match refusal {
-        Refusal::BadImage { rule } => Fault::Image { rule },
-        _ => Fault::OutOfMemory,
-    }
-}
 
 /// The fault of a replay to a page in memory: where the page takes no more, memory is wanted.
 fn on_page(fault: ReplayFault) -> Fault
@@ -134,14 +111,6 @@ fn replay_machine<M: Machine, W: Sink>(
     })
 }
 
-/// A judge of a new lock with the schedule's sizes.
-fn new_judge(alloc: Global, schedule: &Schedule) -> Result<Judge, Fault>
-    ensures { IfOk result (λ judge. StandsAfter (empty schedule.now.procs schedule.now.cap) [] judge) }
-{
-    let head = schedule.head();
-    Judge::new(alloc, head.procs, head.cap).map_err(refused_header)
-}
-
 /// The schedule on a new world of the right lock.
 fn replay_new<W: Sink>(
     alloc: Global,
@@ -154,33 +123,9 @@ fn replay_new<W: Sink>(
     ensures ended { IfOk result (IsEnded (is_some order.now.save) (W.failures w.old) (W.failures w.new)) }
 {
     worlds_are_never_found_out();
-    let head = schedule.head();
-    let mut world = match World::new(alloc, head.procs, head.limit, head.cap, head.width) {
-        Ok(world) => world,
-        Err(refusal) => return Err(refused_header(refusal)),
-    };
+    let mut world = new_world(alloc, schedule)?;
     let mut judge = new_judge(alloc, schedule)?;
     replay_machine(alloc, &mut world, &mut judge, schedule, order, w)
-}
-
-/// The image, as wide as the schedule says. The header has to name the image's other sizes.
-fn fitting(alloc: Global, image: Image, schedule: &Schedule) -> Result<Image, Fault>
-    requires lawful { IsLawfulImage image }
-    ensures lawful { IfOk result IsLawfulImage }
-    ensures fits { IfOk result (λ fitted. IsFitting fitted schedule.now) }
-    ensures misfit { (CanFit image schedule.now → ⊥) → result ≡ Err (Fault.Refused 1 9) }
-{
-    let head = schedule.head();
-    let same = image.lock.as_slice().len() as u64 == head.procs
-        && image.limit == head.limit
-        && image.cap == head.cap;
-    if !same || image.width > head.width {
-        return Err(Fault::Refused { line: 1, number: 9 });
-    }
-    if image.width == head.width {
-        return Ok(image);
-    }
-    widen(alloc, &image, head.width).map_err(refused_header)
 }
 
 /// The schedule on a world that goes on from an image.
@@ -196,10 +141,8 @@ fn replay_image<W: Sink>(
     ensures ended { IfOk result (IsEnded (is_some order.now.save) (W.failures w.old) (W.failures w.new)) }
 {
     let image = fitting(alloc, image, schedule)?;
-    match start_of(alloc, &image) {
-        Ok(start) => replay_started(alloc, &image, &start, schedule, order, w),
-        Err(refusal) => Err(refused_header(refusal)),
-    }
+    let start = start_at(alloc, &image)?;
+    replay_started(alloc, &image, &start, schedule, order, w)
 }
 
 /// The schedule on the world of an image, before a judge that begins where the image stands.
@@ -218,11 +161,8 @@ fn replay_started<W: Sink>(
     ensures ended { IfOk result (IsEnded (is_some order.now.save) (W.failures w.old) (W.failures w.new)) }
 {
     worlds_are_never_found_out();
-    let mut world = match World::from_image(alloc, image) {
-        Ok(world) => world,
-        Err(refusal) => return Err(refused_header(refusal)),
-    };
-    let mut judge = Judge::from_start(alloc, start).map_err(refused_header)?;
+    let mut world = image_world(alloc, image)?;
+    let mut judge = started_judge(alloc, start)?;
     replay_machine(alloc, &mut world, &mut judge, schedule, order, w)
 }
 
@@ -235,41 +175,9 @@ fn replay_variant<W: Sink>(
 ) -> Result<Ending, Fault>
     ensures ended { IfOk result (IsEnded (is_some order.now.save) (W.failures w.old) (W.failures w.new)) }
 {
-    let Head {
-        procs,
-        limit,
-        cap,
-        width,
-    } = schedule.head();
-    let mut world = match VariantWorld::new(alloc, order.variant, procs, limit, cap, width) {
-        Ok(world) => world,
-        Err(refusal) => return Err(refused_header(refusal)),
-    };
+    let mut world = variant_world(alloc, order.variant, schedule)?;
     let mut judge = new_judge(alloc, schedule)?;
     replay_machine(alloc, &mut world, &mut judge, schedule, order, w)
-}
-
-/// The image that this text spells, where there is one.
-fn image_read(alloc: Global, text: Option<&[u8]>) -> Result<Option<Image>, Fault>
-    ensures lawful { IfOk result (λ image. IfSome image IsLawfulImage) }
-    ensures given { IfOk result (λ image. is_some image ≡ is_some text.entry) }
-{
-    match text {
-        Some(text) => match read_image(alloc, text) {
-            Ok(image) => Ok(Some(image)),
-            Err(refusal) => Err(refused_image(refusal)),
-        },
-        None => Ok(None),
-    }
-}
-
-/// The schedule that the reader gives.
-fn schedule_read<R: Source>(alloc: Global, r: &mut R) -> Result<Schedule, Fault>
-    ensures read { IfOk result (λ schedule. (text : List ℕ) × WasRead (reading (R.given r.old) (R.ended r.old) (R.failures r.old)) (reading (R.given r.new) (R.ended r.new) (R.failures r.new)) text × (schedule_at text ≡ Ok schedule)) }
-    ensures unread { IfErr result (λ fault. (R.failures r.new ≡ R.failures r.old) ⊎ (fault ≡ Fault.Read)) }
-{
-    let text = read_all(alloc, r)?;
-    Ok(read_schedule(alloc, &text)?)
 }
 
 /// The schedule on the machine that is asked for.

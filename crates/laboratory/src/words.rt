@@ -5,11 +5,12 @@ ghost use Rattle.meanings.specs.declared.topic.Topic.{Topic as AnyTopic};
 ghost use Rattle.meanings.specs.Names.{name_of};
 ghost use Rattle.laboratory.specs.Sizes.{IsSized, HuntFits, RunFits};
 
-use crate::order::{Command, HuntOrder, ReplayOrder, RunOrder};
+use crate::order::{Command, DrawOrder, HuntOrder, ReplayOrder, RunOrder};
 use crate::parser::parser;
 use clap::error::ErrorKind;
 use clap::{ArgMatches, Error};
 use crashlab::Variant;
+use drawing::Style;
 use meanings::{Topic, topic_named};
 use std::alloc::{AllocError, Global};
 use std::io;
@@ -83,16 +84,38 @@ fn variant_of(matches: &ArgMatches<'_>, without: &str) -> Result<Variant, WordsF
     variant_named(name).ok_or(WordsFault::BadVariant)
 }
 
-fn replay_words(alloc: Global, matches: &ArgMatches<'_>) -> Result<ReplayOrder, WordsFault> {
+/// The variant that is asked for, `right` without one. Only `right` goes together with an image.
+fn variant_beside_image(matches: &ArgMatches<'_>) -> Result<Variant, WordsFault> {
     let variant = variant_of(matches, "right")?;
     if variant != Variant::Right && matches.get_str("image").is_some() {
         return Err(WordsFault::BadVariant);
     }
+    Ok(variant)
+}
+
+fn replay_words(alloc: Global, matches: &ArgMatches<'_>) -> Result<ReplayOrder, WordsFault> {
     Ok(ReplayOrder {
         json: matches.get_flag("json"),
-        variant,
+        variant: variant_beside_image(matches)?,
         image: text_of(alloc, matches, "image")?,
         save: text_of(alloc, matches, "save")?,
+        file: text_of(alloc, matches, "FILE")?,
+    })
+}
+
+fn style_of(matches: &ArgMatches<'_>) -> Style {
+    if matches.get_flag("svg") {
+        Style::Svg
+    } else {
+        Style::Text
+    }
+}
+
+fn draw_words(alloc: Global, matches: &ArgMatches<'_>) -> Result<DrawOrder, WordsFault> {
+    Ok(DrawOrder {
+        style: style_of(matches),
+        variant: variant_beside_image(matches)?,
+        image: text_of(alloc, matches, "image")?,
         file: text_of(alloc, matches, "FILE")?,
     })
 }
@@ -189,6 +212,7 @@ fn command_of(alloc: Global, matches: &ArgMatches<'_>) -> Result<Command, WordsF
         Some(("replay", inner)) => Ok(Command::Replay(replay_words(alloc, inner)?)),
         Some(("run", inner)) => Ok(Command::Run(run_words(inner)?)),
         Some(("hunt", inner)) => Ok(Command::Hunt(hunt_words(inner)?)),
+        Some(("draw", inner)) => Ok(Command::Draw(draw_words(alloc, inner)?)),
         Some(("explain", inner)) => Ok(Command::Explain(explain_words(alloc, inner)?)),
         Some((_, inner)) => Ok(Command::Judge(text_of(alloc, inner, "FILE")?)),
         None => Err(WordsFault::BadVariant),

@@ -1,5 +1,6 @@
 //! The worked rows that name the program, as whole invocations.
 
+mod drawings;
 mod everything;
 mod explains;
 mod helps;

@@ -12,6 +12,7 @@ Commands:
   run      Runs senders on threads, with drawn crashes, and counts what came through
   hunt     Draws schedules until a variant of the lock goes wrong
   judge    Judges a trace of deeds, and prints the verdict
+  draw     Draws the run of a schedule as a space-time diagram
   explain  Says what a number or a word of reports and faults means
   help     Print this message or the help of the given subcommand(s)
 
@@ -97,6 +98,26 @@ Exit status: 0 where the verdict is fine, 1 where it is against, 2 after a fault
 Example: rmelab judge examples/overtaken.trace
 ";
 
+const DRAW: &str = "Draws the run of a schedule as a space-time diagram
+
+Usage: rmelab draw [OPTIONS] [FILE]
+
+Arguments:
+  [FILE]  The schedule; without it, standard input is read
+
+Options:
+      --variant <V>   right, no-look, no-ties, renumber, exit-on-crash, count-up or last-skipped
+      --image <FILE>  Begin with the words of this image, every process crashed
+      --svg           Write a picture, as SVG
+  -h, --help          Print help
+
+In: a schedule, as `rme 1 procs 2 limit 10 cap 1`, then lines such as `lock 0`, `step 0 5`, `crash 0`, each ended by a line feed.
+Out: its run, time downward: a column for each process, a row for each step or crash, and what it tells at the right; with --svg a picture of this.
+Exit status: 0 where the verdict is fine, 1 where it is against, 2 after a fault of the words, the schedule or the image, 3 after one of a device or of memory.
+
+Example: rmelab draw examples/tie.rme
+";
+
 const EXPLAIN: &str = "Says what a number or a word of reports and faults means
 
 Usage: rmelab explain [WORDS]...
@@ -131,7 +152,7 @@ For more information, try '--help'.
 ";
 
 const NO_COMMAND: &str = "error: 'rmelab' requires a subcommand but one was not provided
-  [subcommands: replay, run, hunt, judge, explain, help]
+  [subcommands: replay, run, hunt, judge, draw, explain, help]
 
 Usage: rmelab <COMMAND>
 
@@ -158,6 +179,7 @@ fn helps(rt: HostRuntime) -> Result<(), Fail> {
         invoked("rmelab run --help", "", RUN),
         invoked("rmelab hunt --help", "", HUNT),
         invoked("rmelab judge --help", "", JUDGE),
+        invoked("rmelab draw --help", "", DRAW),
         invoked("rmelab explain --help", "", EXPLAIN),
         invoked("rmelab help", "", HELP),
         invoked("rmelab help judge", "", JUDGE),

@@ -1,5 +1,6 @@
 //! Each request for memory refused in turn, of whole invocations.
 
+use super::drawings::DRAWN;
 use super::explains::{NO_NAME, NO_NEWLINE};
 use super::invocation::{Failing, Fake, Feed};
 use super::invocations::{IN_ORDER, OBJECT, REPORT, SMALLEST};
@@ -69,9 +70,10 @@ fn comes_to(
     check(0 < refused && refused < PIECES as u64, "refused")
 }
 
-const ROWS: [(&str, &str, &str, &str); 5] = [
+const ROWS: [(&str, &str, &str, &str); 6] = [
     ("rmelab replay", SMALLEST, REPORT, ""),
     ("rmelab replay --json --save a.json", SMALLEST, OBJECT, ""),
+    ("rmelab draw", SMALLEST, DRAWN, ""),
     ("rmelab judge", IN_ORDER, "verdict fine\n", ""),
     ("rmelab explain fault 5", "", NO_NEWLINE, ""),
     ("rmelab explain fault 7", "", "", NO_NAME),

@@ -16,3 +16,16 @@ returns-in-Replay-clause-ends g c =
     c.replay_order.result)
     (sym c.in-Replay.is)
     c.replay_order.ensures.ends
+
+-- a drawing as `draw_order` says
+pub returns-in-Draw-clause-ends : goal.returns-in-Draw-clause-ends
+returns-in-Draw-clause-ends g c =
+    subst
+    (λ command. CommandEnds command (is_some c.args.image)
+    (reading (g.R.Source.given c.args.r.now) (g.R.Source.ended c.args.r.now) (g.R.Source.failures c.args.r.now))
+    (reading (g.R.Source.given c.draw_order.new.r) (g.R.Source.ended c.draw_order.new.r) (g.R.Source.failures c.draw_order.new.r))
+    (tape (g.W.Sink.taken c.args.w.now) (g.W.Sink.failures c.args.w.now))
+    (tape (g.W.Sink.taken c.draw_order.new.w) (g.W.Sink.failures c.draw_order.new.w))
+    c.draw_order.result)
+    (sym c.in-Draw.is)
+    (c.draw_order.ensures.ends, c.draw_order.ensures.reads)

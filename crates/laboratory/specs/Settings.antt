@@ -1,0 +1,41 @@
+-- Why a schedule is not played: its text, its header, or the image that it begins with.
+use Rattle.std.specs.Prelude.{◌≡◌, ◌⊎◌, ◌≤◌, ℕ, List, length, Err}
+use Rattle.rmecore.specs.declared.refusal.Refusal.{Refusal}
+use Rattle.rmecore.specs.Refused.{number_of}
+use Rattle.rmecore.specs.Simulated.{cause}
+use Rattle.rmeworld.specs.declared.image.Image.{Image}
+use Rattle.rmeworld.specs.ImageWiden.{IsUnwidened}
+use Rattle.rmeworld.specs.WorldState.{new_refusal}
+use Rattle.schedule.specs.declared.fault.LineFault.{LineFault}
+use Rattle.schedule.specs.Numbers.{number_of as number_of_line}
+use Rattle.schedule.specs.Schedules.{Scheduled, schedule_at}
+use Rattle.schedule.specs.Wholes.{Reading, WasRead, layout_of}
+use Rattle.laboratory.specs.declared.fault.Fault.{Fault}
+use Rattle.laboratory.specs.declared.fault.Fault.TheVariants.{Text, Refused}
+use Rattle.laboratory.specs.Statuses.{fault_of_header}
+
+-- the text that was read is no schedule
+unfoldable pub IsWrongText : Reading → Reading → Fault → Type 0
+IsWrongText old new fault =
+    (text : List ℕ) × WasRead old new text × (line : ℕ) × (why : LineFault) × (schedule_at text ≡ Err (line, why)) × (fault ≡ Text line (number_of_line why))
+
+-- no world has the header's sizes, or there was no memory for it
+abbrev pub IsUnmade : Scheduled → Fault → Type 0
+IsUnmade schedule fault =
+    (refusal : Refusal) × (new_refusal (layout_of schedule) schedule.limit ≡ cause refusal) × (fault ≡ fault_of_header (number_of refusal))
+
+-- the schedule's header names the image's sizes, and its width or a greater one
+abbrev pub CanFit : Image → Scheduled → Type 0
+CanFit image schedule =
+    (length image.lock ≡ schedule.procs) × (image.limit ≡ schedule.limit) × (image.cap ≡ schedule.cap) × (image.width ≤ schedule.width)
+
+-- the image has the sizes that the schedule's header names
+abbrev pub IsFitting : Image → Scheduled → Type 0
+IsFitting image schedule =
+    (length image.lock ≡ schedule.procs) × (image.limit ≡ schedule.limit) × (image.cap ≡ schedule.cap) × (image.width ≡ schedule.width)
+
+-- the header names other sizes than the image's, or the image can't be widened
+abbrev pub IsMisfit : Image → Scheduled → Fault → Type 0
+IsMisfit image schedule fault =
+    ((CanFit image schedule → ⊥) × (fault ≡ Refused 1 9))
+    ⊎ ((refusal : Refusal) × IsUnwidened schedule.width image refusal × (fault ≡ fault_of_header (number_of refusal)))

@@ -1,0 +1,187 @@
+//! The command `draw`.
+
+ghost use Rattle.std.specs.Prelude.{◌≡◌, IfOk, IfSome, is_some, false};
+ghost use Rattle.drawing.specs.Drawings.{sheet_of, spelled};
+ghost use Rattle.judge.specs.Stands.{Keeps};
+ghost use Rattle.judge.specs.Starts.{IsStart, state_of};
+ghost use Rattle.judge.specs.Table.{State};
+ghost use Rattle.rmeworld.specs.ImageRules.{IsLawfulImage};
+ghost use Rattle.rmeworld.specs.ImageStart.{IsStartOf};
+ghost use Rattle.rmeworld.specs.WorldState.{image_world as world_of_image};
+ghost use Rattle.schedule.specs.Plays.{tape};
+ghost use Rattle.schedule.specs.Runs.{behaviour, deeds_of, run_on};
+ghost use Rattle.schedule.specs.Verdicts.{verdict_on};
+ghost use Rattle.schedule.specs.Wholes.{reading, world_behaviour};
+ghost use Rattle.laboratory.specs.Commands.{IsEnded, TellsReads};
+ghost use Rattle.laboratory.specs.Draws.{DrawEnds, Draws, DrawsImage, DrawsNew, DrawsSchedule, DrawsVariant, ending_of as ending_for, IsWritten};
+ghost use Rattle.laboratory.specs.Statuses.{status_after};
+
+use crate::ending::{Ending, status_after_verdict};
+use crate::fault::Fault;
+use crate::order::DrawOrder;
+use crate::setting::{
+    fitting, image_read, image_world, new_judge, new_world, schedule_read, start_at, started_judge,
+    variant_world,
+};
+use crashlab::Variant;
+use drawing::{Drawing, End, Phase, Style, draw, write_drawing};
+use judge::{Judge, Start};
+use rmeworld::{Image, Machine};
+use schedule::laws::worlds_are_never_found_out;
+use schedule::{Schedule, Sink, Source};
+use std::alloc::Global;
+
+/// How the command ends where all was drawn.
+fn ending_of(end: End) -> Result<Ending, Fault>
+    ensures { result ≡ ending_for end }
+{
+    match end {
+        End::Judged(verdict) => Ok(Ending {
+            status: status_after_verdict(verdict),
+            save: None,
+        }),
+        End::Refused { line, number, .. } => Err(Fault::Refused { line, number }),
+    }
+}
+
+/// Writes a drawing, and says how the command ends.
+fn write_drawn<W: Sink>(
+    alloc: Global,
+    drawing: &Drawing,
+    style: Style,
+    w: &mut W,
+) -> Result<Ending, Fault>
+    ensures written { IsWritten (tape (W.taken w.old) (W.failures w.old)) (tape (W.taken w.new) (W.failures w.new)) (spelled (sheet_of style drawing.now.head drawing.now.rows.items drawing.now.end) drawing.now.first drawing.now.rows.items drawing.now.end) drawing.now.end result }
+    ensures ended { IfOk result (IsEnded false (W.failures w.old) (W.failures w.new)) }
+{
+    write_drawing(alloc, drawing, style, w)?;
+    ending_of(drawing.end)
+}
+
+/// Plays the schedule on a machine, and draws its run.
+fn draw_machine<M: Machine, W: Sink>(
+    alloc: Global,
+    machine: &mut M,
+    judge: &mut Judge,
+    schedule: &Schedule,
+    first: Phase,
+    style: Style,
+    w: &mut W,
+) -> Result<Ending, Fault>
+    ensures draws { (start : State) → Keeps judge.old start → Draws (behaviour M.start_refusal M.started M.advance_refusal M.stepped M.advanced M.crash_refusal M.crash_deed M.crashed) start machine.old first style schedule.now (tape (W.taken w.old) (W.failures w.old)) (tape (W.taken w.new) (W.failures w.new)) result }
+    ensures status { (start : State) → Keeps judge.old start → IfOk result (λ ending. ending.status ≡ status_after (verdict_on start (deeds_of (run_on (behaviour M.start_refusal M.started M.advance_refusal M.stepped M.advanced M.crash_refusal M.crash_deed M.crashed) 2 machine.old schedule.now.lines).told))) }
+    ensures ended { IfOk result (IsEnded false (W.failures w.old) (W.failures w.new)) }
+{
+    let drawing = draw(alloc, machine, judge, schedule, first)?;
+    write_drawn(alloc, &drawing, style, w)
+}
+
+/// The run of the schedule on a new world of the right lock.
+fn draw_new<W: Sink>(
+    alloc: Global,
+    schedule: &Schedule,
+    style: Style,
+    w: &mut W,
+) -> Result<Ending, Fault>
+    ensures draws { DrawsNew style schedule.now (tape (W.taken w.old) (W.failures w.old)) (tape (W.taken w.new) (W.failures w.new)) result }
+    ensures fine { IfOk result (λ ending. ending.status ≡ 0) }
+    ensures ended { IfOk result (IsEnded false (W.failures w.old) (W.failures w.new)) }
+{
+    worlds_are_never_found_out();
+    let mut world = new_world(alloc, schedule)?;
+    let mut judge = new_judge(alloc, schedule)?;
+    draw_machine(alloc, &mut world, &mut judge, schedule, Phase::Rest, style, w)
+}
+
+/// The run of the schedule on a new world of a variant of the lock.
+fn draw_variant<W: Sink>(
+    alloc: Global,
+    variant: Variant,
+    schedule: &Schedule,
+    style: Style,
+    w: &mut W,
+) -> Result<Ending, Fault>
+    ensures draws { DrawsVariant variant style schedule.now (tape (W.taken w.old) (W.failures w.old)) (tape (W.taken w.new) (W.failures w.new)) result }
+    ensures ended { IfOk result (IsEnded false (W.failures w.old) (W.failures w.new)) }
+{
+    let mut world = variant_world(alloc, variant, schedule)?;
+    let mut judge = new_judge(alloc, schedule)?;
+    draw_machine(alloc, &mut world, &mut judge, schedule, Phase::Rest, style, w)
+}
+
+/// The run of the schedule on the world of an image, before a judge that begins where the image stands.
+fn draw_started<W: Sink>(
+    alloc: Global,
+    image: &Image,
+    start: &Start,
+    schedule: &Schedule,
+    style: Style,
+    w: &mut W,
+) -> Result<Ending, Fault>
+    requires lawful { IsLawfulImage image.now }
+    requires begins { IsStartOf image.now start.now }
+    requires judged { IsStart start.now }
+    ensures draws { Draws world_behaviour (state_of start.now) (world_of_image image.now) Phase.Dead style schedule.now (tape (W.taken w.old) (W.failures w.old)) (tape (W.taken w.new) (W.failures w.new)) result }
+    ensures fine { IfOk result (λ ending. ending.status ≡ 0) }
+    ensures ended { IfOk result (IsEnded false (W.failures w.old) (W.failures w.new)) }
+{
+    worlds_are_never_found_out();
+    let mut world = image_world(alloc, image)?;
+    let mut judge = started_judge(alloc, start)?;
+    draw_machine(alloc, &mut world, &mut judge, schedule, Phase::Dead, style, w)
+}
+
+/// The run of the schedule on a world that goes on from an image.
+fn draw_image<W: Sink>(
+    alloc: Global,
+    image: Image,
+    schedule: &Schedule,
+    style: Style,
+    w: &mut W,
+) -> Result<Ending, Fault>
+    requires { IsLawfulImage image }
+    ensures draws { DrawsImage style schedule.now (tape (W.taken w.old) (W.failures w.old)) (tape (W.taken w.new) (W.failures w.new)) result }
+    ensures fine { IfOk result (λ ending. ending.status ≡ 0) }
+    ensures ended { IfOk result (IsEnded false (W.failures w.old) (W.failures w.new)) }
+{
+    let image = fitting(alloc, image, schedule)?;
+    let start = start_at(alloc, &image)?;
+    draw_started(alloc, &image, &start, schedule, style, w)
+}
+
+/// The run of the schedule on the machine that is asked for.
+fn draw_schedule<W: Sink>(
+    alloc: Global,
+    order: &DrawOrder,
+    image: Option<Image>,
+    schedule: &Schedule,
+    w: &mut W,
+) -> Result<Ending, Fault>
+    requires { IfSome image IsLawfulImage }
+    ensures draws { DrawsSchedule order.now.variant (is_some image) order.now.style schedule.now (tape (W.taken w.old) (W.failures w.old)) (tape (W.taken w.new) (W.failures w.new)) result }
+    ensures fine { order.now.variant ≡ Variant.Right → IfOk result (λ ending. ending.status ≡ 0) }
+    ensures ended { IfOk result (IsEnded false (W.failures w.old) (W.failures w.new)) }
+{
+    match (image, order.variant) {
+        (Some(image), _) => draw_image(alloc, image, schedule, order.style, w),
+        (None, Variant::Right) => draw_new(alloc, schedule, order.style, w),
+        (None, variant) => draw_variant(alloc, variant, schedule, order.style, w),
+    }
+}
+
+/// Runs `draw`: the image is read first, then the schedule; then its run is drawn, and judged.
+pub fn draw_order<R: Source, W: Sink>(
+    alloc: Global,
+    order: &DrawOrder,
+    image: Option<&[u8]>,
+    r: &mut R,
+    w: &mut W,
+) -> Result<Ending, Fault>
+    ensures ends { DrawEnds order.now (is_some image.entry) (reading (R.given r.old) (R.ended r.old) (R.failures r.old)) (reading (R.given r.new) (R.ended r.new) (R.failures r.new)) (tape (W.taken w.old) (W.failures w.old)) (tape (W.taken w.new) (W.failures w.new)) result }
+    ensures reads { TellsReads (reading (R.given r.old) (R.ended r.old) (R.failures r.old)) (reading (R.given r.new) (R.ended r.new) (R.failures r.new)) result }
+    ensures ended { IfOk result (IsEnded false (W.failures w.old) (W.failures w.new)) }
+{
+    let image = image_read(alloc, image)?;
+    let schedule = schedule_read(alloc, r)?;
+    draw_schedule(alloc, order, image, &schedule, w)
+}

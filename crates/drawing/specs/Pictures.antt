@@ -1,11 +1,12 @@
 -- The drawing as SVG: a lifeline for each process, time downward. What is drawn later covers what was drawn before.
-use Rattle.std.specs.Prelude.{ℕ, ◌+◌, ◌-◌, ◌*◌, ◌^◌, min, Bool, List, [], ◌∷◌, ◌++◌, codes, Option, Some, None, if◌then◌else◌}
+use Rattle.std.specs.Prelude.{ℕ, ◌+◌, ◌-◌, ◌*◌, ◌^◌, min, Bool, List, [], ◌∷◌, ◌++◌, codes, Option, Some, None, is_some, if◌then◌else◌, ◌||◌}
 use Rattle.std.specs.Fmt.{decimal}
 use Rattle.redomail.specs.declared.deed.Deed.{Deed}
 use Rattle.redomail.specs.declared.deed.Deed.TheVariants.{Outer}
 use Rattle.redomail.specs.declared.layout.Layout.{Layout}
-use Rattle.schedule.specs.Reports.{told_text}
-use Rattle.schedule.specs.Runs.{told_of}
+use Rattle.rmeworld.specs.declared.answer.Answer.{Answer}
+use Rattle.schedule.specs.Reports.{told_line, told_text}
+use Rattle.schedule.specs.Runs.{Did, Answered, told_of}
 use Rattle.drawing.specs.declared.act.Act.{Act}
 use Rattle.drawing.specs.declared.act.Act.TheVariants.{Fell}
 use Rattle.drawing.specs.declared.act.Row.{Row}
@@ -53,7 +54,7 @@ class_of Dead = codes "dead"
 
 -- a lifeline from here down, in the colour of a phase
 unfoldable pub lifeline : Phase → ℕ → List ℕ
-lifeline phase long = codes "<rect class='" ++ class_of phase ++ around (codes "' x='-4' width='8' height='") long (codes "'/>")
+lifeline phase long = codes "<rect class='" ++ class_of phase ++ around (codes "' x='-4.5' y='.5' width='9' height='") long (codes "'/>")
 
 abbrev pub lifeline_if : Option Phase → ℕ → List ℕ
 lifeline_if None long = []
@@ -75,7 +76,7 @@ unfoldable pub row_title : Layout → Row → List ℕ
 row_title l row = around (codes "<title>process ") row.p (codes " ") ++ sign l row.p row.act ++ 10 ∷ (told_by row.p row.act ++ codes "</title>")
 
 unfoldable pub step_mark : Layout → ℕ → Act → List ℕ
-step_mark l p act = around (codes "<circle r='2.5'/><text x='10' y='4'><tspan class='p'>") p (codes "</tspan> ") ++ sign l p act ++ codes "</text>"
+step_mark l p act = around (codes "<circle r='3'/><text x='10' y='4'><tspan class='p'>") p (codes "</tspan> ") ++ sign l p act ++ codes "</text>"
 
 -- a step is a dot with its access beside it, a crash a cross
 abbrev pub mark : Layout → ℕ → Act → List ℕ
@@ -91,9 +92,19 @@ join None far = []
 join (Some (Outer outer)) far = []
 join (Some deed) far = joint far
 
--- what is told stands at the right
-unfoldable pub margin : ℕ → Act → ℕ → List ℕ
-margin p act far = around (codes "<text y='4' x='") (far + 16) (codes "'>") ++ told_by p act ++ codes "</text>"
+-- what a step tells, in one line
+abbrev pub remarks : ℕ → Option Deed → Option Answer → List ℕ
+remarks p None None = []
+remarks p (Some deed) None = told_line (Did deed)
+remarks p None (Some answer) = told_line (Answered p answer)
+remarks p (Some deed) (Some answer) = told_line (Did deed) ++ codes " / " ++ told_line (Answered p answer)
+
+unfoldable pub remarks_at : ℕ → ℕ → Option Deed → Option Answer → List ℕ
+remarks_at far p deed answer = around (codes "<text y='4' x='") (far + 16) (codes "'>") ++ remarks p deed answer ++ codes "</text>"
+
+-- it stands at the right
+abbrev pub margin : ℕ → ℕ → Option Deed → Option Answer → List ℕ
+margin far p deed answer = if is_some deed || is_some answer then remarks_at far p deed answer else []
 
 -- a frame round what the verdict is against
 abbrev pub flag : Bool → ℕ → List ℕ
@@ -108,7 +119,7 @@ left_of l row below = row_title l row ++ lifeline_if (phase_shown row.act) below
 
 -- what stands at the right of a row
 unfoldable pub right_of : Row → ℕ → Bool → List ℕ
-right_of row far marked = join (deed_of row.act) far ++ margin row.p row.act far ++ flag marked far
+right_of row far marked = join (deed_of row.act) far ++ margin far row.p (deed_of row.act) (answer_of row.act) ++ flag marked far
 
 -- a row at this place
 abbrev pub row_picture : Layout → ℕ → ℕ → Bool → Row → List ℕ
@@ -127,7 +138,7 @@ viewed wide high = around (codes " viewBox='0 0 ") wide (around (codes " ") high
 unfoldable pub text_looks : List ℕ
 text_looks =
     codes "<title>a run of the lock, time downward</title><style>text{font:12px monospace;fill:#000}.p{font-weight:bold}circle{stroke:#fff}"
-    ++ codes ".rest{fill:#fff;stroke:#888}.doorway{fill:#f0e442;stroke:#555}.waiting{fill:#e69f00;stroke:#555}.section{fill:#0072b2;stroke:#0072b2}"
+    ++ codes ".rest{fill:#fff;stroke:#777}.doorway{fill:#f0e442;stroke:#555}.waiting{fill:#e69f00;stroke:#555}.section{fill:#0072b2;stroke:#0072b2}"
 
 unfoldable pub line_looks : List ℕ
 line_looks =
@@ -138,7 +149,7 @@ line_looks =
 unfoldable pub paper : List ℕ
 paper =
     codes "<defs><pattern id='gone' width='8' height='6' x='-4' patternUnits='userSpaceOnUse'><rect width='8' height='6' fill='#fff'/>"
-    ++ codes "<rect x='3.5' width='1' height='2'/></pattern></defs><rect width='100%' height='100%' fill='#fff'/>" ++ 10 ∷ []
+    ++ codes "<rect x='3' width='2' height='2'/></pattern></defs><rect width='100%' height='100%' fill='#fff'/>" ++ 10 ∷ []
 
 unfoldable pub key_name : Phase → List ℕ
 key_name phase = codes "<text x='10' y='12'>" ++ class_of phase ++ codes "</text>"
@@ -150,7 +161,8 @@ key x phase = group_at x 30 ++ lifeline phase 14 ++ key_name phase ++ group_end
 unfoldable pub keys : List ℕ
 keys =
     key 24 Rest ++ key 84 Doorway ++ key 168 Waiting ++ key 252 Section ++ key 336 Dead
-    ++ (codes "<path class='crash' d='M394 32l10 10m0 -10l-10 10'/><text x='412' y='42'>crash</text>" ++ 10 ∷ [])
+    ++ codes "<path class='crash' d='M394 32l10 10m0 -10l-10 10'/><text x='412' y='42'>crash</text>"
+    ++ (codes "<circle class='against' cx='470' cy='37' r='6'/><text x='482' y='42'>against</text>" ++ 10 ∷ [])
 
 unfoldable pub head_picture : ℕ → ℕ → List ℕ
 head_picture wide high = measured wide high ++ viewed wide high ++ text_looks ++ line_looks ++ paper ++ keys

@@ -44,7 +44,7 @@ fn put_text_looks(out: &mut Vec<u8>) -> Result<(), AllocError>
     )?;
     put_text(
         out,
-        b".rest{fill:#fff;stroke:#888}.doorway{fill:#f0e442;stroke:#555}.waiting{fill:#e69f00;stroke:#555}.section{fill:#0072b2;stroke:#0072b2}",
+        b".rest{fill:#fff;stroke:#777}.doorway{fill:#f0e442;stroke:#555}.waiting{fill:#e69f00;stroke:#555}.section{fill:#0072b2;stroke:#0072b2}",
     )
 }
 
@@ -74,7 +74,7 @@ fn put_paper(out: &mut Vec<u8>) -> Result<(), AllocError>
     )?;
     put_text(
         out,
-        b"<rect x='3.5' width='1' height='2'/></pattern></defs><rect width='100%' height='100%' fill='#fff'/>\n",
+        b"<rect x='3' width='2' height='2'/></pattern></defs><rect width='100%' height='100%' fill='#fff'/>\n",
     )
 }
 
@@ -99,7 +99,7 @@ fn put_key(out: &mut Vec<u8>, x: u64, phase: Phase) -> Result<(), AllocError>
     put_group_end(out)
 }
 
-/// Writes what the colours and the cross mean.
+/// Writes what the colours, the cross and the ring mean.
 #[tactic(auto, unfolding(crate::specs::Pictures::keys))]
 fn put_keys(out: &mut Vec<u8>) -> Result<(), AllocError>
     ensures { OnOk result (out.new.items ≡ out.old.items ++ keys) }
@@ -111,7 +111,11 @@ fn put_keys(out: &mut Vec<u8>) -> Result<(), AllocError>
     put_key(out, 336, Phase::Dead)?;
     put_text(
         out,
-        b"<path class='crash' d='M394 32l10 10m0 -10l-10 10'/><text x='412' y='42'>crash</text>\n",
+        b"<path class='crash' d='M394 32l10 10m0 -10l-10 10'/><text x='412' y='42'>crash</text>",
+    )?;
+    put_text(
+        out,
+        b"<circle class='against' cx='470' cy='37' r='6'/><text x='482' y='42'>against</text>\n",
     )
 }
 

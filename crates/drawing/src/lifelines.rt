@@ -57,7 +57,7 @@ pub fn put_lifeline(out: &mut Vec<u8>, phase: Phase, long: u64) -> Result<(), Al
 {
     put_text(out, b"<rect class='")?;
     put_text(out, class_of(phase))?;
-    put_around(out, b"' x='-4' width='8' height='", long, b"'/>")
+    put_around(out, b"' x='-4.5' y='.5' width='9' height='", long, b"'/>")
 }
 
 /// Writes a lifeline from here down where a phase is shown.

@@ -1,7 +1,7 @@
 //! The rows of the picture.
 
 ghost use Rattle.std.specs.Prelude.{◌≡◌, ◌≤◌, ◌++◌, OnOk};
-ghost use Rattle.drawing.specs.Pictures.{flag, join, joint, left_of, margin, mark, right_of, row_picture, row_title, step_mark, told_by};
+ghost use Rattle.drawing.specs.Pictures.{flag, join, joint, left_of, margin, mark, remarks, remarks_at, right_of, row_picture, row_title, step_mark, told_by};
 
 use crate::act::{Act, Row};
 use crate::lifelines::{far_from, put_group, put_group_end, put_lifeline_if, x_of};
@@ -9,6 +9,7 @@ use crate::paging::{put_around, put_text};
 use crate::phase::phase_shown;
 use crate::signs::put_sign;
 use redomail::{Deed, Layout};
+use rmeworld::Answer;
 use schedule::answer::{put_answer, put_deed};
 use std::alloc::AllocError;
 
@@ -44,7 +45,7 @@ fn put_step(out: &mut Vec<u8>, layout: &Layout, row: &Row) -> Result<(), AllocEr
 {
     put_around(
         out,
-        b"<circle r='2.5'/><text x='10' y='4'><tspan class='p'>",
+        b"<circle r='3'/><text x='10' y='4'><tspan class='p'>",
         row.p,
         b"</tspan> ",
     )?;
@@ -87,15 +88,61 @@ fn put_join(out: &mut Vec<u8>, deed: &Option<Deed>, far: u64) -> Result<(), Allo
     }
 }
 
-/// Writes what a row tells, at the right.
-#[tactic(auto, unfolding(crate::specs::Pictures::margin))]
-fn put_margin(out: &mut Vec<u8>, row: &Row, far: u64) -> Result<(), AllocError>
+/// Writes what a step tells, in one line.
+fn put_remarks(
+    out: &mut Vec<u8>,
+    p: u64,
+    deed: &Option<Deed>,
+    answer: Option<Answer>,
+) -> Result<(), AllocError>
+    ensures { OnOk result (out.new.items ≡ out.old.items ++ remarks p deed.now answer) }
+{
+    let Some(deed) = deed else {
+        let Some(answer) = answer else {
+            return Ok(());
+        };
+        return put_answer(out, p, answer);
+    };
+    put_deed(out, deed)?;
+    let Some(answer) = answer else {
+        return Ok(());
+    };
+    put_text(out, b" / ")?;
+    put_answer(out, p, answer)
+}
+
+/// Writes it at the right.
+#[tactic(auto, unfolding(crate::specs::Pictures::remarks_at))]
+fn put_remarks_at(
+    out: &mut Vec<u8>,
+    far: u64,
+    p: u64,
+    deed: &Option<Deed>,
+    answer: Option<Answer>,
+) -> Result<(), AllocError>
     requires { far ≤ 12348 }
-    ensures { OnOk result (out.new.items ≡ out.old.items ++ margin row.now.p row.now.act far) }
+    ensures { OnOk result (out.new.items ≡ out.old.items ++ remarks_at far p deed.now answer) }
 {
     put_around(out, b"<text y='4' x='", far + 16, b"'>")?;
-    put_told(out, row)?;
+    put_remarks(out, p, deed, answer)?;
     put_text(out, b"</text>")
+}
+
+/// Writes what a row tells, if it tells anything.
+fn put_margin(
+    out: &mut Vec<u8>,
+    far: u64,
+    p: u64,
+    deed: &Option<Deed>,
+    answer: Option<Answer>,
+) -> Result<(), AllocError>
+    requires { far ≤ 12348 }
+    ensures { OnOk result (out.new.items ≡ out.old.items ++ margin far p deed.now answer) }
+{
+    if deed.is_none() && answer.is_none() {
+        return Ok(());
+    }
+    put_remarks_at(out, far, p, deed, answer)
 }
 
 /// Writes a frame round the deed that the verdict is against.
@@ -121,7 +168,7 @@ fn put_right(out: &mut Vec<u8>, row: &Row, far: u64, marked: bool) -> Result<(),
     ensures { OnOk result (out.new.items ≡ out.old.items ++ right_of row.now far marked) }
 {
     put_join(out, &row.deed(), far)?;
-    put_margin(out, row, far)?;
+    put_margin(out, far, row.p, &row.deed(), row.answer())?;
     put_flag(out, marked, far)
 }
 

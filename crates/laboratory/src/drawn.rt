@@ -90,7 +90,15 @@ fn draw_new<W: Sink>(
     worlds_are_never_found_out();
     let mut world = new_world(alloc, schedule)?;
     let mut judge = new_judge(alloc, schedule)?;
-    draw_machine(alloc, &mut world, &mut judge, schedule, Phase::Rest, style, w)
+    draw_machine(
+        alloc,
+        &mut world,
+        &mut judge,
+        schedule,
+        Phase::Rest,
+        style,
+        w,
+    )
 }
 
 /// The run of the schedule on a new world of a variant of the lock.
@@ -106,7 +114,15 @@ fn draw_variant<W: Sink>(
 {
     let mut world = variant_world(alloc, variant, schedule)?;
     let mut judge = new_judge(alloc, schedule)?;
-    draw_machine(alloc, &mut world, &mut judge, schedule, Phase::Rest, style, w)
+    draw_machine(
+        alloc,
+        &mut world,
+        &mut judge,
+        schedule,
+        Phase::Rest,
+        style,
+        w,
+    )
 }
 
 /// The run of the schedule on the world of an image, before a judge that begins where the image stands.
@@ -128,7 +144,15 @@ fn draw_started<W: Sink>(
     worlds_are_never_found_out();
     let mut world = image_world(alloc, image)?;
     let mut judge = started_judge(alloc, start)?;
-    draw_machine(alloc, &mut world, &mut judge, schedule, Phase::Dead, style, w)
+    draw_machine(
+        alloc,
+        &mut world,
+        &mut judge,
+        schedule,
+        Phase::Dead,
+        style,
+        w,
+    )
 }
 
 /// The run of the schedule on a world that goes on from an image.

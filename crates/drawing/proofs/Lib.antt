@@ -4,3 +4,5 @@ pub mod Heard
 pub mod Written
 pub mod Drawn
 pub mod Joined
+pub mod Steps
+pub mod Ended

@@ -144,9 +144,9 @@ module _ {S : Type 0} (b : Behaviour S) where
 
   -- ---- one line after another
 
-  pub lines_none : (k : ℕ) (s : S) → (events_on b s [] ≡ []) × ((run_on b k s []).refused ≡ None)
+  pub lines_none : (k : ℕ) (s : S) → (events_on b s [] ≡ []) × ((run_on b k s []).refused ≡ None) × ((run_on b k s []).left ≡ s)
   unfolding events_on run_on
-  lines_none k s = (refl, refl)
+  lines_none k s = (refl, refl, refl)
 
   pub line_ends : (k : ℕ) (s : S) (line : Line) (lines rest : List Line) (e : Refusal) → lines ≡ line ∷ rest → (line_on b s line).refused ≡ Some e
       → (events_on b s lines ≡ events_of b s line) × ((run_on b k s lines).refused ≡ Some (k, e))
@@ -155,14 +155,15 @@ module _ {S : Type 0} (b : Behaviour S) where
 
   pub line_goes_on : (k : ℕ) (s t : S) (line : Line) (lines rest : List Line) → lines ≡ line ∷ rest → (line_on b s line).refused ≡ None → t ≡ (line_on b s line).left
       → (events_on b s lines ≡ events_of b s line ++ events_on b t rest) × ((run_on b k s lines).refused ≡ (run_on b (k + 1) t rest).refused)
+      × ((run_on b k s lines).left ≡ (run_on b (k + 1) t rest).left)
   unfolding events_on run_on
-  line_goes_on k s t line lines rest is accepted left = rw left (rw is (rw accepted (refl, refl)))
+  line_goes_on k s t line lines rest is accepted left = rw left (rw is (rw accepted (refl, refl, refl)))
 
   -- a line stops where it does
   pub stops : (before mid now : List Row) (all : List Event) (run : Part S (ℕ × Refusal)) (k : ℕ) (s last : S) (line : Line) (lines rest : List Line) (stop : Stop)
       → events_in mid ++ events_on b s lines ≡ events_in before ++ all → (run_on b k s lines).refused ≡ run.refused → lines ≡ line ∷ rest
       → Plays {S = S} {A = Unit {0}} mid now (events_of b s line) (line_on b s line).refused (line_on b s line).left last (Err stop)
-      → PlaysOn {S = S} {A = Unit {0}} before now all run (Err (k, stop))
+      → PlaysOn {S = S} {A = Unit {0}} before now all run last (Err (k, stop))
   stops before mid now all run k s last line lines rest (Refused number) still same is h =
       let ends = line_ends k s line lines rest h.1.0 is h.1.1 in
       (shown_all before mid now (events_of b s line) (events_on b s lines) all still h.0 ends.0, (h.1.0, sym same ∙ ends.1, h.1.2))

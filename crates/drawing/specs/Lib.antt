@@ -6,3 +6,4 @@ pub mod Sheets
 pub mod Columns
 pub mod Pictures
 pub mod Drawings
+pub mod Followed

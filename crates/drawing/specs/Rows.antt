@@ -57,18 +57,23 @@ Plays before now events refused left s (Err (stops.Refused number)) =
     (events_in now ≡ events_in before ++ events) × ((refusal : Refusal) × (refused ≡ Some refusal) × (number_of refusal ≡ Some number))
 Plays before now events refused left s (Err stops.OutOfMemory) = Unit {0}
 
--- how the lines of a run were played
-abbrev pub PlaysOn : {S A : Type 0} → List Row → List Row → List Event → Part S (ℕ × Refusal) → Result A (ℕ × Stop) → Type 0
-PlaysOn before now events run (Ok x) = (events_in now ≡ events_in before ++ events) × (run.refused ≡ None)
-PlaysOn before now events run (Err (line, stops.Refused number)) =
+-- how the lines of a run were played, and where the machine stands behind all
+abbrev pub PlaysOn : {S A : Type 0} → List Row → List Row → List Event → Part S (ℕ × Refusal) → S → Result A (ℕ × Stop) → Type 0
+PlaysOn before now events run s (Ok x) = (events_in now ≡ events_in before ++ events) × (run.refused ≡ None) × (s ≡ run.left)
+PlaysOn before now events run s (Err (line, stops.Refused number)) =
     (events_in now ≡ events_in before ++ events) × ((refusal : Refusal) × (run.refused ≡ Some (line, refusal)) × (number_of refusal ≡ Some number))
-PlaysOn before now events run (Err (line, stops.OutOfMemory)) = Unit {0}
+PlaysOn before now events run s (Err (line, stops.OutOfMemory)) = Unit {0}
 
 -- how a run ends: with the verdict on its deeds, and where a line is refused at that line
 abbrev pub EndsAs : {S : Type 0} → State → Part S (ℕ × Refusal) → End → Type 0
 EndsAs start run (ends.Judged verdict) = (run.refused ≡ None) × (verdict ≡ verdict_on start (deeds_of run.told))
 EndsAs start run (ends.Refused line number verdict) =
     ((refusal : Refusal) × (run.refused ≡ Some (line, refusal)) × (number_of refusal ≡ Some number)) × (verdict ≡ verdict_on start (deeds_of run.told))
+
+-- all lines were played
+abbrev pub IsJudged : End → Type 0
+IsJudged (ends.Judged verdict) = Unit {0}
+IsJudged end = ⊥
 
 -- one more row stands there, unless there is no memory
 abbrev pub Adds : {A : Type 0} → List Row → List Row → Row → Result A Stop → Type 0

@@ -141,7 +141,7 @@ pub fn take_lines<M: Machine>(
     rows: &mut Vec<Row>,
     lines: &[Line],
 ) -> Result<(), (u64, Stop)>
-    ensures { let b = behaviour M.start_refusal M.started M.advance_refusal M.stepped M.advanced M.crash_refusal M.crash_deed M.crashed in PlaysOn rows.old.items rows.new.items (events_on b machine.old lines.now) (run_on b 2 machine.old lines.now) result }
+    ensures { let b = behaviour M.start_refusal M.started M.advance_refusal M.stepped M.advanced M.crash_refusal M.crash_deed M.crashed in PlaysOn rows.old.items rows.new.items (events_on b machine.old lines.now) (run_on b 2 machine.old lines.now) machine.new result }
 {
     let mut number = 2;
     for line in lines {

@@ -6,7 +6,7 @@ ghost use Rattle.judge.specs.Table.{State};
 ghost use Rattle.schedule.specs.Runs.{behaviour, run_on};
 ghost use Rattle.schedule.specs.Schedules.{head_of};
 ghost use Rattle.drawing.specs.Events.{events_on, told_in};
-ghost use Rattle.drawing.specs.Rows.{events_in, EndsAs, IsEndOf};
+ghost use Rattle.drawing.specs.Rows.{events_in, EndsAs, IsEndOf, IsJudged};
 
 use crate::act::Row;
 use crate::collecting::take_lines;
@@ -73,6 +73,8 @@ pub fn draw<M: Machine>(
     ensures told { IfOk result (λ drawing. told_in (events_in drawing.rows.items) ≡ (run_on (behaviour M.start_refusal M.started M.advance_refusal M.stepped M.advanced M.crash_refusal M.crash_deed M.crashed) 2 machine.old schedule.now.lines).told) }
     // And end as it ends.
     ensures end { (start : State) → Keeps judge.old start → IfOk result (λ drawing. EndsAs start (run_on (behaviour M.start_refusal M.started M.advance_refusal M.stepped M.advanced M.crash_refusal M.crash_deed M.crashed) 2 machine.old schedule.now.lines) drawing.end) }
+    // The machine is left as the run leaves it.
+    ensures left { IfOk result (λ drawing. IsJudged drawing.end → machine.new ≡ (run_on (behaviour M.start_refusal M.started M.advance_refusal M.stepped M.advanced M.crash_refusal M.crash_deed M.crashed) 2 machine.old schedule.now.lines).left) }
     ensures sizes { IfOk result (λ drawing. (drawing.head ≡ head_of schedule.now) × (drawing.first ≡ first)) }
 {
     let mut rows = Vec::new(alloc);

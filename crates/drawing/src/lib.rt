@@ -8,6 +8,7 @@ mod collecting;
 mod columns;
 mod court;
 pub mod drawing;
+mod following;
 mod frame;
 mod lifelines;
 mod paging;
@@ -22,6 +23,7 @@ mod writing;
 
 pub use act::{Act, Row};
 pub use drawing::{Drawing, End, draw};
+pub use following::follow;
 pub use phase::Phase;
 pub use sheet::Style;
 pub use writing::write_drawing;

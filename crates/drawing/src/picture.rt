@@ -14,7 +14,7 @@ use schedule::answer::{put_answer, put_deed};
 use std::alloc::AllocError;
 
 /// Writes what a row tells.
-fn put_told(out: &mut Vec<u8>, row: &Row) -> Result<(), AllocError>
+pub fn put_told(out: &mut Vec<u8>, row: &Row) -> Result<(), AllocError>
     ensures { OnOk result (out.new.items ≡ out.old.items ++ told_by row.now.p row.now.act) }
 {
     if let Some(deed) = row.deed() {

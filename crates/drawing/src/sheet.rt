@@ -1,12 +1,13 @@
 //! What a drawing is written with.
 
 ghost use Rattle.std.specs.Prelude.{◌≡◌, length};
-ghost use Rattle.drawing.specs.Sheets.{against as against_in, deed_against as deed_in};
+ghost use Rattle.drawing.specs.Sheets.{against as against_in, deed_against as deed_in, layout_of as layout_in};
 ghost use Rattle.drawing.specs.Drawings.{sheet_of as sheet_for};
 
 use crate::drawing::{Drawing, End};
 use redomail::Layout;
 use schedule::Verdict;
+use schedule::head::Head;
 
 /// How a drawing is spelled.
 #[derive(Clone, Copy, Debug, PartialEq, Eq)]
@@ -45,17 +46,24 @@ fn against(end: &End) -> u64
     }
 }
 
+/// The sizes that a header names, but for the limit.
+pub fn layout_of(head: Head) -> Layout
+    ensures { result ≡ layout_in head }
+{
+    Layout {
+        procs: head.procs,
+        cap: head.cap,
+        width: head.width,
+    }
+}
+
 /// The sheet of a drawing.
 pub fn sheet_of(style: Style, drawing: &Drawing) -> Sheet
     ensures { result ≡ sheet_for style drawing.now.head drawing.now.rows.items drawing.now.end }
 {
     Sheet {
         style,
-        layout: Layout {
-            procs: drawing.head.procs,
-            cap: drawing.head.cap,
-            width: drawing.head.width,
-        },
+        layout: layout_of(drawing.head),
         rows: drawing.rows.len() as u64,
         against: against(&drawing.end),
     }

@@ -30,7 +30,7 @@ fn put_out<W: Sink>(w: &mut W, text: &[u8]) -> Result<(), ReplayFault>
 }
 
 /// Writes the end of a report.
-fn close<W: Sink>(
+pub fn close<W: Sink>(
     alloc: Global,
     image: &Image,
     verdict: Verdict,

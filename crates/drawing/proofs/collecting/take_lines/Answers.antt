@@ -6,7 +6,7 @@ use Rattle.drawing.proofs.Shown.{shown_none, shown_some, lines_none, line_goes_o
 use Rattle.drawing.proofs.collecting.take_lines.Goals as goal
 
 pub loop-line-init : goal.loop-line-init
-loop-line-init g c = (refl, refl, refl)
+loop-line-init g c = (refl, refl, refl, refl)
 
 pub returns-in-Err : goal.returns-in-Err
 returns-in-Err g c =
@@ -28,7 +28,8 @@ loop-line-preserved g c =
     let more = line_goes_on _ c.loop-line.number c.loop-line.machine c.take_line.new.machine item (drop i lines) (drop (i + 1) lines) e played.1 played.2 in (
       shown_some c.loop-line.rows.items c.take_line.new.rows.items _ _ _ _ c.loop-line.invariant.0 played.0 more.0,
       sym more.1 ∙ c.loop-line.invariant.1,
-      omega (arith, c.loop-line.invariant.2),
+      sym more.2 ∙ c.loop-line.invariant.2,
+      omega (arith, c.loop-line.invariant.3),
     )
 
 pub returns : goal.returns
@@ -40,4 +41,5 @@ returns g c =
     let last = lines_none b c.loop-line.number c.loop-line.machine in (
       shown_none c.args.rows.now.items c.loop-line.rows.items _ _ c.loop-line.invariant.0 (ap (λ ls. events_on b c.loop-line.machine ls) none ∙ last.0),
       sym c.loop-line.invariant.1 ∙ ap (λ ls. (run_on b c.loop-line.number c.loop-line.machine ls).refused) none ∙ last.1,
+      sym last.2 ∙ ap (λ ls. (run_on b c.loop-line.number c.loop-line.machine ls).left) (sym none) ∙ c.loop-line.invariant.2,
     )

@@ -1,0 +1,56 @@
+use Rattle.std.proofs.Common.{◌≡◌, List, Err, refl, sym, ap, subst, ◌∙◌, ℕ}
+use Rattle.std.proofs.Math.ListN.{replicate}
+use Rattle.std.proofs.lemmas.Result.{err_from_is_err_and}
+use Rattle.schedule.specs.declared.head.Head.{Head}
+use Rattle.schedule.specs.Plays.{tape, Writes}
+use Rattle.schedule.specs.Runs.{behaviour, run_on}
+use Rattle.schedule.specs.Schedules.{head_of}
+use Rattle.schedule.proofs.Playing.{begins_nothing}
+use Rattle.drawing.specs.declared.phase.Phase.{Phase}
+use Rattle.drawing.specs.Drawings.{Spells}
+use Rattle.drawing.specs.Events.{Event, events_on}
+use Rattle.drawing.specs.Followed.{followed}
+use Rattle.drawing.specs.Rows.{events_in}
+use Rattle.drawing.specs.Sheets.{layout_of}
+use Rattle.drawing.proofs.Ended.{steps_end, steps_fail}
+use Rattle.drawing.proofs.following.follow.Goals as goal
+
+pub returns-in_default-clause-follows : goal.returns-in_default-clause-follows
+returns-in_default-clause-follows g c start keeps =
+    (λ text all. begins_nothing (g.W.Sink.taken c.args.w.now) text, refl)
+
+pub returns-in_err-write_steps-clause-follows : goal.returns-in_err-write_steps-clause-follows
+returns-in_err-write_steps-clause-follows g c start keeps =
+    let b = behaviour g.M.Machine.start_refusal g.M.Machine.started g.M.Machine.advance_refusal g.M.Machine.stepped g.M.Machine.advanced g.M.Machine.crash_refusal g.M.Machine.crash_deed g.M.Machine.crashed in
+    let schedule = c.args.schedule.now in
+    let drawing = c.in-Ok.drawing in
+    let told = c.in-Ok.ensures in
+    let steps : followed (layout_of drawing.head) (replicate drawing.head.procs drawing.first) (events_in drawing.rows.items)
+    ≡ followed (layout_of (head_of schedule)) (replicate schedule.procs c.args.first) (events_on b c.args.machine.now schedule.lines) =
+    ap (λ (head : Head). followed (layout_of head) (replicate head.procs drawing.first) (events_in drawing.rows.items)) told.sizes.0
+    ∙ ap (λ (first : Phase). followed (layout_of (head_of schedule)) (replicate schedule.procs first) (events_in drawing.rows.items)) told.sizes.1
+    ∙ ap (λ (events : List Event). followed (layout_of (head_of schedule)) (replicate schedule.procs c.args.first) events) told.events in
+    let t = tape (g.W.Sink.taken c.args.w.now) (g.W.Sink.failures c.args.w.now) in
+    let u = tape (g.W.Sink.taken c.write_steps.new.w) (g.W.Sink.failures c.write_steps.new.w) in
+    let fault = c.in_err-write_steps.field-0.0 in
+    let p = err_from_is_err_and c.from_residual.result c.from_residual.ensures.1 in
+    rw (p.1, p.2)
+    (steps_fail t u start g.M.Machine.image_of (run_on b 2 c.args.machine.now schedule.lines) _ fault
+    (subst (λ (text : List ℕ). Spells {A = Unit {0}} t u text (Err fault)) steps c.in_err-write_steps.ensures))
+
+pub returns-clause-follows : goal.returns-clause-follows
+returns-clause-follows g c start keeps =
+    let b = behaviour g.M.Machine.start_refusal g.M.Machine.started g.M.Machine.advance_refusal g.M.Machine.stepped g.M.Machine.advanced g.M.Machine.crash_refusal g.M.Machine.crash_deed g.M.Machine.crashed in
+    let schedule = c.args.schedule.now in
+    let drawing = c.in-Ok.drawing in
+    let told = c.in-Ok.ensures in
+    let steps : followed (layout_of drawing.head) (replicate drawing.head.procs drawing.first) (events_in drawing.rows.items)
+    ≡ followed (layout_of (head_of schedule)) (replicate schedule.procs c.args.first) (events_on b c.args.machine.now schedule.lines) =
+    ap (λ (head : Head). followed (layout_of head) (replicate head.procs drawing.first) (events_in drawing.rows.items)) told.sizes.0
+    ∙ ap (λ (first : Phase). followed (layout_of (head_of schedule)) (replicate schedule.procs first) (events_in drawing.rows.items)) told.sizes.1
+    ∙ ap (λ (events : List Event). followed (layout_of (head_of schedule)) (replicate schedule.procs c.args.first) events) told.events in
+    let t = tape (g.W.Sink.taken c.args.w.now) (g.W.Sink.failures c.args.w.now) in
+    let u = tape (g.W.Sink.taken c.write_steps.new.w) (g.W.Sink.failures c.write_steps.new.w) in
+    let v = tape (g.W.Sink.taken c.write_end.new.w) (g.W.Sink.failures c.write_end.new.w) in
+    steps_end t u v start g.M.Machine.image_of (run_on b 2 c.args.machine.now schedule.lines) c.draw.new.machine _ drawing.end c.write_end.result
+    (subst (λ (text : List ℕ). Writes t u text) steps c.in_ok-write_steps.ensures) c.write_end.ensures (told.end start keeps) told.left

@@ -1,0 +1,24 @@
+use Rattle.std.proofs.Common.{refl, subst, Err}
+use Rattle.std.proofs.lemmas.Result.{err_from_is_err_and}
+use Rattle.rmeworld.specs.declared.image.Image.{Image}
+use Rattle.schedule.specs.Plays.{tape}
+use Rattle.schedule.proofs.Playing.{begins_nothing}
+use Rattle.drawing.specs.declared.drawing.End.TheVariants.{Judged}
+use Rattle.drawing.specs.Followed.{Ending}
+use Rattle.drawing.proofs.Ended.{not_closed}
+use Rattle.drawing.proofs.following.write_end.Goals as goal
+
+pub returns-in_default : goal.returns-in_default
+returns-in_default g c =
+    rw c.in-Judged.is (λ end is. begins_nothing (g.W.Sink.taken c.args.w.now) end, refl)
+
+pub returns-in_err-close-in-Judged : goal.returns-in_err-close-in-Judged
+returns-in_err-close-in-Judged g c =
+    let t = tape (g.W.Sink.taken c.args.w.now) (g.W.Sink.failures c.args.w.now) in
+    let u = tape (g.W.Sink.taken c.close.new.w) (g.W.Sink.failures c.close.new.w) in
+    let p = err_from_is_err_and c.from_residual.result c.from_residual.ensures.1 in
+    let fault = c.in_err-close-in-Judged.field-0.0 in
+    let verdict = c.in-Judged.verdict in
+    rw (p.1, p.2) (rw c.in-Judged.is
+    (subst (λ (image : Image). Ending t u image (Judged verdict) (Err fault)) c.in-Ok.ensures.ok
+    (not_closed t u c.in-Ok.image verdict fault c.in_err-close-in-Judged.ensures)))

@@ -1,5 +1,6 @@
--- Where the schedule that is to be drawn can't be read, nothing is drawn.
+-- Where the schedule can't be read, nothing is told of its run.
 use Rattle.std.proofs.Common.{◌≡◌, ◌≤◌, ◌⊎◌, Bool, Err, refl, inl, inr, arith}
+use Rattle.crashlab.specs.declared.variant.Variant.{Variant}
 use Rattle.schedule.specs.Plays.{Tape}
 use Rattle.schedule.specs.Wholes.{Reading}
 use Rattle.laboratory.specs.declared.fault.Fault.{Fault}
@@ -7,10 +8,14 @@ use Rattle.laboratory.specs.declared.order.DrawOrder.{DrawOrder}
 use Rattle.laboratory.specs.Draws.{DrawEnds}
 use Rattle.laboratory.specs.Settings.{IsWrongText}
 use Rattle.laboratory.specs.Statuses.{status_of}
+use Rattle.laboratory.specs.Tellings.{Drawn, Manner, TellsRead}
+
+pub untold : (variant : Variant) (manner : Manner) (pictured : Bool) (old new : Reading) (now : Tape) (fault : Fault)
+    → (status_of fault ≡ 3) ⊎ IsWrongText old new fault → TellsRead variant manner pictured old new now now (Err fault)
+untold variant manner pictured old new now fault (inl three) = inl (record { taken = refl; fine = refl }, (fault, refl, inl three))
+untold variant manner pictured old new now fault (inr wrong) = inl (record { taken = refl; fine = refl }, (fault, refl, inr (inr wrong)))
 
 pub unread : (order : DrawOrder) (pictured : Bool) (old new : Reading) (now : Tape) (fault : Fault) → 2 ≤ status_of fault
     → (status_of fault ≡ 3) ⊎ IsWrongText old new fault → DrawEnds order pictured old new now now (Err fault)
-unread order pictured old new now fault least (inl three) =
-    (λ one right. omega (arith, one, least), inl (record { taken = refl; fine = refl }, (fault, refl, inl three)))
-unread order pictured old new now fault least (inr wrong) =
-    (λ one right. omega (arith, one, least), inl (record { taken = refl; fine = refl }, (fault, refl, inr (inr wrong))))
+unread order pictured old new now fault least why =
+    (λ one right. omega (arith, one, least), untold order.variant (Drawn order.style) pictured old new now fault why)

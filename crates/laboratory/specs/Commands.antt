@@ -1,5 +1,5 @@
 -- How a command ends: what its status, or its fault, says of what was read, what it has written, and what is to be saved.
-use Rattle.std.specs.Prelude.{◌≡◌, ◌≢◌, ◌⊎◌, ℕ, ◌-◌, ◌*◌, ◌^◌, ◌≤◌, min, Bool, false, List, [], ◌∷◌, codes, Option, Some, None, is_some, IfSome, Vec, Result, Ok, Err, IfOk}
+use Rattle.std.specs.Prelude.{◌≡◌, ◌≢◌, ◌⊎◌, ℕ, ◌-◌, ◌*◌, ◌^◌, ◌≤◌, min, Bool, true, false, List, [], ◌∷◌, codes, Option, Some, None, is_some, IfSome, Vec, Result, Ok, Err, IfOk}
 use Rattle.std.specs.declared.alloc.Global.{Global}
 use Rattle.crashlab.specs.declared.variant.Variant.{Variant}
 use Rattle.crashlab.specs.declared.variant.Variant.TheVariants.{Right}
@@ -34,6 +34,7 @@ use Rattle.laboratory.specs.declared.ending.Ending.{Ending}
 use Rattle.laboratory.specs.declared.fault.Fault.{Fault}
 use Rattle.laboratory.specs.declared.fault.Fault.TheVariants.{BadSize, Read, Write}
 use Rattle.laboratory.specs.Statuses.{outcome, outcome_told, status_after, status_ended}
+use Rattle.laboratory.specs.Tellings.{Stepwise, TellsRead}
 
 -- what is printed of a trace: the line of its verdict, or nothing after a fault
 abbrev pub line_told : Result Verdict ReplayFault → List ℕ
@@ -81,7 +82,11 @@ HuntEnds order before now end =
 
 -- just the report of a schedule on the right lock is asked for
 abbrev pub IsPlainReplay : ReplayOrder → Bool → Type 0
-IsPlainReplay order pictured = (pictured ≡ false) × (order.variant ≡ Right) × (order.json ≡ false) × (order.save ≡ None)
+IsPlainReplay order pictured = (pictured ≡ false) × (order.variant ≡ Right) × (order.json ≡ false) × (order.each ≡ false) × (order.save ≡ None)
+
+-- the lines of each step are asked for
+abbrev pub IsStepwise : ReplayOrder → Type 0
+IsStepwise order = (order.each ≡ true) × (order.json ≡ false)
 
 -- the report of the schedule that was read was written, or why not is told
 abbrev pub TellsReplay : Reading → Reading → Tape → Tape → Result Ending Fault → Type 0
@@ -120,7 +125,8 @@ pub record IsReplayed {S : Type 0} (start : State) (run : Part S (ℕ × Refusal
 abbrev pub ReplayEnds : ReplayOrder → Bool → Reading → Reading → Tape → Tape → Result Ending Fault → Type 0
 ReplayEnds order pictured old new before now end =
     (status_ended end ≡ 1 → order.variant ≢ Right) × (IsPlainReplay order pictured → TellsReplay old new before now end)
-    × (IsNew order pictured → IfOk end (λ ending. SavesLast old new ending.save)) × TellsReads old new end
+    × (IsNew order pictured → IfOk end (λ ending. SavesLast old new ending.save))
+    × (IsStepwise order → TellsRead order.variant Stepwise pictured old new before now end) × TellsReads old new end
 
 -- the lab that a run is made in: room for each message, and numbers enough
 abbrev pub lab_for : RunOrder → Spec

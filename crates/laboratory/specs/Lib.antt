@@ -8,3 +8,4 @@ pub mod Settings
 pub mod Sizes
 pub mod Statuses
 pub mod Tallies
+pub mod Tellings

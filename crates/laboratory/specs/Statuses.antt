@@ -85,6 +85,11 @@ abbrev pub status_ended : Result Ending Fault → ℕ
 status_ended (Ok ending) = ending.status
 status_ended (Err fault) = status_of fault
 
+-- the program's answer for that of a replay
+abbrev pub answer_told : Result Verdict ReplayFault → Result Verdict Fault
+answer_told (Ok verdict) = Ok verdict
+answer_told (Err fault) = Err (fault_of_replay fault)
+
 -- a status, or the fault that is told
 abbrev pub outcome : Result Ending Fault → Result ℕ Fault
 outcome (Ok ending) = Ok ending.status

@@ -7,14 +7,16 @@ ghost use Rattle.judge.specs.Starts.{IsStart, state_of};
 ghost use Rattle.judge.specs.Table.{State};
 ghost use Rattle.rmeworld.specs.ImageRules.{IsLawfulImage};
 ghost use Rattle.rmeworld.specs.ImageStart.{IsStartOf};
+ghost use Rattle.rmeworld.specs.Replayed.{image_of};
 ghost use Rattle.rmeworld.specs.WorldState.{image_world as world_of_image};
 ghost use Rattle.schedule.specs.Plays.{tape};
 ghost use Rattle.schedule.specs.Runs.{behaviour, deeds_of, run_on};
 ghost use Rattle.schedule.specs.Verdicts.{verdict_on};
 ghost use Rattle.schedule.specs.Wholes.{reading, world_behaviour};
 ghost use Rattle.laboratory.specs.Commands.{IsEnded, TellsReads};
-ghost use Rattle.laboratory.specs.Draws.{DrawEnds, Draws, DrawsImage, DrawsNew, DrawsSchedule, DrawsVariant, ending_of as ending_for, IsWritten};
+ghost use Rattle.laboratory.specs.Draws.{DrawEnds};
 ghost use Rattle.laboratory.specs.Statuses.{status_after};
+ghost use Rattle.laboratory.specs.Tellings.{Drawn, ending_of as ending_for, IsWritten, Tells, TellsImage, TellsNew, TellsSchedule, TellsVariant};
 
 use crate::ending::{Ending, status_after_verdict};
 use crate::fault::Fault;
@@ -68,7 +70,7 @@ fn draw_machine<M: Machine, W: Sink>(
     style: Style,
     w: &mut W,
 ) -> Result<Ending, Fault>
-    ensures draws { (start : State) → Keeps judge.old start → Draws (behaviour M.start_refusal M.started M.advance_refusal M.stepped M.advanced M.crash_refusal M.crash_deed M.crashed) start machine.old first style schedule.now (tape (W.taken w.old) (W.failures w.old)) (tape (W.taken w.new) (W.failures w.new)) result }
+    ensures draws { (start : State) → Keeps judge.old start → Tells (Drawn style) (behaviour M.start_refusal M.started M.advance_refusal M.stepped M.advanced M.crash_refusal M.crash_deed M.crashed) M.image_of start machine.old first schedule.now (tape (W.taken w.old) (W.failures w.old)) (tape (W.taken w.new) (W.failures w.new)) result }
     ensures status { (start : State) → Keeps judge.old start → IfOk result (λ ending. ending.status ≡ status_after (verdict_on start (deeds_of (run_on (behaviour M.start_refusal M.started M.advance_refusal M.stepped M.advanced M.crash_refusal M.crash_deed M.crashed) 2 machine.old schedule.now.lines).told))) }
     ensures ended { IfOk result (IsEnded false (W.failures w.old) (W.failures w.new)) }
 {
@@ -83,7 +85,7 @@ fn draw_new<W: Sink>(
     style: Style,
     w: &mut W,
 ) -> Result<Ending, Fault>
-    ensures draws { DrawsNew style schedule.now (tape (W.taken w.old) (W.failures w.old)) (tape (W.taken w.new) (W.failures w.new)) result }
+    ensures draws { TellsNew (Drawn style) schedule.now (tape (W.taken w.old) (W.failures w.old)) (tape (W.taken w.new) (W.failures w.new)) result }
     ensures fine { IfOk result (λ ending. ending.status ≡ 0) }
     ensures ended { IfOk result (IsEnded false (W.failures w.old) (W.failures w.new)) }
 {
@@ -109,7 +111,7 @@ fn draw_variant<W: Sink>(
     style: Style,
     w: &mut W,
 ) -> Result<Ending, Fault>
-    ensures draws { DrawsVariant variant style schedule.now (tape (W.taken w.old) (W.failures w.old)) (tape (W.taken w.new) (W.failures w.new)) result }
+    ensures draws { TellsVariant variant (Drawn style) schedule.now (tape (W.taken w.old) (W.failures w.old)) (tape (W.taken w.new) (W.failures w.new)) result }
     ensures ended { IfOk result (IsEnded false (W.failures w.old) (W.failures w.new)) }
 {
     let mut world = variant_world(alloc, variant, schedule)?;
@@ -137,7 +139,7 @@ fn draw_started<W: Sink>(
     requires lawful { IsLawfulImage image.now }
     requires begins { IsStartOf image.now start.now }
     requires judged { IsStart start.now }
-    ensures draws { Draws world_behaviour (state_of start.now) (world_of_image image.now) Phase.Dead style schedule.now (tape (W.taken w.old) (W.failures w.old)) (tape (W.taken w.new) (W.failures w.new)) result }
+    ensures draws { Tells (Drawn style) world_behaviour image_of (state_of start.now) (world_of_image image.now) Phase.Dead schedule.now (tape (W.taken w.old) (W.failures w.old)) (tape (W.taken w.new) (W.failures w.new)) result }
     ensures fine { IfOk result (λ ending. ending.status ≡ 0) }
     ensures ended { IfOk result (IsEnded false (W.failures w.old) (W.failures w.new)) }
 {
@@ -164,7 +166,7 @@ fn draw_image<W: Sink>(
     w: &mut W,
 ) -> Result<Ending, Fault>
     requires { IsLawfulImage image }
-    ensures draws { DrawsImage style schedule.now (tape (W.taken w.old) (W.failures w.old)) (tape (W.taken w.new) (W.failures w.new)) result }
+    ensures draws { TellsImage (Drawn style) schedule.now (tape (W.taken w.old) (W.failures w.old)) (tape (W.taken w.new) (W.failures w.new)) result }
     ensures fine { IfOk result (λ ending. ending.status ≡ 0) }
     ensures ended { IfOk result (IsEnded false (W.failures w.old) (W.failures w.new)) }
 {
@@ -182,7 +184,7 @@ fn draw_schedule<W: Sink>(
     w: &mut W,
 ) -> Result<Ending, Fault>
     requires { IfSome image IsLawfulImage }
-    ensures draws { DrawsSchedule order.now.variant (is_some image) order.now.style schedule.now (tape (W.taken w.old) (W.failures w.old)) (tape (W.taken w.new) (W.failures w.new)) result }
+    ensures draws { TellsSchedule order.now.variant (is_some image) (Drawn order.now.style) schedule.now (tape (W.taken w.old) (W.failures w.old)) (tape (W.taken w.new) (W.failures w.new)) result }
     ensures fine { order.now.variant ≡ Variant.Right → IfOk result (λ ending. ending.status ≡ 0) }
     ensures ended { IfOk result (IsEnded false (W.failures w.old) (W.failures w.new)) }
 {

@@ -11,6 +11,8 @@ use meanings::Topic;
 pub struct ReplayOrder {
     /// Print one JSON object of the report's lines.
     pub json: bool,
+    /// Tell each step.
+    pub each: bool,
     pub variant: Variant,
     /// The file of the image that the world begins with.
     pub image: Option<String>,

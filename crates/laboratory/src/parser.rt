@@ -86,6 +86,13 @@ fn json<'a>(alloc: Global) -> Arg<'a> {
         .action(ArgAction::SetTrue)
 }
 
+fn each<'a>(alloc: Global) -> Arg<'a> {
+    Arg::new(alloc, "each")
+        .long("each")
+        .help("Tell each step, with its word and where its process stands")
+        .action(ArgAction::SetTrue)
+}
+
 fn image<'a>(alloc: Global) -> Arg<'a> {
     let help = "Begin with the words of this image, every process crashed";
     option(alloc, "image", "FILE", help)
@@ -99,6 +106,7 @@ fn replay_head<'a>(alloc: Global) -> Parser<'a> {
 
 fn replay<'a>(alloc: Global) -> Result<Parser<'a>, AllocError> {
     let command = replay_head(alloc).arg(json(alloc))?;
+    let command = command.arg(each(alloc))?;
     let command = command.arg(variant(alloc))?;
     let command = command.arg(image(alloc))?;
     let command = command.arg(option(alloc, "save", "FILE", "Write the last image to this file"))?;

@@ -1,17 +1,25 @@
 //! The command `replay`.
 
-ghost use Rattle.std.specs.Prelude.{◌≡◌, ◌≤◌, IfOk, IfSome, None, is_some, true, false};
+ghost use Rattle.std.specs.Prelude.{◌≡◌, ◌≤◌, IfErr, IfOk, IfSome, None, Result, is_some, true, false};
 ghost use Rattle.judge.specs.Stands.{Keeps};
-ghost use Rattle.judge.specs.Starts.{IsStart};
+ghost use Rattle.drawing.specs.Events.{events_on};
+ghost use Rattle.drawing.specs.Followed.{followed, Follows};
+ghost use Rattle.drawing.specs.Sheets.{layout_of as sizes_of};
+ghost use Rattle.judge.specs.Starts.{IsStart, state_of};
 ghost use Rattle.judge.specs.Table.{State};
 ghost use Rattle.rmeworld.specs.ImageRules.{IsLawfulImage};
 ghost use Rattle.rmeworld.specs.ImageStart.{IsStartOf};
 ghost use Rattle.rmeworld.specs.ImageText.{image_line};
+ghost use Rattle.rmeworld.specs.Replayed.{image_of};
+ghost use Rattle.rmeworld.specs.WorldState.{image_world as world_of_image};
 ghost use Rattle.schedule.specs.Plays.{tape};
 ghost use Rattle.schedule.specs.Runs.{behaviour, run_on};
-ghost use Rattle.schedule.specs.Wholes.{reading};
-ghost use Rattle.laboratory.specs.Commands.{IsEnded, IsLast, IsPlayed, IsReplayed, ReplayEnds, TellsReads, TellsReplay};
-ghost use Rattle.laboratory.specs.Statuses.{fault_on_page};
+ghost use Rattle.schedule.specs.Schedules.{head_of};
+ghost use Rattle.schedule.specs.Wholes.{reading, world_behaviour};
+ghost use Rattle.laboratory.specs.Commands.{IsEnded, IsLast, IsPlayed, IsReplayed, IsStepwise, ReplayEnds, TellsReads, TellsReplay};
+ghost use Rattle.laboratory.specs.Statuses.{answer_told, fault_on_page};
+ghost use Rattle.laboratory.specs.Tellings.{Stepwise, Tells, TellsImage, TellsNew, TellsSchedule, TellsVariant};
+ghost use Rattle.std.proofs.Math.ListN.{replicate};
 
 use crate::ending::{Ending, status_after_verdict};
 use crate::fault::Fault;
@@ -22,6 +30,7 @@ use crate::setting::{
     variant_world,
 };
 use crashlab::Variant;
+use drawing::{Phase, follow};
 use judge::{Judge, Start};
 use rmeworld::{Image, Machine, write_image};
 use schedule::device::write_all;
@@ -39,18 +48,39 @@ fn on_page(fault: ReplayFault) -> Fault
     }
 }
 
+/// Plays the schedule, and writes its report, or tells each step.
+fn report<M: Machine, W: Sink>(
+    alloc: Global,
+    machine: &mut M,
+    judge: &mut Judge,
+    schedule: &Schedule,
+    first: Phase,
+    each: bool,
+    w: &mut W,
+) -> Result<Verdict, ReplayFault>
+    ensures played { (start : State) → Keeps judge.old start → IfOk result (IsPlayed start (run_on (behaviour M.start_refusal M.started M.advance_refusal M.stepped M.advanced M.crash_refusal M.crash_deed M.crashed) 2 machine.old schedule.now.lines) machine.new (W.failures w.old) (W.failures w.new)) }
+    ensures follows { each ≡ true → (start : State) → Keeps judge.old start → Follows (tape (W.taken w.old) (W.failures w.old)) (tape (W.taken w.new) (W.failures w.new)) start M.image_of (run_on (behaviour M.start_refusal M.started M.advance_refusal M.stepped M.advanced M.crash_refusal M.crash_deed M.crashed) 2 machine.old schedule.now.lines) (followed (sizes_of (head_of schedule.now)) (replicate schedule.now.procs first) (events_on (behaviour M.start_refusal M.started M.advance_refusal M.stepped M.advanced M.crash_refusal M.crash_deed M.crashed) machine.old schedule.now.lines)) result }
+{
+    if each {
+        return follow(alloc, machine, judge, schedule, first, w);
+    }
+    replay_on(alloc, machine, judge, schedule, w)
+}
+
 /// Plays the schedule to a page in memory, and writes its lines as one JSON object.
 fn play_object<M: Machine, W: Sink>(
     alloc: Global,
     machine: &mut M,
     judge: &mut Judge,
     schedule: &Schedule,
+    first: Phase,
+    each: bool,
     w: &mut W,
 ) -> Result<Verdict, Fault>
     ensures { (start : State) → Keeps judge.old start → IfOk result (IsPlayed start (run_on (behaviour M.start_refusal M.started M.advance_refusal M.stepped M.advanced M.crash_refusal M.crash_deed M.crashed) 2 machine.old schedule.now.lines) machine.new (W.failures w.old) (W.failures w.new)) }
 {
     let mut page = Page::new(alloc);
-    let verdict = replay_on(alloc, machine, judge, schedule, &mut page).map_err(on_page)?;
+    let verdict = report(alloc, machine, judge, schedule, first, each, &mut page).map_err(on_page)?;
     let object = json_report(alloc, page.as_slice())?;
     match write_all(w, &object) {
         Ok(()) => Ok(verdict),
@@ -64,20 +94,26 @@ fn play<M: Machine, W: Sink>(
     machine: &mut M,
     judge: &mut Judge,
     schedule: &Schedule,
-    json: bool,
+    first: Phase,
+    order: &ReplayOrder,
     w: &mut W,
 ) -> Result<Verdict, Fault>
-    ensures { (start : State) → Keeps judge.old start → IfOk result (IsPlayed start (run_on (behaviour M.start_refusal M.started M.advance_refusal M.stepped M.advanced M.crash_refusal M.crash_deed M.crashed) 2 machine.old schedule.now.lines) machine.new (W.failures w.old) (W.failures w.new)) }
+    ensures played { (start : State) → Keeps judge.old start → IfOk result (IsPlayed start (run_on (behaviour M.start_refusal M.started M.advance_refusal M.stepped M.advanced M.crash_refusal M.crash_deed M.crashed) 2 machine.old schedule.now.lines) machine.new (W.failures w.old) (W.failures w.new)) }
+    ensures follows { IsStepwise order.now → (start : State) → Keeps judge.old start → (answer : Result Verdict ReplayFault) × Follows (tape (W.taken w.old) (W.failures w.old)) (tape (W.taken w.new) (W.failures w.new)) start M.image_of (run_on (behaviour M.start_refusal M.started M.advance_refusal M.stepped M.advanced M.crash_refusal M.crash_deed M.crashed) 2 machine.old schedule.now.lines) (followed (sizes_of (head_of schedule.now)) (replicate schedule.now.procs first) (events_on (behaviour M.start_refusal M.started M.advance_refusal M.stepped M.advanced M.crash_refusal M.crash_deed M.crashed) machine.old schedule.now.lines)) answer × (result ≡ answer_told answer) }
 {
-    if json {
-        return play_object(alloc, machine, judge, schedule, w);
+    if order.json {
+        return play_object(alloc, machine, judge, schedule, first, order.each, w);
     }
-    Ok(replay_on(alloc, machine, judge, schedule, w)?)
+    match report(alloc, machine, judge, schedule, first, order.each, w) {
+        Ok(verdict) => Ok(verdict),
+        Err(fault) => Err(Fault::from(fault)),
+    }
 }
 
 /// The last image as text, where it is to be saved.
 fn saved<M: Machine>(alloc: Global, machine: &M, save: bool) -> Result<Option<Vec<u8>>, Fault>
     ensures asked { IfOk result (λ text. is_some text ≡ save) }
+    ensures memory { IfErr result (λ fault. fault ≡ Fault.OutOfMemory) }
     ensures last { IfOk result (λ text. IfSome text (λ image. image.items ≡ image_line (M.image_of machine.now))) }
 {
     if !save {
@@ -98,12 +134,14 @@ fn replay_machine<M: Machine, W: Sink>(
     machine: &mut M,
     judge: &mut Judge,
     schedule: &Schedule,
+    first: Phase,
     order: &ReplayOrder,
     w: &mut W,
 ) -> Result<Ending, Fault>
-    ensures { (start : State) → Keeps judge.old start → IfOk result (IsReplayed start (run_on (behaviour M.start_refusal M.started M.advance_refusal M.stepped M.advanced M.crash_refusal M.crash_deed M.crashed) 2 machine.old schedule.now.lines) M.image_of (is_some order.now.save) (W.failures w.old) (W.failures w.new)) }
+    ensures replayed { (start : State) → Keeps judge.old start → IfOk result (IsReplayed start (run_on (behaviour M.start_refusal M.started M.advance_refusal M.stepped M.advanced M.crash_refusal M.crash_deed M.crashed) 2 machine.old schedule.now.lines) M.image_of (is_some order.now.save) (W.failures w.old) (W.failures w.new)) }
+    ensures follows { IsStepwise order.now → (start : State) → Keeps judge.old start → Tells Stepwise (behaviour M.start_refusal M.started M.advance_refusal M.stepped M.advanced M.crash_refusal M.crash_deed M.crashed) M.image_of start machine.old first schedule.now (tape (W.taken w.old) (W.failures w.old)) (tape (W.taken w.new) (W.failures w.new)) result }
 {
-    let verdict = play(alloc, machine, judge, schedule, order.json, w)?;
+    let verdict = play(alloc, machine, judge, schedule, first, order, w)?;
     let save = saved(alloc, machine, order.save.is_some())?;
     Ok(Ending {
         status: status_after_verdict(verdict),
@@ -120,12 +158,21 @@ fn replay_new<W: Sink>(
 ) -> Result<Ending, Fault>
     ensures fine { IfOk result (λ ending. ending.status ≡ 0) }
     ensures last { IfOk result (λ ending. IfSome ending.save (λ image. IsLast schedule.now image.items)) }
+    ensures follows { IsStepwise order.now → TellsNew Stepwise schedule.now (tape (W.taken w.old) (W.failures w.old)) (tape (W.taken w.new) (W.failures w.new)) result }
     ensures ended { IfOk result (IsEnded (is_some order.now.save) (W.failures w.old) (W.failures w.new)) }
 {
     worlds_are_never_found_out();
     let mut world = new_world(alloc, schedule)?;
     let mut judge = new_judge(alloc, schedule)?;
-    replay_machine(alloc, &mut world, &mut judge, schedule, order, w)
+    replay_machine(
+        alloc,
+        &mut world,
+        &mut judge,
+        schedule,
+        Phase::Rest,
+        order,
+        w,
+    )
 }
 
 /// The schedule on a world that goes on from an image.
@@ -138,6 +185,7 @@ fn replay_image<W: Sink>(
 ) -> Result<Ending, Fault>
     requires { IsLawfulImage image }
     ensures fine { IfOk result (λ ending. ending.status ≡ 0) }
+    ensures follows { IsStepwise order.now → TellsImage Stepwise schedule.now (tape (W.taken w.old) (W.failures w.old)) (tape (W.taken w.new) (W.failures w.new)) result }
     ensures ended { IfOk result (IsEnded (is_some order.now.save) (W.failures w.old) (W.failures w.new)) }
 {
     let image = fitting(alloc, image, schedule)?;
@@ -158,12 +206,21 @@ fn replay_started<W: Sink>(
     requires begins { IsStartOf image.now start.now }
     requires judged { IsStart start.now }
     ensures fine { IfOk result (λ ending. ending.status ≡ 0) }
+    ensures follows { IsStepwise order.now → Tells Stepwise world_behaviour image_of (state_of start.now) (world_of_image image.now) Phase.Dead schedule.now (tape (W.taken w.old) (W.failures w.old)) (tape (W.taken w.new) (W.failures w.new)) result }
     ensures ended { IfOk result (IsEnded (is_some order.now.save) (W.failures w.old) (W.failures w.new)) }
 {
     worlds_are_never_found_out();
     let mut world = image_world(alloc, image)?;
     let mut judge = started_judge(alloc, start)?;
-    replay_machine(alloc, &mut world, &mut judge, schedule, order, w)
+    replay_machine(
+        alloc,
+        &mut world,
+        &mut judge,
+        schedule,
+        Phase::Dead,
+        order,
+        w,
+    )
 }
 
 /// The schedule on a new world of a variant of the lock.
@@ -173,11 +230,20 @@ fn replay_variant<W: Sink>(
     order: &ReplayOrder,
     w: &mut W,
 ) -> Result<Ending, Fault>
+    ensures follows { IsStepwise order.now → TellsVariant order.now.variant Stepwise schedule.now (tape (W.taken w.old) (W.failures w.old)) (tape (W.taken w.new) (W.failures w.new)) result }
     ensures ended { IfOk result (IsEnded (is_some order.now.save) (W.failures w.old) (W.failures w.new)) }
 {
     let mut world = variant_world(alloc, order.variant, schedule)?;
     let mut judge = new_judge(alloc, schedule)?;
-    replay_machine(alloc, &mut world, &mut judge, schedule, order, w)
+    replay_machine(
+        alloc,
+        &mut world,
+        &mut judge,
+        schedule,
+        Phase::Rest,
+        order,
+        w,
+    )
 }
 
 /// The schedule on the machine that is asked for.
@@ -191,6 +257,7 @@ fn replay_schedule<W: Sink>(
     requires { IfSome image IsLawfulImage }
     ensures fine { order.now.variant ≡ Variant.Right → IfOk result (λ ending. ending.status ≡ 0) }
     ensures last { order.now.variant ≡ Variant.Right → is_some image ≡ false → IfOk result (λ ending. IfSome ending.save (λ image. IsLast schedule.now image.items)) }
+    ensures follows { IsStepwise order.now → TellsSchedule order.now.variant (is_some image) Stepwise schedule.now (tape (W.taken w.old) (W.failures w.old)) (tape (W.taken w.new) (W.failures w.new)) result }
     ensures ended { IfOk result (IsEnded (is_some order.now.save) (W.failures w.old) (W.failures w.new)) }
 {
     match (image, order.variant) {
@@ -226,7 +293,10 @@ pub fn replay_order<R: Source, W: Sink>(
     ensures ends { ReplayEnds order.now (is_some image.entry) (reading (R.given r.old) (R.ended r.old) (R.failures r.old)) (reading (R.given r.new) (R.ended r.new) (R.failures r.new)) (tape (W.taken w.old) (W.failures w.old)) (tape (W.taken w.new) (W.failures w.new)) result }
     ensures ended { IfOk result (IsEnded (is_some order.now.save) (W.failures w.old) (W.failures w.new)) }
 {
-    let plain = order.variant == Variant::Right && !order.json && order.save.is_none();
+    let plain = order.variant == Variant::Right
+        && !order.json
+        && !order.each
+        && order.save.is_none();
     if image.is_none() && plain {
         return replay_plain(alloc, r, w);
     }

@@ -96,6 +96,7 @@ fn variant_beside_image(matches: &ArgMatches<'_>) -> Result<Variant, WordsFault>
 fn replay_words(alloc: Global, matches: &ArgMatches<'_>) -> Result<ReplayOrder, WordsFault> {
     Ok(ReplayOrder {
         json: matches.get_flag("json"),
+        each: matches.get_flag("each"),
         variant: variant_beside_image(matches)?,
         image: text_of(alloc, matches, "image")?,
         save: text_of(alloc, matches, "save")?,

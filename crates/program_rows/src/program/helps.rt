@@ -32,6 +32,7 @@ Arguments:
 
 Options:
       --json          Print one JSON object of the report's lines
+      --each          Tell each step, with its word and where its process stands
       --variant <V>   right, no-look, no-ties, renumber, exit-on-crash, count-up or last-skipped
       --image <FILE>  Begin with the words of this image, every process crashed
       --save <FILE>   Write the last image to this file

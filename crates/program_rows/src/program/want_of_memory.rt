@@ -5,6 +5,7 @@ use super::explains::{NO_NAME, NO_NEWLINE};
 use super::invocation::{Failing, Fake, Feed};
 use super::invocations::{IN_ORDER, OBJECT, REPORT, SMALLEST};
 use super::scarce::{PIECES, Scarce};
+use super::stepwise::TOLD;
 use super::words_of;
 use crate::kit::check;
 use laboratory::program::run_program;
@@ -70,9 +71,10 @@ fn comes_to(
     check(0 < refused && refused < PIECES as u64, "refused")
 }
 
-const ROWS: [(&str, &str, &str, &str); 6] = [
+const ROWS: [(&str, &str, &str, &str); 7] = [
     ("rmelab replay", SMALLEST, REPORT, ""),
     ("rmelab replay --json --save a.json", SMALLEST, OBJECT, ""),
+    ("rmelab replay --each", SMALLEST, TOLD, ""),
     ("rmelab draw", SMALLEST, DRAWN, ""),
     ("rmelab judge", IN_ORDER, "verdict fine\n", ""),
     ("rmelab explain fault 5", "", NO_NEWLINE, ""),

@@ -14,6 +14,7 @@ fn a_replay_of_standard_input(rt: HostRuntime) -> Result<(), Fail> {
     };
     let plain = ReplayOrder {
         json: false,
+        each: false,
         variant: Variant::Right,
         image: None,
         save: None,

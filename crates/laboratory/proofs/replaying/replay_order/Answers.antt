@@ -1,0 +1,22 @@
+use Rattle.std.proofs.Common.{rules, is_some, arith}
+use Rattle.std.proofs.lemmas.Result.{err_from_is_err_and}
+use Rattle.schedule.specs.Plays.{tape}
+use Rattle.schedule.specs.Wholes.{reading}
+use Rattle.laboratory.specs.Tellings.{Stepwise}
+use Rattle.laboratory.proofs.Draws.{untold}
+use Rattle.laboratory.proofs.replaying.replay_order.Goals as goal
+
+pub returns-in_err-schedule-clause-ends : goal.returns-in_err-schedule-clause-ends
+returns-in_err-schedule-clause-ends g c =
+    let p = err_from_is_err_and c.from_residual-in_err-schedule.result c.from_residual-in_err-schedule.ensures.1 in
+    rw (p.1, p.2) (
+      λ one right. omega (arith, one, c.in_err-schedule.ensures.status),
+      search rules,
+      λ new. tt,
+      λ stepwise.
+          untold c.args.order.now.variant Stepwise (is_some c.args.image)
+          (reading (g.R.Source.given c.args.r.now) (g.R.Source.ended c.args.r.now) (g.R.Source.failures c.args.r.now))
+          (reading (g.R.Source.given c.schedule_read.new.r) (g.R.Source.ended c.schedule_read.new.r) (g.R.Source.failures c.schedule_read.new.r))
+          (tape (g.W.Sink.taken c.args.w.now) (g.W.Sink.failures c.args.w.now)) _ c.in_err-schedule.ensures.wrong,
+      c.in_err-schedule.ensures.unread,
+    )

@@ -1,0 +1,141 @@
+-- What is told of a schedule's run, on the machine that is asked for: a drawing, or the run step by step.
+use Rattle.std.specs.Prelude.{◌≡◌, ◌≢◌, ◌⊎◌, ℕ, ◌+◌, ◌-◌, ◌^◌, min, Bool, true, false, List, None, Result, Ok, Err}
+use Rattle.std.proofs.Math.ListN.{replicate}
+use Rattle.crashlab.specs.declared.variant.Variant.{Variant}
+use Rattle.crashlab.specs.declared.variant.Variant.TheVariants.{Right}
+use Rattle.crashlab.specs.VariantWorlds as variants
+use Rattle.drawing.specs.declared.act.Row.{Row}
+use Rattle.drawing.specs.declared.drawing.End.{End}
+use Rattle.drawing.specs.declared.drawing.End.TheVariants as ends
+use Rattle.drawing.specs.declared.phase.Phase.{Phase}
+use Rattle.drawing.specs.declared.phase.Phase.TheVariants.{Rest, Dead}
+use Rattle.drawing.specs.declared.sheet.Style.{Style}
+use Rattle.drawing.specs.Drawings.{sheet_of, spelled}
+use Rattle.drawing.specs.Events.{events_on}
+use Rattle.drawing.specs.Followed.{followed, Follows}
+use Rattle.drawing.specs.Rows.{events_in, EndsAs}
+use Rattle.drawing.specs.Sheets.{layout_of as sizes_of}
+use Rattle.judge.specs.Starts.{state_of}
+use Rattle.judge.specs.Table.{State, empty}
+use Rattle.judge.specs.declared.start.Start.{Start}
+use Rattle.rmeworld.specs.declared.image.Image.{Image}
+use Rattle.rmeworld.specs.ImageRules.{IsLawfulImage}
+use Rattle.rmeworld.specs.ImageStart.{IsStartOf}
+use Rattle.rmeworld.specs.Replayed.{image_of}
+use Rattle.rmeworld.specs.WorldState.{image_world, new_world}
+use Rattle.schedule.specs.declared.replay_fault.ReplayFault.{ReplayFault}
+use Rattle.schedule.specs.declared.verdict.Verdict.{Verdict}
+use Rattle.schedule.specs.Plays.{Tape, Writes, Begins}
+use Rattle.schedule.specs.Runs.{Behaviour, behaviour, run_on}
+use Rattle.schedule.specs.Schedules.{Scheduled, head_of, schedule_at}
+use Rattle.schedule.specs.Wholes.{Reading, Silent, WasRead, layout_of, world_behaviour}
+use Rattle.laboratory.specs.declared.ending.Ending.{Ending}
+use Rattle.laboratory.specs.declared.fault.Fault.{Fault}
+use Rattle.laboratory.specs.declared.fault.Fault.TheVariants as faults
+use Rattle.laboratory.specs.Settings.{IsFitting, IsMisfit, IsUnmade, IsWrongText}
+use Rattle.laboratory.specs.Statuses.{outcome, outcome_told, status_after, status_of}
+
+-- ---- one run
+
+-- as a drawing, or step by step
+pub data Manner : Type 0 where
+  Drawn : Style → Manner
+  Stepwise : Manner
+
+-- the status of a run that is drawn whole is that of its verdict; where a line was refused, that is told
+abbrev pub ending_of : End → Result Ending Fault
+ending_of (ends.Judged verdict) = Ok (record { status = status_after verdict; save = None })
+ending_of (ends.Refused line number verdict) = Err (faults.Refused line number)
+
+-- the text of a drawing was written, or a beginning of it where the device or memory has failed
+abbrev pub IsWritten : Tape → Tape → List ℕ → End → Result Ending Fault → Type 0
+IsWritten before now text last (Err faults.Write) = Begins before.taken now.taken text × (now.failures ≡ min (before.failures + 1) (2 ^ 64 - 1))
+IsWritten before now text last (Err faults.OutOfMemory) = Begins before.taken now.taken text × (now.failures ≡ before.failures)
+IsWritten before now text last end = Writes before now text × (end ≡ ending_of last)
+
+-- what is drawn are rows that show just the steps and crashes of the schedule's run on a machine, and how it ends
+pub record DrawsRun {S : Type 0} (b : Behaviour S) (start : State) (s : S) (first : Phase) (style : Style) (schedule : Scheduled) (before now : Tape) (end : Result Ending Fault) : Type 0 where
+  pub rows : List Row
+  pub last : End
+  pub shows : events_in rows ≡ events_on b s schedule.lines
+  pub ends_as : EndsAs start (run_on b 2 s schedule.lines) last
+  pub written : IsWritten before now (spelled (sheet_of style (head_of schedule) rows last) first rows last) last end
+
+-- the steps of the run were told, and the command ends as that does; or memory for the image that is to be saved is wanted
+pub record FollowsRun {S : Type 0} (b : Behaviour S) (picture_of : S → Image) (start : State) (s : S) (first : Phase) (schedule : Scheduled) (before now : Tape) (end : Result Ending Fault) : Type 0 where
+  pub answer : Result Verdict ReplayFault
+  pub follows : Follows before now start picture_of (run_on b 2 s schedule.lines) (followed (sizes_of (head_of schedule)) (replicate schedule.procs first) (events_on b s schedule.lines)) answer
+  pub ends_so : (outcome end ≡ outcome_told answer) ⊎ (end ≡ Err faults.OutOfMemory)
+
+-- nothing is told, for want of memory
+pub record Wants (before now : Tape) (end : Result Ending Fault) : Type 0 where
+  pub silent : Silent before now
+  pub memory : end ≡ Err faults.OutOfMemory
+
+abbrev pub Tells : {S : Type 0} → Manner → Behaviour S → (S → Image) → State → S → Phase → Scheduled → Tape → Tape → Result Ending Fault → Type 0
+Tells (Drawn style) b picture_of start s first schedule before now end = DrawsRun b start s first style schedule before now end ⊎ Wants before now end
+Tells Stepwise b picture_of start s first schedule before now end = FollowsRun b picture_of start s first schedule before now end ⊎ Wants before now end
+
+-- ---- the machine that is asked for
+
+-- nothing is told but a fault of this kind
+abbrev pub Refuses : Tape → Tape → (Fault → Type 0) → Result Ending Fault → Type 0
+Refuses before now Is end = Silent before now × ((fault : Fault) × (end ≡ Err fault) × Is fault)
+
+-- a world of a variant as the machine that it is
+abbrev pub variant_behaviour : Behaviour variants.VariantState
+variant_behaviour =
+    behaviour variants.start_refusal variants.started variants.advance_refusal variants.stepped variants.advanced variants.crash_refusal (λ s p. variants.crash_deed p)
+    variants.crashed
+
+-- on a new world of the right lock, all processes at rest
+abbrev pub TellsNew : Manner → Scheduled → Tape → Tape → Result Ending Fault → Type 0
+TellsNew manner schedule before now end =
+    Refuses before now (IsUnmade schedule) end
+    ⊎ Tells manner world_behaviour image_of (empty schedule.procs schedule.cap) (new_world (layout_of schedule) schedule.limit) Rest schedule before now end
+
+-- on one of a variant
+abbrev pub TellsVariant : Variant → Manner → Scheduled → Tape → Tape → Result Ending Fault → Type 0
+TellsVariant variant manner schedule before now end =
+    Refuses before now (IsUnmade schedule) end
+    ⊎ Tells manner variant_behaviour variants.image_of (empty schedule.procs schedule.cap) (variants.new_world variant (layout_of schedule) schedule.limit) Rest schedule before now end
+
+-- on the world of an image, all processes dead, before a judge that starts where the image stands
+pub record TellsOn (image : Image) (manner : Manner) (schedule : Scheduled) (before now : Tape) (end : Result Ending Fault) : Type 0 where
+  pub lawful : IsLawfulImage image
+  pub fits : IsFitting image schedule
+  pub start : Start
+  pub begins : IsStartOf image start
+  pub tells : Tells manner world_behaviour image_of (state_of start) (image_world image) Dead schedule before now end
+
+-- an image fits the header, once it is as wide
+abbrev pub TellsImage : Manner → Scheduled → Tape → Tape → Result Ending Fault → Type 0
+TellsImage manner schedule before now end =
+    Refuses before now (λ fault. (image : Image) × IsLawfulImage image × IsMisfit image schedule fault) end
+    ⊎ (Wants before now end ⊎ ((image : Image) × TellsOn image manner schedule before now end))
+
+-- an image goes with the right lock alone
+pub record TellsSchedule (variant : Variant) (pictured : Bool) (manner : Manner) (schedule : Scheduled) (before now : Tape) (end : Result Ending Fault) : Type 0 where
+  pub on_image : pictured ≡ true → TellsImage manner schedule before now end
+  pub on_new : pictured ≡ false → variant ≡ Right → TellsNew manner schedule before now end
+  pub on_variant : pictured ≡ false → variant ≢ Right → TellsVariant variant manner schedule before now end
+
+-- ---- the whole
+
+-- the run of the schedule that was read is told
+pub record TellsText (variant : Variant) (manner : Manner) (pictured : Bool) (old new : Reading) (before now : Tape) (end : Result Ending Fault) : Type 0 where
+  pub text : List ℕ
+  pub read : WasRead old new text
+  pub schedule : Scheduled
+  pub spelled_so : schedule_at text ≡ Ok schedule
+  pub told : TellsSchedule variant pictured manner schedule before now end
+
+-- what is wrong with what is read: the image, or the text; or a device or memory fails
+abbrev pub IsUnread : Bool → Reading → Reading → Fault → Type 0
+IsUnread pictured old new fault =
+    (status_of fault ≡ 3) ⊎ (((pictured ≡ true) × ((rule : ℕ) × (fault ≡ faults.Image rule))) ⊎ IsWrongText old new fault)
+
+-- the run is told, or a fault of what was to be read
+abbrev pub TellsRead : Variant → Manner → Bool → Reading → Reading → Tape → Tape → Result Ending Fault → Type 0
+TellsRead variant manner pictured old new before now end =
+    Refuses before now (IsUnread pictured old new) end ⊎ TellsText variant manner pictured old new before now end

@@ -87,6 +87,13 @@ impl Schedule {
         }
     }
 
+    /// A law of every schedule: its text can say each of its numbers, so a line of steps asks for one at least.
+    pub fn can_be_spelled(&self)
+        ensures { IsScheduled self.now }
+    {
+        let _ = &self.lines;
+    }
+
     /// The lines.
     pub fn lines(&self) -> &[Line]
         ensures { result.now ≡ self.now.lines }

@@ -19,6 +19,8 @@ mod mailbox;
 #[cfg(test)]
 mod refusals;
 #[cfg(test)]
+mod shrinks;
+#[cfg(test)]
 mod texts;
 #[cfg(test)]
 mod traces;

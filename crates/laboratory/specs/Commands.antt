@@ -23,12 +23,14 @@ use Rattle.schedule.specs.Trials.{trace_answer}
 use Rattle.schedule.specs.Runs.{Part, deeds_of}
 use Rattle.schedule.specs.Verdicts.{verdict_on}
 use Rattle.schedule.specs.Wholes.{Reading, WasRead, ReplaysSource, world_run}
+use Rattle.shrinking.specs.Shrunk.{Shrinks}
 use Rattle.laboratory.specs.declared.order.Command.{Command}
-use Rattle.laboratory.specs.declared.order.Command.TheVariants.{Replay, Run, Hunt, Judge, Draw, Explain}
+use Rattle.laboratory.specs.declared.order.Command.TheVariants.{Replay, Run, Hunt, Judge, Draw, Shrink, Explain}
 use Rattle.laboratory.specs.declared.order.HuntOrder.{HuntOrder}
 use Rattle.laboratory.specs.declared.order.ReplayOrder.{ReplayOrder}
 use Rattle.laboratory.specs.declared.order.RunOrder.{RunOrder}
 use Rattle.laboratory.specs.Draws.{DrawEnds}
+use Rattle.laboratory.specs.Shrinks.{ShrinkEnds}
 use Rattle.laboratory.specs.Sizes.{HuntFits, RunFits}
 use Rattle.laboratory.specs.declared.ending.Ending.{Ending}
 use Rattle.laboratory.specs.declared.fault.Fault.{Fault}
@@ -66,17 +68,22 @@ TellsReads old new (Err fault) = (new.failures ≡ old.failures) ⊎ (fault ≡ 
 abbrev pub JudgeEnds : Reading → Reading → Tape → Tape → Result Ending Fault → Type 0
 JudgeEnds old new before now end = (IsBroken end ⊎ TellsTrace old new before now end) × TellsReads old new end
 
+-- the schedule that was found is written, or the least one that it is made
+abbrev pub TellsFound : Bool → Variant → Scheduled → Tape → Tape → Type 0
+TellsFound false variant found before now = Writes before now (spelling found)
+TellsFound true variant found before now = (least : Scheduled) × Shrinks variant found (Some least) × Writes before now (spelling least)
+
 -- a schedule that finds a wrong variant out was written
-pub record TellsFind (variant : Variant) (before now : Tape) : Type 0 where
+pub record TellsFind (shrink : Bool) (variant : Variant) (before now : Tape) : Type 0 where
   pub wrong : variant ≢ Right
   pub schedule : Scheduled
   pub found : IsFound variant schedule
-  pub text : Writes before now (spelling schedule)
+  pub text : TellsFound shrink variant schedule before now
 
 abbrev pub HuntEnds : HuntOrder → Tape → Tape → Result Ending Fault → Type 0
 HuntEnds order before now end =
     (outcome end ≡ Ok 0) × Writes before now (line_of (codes "nothing" ∷ codes "found" ∷ []))
-    ⊎ (outcome end ≡ Ok 1) × TellsFind order.variant before now
+    ⊎ (outcome end ≡ Ok 1) × TellsFind order.shrink order.variant before now
     ⊎ (outcome end ≡ Err BadSize) × (HuntFits order → ⊥)
     ⊎ IsBroken end
 
@@ -159,4 +166,5 @@ CommandEnds (Run order) pictured old new before now end = RunEnds order end
 CommandEnds (Hunt order) pictured old new before now end = HuntEnds order before now end
 CommandEnds (Judge file) pictured old new before now end = JudgeEnds old new before now end
 CommandEnds (Draw order) pictured old new before now end = DrawEnds order pictured old new before now end × TellsReads old new end
+CommandEnds (Shrink order) pictured old new before now end = ShrinkEnds order old new before now end × TellsReads old new end
 CommandEnds (Explain topic) pictured old new before now end = (new ≡ old) × ExplainEnds topic before now end

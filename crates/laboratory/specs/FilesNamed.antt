@@ -2,7 +2,7 @@
 use Rattle.std.specs.Prelude.{String, Option, None}
 use Rattle.std.specs.declared.alloc.Global.{Global}
 use Rattle.laboratory.specs.declared.order.Command.{Command}
-use Rattle.laboratory.specs.declared.order.Command.TheVariants.{Replay, Judge, Draw}
+use Rattle.laboratory.specs.declared.order.Command.TheVariants.{Replay, Judge, Draw, Shrink}
 
 -- the image that a world begins with
 abbrev pub image_of : Command → Option (String Global)
@@ -15,6 +15,7 @@ abbrev pub input_of : Command → Option (String Global)
 input_of (Replay order) = order.file
 input_of (Judge file) = file
 input_of (Draw order) = order.file
+input_of (Shrink order) = order.file
 input_of command = None
 
 -- where the last image is written

@@ -5,6 +5,7 @@ pub mod Gates
 pub mod Lines
 pub mod Programs
 pub mod Settings
+pub mod Shrinks
 pub mod Sizes
 pub mod Statuses
 pub mod Tallies

@@ -1,7 +1,7 @@
 -- The ranges of the numbers that the program is asked for.
 use Rattle.std.specs.Prelude.{◌≤◌}
 use Rattle.laboratory.specs.declared.order.Command.{Command}
-use Rattle.laboratory.specs.declared.order.Command.TheVariants.{Replay, Run, Hunt, Judge, Draw, Explain}
+use Rattle.laboratory.specs.declared.order.Command.TheVariants.{Replay, Run, Hunt, Judge, Draw, Shrink, Explain}
 use Rattle.laboratory.specs.declared.order.HuntOrder.{HuntOrder}
 use Rattle.laboratory.specs.declared.order.RunOrder.{RunOrder}
 
@@ -18,4 +18,5 @@ IsSized (Run order) = RunFits order
 IsSized (Hunt order) = HuntFits order
 IsSized (Judge file) = Unit {0}
 IsSized (Draw order) = Unit {0}
+IsSized (Shrink order) = Unit {0}
 IsSized (Explain topic) = Unit {0}

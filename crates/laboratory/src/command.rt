@@ -1,10 +1,10 @@
 //! The commands, over a reader and two writers.
 
-ghost use Rattle.std.specs.Prelude.{◌≡◌, Result, IfErr, IfOk, OnOk, is_some, false};
-ghost use Rattle.schedule.specs.Plays.{tape, Writes};
-ghost use Rattle.schedule.specs.Schedules.{spelling};
+ghost use Rattle.std.specs.Prelude.{◌≡◌, Result, IfErr, IfOk, OnOk, is_some, true, false};
+ghost use Rattle.crashlab.specs.Hunts.{IsFound};
+ghost use Rattle.schedule.specs.Plays.{tape};
 ghost use Rattle.schedule.specs.Wholes.{reading};
-ghost use Rattle.laboratory.specs.Commands.{CommandEnds, ExplainEnds, HuntEnds, IsEnded, JudgeEnds};
+ghost use Rattle.laboratory.specs.Commands.{CommandEnds, ExplainEnds, HuntEnds, IsEnded, JudgeEnds, TellsFound};
 ghost use Rattle.laboratory.specs.FilesNamed.{save_of};
 ghost use Rattle.laboratory.specs.Programs.{Closes};
 ghost use Rattle.laboratory.specs.Statuses.{status_of};
@@ -16,10 +16,13 @@ use crate::line::told;
 use crate::order::{Command, HuntOrder};
 use crate::replaying::replay_order;
 use crate::running::run_order;
+use crate::shrunk::{shrink_order, write_lines};
+use crashlab::Variant;
 use crashlab::hunt::hunt;
 use meanings::{Topic, tell_all_names, tell_topic};
 use schedule::device::write_all;
-use schedule::{Schedule, Sink, Source, judge_trace, put_verdict, write_schedule};
+use schedule::{Schedule, Sink, Source, judge_trace, put_verdict};
+use shrinking::shrink_found;
 use std::alloc::Global;
 use std::sync::Wait;
 use std::thread::Threads;
@@ -41,16 +44,37 @@ fn judge_order<R: Source, W: Sink>(alloc: Global, r: &mut R, w: &mut W) -> Resul
     })
 }
 
-/// Writes the schedule that a hunt has found.
-fn write_found<W: Sink>(alloc: Global, schedule: &Schedule, w: &mut W) -> Result<(), Fault>
-    ensures written { OnOk result (Writes (tape (W.taken w.old) (W.failures w.old)) (tape (W.taken w.new) (W.failures w.new)) (spelling schedule.now)) }
+/// Makes the schedule that a hunt has found least, and writes it.
+fn write_least<W: Sink>(
+    alloc: Global,
+    variant: Variant,
+    found: &Schedule,
+    w: &mut W,
+) -> Result<(), Fault>
+    requires { IsFound variant found.now }
+    ensures written { OnOk result (TellsFound true variant found.now (tape (W.taken w.old) (W.failures w.old)) (tape (W.taken w.new) (W.failures w.new))) }
     ensures failed { IfErr result (λ fault. status_of fault ≡ 3) }
 {
-    let text = write_schedule(alloc, schedule)?;
-    if write_all(w, &text).is_err() {
-        return Err(Fault::Write);
+    let least = shrink_found(alloc, variant, found)?;
+    write_lines(alloc, &least, w)
+}
+
+/// Writes the schedule that a hunt has found, or the least one that it is made.
+fn write_found<W: Sink>(
+    alloc: Global,
+    order: &HuntOrder,
+    found: &Schedule,
+    w: &mut W,
+) -> Result<(), Fault>
+    requires { IsFound order.now.variant found.now }
+    ensures written { OnOk result (TellsFound order.now.shrink order.now.variant found.now (tape (W.taken w.old) (W.failures w.old)) (tape (W.taken w.new) (W.failures w.new))) }
+    ensures failed { IfErr result (λ fault. status_of fault ≡ 3) }
+{
+    if order.shrink {
+        write_least(alloc, order.variant, found, w)
+    } else {
+        write_lines(alloc, found, w)
     }
-    Ok(())
 }
 
 /// The schedule that a hunt finds, or that it finds none.
@@ -60,7 +84,7 @@ fn hunt_order<W: Sink>(alloc: Global, order: &HuntOrder, w: &mut W) -> Result<En
 {
     match hunt(alloc, order.variant, order.seed, order.rounds, order.steps)? {
         Some(schedule) => {
-            write_found(alloc, &schedule, w)?;
+            write_found(alloc, order, &schedule, w)?;
             Ok(Ending {
                 status: 1,
                 save: None,
@@ -109,6 +133,7 @@ pub fn ended<T: Threads + Wait + Sync, R: Source, W: Sink>(
         Command::Replay(order) => replay_order(alloc, order, image, r, w),
         Command::Judge(_) => judge_order(alloc, r, w),
         Command::Draw(order) => draw_order(alloc, order, image, r, w),
+        Command::Shrink(order) => shrink_order(alloc, order, r, w),
         Command::Hunt(order) => hunt_order(alloc, order, w),
         Command::Run(order) => run_order(rt, alloc, order, w),
         Command::Explain(topic) => explain_order(*topic, w),

@@ -16,5 +16,6 @@ pub mod program;
 pub mod replaying;
 pub mod running;
 mod setting;
+pub mod shrunk;
 pub mod tally;
 pub mod words;

@@ -45,6 +45,8 @@ pub struct HuntOrder {
     pub rounds: u64,
     /// How many moves a round has.
     pub steps: u64,
+    /// Make the schedule found least.
+    pub shrink: bool,
 }
 
 /// `draw`: a schedule is run, and its run is drawn.
@@ -58,6 +60,14 @@ pub struct DrawOrder {
     pub file: Option<String>,
 }
 
+/// `shrink`: a schedule that goes wrong on a variant is made least.
+#[derive(Debug, Drop, PartialEq, Eq)]
+pub struct ShrinkOrder {
+    pub variant: Variant,
+    /// The schedule's file; none is standard input.
+    pub file: Option<String>,
+}
+
 /// What the program is asked to do.
 #[derive(Debug, Drop, PartialEq, Eq)]
 pub enum Command {
@@ -67,6 +77,7 @@ pub enum Command {
     /// The verdict of a trace in a file, or on standard input.
     Judge(Option<String>),
     Draw(DrawOrder),
+    Shrink(ShrinkOrder),
     /// What this topic means; without one, the names of all topics.
     Explain(Option<Topic>),
 }
@@ -82,6 +93,7 @@ impl Command {
             Command::Replay(order) => order.file.as_ref(),
             Command::Judge(file) => file.as_ref(),
             Command::Draw(order) => order.file.as_ref(),
+            Command::Shrink(order) => order.file.as_ref(),
             _ => None,
         }
     }

@@ -35,6 +35,13 @@ const DRAW_HELP: &str =
 and what it tells at the right; with --svg a picture of this.\nExit status: 0 where the verdict is fine, 1 where it is against, 2 after \
 a fault of the words, the schedule or the image, 3 after one of a device or of memory.\n\nExample: rmelab draw examples/tie.rme";
 
+const SHRINK_HELP: &str =
+    "In: a schedule, as `rme 1 procs 2 limit 10 cap 1`, then lines such as `lock 0`, `step 0 5`, \
+`crash 0`, each ended by a line feed.\nOut: where its verdict on the variant is against, a least schedule with a verdict against the same \
+number: no line can be left out and no count of steps lowered by one. Else the verdict line.\nExit status: 0 where the verdict is \
+fine, 1 where it is against, 2 after a fault of the words or the schedule, 3 after one of a device or of memory.\n\nExample: rmelab \
+shrink --variant no-look examples/two-in-the-doorway.rme";
+
 const EXPLAIN_HELP: &str =
     "In: nothing.\nOut: what the words name, in two sentences, and the page that defines it; without words the names of \
 all that is explained, one a line.\nExit status: 0 where the words are a name, 2 where they are none, 3 after a fault of a device or \
@@ -149,7 +156,13 @@ fn hunt<'a>(alloc: Global) -> Result<Parser<'a>, AllocError> {
     let command = hunt_head(alloc).arg(variant(alloc).required(true))?;
     let command = with_number(alloc, command, "seed", "S", "The seed of the moves")?;
     let command = with_number(alloc, command, "rounds", "R", "1 to 10000 rounds")?;
-    with_number(alloc, command, "steps", "K", "1 to 10000 moves a round")
+    let command = with_number(alloc, command, "steps", "K", "1 to 10000 moves a round")?;
+    command.arg(
+        Arg::new(alloc, "shrink")
+            .long("shrink")
+            .help("Make the schedule found least, as `shrink` does")
+            .action(ArgAction::SetTrue),
+    )
 }
 
 fn judge<'a>(alloc: Global) -> Result<Parser<'a>, AllocError> {
@@ -176,6 +189,14 @@ fn draw<'a>(alloc: Global) -> Result<Parser<'a>, AllocError> {
     let command = draw_head(alloc).arg(variant(alloc))?;
     let command = command.arg(image(alloc))?;
     let command = command.arg(svg(alloc))?;
+    command.arg(file(alloc, "The schedule; without it, standard input is read"))
+}
+
+fn shrink<'a>(alloc: Global) -> Result<Parser<'a>, AllocError> {
+    let command = Parser::new(alloc, "shrink")
+        .about("Makes a schedule that goes wrong on a variant of the lock least")
+        .after_help(SHRINK_HELP);
+    let command = command.arg(variant(alloc).required(true))?;
     command.arg(file(alloc, "The schedule; without it, standard input is read"))
 }
 
@@ -214,5 +235,6 @@ pub fn parser<'a>(alloc: Global) -> Result<Parser<'a>, AllocError> {
     let whole = with(whole, hunt(alloc))?;
     let whole = with(whole, judge(alloc))?;
     let whole = with(whole, draw(alloc))?;
+    let whole = with(whole, shrink(alloc))?;
     with(whole, explain(alloc))
 }

@@ -5,7 +5,7 @@ ghost use Rattle.meanings.specs.declared.topic.Topic.{Topic as AnyTopic};
 ghost use Rattle.meanings.specs.Names.{name_of};
 ghost use Rattle.laboratory.specs.Sizes.{IsSized, HuntFits, RunFits};
 
-use crate::order::{Command, DrawOrder, HuntOrder, ReplayOrder, RunOrder};
+use crate::order::{Command, DrawOrder, HuntOrder, ReplayOrder, RunOrder, ShrinkOrder};
 use crate::parser::parser;
 use clap::error::ErrorKind;
 use clap::{ArgMatches, Error};
@@ -143,6 +143,14 @@ fn hunt_words(matches: &ArgMatches<'_>) -> Result<HuntOrder, WordsFault>
         seed: number_of(matches, "seed"),
         rounds: number_of(matches, "rounds"),
         steps: number_of(matches, "steps"),
+        shrink: matches.get_flag("shrink"),
+    })
+}
+
+fn shrink_words(alloc: Global, matches: &ArgMatches<'_>) -> Result<ShrinkOrder, WordsFault> {
+    Ok(ShrinkOrder {
+        variant: variant_of(matches, "")?,
+        file: text_of(alloc, matches, "FILE")?,
     })
 }
 
@@ -214,6 +222,7 @@ fn command_of(alloc: Global, matches: &ArgMatches<'_>) -> Result<Command, WordsF
         Some(("run", inner)) => Ok(Command::Run(run_words(inner)?)),
         Some(("hunt", inner)) => Ok(Command::Hunt(hunt_words(inner)?)),
         Some(("draw", inner)) => Ok(Command::Draw(draw_words(alloc, inner)?)),
+        Some(("shrink", inner)) => Ok(Command::Shrink(shrink_words(alloc, inner)?)),
         Some(("explain", inner)) => Ok(Command::Explain(explain_words(alloc, inner)?)),
         Some((_, inner)) => Ok(Command::Judge(text_of(alloc, inner, "FILE")?)),
         None => Err(WordsFault::BadVariant),

@@ -29,3 +29,16 @@ returns-in-Draw-clause-ends g c =
     c.draw_order.result)
     (sym c.in-Draw.is)
     (c.draw_order.ensures.ends, c.draw_order.ensures.reads)
+
+-- a schedule is made least as `shrink_order` says
+pub returns-in-Shrink-clause-ends : goal.returns-in-Shrink-clause-ends
+returns-in-Shrink-clause-ends g c =
+    subst
+    (λ command. CommandEnds command (is_some c.args.image)
+    (reading (g.R.Source.given c.args.r.now) (g.R.Source.ended c.args.r.now) (g.R.Source.failures c.args.r.now))
+    (reading (g.R.Source.given c.shrink_order.new.r) (g.R.Source.ended c.shrink_order.new.r) (g.R.Source.failures c.shrink_order.new.r))
+    (tape (g.W.Sink.taken c.args.w.now) (g.W.Sink.failures c.args.w.now))
+    (tape (g.W.Sink.taken c.shrink_order.new.w) (g.W.Sink.failures c.shrink_order.new.w))
+    c.shrink_order.result)
+    (sym c.in-Shrink.is)
+    (c.shrink_order.ensures.ends, c.shrink_order.ensures.reads)

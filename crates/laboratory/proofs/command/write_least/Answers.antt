@@ -1,0 +1,8 @@
+use Rattle.schedule.specs.Plays.{tape}
+use Rattle.laboratory.proofs.Leasts.{least_written}
+use Rattle.laboratory.proofs.command.write_least.Goals as goal
+
+pub returns-clause-written : goal.returns-clause-written
+returns-clause-written g c =
+    least_written c.args.variant c.args.found.now c.in_ok-least.least (tape (g.W.Sink.taken c.args.w.now) (g.W.Sink.failures c.args.w.now))
+    (tape (g.W.Sink.taken c.write_lines.new.w) (g.W.Sink.failures c.write_lines.new.w)) c.write_lines.result c.in_ok-least.ensures c.write_lines.ensures.written

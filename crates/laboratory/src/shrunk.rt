@@ -1,0 +1,88 @@
+//! The command `shrink`.
+
+ghost use Rattle.std.specs.Prelude.{◌≡◌, IfErr, IfOk, OnOk, false};
+ghost use Rattle.schedule.specs.Plays.{tape, Writes};
+ghost use Rattle.schedule.specs.Reports.{verdict_line};
+ghost use Rattle.schedule.specs.Schedules.{spelling};
+ghost use Rattle.schedule.specs.Wholes.{reading};
+ghost use Rattle.laboratory.specs.Commands.{IsEnded, TellsReads};
+ghost use Rattle.laboratory.specs.Shrinks.{ShrinkEnds, ShrinksSchedule};
+ghost use Rattle.laboratory.specs.Statuses.{status_of};
+
+use crate::ending::Ending;
+use crate::fault::Fault;
+use crate::order::ShrinkOrder;
+use crate::setting::schedule_read;
+use crashlab::Variant;
+use schedule::device::write_all;
+use schedule::{Schedule, Sink, Source, Verdict, put_verdict, write_schedule};
+use shrinking::shrink;
+use std::alloc::Global;
+
+/// Writes a schedule as its text.
+pub fn write_lines<W: Sink>(alloc: Global, schedule: &Schedule, w: &mut W) -> Result<(), Fault>
+    ensures written { OnOk result (Writes (tape (W.taken w.old) (W.failures w.old)) (tape (W.taken w.new) (W.failures w.new)) (spelling schedule.now)) }
+    ensures failed { IfErr result (λ fault. status_of fault ≡ 3) }
+{
+    let text = write_schedule(alloc, schedule)?;
+    if write_all(w, &text).is_err() {
+        return Err(Fault::Write);
+    }
+    Ok(())
+}
+
+/// Writes the line of a fine verdict.
+fn write_fine<W: Sink>(alloc: Global, w: &mut W) -> Result<(), Fault>
+    ensures written { OnOk result (Writes (tape (W.taken w.old) (W.failures w.old)) (tape (W.taken w.new) (W.failures w.new)) (verdict_line Verdict.Fine)) }
+    ensures failed { IfErr result (λ fault. status_of fault ≡ 3) }
+{
+    let mut line = Vec::new(alloc);
+    put_verdict(&mut line, Verdict::Fine)?;
+    if write_all(w, &line).is_err() {
+        return Err(Fault::Write);
+    }
+    Ok(())
+}
+
+/// Makes the schedule least, or says that its verdict is fine.
+fn shrink_schedule<W: Sink>(
+    alloc: Global,
+    variant: Variant,
+    schedule: &Schedule,
+    w: &mut W,
+) -> Result<Ending, Fault>
+    ensures shrinks { ShrinksSchedule variant schedule.now (tape (W.taken w.old) (W.failures w.old)) (tape (W.taken w.new) (W.failures w.new)) result }
+    ensures ended { IfOk result (IsEnded false (W.failures w.old) (W.failures w.new)) }
+{
+    match shrink(alloc, variant, schedule)? {
+        Some(least) => {
+            write_lines(alloc, &least, w)?;
+            Ok(Ending {
+                status: 1,
+                save: None,
+            })
+        }
+        None => {
+            write_fine(alloc, w)?;
+            Ok(Ending {
+                status: 0,
+                save: None,
+            })
+        }
+    }
+}
+
+/// Runs `shrink`: the schedule is read, played on the variant, and made least where its verdict is against.
+pub fn shrink_order<R: Source, W: Sink>(
+    alloc: Global,
+    order: &ShrinkOrder,
+    r: &mut R,
+    w: &mut W,
+) -> Result<Ending, Fault>
+    ensures ends { ShrinkEnds order.now (reading (R.given r.old) (R.ended r.old) (R.failures r.old)) (reading (R.given r.new) (R.ended r.new) (R.failures r.new)) (tape (W.taken w.old) (W.failures w.old)) (tape (W.taken w.new) (W.failures w.new)) result }
+    ensures reads { TellsReads (reading (R.given r.old) (R.ended r.old) (R.failures r.old)) (reading (R.given r.new) (R.ended r.new) (R.failures r.new)) result }
+    ensures ended { IfOk result (IsEnded false (W.failures w.old) (W.failures w.new)) }
+{
+    let schedule = schedule_read(alloc, r)?;
+    shrink_schedule(alloc, order.variant, &schedule, w)
+}

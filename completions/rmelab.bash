@@ -23,7 +23,7 @@ _rmelab() {
         draw:--image) mapfile -t COMPREPLY < <(compgen -f -- "$word") && return ;;
     esac
     case ${COMP_WORDS[1]} in
-        replay) mapfile -t COMPREPLY < <(compgen -W "--json --variant --image --save -h --help" -- "$word"; compgen -f -- "$word") ;;
+        replay) mapfile -t COMPREPLY < <(compgen -W "--json --each --variant --image --save -h --help" -- "$word"; compgen -f -- "$word") ;;
         run) mapfile -t COMPREPLY < <(compgen -W "--procs --messages --crash --seed --width -h --help" -- "$word") ;;
         hunt) mapfile -t COMPREPLY < <(compgen -W "--variant --seed --rounds --steps -h --help" -- "$word") ;;
         judge) mapfile -t COMPREPLY < <(compgen -W "-h --help" -- "$word"; compgen -f -- "$word") ;;

@@ -10,6 +10,7 @@ complete -c rmelab -n __fish_use_subcommand -a help -d 'Print this message or th
 complete -c rmelab -n '__fish_use_subcommand' -s h -l help -d 'Print help'
 complete -c rmelab -n '__fish_use_subcommand' -s V -l version -d 'Print version'
 complete -c rmelab -n '__fish_seen_subcommand_from replay' -l json -d 'Print one JSON object of the report\'s lines'
+complete -c rmelab -n '__fish_seen_subcommand_from replay' -l each -d 'Tell each step, with its word and where its process stands'
 complete -c rmelab -n '__fish_seen_subcommand_from replay' -l variant -x -a 'right no-look no-ties renumber exit-on-crash count-up last-skipped' -d 'right, no-look, no-ties, renumber, exit-on-crash, count-up or last-skipped'
 complete -c rmelab -n '__fish_seen_subcommand_from replay' -l image -r -F -d 'Begin with the words of this image, every process crashed'
 complete -c rmelab -n '__fish_seen_subcommand_from replay' -l save -r -F -d 'Write the last image to this file'

@@ -12,6 +12,7 @@ mod lock_memory;
 mod memory;
 mod replays;
 mod scarce;
+mod shrinks;
 mod stepwise;
 mod texts;
 mod trace_memory;

@@ -13,6 +13,7 @@ Commands:
   hunt     Draws schedules until a variant of the lock goes wrong
   judge    Judges a trace of deeds, and prints the verdict
   draw     Draws the run of a schedule as a space-time diagram
+  shrink   Makes a schedule that goes wrong on a variant of the lock least
   explain  Says what a number or a word of reports and faults means
   help     Print this message or the help of the given subcommand(s)
 
@@ -66,13 +67,14 @@ Example: rmelab run --procs 4 --messages 50 --crash 20 --seed 7
 
 const HUNT: &str = "Draws schedules until a variant of the lock goes wrong
 
-Usage: rmelab hunt --variant <V> --seed <S> --rounds <R> --steps <K>
+Usage: rmelab hunt [OPTIONS] --variant <V> --seed <S> --rounds <R> --steps <K>
 
 Options:
       --variant <V>  right, no-look, no-ties, renumber, exit-on-crash, count-up or last-skipped
       --seed <S>     The seed of the moves
       --rounds <R>   1 to 10000 rounds
       --steps <K>    1 to 10000 moves a round
+      --shrink       Make the schedule found least, as `shrink` does
   -h, --help         Print help
 
 In: nothing.
@@ -119,6 +121,24 @@ Exit status: 0 where the verdict is fine, 1 where it is against, 2 after a fault
 Example: rmelab draw examples/tie.rme
 ";
 
+const SHRINK: &str = "Makes a schedule that goes wrong on a variant of the lock least
+
+Usage: rmelab shrink --variant <V> [FILE]
+
+Arguments:
+  [FILE]  The schedule; without it, standard input is read
+
+Options:
+      --variant <V>  right, no-look, no-ties, renumber, exit-on-crash, count-up or last-skipped
+  -h, --help         Print help
+
+In: a schedule, as `rme 1 procs 2 limit 10 cap 1`, then lines such as `lock 0`, `step 0 5`, `crash 0`, each ended by a line feed.
+Out: where its verdict on the variant is against, a least schedule with a verdict against the same number: no line can be left out and no count of steps lowered by one. Else the verdict line.
+Exit status: 0 where the verdict is fine, 1 where it is against, 2 after a fault of the words or the schedule, 3 after one of a device or of memory.
+
+Example: rmelab shrink --variant no-look examples/two-in-the-doorway.rme
+";
+
 const EXPLAIN: &str = "Says what a number or a word of reports and faults means
 
 Usage: rmelab explain [WORDS]...
@@ -153,7 +173,7 @@ For more information, try '--help'.
 ";
 
 const NO_COMMAND: &str = "error: 'rmelab' requires a subcommand but one was not provided
-  [subcommands: replay, run, hunt, judge, draw, explain, help]
+  [subcommands: replay, run, hunt, judge, draw, shrink, explain, help]
 
 Usage: rmelab <COMMAND>
 
@@ -181,6 +201,7 @@ fn helps(rt: HostRuntime) -> Result<(), Fail> {
         invoked("rmelab hunt --help", "", HUNT),
         invoked("rmelab judge --help", "", JUDGE),
         invoked("rmelab draw --help", "", DRAW),
+        invoked("rmelab shrink --help", "", SHRINK),
         invoked("rmelab explain --help", "", EXPLAIN),
         invoked("rmelab help", "", HELP),
         invoked("rmelab help judge", "", JUDGE),

@@ -5,6 +5,7 @@ use super::explains::{NO_NAME, NO_NEWLINE};
 use super::invocation::{Failing, Fake, Feed};
 use super::invocations::{IN_ORDER, OBJECT, REPORT, SMALLEST};
 use super::scarce::{PIECES, Scarce};
+use super::shrinks::{LEAST, TWO_INSIDE};
 use super::stepwise::TOLD;
 use super::words_of;
 use crate::kit::check;
@@ -45,7 +46,7 @@ fn ends(
 fn comes_to(
     rt: &(impl Threads + Wait + Sync),
     alloc: Global,
-    (line, input, printed, said): (&str, &str, &str, &str),
+    (line, input, printed, said, status): (&str, &str, &str, &str, u8),
 ) -> Result<(), Fail> {
     let mut all = all_words(alloc, line)?;
     let mut scarce = Scarce::new(alloc)?;
@@ -56,7 +57,6 @@ fn comes_to(
         let mut err = [0; 128];
         let code = ends(rt, alloc, words, input, &mut out, &mut err);
         if code != ExitCode::from(3) {
-            let status = if said.is_empty() { 0 } else { 2 };
             let whole = out.starts_with(printed.as_bytes()) && err.starts_with(said.as_bytes());
             let ended = err.get(said.len()) == Some(&0) && code == ExitCode::from(status);
             check(whole && ended, "printed")?;
@@ -71,14 +71,28 @@ fn comes_to(
     check(0 < refused && refused < PIECES as u64, "refused")
 }
 
-const ROWS: [(&str, &str, &str, &str); 7] = [
-    ("rmelab replay", SMALLEST, REPORT, ""),
-    ("rmelab replay --json --save a.json", SMALLEST, OBJECT, ""),
-    ("rmelab replay --each", SMALLEST, TOLD, ""),
-    ("rmelab draw", SMALLEST, DRAWN, ""),
-    ("rmelab judge", IN_ORDER, "verdict fine\n", ""),
-    ("rmelab explain fault 5", "", NO_NEWLINE, ""),
-    ("rmelab explain fault 7", "", "", NO_NAME),
+const ROWS: [(&str, &str, &str, &str, u8); 9] = [
+    ("rmelab replay", SMALLEST, REPORT, "", 0),
+    (
+        "rmelab replay --json --save a.json",
+        SMALLEST,
+        OBJECT,
+        "",
+        0,
+    ),
+    ("rmelab replay --each", SMALLEST, TOLD, "", 0),
+    ("rmelab draw", SMALLEST, DRAWN, "", 0),
+    ("rmelab judge", IN_ORDER, "verdict fine\n", "", 0),
+    (
+        "rmelab shrink --variant right",
+        SMALLEST,
+        "verdict fine\n",
+        "",
+        0,
+    ),
+    ("rmelab shrink --variant no-look", TWO_INSIDE, LEAST, "", 1),
+    ("rmelab explain fault 5", "", NO_NEWLINE, "", 0),
+    ("rmelab explain fault 7", "", "", NO_NAME, 2),
 ];
 
 #[test]

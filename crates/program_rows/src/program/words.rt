@@ -36,6 +36,7 @@ fn a_hunt(rt: HostRuntime) -> Result<(), Fail> {
         seed: 1,
         rounds: 10_000,
         steps: 10_000,
+        shrink: false,
     };
     assert_eq!(rt; order, longest);
     Ok(())

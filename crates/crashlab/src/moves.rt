@@ -18,7 +18,7 @@ pub enum Due {
 }
 
 impl Due {
-    /// The call itself, which is ten times as long.
+    /// The call itself, which is five times as long.
     pub fn call(self) -> Call
         ensures { result ≡ call_by self }
     {

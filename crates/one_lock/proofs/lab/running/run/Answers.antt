@@ -1,4 +1,4 @@
-use Rattle.std.proofs.Common.{rules, ◌≡◌, ℕ, List, length, map, All, Result, Ok, Err, IfOk, OnOk, slice_index, sym, ap, ◌∙◌, subst, Option, Some, refl}
+use Rattle.std.proofs.Common.{rules, ◌≡◌, ℕ, List, map, All, Result, Ok, Err, IfOk, OnOk, slice_index, sym, ap, ◌∙◌, subst, Option, Some, refl}
 use Rattle.redomail.specs.declared.layout.Layout.{Layout}
 use Rattle.redomail.specs.declared.message.Message.{Message}
 use Rattle.redomail.specs.Content.{IsContent}

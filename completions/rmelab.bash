@@ -3,7 +3,7 @@ _rmelab() {
     local word=${COMP_WORDS[COMP_CWORD]} before=${COMP_WORDS[COMP_CWORD - 1]} names
     COMPREPLY=()
     if ((COMP_CWORD == 1)); then
-        mapfile -t COMPREPLY < <(compgen -W "replay run hunt judge draw explain help -h --help -V --version" -- "$word")
+        mapfile -t COMPREPLY < <(compgen -W "replay run hunt judge draw shrink explain help -h --help -V --version" -- "$word")
         return
     fi
     case ${COMP_WORDS[1]}:$before in
@@ -21,13 +21,15 @@ _rmelab() {
         hunt:--steps) : && return ;;
         draw:--variant) mapfile -t COMPREPLY < <(compgen -W "right no-look no-ties renumber exit-on-crash count-up last-skipped" -- "$word") && return ;;
         draw:--image) mapfile -t COMPREPLY < <(compgen -f -- "$word") && return ;;
+        shrink:--variant) mapfile -t COMPREPLY < <(compgen -W "right no-look no-ties renumber exit-on-crash count-up last-skipped" -- "$word") && return ;;
     esac
     case ${COMP_WORDS[1]} in
         replay) mapfile -t COMPREPLY < <(compgen -W "--json --each --variant --image --save -h --help" -- "$word"; compgen -f -- "$word") ;;
         run) mapfile -t COMPREPLY < <(compgen -W "--procs --messages --crash --seed --width -h --help" -- "$word") ;;
-        hunt) mapfile -t COMPREPLY < <(compgen -W "--variant --seed --rounds --steps -h --help" -- "$word") ;;
+        hunt) mapfile -t COMPREPLY < <(compgen -W "--variant --seed --rounds --steps --shrink -h --help" -- "$word") ;;
         judge) mapfile -t COMPREPLY < <(compgen -W "-h --help" -- "$word"; compgen -f -- "$word") ;;
         draw) mapfile -t COMPREPLY < <(compgen -W "--variant --image --svg -h --help" -- "$word"; compgen -f -- "$word") ;;
+        shrink) mapfile -t COMPREPLY < <(compgen -W "--variant -h --help" -- "$word"; compgen -f -- "$word") ;;
         explain)
             names=$("${COMP_WORDS[0]}" explain 2>/dev/null)
             names=$(awk -v at=$((COMP_CWORD - 1)) -v given="${COMP_WORDS[*]:2:COMP_CWORD-2}" \

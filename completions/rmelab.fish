@@ -5,6 +5,7 @@ complete -c rmelab -n __fish_use_subcommand -a run -d 'Runs senders on threads, 
 complete -c rmelab -n __fish_use_subcommand -a hunt -d 'Draws schedules until a variant of the lock goes wrong'
 complete -c rmelab -n __fish_use_subcommand -a judge -d 'Judges a trace of deeds, and prints the verdict'
 complete -c rmelab -n __fish_use_subcommand -a draw -d 'Draws the run of a schedule as a space-time diagram'
+complete -c rmelab -n __fish_use_subcommand -a shrink -d 'Makes a schedule that goes wrong on a variant of the lock least'
 complete -c rmelab -n __fish_use_subcommand -a explain -d 'Says what a number or a word of reports and faults means'
 complete -c rmelab -n __fish_use_subcommand -a help -d 'Print this message or the help of the given subcommand(s)'
 complete -c rmelab -n '__fish_use_subcommand' -s h -l help -d 'Print help'
@@ -26,6 +27,7 @@ complete -c rmelab -n '__fish_seen_subcommand_from hunt' -l variant -x -a 'right
 complete -c rmelab -n '__fish_seen_subcommand_from hunt' -l seed -x -d 'The seed of the moves'
 complete -c rmelab -n '__fish_seen_subcommand_from hunt' -l rounds -x -d '1 to 10000 rounds'
 complete -c rmelab -n '__fish_seen_subcommand_from hunt' -l steps -x -d '1 to 10000 moves a round'
+complete -c rmelab -n '__fish_seen_subcommand_from hunt' -l shrink -d 'Make the schedule found least, as `shrink` does'
 complete -c rmelab -n '__fish_seen_subcommand_from hunt' -s h -l help -d 'Print help'
 complete -c rmelab -n '__fish_seen_subcommand_from judge' -s h -l help -d 'Print help'
 complete -c rmelab -n '__fish_seen_subcommand_from judge' -F
@@ -34,6 +36,9 @@ complete -c rmelab -n '__fish_seen_subcommand_from draw' -l image -r -F -d 'Begi
 complete -c rmelab -n '__fish_seen_subcommand_from draw' -l svg -d 'Write a picture, as SVG'
 complete -c rmelab -n '__fish_seen_subcommand_from draw' -s h -l help -d 'Print help'
 complete -c rmelab -n '__fish_seen_subcommand_from draw' -F
+complete -c rmelab -n '__fish_seen_subcommand_from shrink' -l variant -x -a 'right no-look no-ties renumber exit-on-crash count-up last-skipped' -d 'right, no-look, no-ties, renumber, exit-on-crash, count-up or last-skipped'
+complete -c rmelab -n '__fish_seen_subcommand_from shrink' -s h -l help -d 'Print help'
+complete -c rmelab -n '__fish_seen_subcommand_from shrink' -F
 complete -c rmelab -n '__fish_seen_subcommand_from explain' -s h -l help -d 'Print help'
 function __rmelab_explained
     set -l words (commandline -opc)

@@ -83,7 +83,9 @@ pub extern "C" fn rme_init(
 /// The private memory is lost.
 #[unsafe(no_mangle)]
 pub extern "C" fn rme_crash(p: &mut RmeProcess)
-    ensures { stand_of p.new ≡ crashed (stand_of p.old) }
+    ensures crashed { stand_of p.new ≡ crashed (stand_of p.old) }
+    // The count stays that of the last call.
+    ensures steps { p.new.steps ≡ p.old.steps }
 {
     p.unmended = 0;
     p.barred = 0;

@@ -1,5 +1,5 @@
 -- How a command ends: what its status, or its fault, says of what was read, what it has written, and what is to be saved.
-use Rattle.std.specs.Prelude.{◌≡◌, ◌≢◌, ◌⊎◌, ℕ, ◌-◌, ◌*◌, ◌^◌, ◌≤◌, min, Bool, true, false, List, [], ◌∷◌, codes, Option, Some, None, is_some, IfSome, Vec, Result, Ok, Err, IfOk}
+use Rattle.std.specs.Prelude.{◌≡◌, ◌≢◌, ◌⊎◌, ℕ, ◌+◌, ◌-◌, ◌*◌, ◌^◌, ◌≤◌, min, Bool, true, false, List, [], ◌∷◌, codes, Option, Some, None, is_some, IfSome, Vec, Result, Ok, Err, IfOk}
 use Rattle.std.specs.declared.alloc.Global.{Global}
 use Rattle.crashlab.specs.declared.variant.Variant.{Variant}
 use Rattle.crashlab.specs.declared.variant.Variant.TheVariants.{Right}
@@ -157,7 +157,7 @@ Explains None before now = Writes before now (list_of TOPICS)
 
 -- only a failed write keeps it from being told
 abbrev pub ExplainEnds : Option Topic → Tape → Tape → Result Ending Fault → Type 0
-ExplainEnds topic before now end = (outcome end ≡ Ok 0) × Explains topic before now ⊎ (outcome end ≡ Err Write)
+ExplainEnds topic before now end = (outcome end ≡ Ok 0) × Explains topic before now ⊎ (outcome end ≡ Err Write) × (now.failures ≡ min (before.failures + 1) (2 ^ 64 - 1))
 
 -- by the command, and whether an image is given; by how far its input was read and what it has written, before and now
 abbrev pub CommandEnds : Command → Bool → Reading → Reading → Tape → Tape → Result Ending Fault → Type 0

@@ -25,11 +25,12 @@ use Rattle.schedule.specs.Verdicts.{verdict_on}
 use Rattle.schedule.specs.Wholes.{Reading, WasRead, ReplaysSource, world_run}
 use Rattle.shrinking.specs.Shrunk.{Shrinks}
 use Rattle.laboratory.specs.declared.order.Command.{Command}
-use Rattle.laboratory.specs.declared.order.Command.TheVariants.{Replay, Run, Hunt, Judge, Draw, Shrink, Explain}
+use Rattle.laboratory.specs.declared.order.Command.TheVariants.{Replay, Run, Hunt, Explore, Judge, Draw, Shrink, Explain}
 use Rattle.laboratory.specs.declared.order.HuntOrder.{HuntOrder}
 use Rattle.laboratory.specs.declared.order.ReplayOrder.{ReplayOrder}
 use Rattle.laboratory.specs.declared.order.RunOrder.{RunOrder}
 use Rattle.laboratory.specs.Draws.{DrawEnds}
+use Rattle.laboratory.specs.Explores.{ExploreEnds}
 use Rattle.laboratory.specs.Shrinks.{ShrinkEnds}
 use Rattle.laboratory.specs.Sizes.{HuntFits, RunFits}
 use Rattle.laboratory.specs.declared.ending.Ending.{Ending}
@@ -164,6 +165,7 @@ abbrev pub CommandEnds : Command → Bool → Reading → Reading → Tape → T
 CommandEnds (Replay order) pictured old new before now end = ReplayEnds order pictured old new before now end
 CommandEnds (Run order) pictured old new before now end = RunEnds order end
 CommandEnds (Hunt order) pictured old new before now end = HuntEnds order before now end
+CommandEnds (Explore order) pictured old new before now end = ExploreEnds order before now end
 CommandEnds (Judge file) pictured old new before now end = JudgeEnds old new before now end
 CommandEnds (Draw order) pictured old new before now end = DrawEnds order pictured old new before now end × TellsReads old new end
 CommandEnds (Shrink order) pictured old new before now end = ShrinkEnds order old new before now end × TellsReads old new end

@@ -1,3 +1,4 @@
+pub mod Explores
 pub mod Commands
 pub mod Draws
 pub mod FilesNamed

@@ -4,7 +4,7 @@ use Rattle.std.specs.Fmt.{decimal}
 use Rattle.schedule.specs.Plays.{Tape, Writes, Begins}
 use Rattle.schedule.specs.Texts.{line_of}
 use Rattle.laboratory.specs.declared.fault.Fault.{Fault}
-use Rattle.laboratory.specs.declared.fault.Fault.TheVariants.{Text, Refused, Image, BadVariant, BadSize, Read, Write, OutOfMemory, Member}
+use Rattle.laboratory.specs.declared.fault.Fault.TheVariants.{Text, Refused, Image, BadVariant, BadSize, Read, Write, OutOfMemory, Member, TooManyStates}
 
 -- what is told of a line of the input
 abbrev pub words_of_place : ℕ → List ℕ → ℕ → List (List ℕ)
@@ -19,6 +19,7 @@ words_of_fault BadSize = codes "bad" ∷ codes "size" ∷ []
 words_of_fault Read = codes "read" ∷ codes "failed" ∷ []
 words_of_fault Write = codes "write" ∷ codes "failed" ∷ []
 words_of_fault OutOfMemory = codes "out" ∷ codes "of" ∷ codes "memory" ∷ []
+words_of_fault TooManyStates = codes "too" ∷ codes "many" ∷ codes "states" ∷ []
 words_of_fault (Member p) = codes "member" ∷ decimal p ∷ codes "failed" ∷ []
 
 abbrev pub fault_line : Fault → List ℕ

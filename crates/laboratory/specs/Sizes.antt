@@ -1,7 +1,7 @@
 -- The ranges of the numbers that the program is asked for.
 use Rattle.std.specs.Prelude.{◌≤◌}
 use Rattle.laboratory.specs.declared.order.Command.{Command}
-use Rattle.laboratory.specs.declared.order.Command.TheVariants.{Replay, Run, Hunt, Judge, Draw, Shrink, Explain}
+use Rattle.laboratory.specs.declared.order.Command.TheVariants.{Replay, Run, Hunt, Explore, Judge, Draw, Shrink, Explain}
 use Rattle.laboratory.specs.declared.order.HuntOrder.{HuntOrder}
 use Rattle.laboratory.specs.declared.order.RunOrder.{RunOrder}
 
@@ -16,6 +16,7 @@ abbrev pub IsSized : Command → Type 0
 IsSized (Replay order) = Unit {0}
 IsSized (Run order) = RunFits order
 IsSized (Hunt order) = HuntFits order
+IsSized (Explore order) = Unit {0}
 IsSized (Judge file) = Unit {0}
 IsSized (Draw order) = Unit {0}
 IsSized (Shrink order) = Unit {0}

@@ -2,6 +2,8 @@
 use Rattle.std.specs.Prelude.{ℕ, Option, Some, None, Result, Ok, Err}
 use Rattle.crashlab.specs.declared.hunt_fault.HuntFault.{HuntFault}
 use Rattle.crashlab.specs.declared.hunt_fault.HuntFault.TheVariants as of_hunt
+use Rattle.lock_search.specs.declared.explore_fault.ExploreFault.{ExploreFault}
+use Rattle.lock_search.specs.declared.explore_fault.ExploreFault.TheVariants as of_search
 use Rattle.one_lock.specs.declared.lab.lab_fault.LabFault.{LabFault}
 use Rattle.one_lock.specs.declared.lab.lab_fault.LabFault.TheVariants as of_lab
 use Rattle.schedule.specs.declared.fault.TextFault.{TextFault}
@@ -17,7 +19,7 @@ use Rattle.laboratory.specs.declared.ending.Ending.{Ending}
 use Rattle.laboratory.specs.declared.folder.FileFault.{FileFault}
 use Rattle.laboratory.specs.declared.folder.FileFault.TheVariants as of_file
 use Rattle.laboratory.specs.declared.fault.Fault.{Fault}
-use Rattle.laboratory.specs.declared.fault.Fault.TheVariants.{Text, Refused, Image, BadSize, Read, Write, OutOfMemory, Member}
+use Rattle.laboratory.specs.declared.fault.Fault.TheVariants.{Text, Refused, Image, BadSize, Read, Write, OutOfMemory, Member, TooManyStates}
 
 -- 3 for a fault of a device, of memory or of a member, 2 for one of the input
 abbrev pub status_of : Fault → ℕ
@@ -25,6 +27,7 @@ status_of Read = 3
 status_of Write = 3
 status_of OutOfMemory = 3
 status_of (Member p) = 3
+status_of TooManyStates = 3
 status_of _ = 2
 
 abbrev pub status_after : Verdict → ℕ
@@ -72,6 +75,12 @@ fault_of_text of_text.OutOfMemory = OutOfMemory
 abbrev pub fault_of_hunt : HuntFault → Fault
 fault_of_hunt of_hunt.OutOfMemory = OutOfMemory
 fault_of_hunt _ = BadSize
+
+-- for that of a search
+abbrev pub fault_of_search : ExploreFault → Fault
+fault_of_search (of_search.Refused refusal) = BadSize
+fault_of_search of_search.TooManyStates = TooManyStates
+fault_of_search of_search.OutOfMemory = OutOfMemory
 
 -- for that of a lab
 abbrev pub fault_of_lab : LabFault → Fault

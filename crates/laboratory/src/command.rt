@@ -11,6 +11,7 @@ ghost use Rattle.laboratory.specs.Statuses.{status_of};
 
 use crate::drawn::draw_order;
 use crate::ending::{Ending, status_after_verdict};
+use crate::exploring::explore_order;
 use crate::fault::Fault;
 use crate::line::told;
 use crate::order::{Command, HuntOrder};
@@ -135,6 +136,7 @@ pub fn ended<T: Threads + Wait + Sync, R: Source, W: Sink>(
         Command::Draw(order) => draw_order(alloc, order, image, r, w),
         Command::Shrink(order) => shrink_order(alloc, order, r, w),
         Command::Hunt(order) => hunt_order(alloc, order, w),
+        Command::Explore(order) => explore_order(alloc, order, w),
         Command::Run(order) => run_order(rt, alloc, order, w),
         Command::Explain(topic) => explain_order(*topic, w),
     }

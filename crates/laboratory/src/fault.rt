@@ -2,10 +2,11 @@
 
 ghost use Rattle.std.specs.Prelude.{◌≡◌, ◌≤◌};
 ghost use Rattle.laboratory.specs.declared.fault.Fault.TheVariants.{OutOfMemory};
-ghost use Rattle.laboratory.specs.Statuses.{fault_of_hunt, fault_of_lab, fault_of_replay, fault_of_text};
+ghost use Rattle.laboratory.specs.Statuses.{fault_of_hunt, fault_of_lab, fault_of_replay, fault_of_search, fault_of_text};
 
 use crate::line::line_of;
 use crashlab::HuntFault;
+use lock_search::ExploreFault;
 use robust::LabFault;
 use schedule::{OutOfMemory as NoMemory, ReplayFault, TextFault};
 use std::alloc::{AllocError, AllocFailed};
@@ -30,6 +31,8 @@ pub enum Fault {
     OutOfMemory,
     /// This sender of a run could not go on.
     Member { p: u64 },
+    /// A search has come to more states than it may keep.
+    TooManyStates,
 }
 
 impl Fault {
@@ -46,7 +49,11 @@ impl Fault {
             | Fault::Image { .. }
             | Fault::BadVariant
             | Fault::BadSize => 2,
-            Fault::Read | Fault::Write | Fault::OutOfMemory | Fault::Member { .. } => 3,
+            Fault::Read
+            | Fault::Write
+            | Fault::OutOfMemory
+            | Fault::Member { .. }
+            | Fault::TooManyStates => 3,
         }
     }
 }
@@ -102,6 +109,18 @@ impl From<HuntFault> for Fault {
         match fault {
             HuntFault::BadRounds | HuntFault::BadSteps => Fault::BadSize,
             HuntFault::OutOfMemory => Fault::OutOfMemory,
+        }
+    }
+}
+
+impl From<ExploreFault> for Fault {
+    ghost from_gives = { λ fault e. e ≡ fault_of_search fault };
+
+    fn from(fault: ExploreFault) -> Fault {
+        match fault {
+            ExploreFault::Refused(_) => Fault::BadSize,
+            ExploreFault::TooManyStates => Fault::TooManyStates,
+            ExploreFault::OutOfMemory => Fault::OutOfMemory,
         }
     }
 }

@@ -6,6 +6,7 @@ pub mod command;
 pub mod disk;
 pub mod drawn;
 pub mod ending;
+pub mod exploring;
 pub mod fault;
 pub mod folder;
 mod json;

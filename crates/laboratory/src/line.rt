@@ -35,8 +35,8 @@ fn line_of_place(at: u64, cause: &str, number: u64) -> ArrayString<128>
 }
 
 /// A line of a text, a number and a text.
-fn line_around(before: &str, number: u64, after: &str) -> ArrayString<128>
-    requires { (length before.now ≤ 20) × (length after.now ≤ 20) }
+pub(crate) fn line_around(before: &str, number: u64, after: &str) -> ArrayString<128>
+    requires { (length before.now ≤ 21) × (length after.now ≤ 20) }
     ensures { result.bytes ≡ before.now ++ decimal number ++ after.now }
 {
     let mut line = ArrayString::new();
@@ -68,6 +68,7 @@ pub fn line_of(fault: Fault) -> ArrayString<128>
         Fault::Read => line_of_text("rmelab: read failed\n"),
         Fault::Write => line_of_text("rmelab: write failed\n"),
         Fault::OutOfMemory => line_of_text("rmelab: out of memory\n"),
+        Fault::TooManyStates => line_of_text("rmelab: too many states\n"),
     }
 }
 

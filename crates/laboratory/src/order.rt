@@ -49,6 +49,36 @@ pub struct HuntOrder {
     pub shrink: bool,
 }
 
+/// Which calls a search starts.
+#[derive(Clone, Copy, Debug, PartialEq, Eq)]
+pub struct Alphabet {
+    pub lock: bool,
+    pub unlock: bool,
+    pub recover: bool,
+    pub consistent: bool,
+    pub withdraw: bool,
+    /// One append for each number from 1 to the capacity, with the number as each word of its value.
+    pub append: bool,
+    pub close: bool,
+}
+
+/// `explore`: all schedules up to a bound are tried, the shorter before the longer.
+#[derive(Clone, Copy, Debug, PartialEq, Eq)]
+pub struct ExploreOrder {
+    pub variant: Variant,
+    pub procs: u64,
+    pub calls: Alphabet,
+    /// How many crashes a schedule may have.
+    pub crashes: u64,
+    /// How many moves a schedule may have.
+    pub moves: u64,
+    /// How many states may be kept.
+    pub states: u64,
+    pub limit: u64,
+    pub cap: u64,
+    pub width: u64,
+}
+
 /// `draw`: a schedule is run, and its run is drawn.
 #[derive(Debug, Drop, PartialEq, Eq)]
 pub struct DrawOrder {
@@ -74,6 +104,7 @@ pub enum Command {
     Replay(ReplayOrder),
     Run(RunOrder),
     Hunt(HuntOrder),
+    Explore(ExploreOrder),
     /// The verdict of a trace in a file, or on standard input.
     Judge(Option<String>),
     Draw(DrawOrder),

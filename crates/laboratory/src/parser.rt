@@ -24,6 +24,14 @@ const HUNT_HELP: &str =
 found`.\nExit status: 0 where nothing was found, 1 where a schedule was, 2 after a fault of the words, 3 after one of a device or \
 of memory.\n\nExample: rmelab hunt --variant no-look --seed 1 --rounds 10000 --steps 1000";
 
+const EXPLORE_HELP: &str =
+    "In: nothing. All schedules are tried whose moves are the start of a call of --calls, one step, or a crash, of which there \
+are at most --crashes: the shorter before the longer. Two worlds are one where their words, their processes, the judge and the \
+crashes left are.\nOut: the schedule of fewest moves that goes wrong, which `rmelab replay --variant V` replays to its fault; \
+`nothing found within K moves`; or, where all was tried, `nothing found: all N states`. Nothing is said of a greater size, limit \
+or number of crashes.\nExit status: 0 where nothing was found, 1 where a schedule was, 2 after a fault of the words, 3 after one of \
+a device or of memory, or where there are more states than --states.\n\nExample: rmelab explore --variant no-look --procs 2";
+
 const JUDGE_HELP: &str =
     "In: a trace, as `trace 1 procs 2 cap 1`, then deeds such as `begin 0`, `ready 0`, `enter 0`.\nOut: the verdict \
 line.\nExit status: 0 where the verdict is fine, 1 where it is against, 2 after a fault of the words or the trace, 3 after one of a \
@@ -165,6 +173,36 @@ fn hunt<'a>(alloc: Global) -> Result<Parser<'a>, AllocError> {
     )
 }
 
+fn explore_head<'a>(alloc: Global) -> Parser<'a> {
+    Parser::new(alloc, "explore")
+        .about("Tries all schedules up to a bound, for the shortest that goes wrong")
+        .after_help(EXPLORE_HELP)
+}
+
+/// The bounds of a search, each with what it is without the option.
+fn bounded<'a>(alloc: Global, command: Parser<'a>) -> Result<Parser<'a>, AllocError> {
+    let command = command.arg(number(alloc, "crashes", "C", "At most C crashes; 0 without it"))?;
+    let command = command.arg(number(alloc, "moves", "K", "At most K moves; no bound without it"))?;
+    command.arg(number(
+        alloc,
+        "states",
+        "S",
+        "At most S states; 10000000 without it",
+    ))
+}
+
+fn explore<'a>(alloc: Global) -> Result<Parser<'a>, AllocError> {
+    let command = explore_head(alloc).arg(variant(alloc).required(true))?;
+    let command = with_number(alloc, command, "procs", "N", "1 to 64 processes")?;
+    let calls =
+        "lock, unlock, recover, consistent, withdraw, append and close, with commas; lock,unlock without it";
+    let command = command.arg(option(alloc, "calls", "LIST", calls))?;
+    let command = bounded(alloc, command)?;
+    let command = command.arg(number(alloc, "limit", "L", "Numbers up to L; 4 without it"))?;
+    let command = command.arg(number(alloc, "cap", "M", "Room for M messages; 1 without it"))?;
+    command.arg(number(alloc, "width", "W", "1 to 8 words a message; 1 without it"))
+}
+
 fn judge<'a>(alloc: Global) -> Result<Parser<'a>, AllocError> {
     Parser::new(alloc, "judge")
         .about("Judges a trace of deeds, and prints the verdict")
@@ -233,6 +271,7 @@ pub fn parser<'a>(alloc: Global) -> Result<Parser<'a>, AllocError> {
     let whole = with(head(alloc), replay(alloc))?;
     let whole = with(whole, run(alloc))?;
     let whole = with(whole, hunt(alloc))?;
+    let whole = with(whole, explore(alloc))?;
     let whole = with(whole, judge(alloc))?;
     let whole = with(whole, draw(alloc))?;
     let whole = with(whole, shrink(alloc))?;

@@ -5,7 +5,9 @@ ghost use Rattle.meanings.specs.declared.topic.Topic.{Topic as AnyTopic};
 ghost use Rattle.meanings.specs.Names.{name_of};
 ghost use Rattle.laboratory.specs.Sizes.{IsSized, HuntFits, RunFits};
 
-use crate::order::{Command, DrawOrder, HuntOrder, ReplayOrder, RunOrder, ShrinkOrder};
+use crate::order::{
+    Alphabet, Command, DrawOrder, ExploreOrder, HuntOrder, ReplayOrder, RunOrder, ShrinkOrder,
+};
 use crate::parser::parser;
 use clap::error::ErrorKind;
 use clap::{ArgMatches, Error};
@@ -154,6 +156,51 @@ fn shrink_words(alloc: Global, matches: &ArgMatches<'_>) -> Result<ShrinkOrder, 
     })
 }
 
+/// The calls of this list, with commas between them.
+fn alphabet_of(list: &str) -> Result<Alphabet, WordsFault> {
+    let mut calls = Alphabet {
+        lock: false,
+        unlock: false,
+        recover: false,
+        consistent: false,
+        withdraw: false,
+        append: false,
+        close: false,
+    };
+    for name in list.split(',') {
+        match name {
+            "lock" => calls.lock = true,
+            "unlock" => calls.unlock = true,
+            "recover" => calls.recover = true,
+            "consistent" => calls.consistent = true,
+            "withdraw" => calls.withdraw = true,
+            "append" => calls.append = true,
+            "close" => calls.close = true,
+            _ => return Err(WordsFault::BadSize),
+        }
+    }
+    Ok(calls)
+}
+
+/// The number of this name, or another without it.
+fn number_or(matches: &ArgMatches<'_>, name: &str, without: u64) -> u64 {
+    matches.get_one::<u64>(name).unwrap_or(without)
+}
+
+fn explore_words(matches: &ArgMatches<'_>) -> Result<ExploreOrder, WordsFault> {
+    Ok(ExploreOrder {
+        variant: variant_of(matches, "")?,
+        procs: number_of(matches, "procs"),
+        calls: alphabet_of(matches.get_str("calls").unwrap_or("lock,unlock"))?,
+        crashes: number_of(matches, "crashes"),
+        moves: number_or(matches, "moves", u64::MAX),
+        states: number_or(matches, "states", 10_000_000),
+        limit: number_or(matches, "limit", 4),
+        cap: number_or(matches, "cap", 1),
+        width: number_or(matches, "width", 1),
+    })
+}
+
 /// The order of a run, where its numbers are in their ranges.
 fn run_of(order: RunOrder) -> Result<RunOrder, WordsFault>
     ensures fits { IsOk result ↔ RunFits order }
@@ -221,6 +268,7 @@ fn command_of(alloc: Global, matches: &ArgMatches<'_>) -> Result<Command, WordsF
         Some(("replay", inner)) => Ok(Command::Replay(replay_words(alloc, inner)?)),
         Some(("run", inner)) => Ok(Command::Run(run_words(inner)?)),
         Some(("hunt", inner)) => Ok(Command::Hunt(hunt_words(inner)?)),
+        Some(("explore", inner)) => Ok(Command::Explore(explore_words(inner)?)),
         Some(("draw", inner)) => Ok(Command::Draw(draw_words(alloc, inner)?)),
         Some(("shrink", inner)) => Ok(Command::Shrink(shrink_words(alloc, inner)?)),
         Some(("explain", inner)) => Ok(Command::Explain(explain_words(alloc, inner)?)),

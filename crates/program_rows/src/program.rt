@@ -3,6 +3,7 @@
 mod drawings;
 mod everything;
 mod explains;
+mod explores;
 mod helps;
 mod images;
 mod invocation;

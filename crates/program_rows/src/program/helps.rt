@@ -11,6 +11,7 @@ Commands:
   replay   Runs a schedule of steps and crashes, and prints its report
   run      Runs senders on threads, with drawn crashes, and counts what came through
   hunt     Draws schedules until a variant of the lock goes wrong
+  explore  Tries all schedules up to a bound, for the shortest that goes wrong
   judge    Judges a trace of deeds, and prints the verdict
   draw     Draws the run of a schedule as a space-time diagram
   shrink   Makes a schedule that goes wrong on a variant of the lock least
@@ -82,6 +83,29 @@ Out: the schedule found, which `rmelab replay --variant V` replays to its fault,
 Exit status: 0 where nothing was found, 1 where a schedule was, 2 after a fault of the words, 3 after one of a device or of memory.
 
 Example: rmelab hunt --variant no-look --seed 1 --rounds 10000 --steps 1000
+";
+
+const EXPLORE: &str = "Tries all schedules up to a bound, for the shortest that goes wrong
+
+Usage: rmelab explore [OPTIONS] --variant <V> --procs <N>
+
+Options:
+      --variant <V>   right, no-look, no-ties, renumber, exit-on-crash, count-up or last-skipped
+      --procs <N>     1 to 64 processes
+      --calls <LIST>  lock, unlock, recover, consistent, withdraw, append and close, with commas; lock,unlock without it
+      --crashes <C>   At most C crashes; 0 without it
+      --moves <K>     At most K moves; no bound without it
+      --states <S>    At most S states; 10000000 without it
+      --limit <L>     Numbers up to L; 4 without it
+      --cap <M>       Room for M messages; 1 without it
+      --width <W>     1 to 8 words a message; 1 without it
+  -h, --help          Print help
+
+In: nothing. All schedules are tried whose moves are the start of a call of --calls, one step, or a crash, of which there are at most --crashes: the shorter before the longer. Two worlds are one where their words, their processes, the judge and the crashes left are.
+Out: the schedule of fewest moves that goes wrong, which `rmelab replay --variant V` replays to its fault; `nothing found within K moves`; or, where all was tried, `nothing found: all N states`. Nothing is said of a greater size, limit or number of crashes.
+Exit status: 0 where nothing was found, 1 where a schedule was, 2 after a fault of the words, 3 after one of a device or of memory, or where there are more states than --states.
+
+Example: rmelab explore --variant no-look --procs 2
 ";
 
 const JUDGE: &str = "Judges a trace of deeds, and prints the verdict
@@ -173,7 +197,7 @@ For more information, try '--help'.
 ";
 
 const NO_COMMAND: &str = "error: 'rmelab' requires a subcommand but one was not provided
-  [subcommands: replay, run, hunt, judge, draw, shrink, explain, help]
+  [subcommands: replay, run, hunt, explore, judge, draw, shrink, explain, help]
 
 Usage: rmelab <COMMAND>
 
@@ -199,6 +223,7 @@ fn helps(rt: HostRuntime) -> Result<(), Fail> {
         invoked("rmelab replay --help", "", REPLAY),
         invoked("rmelab run --help", "", RUN),
         invoked("rmelab hunt --help", "", HUNT),
+        invoked("rmelab explore --help", "", EXPLORE),
         invoked("rmelab judge --help", "", JUDGE),
         invoked("rmelab draw --help", "", DRAW),
         invoked("rmelab shrink --help", "", SHRINK),

@@ -1,0 +1,44 @@
+use Rattle.std.proofs.Common.{◌≡◌, ℕ, Result, Ok, Err, IfOk, OnOk, IfErr, ◌∙◌, inl, inr, ap, subst}
+use Rattle.schedule.specs.Plays.{Tape, Writes, tape}
+use Rattle.explore.specs.Answers.{OnNoneWithin, IfNowhere}
+use Rattle.explore.specs.Paths.{IsNumberOfStates}
+use Rattle.lock_spaces.specs.SceneWords.{scene_words}
+use Rattle.lock_spaces.specs.Spaces.{first_scene, rules}
+use Rattle.lock_search.specs.Finding.{NoneOfAtMost, NoneIsFound}
+use Rattle.laboratory.specs.declared.ending.Ending.{Ending}
+use Rattle.laboratory.specs.declared.fault.Fault.{Fault}
+use Rattle.laboratory.specs.declared.order.ExploreOrder.{ExploreOrder}
+use Rattle.laboratory.specs.Explores.{ExploreEnds, calls_of, layout_of, within_line, all_line}
+use Rattle.laboratory.specs.Statuses.{status_of}
+use Rattle.laboratory.proofs.exploring.explore_order.Goals as goal
+
+ends_within :
+    (order : ExploreOrder) (before now : Tape) (r : Result Ending Fault) → NoneOfAtMost order.variant (layout_of order) order.limit order.crashes (calls_of order) order.moves
+    → OnOk r (Writes before now (within_line order.moves)) → IfOk r (λ e. e.status ≡ 0) → IfErr r (λ f. status_of f ≡ 3) → ExploreEnds order before now r
+ends_within order before now (Ok e) none told status failed = inr (inl (ap Ok status, record { none = none; text = told }))
+ends_within order before now (Err f) none told status failed = inr (inr (inr (inr failed)))
+
+ends_all :
+    (order : ExploreOrder) (before now : Tape) (states : ℕ) (r : Result Ending Fault) → NoneIsFound order.variant (layout_of order) order.limit order.crashes (calls_of order)
+    → IsNumberOfStates (rules scene_words) (first_scene order.variant (layout_of order) order.limit order.crashes (calls_of order)) states
+    → OnOk r (Writes before now (all_line states)) → IfOk r (λ e. e.status ≡ 0) → IfErr r (λ f. status_of f ≡ 3) → ExploreEnds order before now r
+ends_all order before now states (Ok e) none number told status failed = inr (inr (inl (ap Ok status, record { none = none; states = states; number = number; text = told })))
+ends_all order before now states (Err f) none number told status failed = inr (inr (inr (inr failed)))
+
+pub returns-in-NoneWithin-clause-ends : goal.returns-in-NoneWithin-clause-ends
+returns-in-NoneWithin-clause-ends g c =
+    let o : ExploreOrder = c.args.order.now in
+    let none = rw c.in-NoneWithin.is at c.in_ok-found.ensures.none_within in
+    let calls = c.deref.ensures.value ∙ c.in_ok-calls.ensures.listed in
+    ends_within o _ _ c.tell_within.result (subst (λ calls. NoneOfAtMost o.variant (layout_of o) o.limit o.crashes calls o.moves) calls none) c.tell_within.ensures.told c.tell_within.ensures.status c.tell_within.ensures.failed
+
+pub returns-clause-ends : goal.returns-clause-ends
+returns-clause-ends g c =
+    let o : ExploreOrder = c.args.order.now in
+    let none = rw c.in-Nowhere.is at c.in_ok-found.ensures.nowhere in
+    let number = rw c.in-Nowhere.is at c.in_ok-found.ensures.states in
+    let calls = c.deref.ensures.value ∙ c.in_ok-calls.ensures.listed in
+    ends_all o _ _ c.in-Nowhere.states c.tell_all.result
+    (subst (λ calls. NoneIsFound o.variant (layout_of o) o.limit o.crashes calls) calls none)
+    (subst (λ calls. IsNumberOfStates (rules scene_words) (first_scene o.variant (layout_of o) o.limit o.crashes calls) c.in-Nowhere.states) calls number)
+    c.tell_all.ensures.told c.tell_all.ensures.status c.tell_all.ensures.failed

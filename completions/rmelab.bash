@@ -3,7 +3,7 @@ _rmelab() {
     local word=${COMP_WORDS[COMP_CWORD]} before=${COMP_WORDS[COMP_CWORD - 1]} names
     COMPREPLY=()
     if ((COMP_CWORD == 1)); then
-        mapfile -t COMPREPLY < <(compgen -W "replay run hunt judge draw shrink explain help -h --help -V --version" -- "$word")
+        mapfile -t COMPREPLY < <(compgen -W "replay run hunt explore judge draw shrink explain help -h --help -V --version" -- "$word")
         return
     fi
     case ${COMP_WORDS[1]}:$before in
@@ -19,6 +19,15 @@ _rmelab() {
         hunt:--seed) : && return ;;
         hunt:--rounds) : && return ;;
         hunt:--steps) : && return ;;
+        explore:--variant) mapfile -t COMPREPLY < <(compgen -W "right no-look no-ties renumber exit-on-crash count-up last-skipped" -- "$word") && return ;;
+        explore:--procs) : && return ;;
+        explore:--calls) : && return ;;
+        explore:--crashes) : && return ;;
+        explore:--moves) : && return ;;
+        explore:--states) : && return ;;
+        explore:--limit) : && return ;;
+        explore:--cap) : && return ;;
+        explore:--width) : && return ;;
         draw:--variant) mapfile -t COMPREPLY < <(compgen -W "right no-look no-ties renumber exit-on-crash count-up last-skipped" -- "$word") && return ;;
         draw:--image) mapfile -t COMPREPLY < <(compgen -f -- "$word") && return ;;
         shrink:--variant) mapfile -t COMPREPLY < <(compgen -W "right no-look no-ties renumber exit-on-crash count-up last-skipped" -- "$word") && return ;;
@@ -27,6 +36,7 @@ _rmelab() {
         replay) mapfile -t COMPREPLY < <(compgen -W "--json --each --variant --image --save -h --help" -- "$word"; compgen -f -- "$word") ;;
         run) mapfile -t COMPREPLY < <(compgen -W "--procs --messages --crash --seed --width -h --help" -- "$word") ;;
         hunt) mapfile -t COMPREPLY < <(compgen -W "--variant --seed --rounds --steps --shrink -h --help" -- "$word") ;;
+        explore) mapfile -t COMPREPLY < <(compgen -W "--variant --procs --calls --crashes --moves --states --limit --cap --width -h --help" -- "$word") ;;
         judge) mapfile -t COMPREPLY < <(compgen -W "-h --help" -- "$word"; compgen -f -- "$word") ;;
         draw) mapfile -t COMPREPLY < <(compgen -W "--variant --image --svg -h --help" -- "$word"; compgen -f -- "$word") ;;
         shrink) mapfile -t COMPREPLY < <(compgen -W "--variant -h --help" -- "$word"; compgen -f -- "$word") ;;

@@ -36,3 +36,4 @@ pub mod Sends
 pub mod Asked
 pub mod Sent
 pub mod Replies
+pub mod Storing

@@ -1,5 +1,5 @@
 -- What a step of a world is, taken by any of its ways.
-use Rattle.std.specs.Prelude.{◌≡◌, ℕ, false, IfSome, Some}
+use Rattle.std.specs.Prelude.{◌≡◌, ℕ, Bool, false, IfSome, Some, None}
 use Rattle.rmecore.specs.Machine.{at_scan, word_of}
 use Rattle.rmecore.specs.Paid.{is_glance}
 use Rattle.rmecore.specs.Simulated.{tally_at}
@@ -8,6 +8,7 @@ use Rattle.rmecore.specs.declared.access.Access.{Access}
 use Rattle.rmecore.specs.declared.access.Access.TheVariants.{Load, Store}
 use Rattle.rmecore.specs.declared.scan.Scan.{Scan}
 use Rattle.rmeworld.specs.declared.errand.Errand.TheVariants.{Free}
+use Rattle.rmeworld.specs.declared.outcome.Outcome.{Outcome}
 use Rattle.rmeworld.specs.declared.stepped.Stepped.{Stepped}
 use Rattle.rmeworld.specs.Replayed.{stepped, advanced}
 use Rattle.rmeworld.specs.Stand.{Stand, standing, next_access, IsAllowed, IsLeast, InWords, StoresOwn}
@@ -38,3 +39,7 @@ pub record GoesOn (st : Stand) (scan : Scan) (a : Access) : Type 0 where
   pub least : IsLeast st a
   pub within : InWords st.layout.procs (word_of a)
   pub own : StoresOwn st.index a
+
+-- What a step is that is no deed of the lock and ends no call.
+abbrev pub unheard : Bool → Outcome
+unheard blocked = record { progress = record { outer = None; done = None; blocked = blocked }; answer = None }

@@ -26,3 +26,4 @@ pub mod Paid
 pub mod CallWalk
 pub mod Tallied
 pub mod Sent
+pub mod InPlace

@@ -10,6 +10,29 @@ use crate::process::Process;
 use redomail::Deed;
 use rmecore::{Access, Refusal};
 
+/// As `make_room`, where there is none yet.
+#[inline(never)]
+fn make_more_room(
+    history: &mut Vec<Deed>,
+    process: &Process,
+    cells: &[u64],
+    access: Access,
+    found: u64,
+) -> Result<(), Refusal>
+    requires next { next_access process.now ≡ Some access }
+    requires filled { length cells.now ≡ size process.now.layout }
+    ensures same { history.new.items ≡ history.old.items }
+    ensures room { OnOk result (vec_len history.new < vec_capacity history.new) ⊎ (deeds_ahead process.now (words_of cells.now) access found ≡ []) }
+    ensures some { OnErr result ((deeds_ahead process.now (words_of cells.now) access found ≡ []) → ⊥) }
+    ensures memory { IfErr result (λ e. e ≡ Refusal.OutOfMemory) }
+{
+    let outer = process.outlook(found).progress.outer;
+    if deed_of(process.layout(), process.index(), cells, access, outer).is_some() {
+        history.reserve(1)?;
+    }
+    Ok(())
+}
+
 /// Room for the deed of a step of a process, where it is one. What the step will be is worked out only where there is no
 /// room yet.
 pub fn make_room(
@@ -29,11 +52,7 @@ pub fn make_room(
     if history.len() < history.capacity() {
         return Ok(());
     }
-    let outer = process.outlook(found).progress.outer;
-    if deed_of(process.layout(), process.index(), cells, access, outer).is_some() {
-        history.reserve(1)?;
-    }
-    Ok(())
+    make_more_room(history, process, cells, access, found)
 }
 
 /// Writes a deed down, if there is one. There is room for it.

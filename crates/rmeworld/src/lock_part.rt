@@ -1,6 +1,6 @@
 //! Steps and starts of the lock's part of a process.
 
-ghost use Rattle.std.specs.Prelude.{◌≡◌, Some, IfSome};
+ghost use Rattle.std.specs.Prelude.{◌≡◌, Bool, false, Some, None, IfSome, IsSome};
 ghost use Rattle.rmecore.specs.Place.{Inside, Leaving, started as lock_started};
 ghost use Rattle.rmecore.specs.Refused.{start_refusal as lock_refusal};
 ghost use Rattle.rmecore.specs.Machine.{after_access, at_scan, progress, next_access as lock_access, IsAllowed as IsLockAllowed};
@@ -40,6 +40,31 @@ pub(crate) fn lock_scan(
     let progress = lock.scan_on(scan, value);
     let (mended, checks) = entry(progress.done, mended);
     (progress, mended, checks)
+}
+
+/// A step of the lock's part that is no deed and ends nothing, where the next one is such a step: whether it was blocked.
+/// Elsewhere nothing changes.
+pub(crate) fn lock_quietly(lock: &mut LockProcess, value: u64) -> Option<bool>
+    ensures lock { IsSome result → lock.new ≡ record lock.old { place = after_access lock.old (lock_access lock.old) value } }
+    ensures allowed { IfSome (lock_access lock.old) (IsLockAllowed lock.old) }
+    ensures progress { IfSome result (λ blocked. progress lock.old (lock_access lock.old) value ≡ record { outer = None; done = None; blocked = blocked }) }
+    ensures mended { IsSome result → (mended : Bool) → mended_entered mended lock.old.place lock.new.place ≡ mended }
+    ensures checks { IsSome result → is_entry lock.old.place lock.new.place ≡ false }
+    ensures same { result ≡ None → lock.new ≡ lock.old }
+{
+    let stage = lock.stage();
+    let progress = lock.feed(value);
+    match progress {
+        Progress {
+            outer: None,
+            done: None,
+            blocked,
+        } => Some(blocked),
+        _ => {
+            lock.seam_stand(stage);
+            None
+        }
+    }
 }
 
 /// What an answer of the lock's part says of the process: whether it is mended then, and whether it checks.

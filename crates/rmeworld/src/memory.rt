@@ -1,10 +1,11 @@
 //! Words in plain memory, and the deeds of what is put there.
 
-ghost use Rattle.std.specs.Prelude.{◌≡◌, length, slice_index, slice_set};
+ghost use Rattle.std.specs.Prelude.{◌≡◌, ℕ, [], IsTrue, length, slice_index, slice_set};
 ghost use Rattle.rmecore.specs.Machine.{word_of};
 ghost use Rattle.rmecore.specs.Simulated.{own_at};
 ghost use Rattle.redomail.specs.Deeds.{deeds_of_put};
-ghost use Rattle.redomail.specs.Layout.{IsLayout, words_of, size};
+ghost use Rattle.redomail.specs.declared.layout.Layout.{Layout as LayoutOf};
+ghost use Rattle.redomail.specs.Layout.{IsLayout, Words, words_of, size};
 ghost use Rattle.rmeworld.specs.Stand.{InWords};
 ghost use Rattle.rmeworld.specs.World.{reading_of};
 ghost use Rattle.rmeworld.specs.Replayed.{words_by, cells_by, mail_by, or_else, list_of};
@@ -88,6 +89,16 @@ fn put_deed(layout: Layout, p: u64, cells: &[u64], i: u64, value: u64) -> Option
         (CLOSED, 1) => Some(Deed::Close { p }),
         (RUINED, 1) => Some(Deed::Ruin { p }),
         _ => None,
+    }
+}
+
+/// Whether an access is seen at once to put nothing that may be a deed: no data word, or one behind the first four.
+pub(crate) fn puts_quietly(access: Access) -> bool
+    ensures { IsTrue result → (l : LayoutOf) → (p : ℕ) → (cells : Words) → mail_by l p cells access ≡ [] }
+{
+    match access {
+        Access::Store(_, Word::Data(i), _) => i > ARMED,
+        Access::Store(..) | Access::Load(..) => true,
     }
 }
 

@@ -24,6 +24,22 @@ pub struct Outcome {
     pub answer: Option<Answer>,
 }
 
+/// What a step is that is no deed of the lock and ends no call.
+pub(crate) const UNHEARD: Outcome = Outcome {
+    progress: QUIET,
+    answer: None,
+};
+
+/// What the step of a script is that ends it with this reply.
+pub(crate) fn script_end(why: Why, mended: bool, reply: Reply) -> Outcome
+    ensures { result ≡ record { progress = quiet; answer = by_reply why mended reply } }
+{
+    Outcome {
+        progress: QUIET,
+        answer: reply_answer(why, mended, reply),
+    }
+}
+
 /// What a step of the lock's part is for its call.
 pub(crate) fn lock_outcome(barred: bool, progress: Progress) -> Outcome
     ensures { result ≡ record { progress = progress; answer = by_lock barred progress.done } }
@@ -77,7 +93,7 @@ pub(crate) fn job_outcome(why: Why, mended: bool, job: &Job) -> Outcome
 }
 
 /// What is answered where a script ends.
-fn reply_answer(why: Why, mended: bool, reply: Reply) -> Option<Answer>
+pub(crate) fn reply_answer(why: Why, mended: bool, reply: Reply) -> Option<Answer>
     ensures { result ≡ by_reply why mended reply }
 {
     match (why, reply) {

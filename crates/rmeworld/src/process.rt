@@ -10,10 +10,13 @@ ghost use Rattle.rmeworld.specs.Whys.{task_of};
 ghost use Rattle.rmeworld.specs.Errands.{Held};
 ghost use Rattle.rmeworld.specs.Refused.{first_cause, Needs, is_inside, is_waiting};
 
+mod in_place;
+mod quiet;
+
 use crate::call::Call;
-use crate::errand::{Errand, check_next, job};
+use crate::errand::{Errand, check_next, feed_on, job};
 use crate::lock_part::{begin_lock, leave, lock_scan, lock_step};
-use crate::outcome::{Outcome, asked, job_outcome, lock_outcome};
+use crate::outcome::{Outcome, UNHEARD, asked, job_outcome, lock_outcome, script_end};
 use crate::private_memory::PrivateMemory;
 use crate::why::Why;
 use redomail::{Job, Layout, Next, Reply, Task};
@@ -90,6 +93,7 @@ impl Process {
 
     /// The step that comes next, if a call is under way. It may be taken whatever a load reads, and where the definition
     /// leaves a choice it has the least process.
+    #[inline(always)]
     pub fn next(&self) -> Option<Access>
         ensures next { result ≡ next_access self.now }
         ensures allowed { IfSome result (IsAllowed self.now) }
@@ -126,23 +130,33 @@ impl Process {
 
     /// Takes the next step, with the value that it read. A step that stores ignores the value, and where there is no step
     /// nothing changes.
+    #[inline(never)]
     pub fn feed(&mut self, value: u64) -> Outcome
         ensures exact { self.new ≡ stepped self.old value }
         ensures spot { spot_of self.new ≡ spot_after self.old (next_access self.old) value }
         ensures allowed { IfSome (next_access self.old) (IsAllowed self.old) }
         ensures outcome { result ≡ outcome self.old (next_access self.old) value }
     {
-        let errand = self.errand;
-        match errand {
+        match &mut self.errand {
             Errand::Free => {
                 let barred = self.barred;
                 lock_outcome(barred, self.move_on(value))
             }
             Errand::Asking(job) => {
-                self.go_on(value, job);
+                let repair = *job;
+                self.go_on(value, repair);
                 asked(value)
             }
-            Errand::Doing(why, job) => self.job_step(why, job, value),
+            Errand::Doing(why, job) => {
+                let Some(reply) = feed_on(job, value) else {
+                    return UNHEARD;
+                };
+                let why = *why;
+                let same = why;
+                let outcome = script_end(same, self.mended, reply);
+                self.end(why, reply);
+                outcome
+            }
         }
     }
 
@@ -304,25 +318,6 @@ impl Process {
         } else {
             Errand::Doing(Why::Mending, repair)
         };
-    }
-
-    /// A step of a job.
-    fn job_step(&mut self, why: Why, job: Job, value: u64) -> Outcome
-        requires { self.old.errand ≡ Errand.Doing why job }
-        ensures exact { self.new ≡ stepped self.old value }
-        ensures spot { spot_of self.new ≡ spot_after self.old (next_access self.old) value }
-        ensures outcome { result ≡ outcome self.old (next_access self.old) value }
-    {
-        let _ = &self.errand;
-        let mut job = job;
-        job.feed(value);
-        let same = why;
-        let outcome = job_outcome(same, self.mended, &job);
-        match job.next() {
-            Next::Done(reply) => self.end(why, reply),
-            Next::Get(_) | Next::Put(..) => self.errand = Errand::Doing(why, job),
-        }
-        outcome
     }
 
     /// The end of a script: inside, or at the exit.

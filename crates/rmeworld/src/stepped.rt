@@ -15,27 +15,6 @@ pub struct Stepped {
     pub answer: Option<Answer>,
 }
 
-impl Stepped {
-    ghost use Rattle.rmeworld.specs.Replayed.{quiet_step};
-
-    /// What a load tells that is no deed and ends no call.
-    pub(crate) fn quiet(access: Access, found: u64) -> Stepped
-        ensures { result ≡ quiet_step access found }
-    {
-        Stepped {
-            happened: Happened {
-                kind: access.kind(),
-                word: access.word(),
-                value: found,
-                outer: None,
-                done: None,
-            },
-            deed: None,
-            answer: None,
-        }
-    }
-}
-
 /// A step before it is taken.
 #[derive(Clone, Copy)]
 pub(crate) struct Prospect {

@@ -9,6 +9,8 @@ ghost use Rattle.rmeworld.specs.Stand.{IsSize, IsAllowed, IsLeast, InWords, Stor
 ghost use Rattle.rmeworld.specs.World.{reading};
 ghost use Rattle.rmeworld.specs.WorldState.{absent, stand_at, spot_at, scene_of, Takes, happening_of, ChoosesLeast, new_world, new_refusal, image_world};
 
+mod quiet;
+
 use crate::call::Call;
 use crate::cells::Cells;
 use crate::history::{make_room, note};
@@ -201,6 +203,7 @@ impl World {
     }
 
     /// The next step of a process, and what its word holds.
+    #[inline(always)]
     fn prospect(&self, p: u64) -> Result<Prospect, Refusal>
         ensures accepted { OnOk result (advance_refusal self.now p ≡ None) }
         ensures refused { IfErr result (λ e. advance_refusal self.now p ≡ Some e) }
@@ -237,14 +240,28 @@ impl World {
         ensures taken { IfOk result (λ s. IfSome s.answer (λ a. IsExact (tally_at self.new.tallies p) → HasTaken self.old.layout (spot_at self.old.processes p) (tally_at self.new.tallies p) a)) }
         ensures err { OnErr result (self.new ≡ self.old) }
     {
-        match self.scan(p) {
-            Some((scan, access)) => Ok(self.scan_told(p, scan, access)),
-            None => self.step_on(p),
-        }
+        let step = self.prospect(p)?;
+        let layout = self.layout;
+        let process = &self.processes[p as usize];
+        make_room(
+            &mut self.history,
+            process,
+            &self.cells,
+            step.access,
+            step.found,
+        )?;
+        let outcome = self.processes[p as usize].feed(step.found);
+        let outer = outcome.progress.outer;
+        let deed = deed_of(layout, p, &self.cells, step.access, outer);
+        store(&mut self.words, &mut self.cells, step.access);
+        note(&mut self.history, &deed);
+        self.tallies[p as usize].count(outcome.progress.blocked);
+        Ok(step.told(outcome, deed))
     }
 
-    /// Takes the next step of process p where it is one of a scan, which is no deed and ends no call, and answers true. Any
-    /// other step it leaves to `advance`, and answers false.
+    /// Takes the next step of process p where it sees at once that it is no deed and ends no call, and answers true: each step
+    /// of a scan, the other quiet steps of the lock's part but for a mark taken off, and those of an append. Any other step it
+    /// leaves to `advance`, and answers false.
     pub fn step_quietly(&mut self, p: u64) -> bool
         ensures accepted { IsTrue result → advance_refusal self.old p ≡ None }
         ensures quiet { IsTrue result → ((stepped self.old p).deed ≡ None) × ((stepped self.old p).answer ≡ None) }
@@ -256,7 +273,7 @@ impl World {
                 self.scan_on(p, scan, access);
                 true
             }
-            None => false,
+            None => self.step_unheard(p),
         }
     }
 
@@ -275,17 +292,8 @@ impl World {
         }
     }
 
-    /// Takes the next step of a scan, and tells it.
-    fn scan_told(&mut self, p: u64, scan: Scan, access: Access) -> Stepped
-        requires below { p < self.old.layout.procs }
-        requires goes_on { GoesOn (stand_at self.old.processes p) scan access }
-        ensures { Advances self.old p result self.new }
-    {
-        let found = self.scan_on(p, scan, access);
-        Stepped::quiet(access, found)
-    }
-
     /// Takes the next step of a scan, which is a load and no deed, and ends no call. It answers what was read.
+    #[inline(always)]
     fn scan_on(&mut self, p: u64, scan: Scan, access: Access) -> u64
         requires below { p < self.old.layout.procs }
         requires goes_on { GoesOn (stand_at self.old.processes p) scan access }
@@ -296,33 +304,6 @@ impl World {
         let scanned = self.processes[p as usize].scan_on(scan, found);
         self.tallies[p as usize].count(scanned.progress.blocked);
         found
-    }
-
-    /// Takes the next step of a process, whatever it is.
-    fn step_on(&mut self, p: u64) -> Result<Stepped, Refusal>
-        ensures accepted { OnOk result (advance_refusal self.old p ≡ None) }
-        ensures refused { IfErr result (λ e. (e ≡ Refusal.OutOfMemory) ⊎ (advance_refusal self.old p ≡ Some e)) }
-        ensures memory { IsErrOf result Refusal.OutOfMemory → (advance_refusal self.old p ≡ None) × (is_some (stepped self.old p).deed ≡ true) }
-        ensures ok { IfOk result (λ s. Advances self.old p s self.new) }
-        ensures err { OnErr result (self.new ≡ self.old) }
-    {
-        let step = self.prospect(p)?;
-        let layout = self.layout;
-        let process = &self.processes[p as usize];
-        make_room(
-            &mut self.history,
-            process,
-            &self.cells,
-            step.access,
-            step.found,
-        )?;
-        let outcome = self.processes[p as usize].feed(step.found);
-        let outer = outcome.progress.outer;
-        let deed = deed_of(layout, p, &self.cells, step.access, outer);
-        store(&mut self.words, &mut self.cells, step.access);
-        note(&mut self.history, &deed);
-        self.tallies[p as usize].count(outcome.progress.blocked);
-        Ok(step.told(outcome, deed))
     }
 
     /// Process p loses its private memory, and with it a call that is under way.

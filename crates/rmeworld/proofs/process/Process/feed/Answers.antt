@@ -1,11 +1,17 @@
-use Rattle.std.proofs.Common.{◌≡◌, sym, ap, ◌∙◌, subst, IfSome}
-use Rattle.rmeworld.specs.declared.errand.Errand.TheVariants.{Doing}
-use Rattle.rmeworld.specs.Stand.{Stand, next_access, IsAllowed}
-use Rattle.rmeworld.proofs.Chores.{with, script_allowed}
+use Rattle.std.proofs.Common.{◌≡◌, sym, ap, ◌∙◌}
+use Rattle.rmecore.specs.Machine.{next_access as lock_access, progress}
+use Rattle.rmeworld.specs.declared.errand.Errand.TheVariants.{Free}
+use Rattle.rmeworld.specs.Answered.{by_lock}
+use Rattle.rmeworld.specs.Stand.{Stand, standing, next_access, outcome}
+use Rattle.rmeworld.proofs.Chores.{with, lock_outcome}
 use Rattle.rmeworld.proofs.process.Process.feed.Goals as goal
 
-pub returns-in-Doing-clause-allowed : goal.returns-in-Doing-clause-allowed
-returns-in-Doing-clause-allowed c =
+pub returns-in-Free-clause-outcome : goal.returns-in-Free-clause-outcome
+returns-in-Free-clause-outcome c =
     let now : Stand = c.args.self.now in
-    let errand : now.errand ≡ Doing c.in-Doing.why c.in-Doing.job = sym (ap (λ (s : Stand). s.errand) c.self.view_is) ∙ c.in-Doing.is in
-    subst (λ e. IfSome (next_access (with now e)) (IsAllowed (with now e))) (sym errand) (script_allowed now c.in-Doing.why c.in-Doing.job)
+    let view = c.self.view_is in
+    let is : c.move_on.result ≡ progress (standing now) (lock_access (standing now)) c.args.value = c.move_on.ensures.progress ∙ ap (λ (s : Stand). progress (standing s) (lock_access (standing s)) c.args.value) view in
+    let free : now.errand ≡ Free = sym (ap (λ (s : Stand). s.errand) view) ∙ c.in-Free.is in
+    let answer : by_lock c.self.inside.barred c.move_on.result.done ≡ by_lock now.barred (progress (standing now) (lock_access (standing now)) c.args.value).done = λ i. by_lock ((ap (λ (s : Stand). s.barred) view) i) (is i).done in
+    let told : record { progress = c.move_on.result; answer = by_lock c.self.inside.barred c.move_on.result.done } ≡ outcome (with now Free) (next_access (with now Free)) c.args.value = (λ i. record { progress = is i; answer = answer i }) ∙ sym (lock_outcome now c.args.value) in
+    c.lock_outcome.ensures ∙ told ∙ ap (λ e. outcome (with now e) (next_access (with now e)) c.args.value) (sym free)

@@ -9,10 +9,11 @@ use Rattle.rmeworld.specs.Reached.{IsWorld}
 use Rattle.rmeworld.specs.Stand.{spot_of, outcome, next_access, spot_after, stepped as stand_stepped}
 use Rattle.rmeworld.specs.World.{reading, event_deeds}
 use Rattle.rmeworld.specs.WorldState.{WorldState, stand_at, scene_of}
+use Rattle.rmeworld.specs.Advancing.{Advances}
 use Rattle.rmeworld.proofs.Advancing.{advances}
 use Rattle.rmeworld.proofs.Worlds.{found, tally_found, Made, made_is, deeds_are, the_one, world_step}
 use Rattle.rmeworld.proofs.WorldSteps.{IsStep}
-use Rattle.rmeworld.proofs.world.World.step_on.Goals as goal
+use Rattle.rmeworld.proofs.world.World.advance.Goals as goal
 
 world : (c : goal.After-told) → IsWorld c.args.self.now
 world c = subst IsWorld c.self.view_is c.self.invariant
@@ -81,8 +82,8 @@ made c =
 pub invariant_of-self-2 : goal.invariant_of-self-2
 invariant_of-self-2 c = subst IsWorld (sym (made_is (made c))) (world_step c.args.self.now c.args.p c.in_ok-step.step.access (world c) (step c))
 
-pub returns-clause-ok : goal.returns-clause-ok
-returns-clause-ok c =
+taken : (c : goal.After-told) → Advances c.args.self.now c.args.p c.told.result (new c)
+taken c =
     let a : Access = c.in_ok-step.step.access in
     let deed : c.deed_of-deed.result ≡ the_deed (event_deeds c.args.self.now.layout (scene_of c.args.self.now) (happening c.args.self.now c.args.p a)) = sym (the_one c.deed_of-deed.result) ∙ ap the_deed (noted c) in
     advances c.args.self.now c.args.p a c.told.result (new c) (world c) (step c) c.in_ok-step.ensures.least (made c)
@@ -91,3 +92,21 @@ returns-clause-ok c =
       deed = deed i;
       answer = (what c i).answer;
     }))
+
+pub returns-clause-step : goal.returns-clause-step
+returns-clause-step c = (taken c).step
+
+pub returns-clause-kind : goal.returns-clause-kind
+returns-clause-kind c = (taken c).kind
+
+pub returns-clause-least : goal.returns-clause-least
+returns-clause-least c = (taken c).least
+
+pub returns-clause-told : goal.returns-clause-told
+returns-clause-told c = (taken c).told
+
+pub returns-clause-ok : goal.returns-clause-ok
+returns-clause-ok c = (taken c).ok
+
+pub returns-clause-taken : goal.returns-clause-taken
+returns-clause-taken c = (taken c).taken

@@ -1,0 +1,21 @@
+-- What a process is at.
+use Rattle.std.specs.Prelude.{◌≡◌, Some}
+use Rattle.rmecore.specs.Machine.{word_of}
+use Rattle.rmecore.specs.declared.access.Access.{Access}
+use Rattle.rmeworld.specs.declared.errand.Errand.{Errand}
+use Rattle.rmeworld.specs.declared.errand.Errand.TheVariants.{Free, Asking, Doing}
+use Rattle.rmeworld.specs.Stand.{Stand, next_access, IsAllowed, InWords, StoresOwn}
+
+-- a job is under way, behind what consistent asks first
+abbrev pub IsWorking : Errand → Type 0
+IsWorking Free = ⊥
+IsWorking (Asking job) = ⊥
+IsWorking (Doing why job) = Unit {0}
+
+-- This access is the next step of its job.
+pub record Works (st : Stand) (a : Access) : Type 0 where
+  pub working : IsWorking st.errand
+  pub next : next_access st ≡ Some a
+  pub allowed : IsAllowed st a
+  pub within : InWords st.layout.procs (word_of a)
+  pub own : StoresOwn st.index a

@@ -1,0 +1,86 @@
+//! Steps of a process by what it is at: a job's, which is fed in its place, and the lock's.
+
+ghost use Rattle.std.specs.Prelude.{◌≡◌, Some, None, IfSome};
+ghost use Rattle.rmecore.specs.Machine.{quiet};
+ghost use Rattle.redomail.specs.Left.{left};
+ghost use Rattle.redomail.specs.Script.{Done};
+ghost use Rattle.rmeworld.specs.Errands.{HasStep};
+ghost use Rattle.rmeworld.specs.declared.errand.Errand.TheVariants.{Free};
+ghost use Rattle.rmeworld.specs.InPlace.{IsWorking};
+
+use crate::answer::Answer;
+use crate::errand::Errand;
+use crate::outcome::{Outcome, lock_outcome, reply_answer};
+use crate::process::Process;
+use redomail::{Job, Next, Reply};
+use rmecore::{Access, Kind, Word};
+
+/// The reply of a job that is done.
+fn reply_of(job: &Job) -> Option<Reply>
+    ensures done { IfSome result (λ reply. left job.now ≡ Done reply) }
+    ensures goes_on { result ≡ None → HasStep (left job.now) }
+{
+    match job.next() {
+        Next::Done(reply) => Some(reply),
+        Next::Get(_) | Next::Put(..) => None,
+    }
+}
+
+impl Process {
+    ghost use Rattle.rmecore.specs.Machine.{word_of};
+    ghost use Rattle.rmeworld.specs.Stand.{InWords, IsAllowed, StoresOwn, spot_of, stepped, next_access, spot_after, outcome};
+
+    /// The step that comes next, where it is one of a job. It is what `next` answers, for a job alone.
+    pub fn job_next(&self) -> Option<Access>
+        ensures working { IfSome result (λ a. IsWorking self.now.errand) }
+        ensures next { IfSome result (λ a. next_access self.now ≡ Some a) }
+        ensures allowed { IfSome result (IsAllowed self.now) }
+        ensures within { IfSome result (λ a. InWords self.now.layout.procs (word_of a)) }
+        ensures own { IfSome result (StoresOwn self.now.index) }
+    {
+        match &self.errand {
+            Errand::Doing(_, job) => match job.next() {
+                Next::Get(i) => Some(Access::Load(Kind::Get, Word::Data(i))),
+                Next::Put(i, v) => Some(Access::Store(Kind::Put, Word::Data(i), v)),
+                Next::Done(_) => None,
+            },
+            Errand::Free | Errand::Asking(_) => None,
+        }
+    }
+
+    /// Takes the next step of a job, as `feed` does. For others it is nothing, so only its answer is told.
+    pub fn job_on(&mut self, value: u64) -> Option<Answer>
+        requires { IsWorking self.old.errand }
+        ensures exact { self.new ≡ stepped self.old value }
+        ensures spot { spot_of self.new ≡ spot_after self.old (next_access self.old) value }
+        ensures allowed { IfSome (next_access self.old) (IsAllowed self.old) }
+        ensures outcome { outcome self.old (next_access self.old) value ≡ record { progress = quiet; answer = result } }
+    {
+        match &mut self.errand {
+            Errand::Doing(why, job) => {
+                job.feed(value);
+                let reply = reply_of(job)?;
+                let why = *why;
+                let same = why;
+                let answer = reply_answer(same, self.mended, reply);
+                self.errand = Errand::Free;
+                self.end(why, reply);
+                answer
+            }
+            Errand::Free | Errand::Asking(_) => unreachable!(),
+        }
+    }
+
+    /// Takes the next step of the lock, as `feed` does.
+    #[inline(never)]
+    pub fn lock_on(&mut self, value: u64) -> Outcome
+        requires { self.old.errand ≡ Free }
+        ensures exact { self.new ≡ stepped self.old value }
+        ensures spot { spot_of self.new ≡ spot_after self.old (next_access self.old) value }
+        ensures allowed { IfSome (next_access self.old) (IsAllowed self.old) }
+        ensures outcome { result ≡ outcome self.old (next_access self.old) value }
+    {
+        let barred = self.barred;
+        lock_outcome(barred, self.move_on(value))
+    }
+}

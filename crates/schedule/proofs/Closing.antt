@@ -113,6 +113,13 @@ module _ {S : Type 0} (start : State) (image_of : S → Image) (run : Part S (�
     rw (← writes.fine) h.1,
   )
 
+  -- there is no memory for the image
+  pub no_image : (before mid : Tape) → Writes before mid (told_text run.told) → run.refused ≡ None → CutShort before mid start image_of run OutOfMemory
+  no_image before mid writes accepted =
+      let image = image_of run.left in
+      let verdict = verdict_on start (deeds_of run.told) in
+      cut_end before mid mid image verdict OutOfMemory writes accepted refl refl (closes_nothing mid image verdict)
+
   pub reported : (before mid now : Tape) (image : Image) (verdict : Verdict) → Writes before mid (told_text run.told) → run.refused ≡ None
       → image ≡ image_of run.left → verdict ≡ verdict_on start (deeds_of run.told) → (end : List ℕ) × IsEnd image verdict end × Writes mid now end
       → Reported before now start image_of run verdict

@@ -1,6 +1,8 @@
 pub mod Cuts
 pub mod Ranges
 pub mod Numbers
+pub mod Fronts
+pub mod InPlace
 pub mod Lines
 pub mod Items
 pub mod Wholes
@@ -24,3 +26,5 @@ pub mod Heading
 pub mod Cutting
 pub mod Kept
 pub mod WorldRuns
+pub mod DeedFronts
+pub mod Fed

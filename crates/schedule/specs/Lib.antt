@@ -2,6 +2,7 @@ pub mod Words
 pub mod Commands
 pub mod Headers
 pub mod Texts
+pub mod Fronts
 pub mod Schedules
 pub mod Numbers
 pub mod Deeds

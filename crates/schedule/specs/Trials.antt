@@ -68,6 +68,13 @@ Stands (stages.Judging head judge hearing) lines =
     × ((first : Kept) × Keeps first (empty head.procs head.cap) × Hears (bench first opened) deeds (bench judge hearing))
 Stands (stages.Faulty line fault) lines = (reading_of lines ≡ Err (line, fault)) × (0 < length lines)
 
+-- a stage that has taken lines from the front of a text, the first of which has this number, up to where it goes on
+pub record Fed (before now : Stage) (text rest : List ℕ) (number count_now : ℕ) : Type 0 where
+  pub more : List (List ℕ)
+  pub parts : parts_of text ≡ more ++ parts_of rest
+  pub count : number < 2 ^ 64 → count_now ≡ min (number + length more) (2 ^ 64 - 1)
+  pub stands : (lines : List (List ℕ)) → Stands before lines → Stands now (lines ++ more)
+
 -- the number of the next line, and what is known
 pub record Trial : Type 0 where
   pub line : ℕ

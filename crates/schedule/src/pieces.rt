@@ -16,6 +16,12 @@ pub trait TakeLine {
     /// Takes the next line, without its LF.
     fn take_line(&mut self, line: &[u8]) -> Result<(), AllocError>
         ensures { (lines : List (List ℕ)) → after self.old lines → OnOk result (after self.new (lines ++ line.now ∷ [])) };
+
+    /// Takes lines from the front of a text that begins with a line. It may leave any of them, and answers what stands from
+    /// there on.
+    fn take_front<'a>(&mut self, text: &'a [u8]) -> &'a [u8]
+        ensures taken { (lines : List (List ℕ)) → after self.old lines → (more : List (List ℕ)) × (parts_of text.now ≡ more ++ parts_of result.now) × after self.new (lines ++ more) }
+        ensures shorter { length result.now ≤ length text.now };
 }
 
 /// Hands on the line that begins in the buffer and ends so. One that begins here is handed on from where it stands.
@@ -43,7 +49,7 @@ fn feed<T: TakeLine>(buffer: &mut Vec<u8>, taker: &mut T, piece: &[u8]) -> Resul
     let mut rest = piece;
     while let Some((front, after)) = cut_once(rest, b'\n') {
         hand_on(buffer, taker, front)?;
-        rest = after;
+        rest = taker.take_front(after);
     }
     buffer.extend_from_slice(rest)?;
     Ok(())
@@ -68,7 +74,7 @@ pub fn take_lines<S: Source, T: TakeLine>(
         ⊎ (fault ≡ ReplayFault.OutOfMemory) × (S.failures source.new ≡ S.failures source.old)) }
 {
     let mut buffer = Vec::with_capacity(alloc, LINE_ROOM)?;
-    let mut piece = [0; 512];
+    let mut piece = [0; 4096];
     for _ in 0..u64::MAX {
         match source.read(&mut piece) {
             Ok(0) => return Ok(buffer),
@@ -88,7 +94,7 @@ pub fn read_all<S: Source>(alloc: Global, source: &mut S) -> Result<Vec<u8>, Rep
         ⊎ (fault ≡ ReplayFault.OutOfMemory) × (S.failures source.new ≡ S.failures source.old)) }
 {
     let mut text = Vec::new(alloc);
-    let mut piece = [0; 512];
+    let mut piece = [0; 4096];
     for _ in 0..u64::MAX {
         match source.read(&mut piece) {
             Ok(0) => return Ok(text),

@@ -69,7 +69,7 @@ fn take_told_steps<M: Machine, W: Sink>(
 }
 
 /// At most n steps of p, until its call is answered. They are refused where the first is.
-fn take_steps<M: Machine, W: Sink>(
+pub(crate) fn take_steps<M: Machine, W: Sink>(
     machine: &mut M,
     judge: &mut Judge,
     clerk: &mut Clerk,
@@ -106,7 +106,7 @@ fn take_crash<M: Machine, W: Sink>(
 }
 
 /// One line.
-fn play_line<M: Machine, W: Sink>(
+pub(crate) fn play_line<M: Machine, W: Sink>(
     machine: &mut M,
     judge: &mut Judge,
     clerk: &mut Clerk,

@@ -1,23 +1,33 @@
 //! Replaying the text of a schedule.
 
-ghost use Rattle.std.specs.Prelude.{◌≡◌, IfOk};
+ghost use Rattle.std.specs.Prelude.{◌≡◌, ◌+◌, ◌^◌, ◌<◌, ◌≤◌, List, length, Ok, IfOk};
+ghost use Rattle.judge.specs.Table.{State};
+ghost use Rattle.judge.specs.Stands.{Keeps};
+ghost use Rattle.schedule.specs.Replays.{Replays};
+ghost use Rattle.schedule.specs.Runs.{behaviour, run_on};
 ghost use Rattle.rmecore.specs.Refused.{number_of};
 ghost use Rattle.rmeworld.specs.WorldState.{new_refusal};
+ghost use Rattle.schedule.specs.declared.line.Line.{Line as LineOf};
+ghost use Rattle.schedule.specs.Commands.{line_at};
+ghost use Rattle.schedule.specs.Texts.{items_at, parts_of};
 ghost use Rattle.schedule.specs.Plays.{tape};
-ghost use Rattle.schedule.specs.Schedules.{schedule_at};
+ghost use Rattle.schedule.specs.Schedules.{schedule_at, scheduled_with};
 ghost use Rattle.schedule.specs.Wholes.{layout_of, header_fault, OfSchedule, OfText, reading, ReplaysSource};
 
+use crate::clerk::Clerk;
 use crate::device::{Sink, Source};
 use crate::fault::TextFault;
+use crate::head::Head;
+use crate::in_place::read;
 use crate::laws::worlds_are_never_found_out;
 use crate::pieces::read_all;
+use crate::play_in_place::play_text;
 use crate::replay_fault::ReplayFault;
-use crate::replaying::replay_on;
-use crate::schedule::{Schedule, read_schedule};
+use crate::replaying::{close, settle};
 use crate::verdict::Verdict;
 use judge::Judge;
 use rmecore::Refusal;
-use rmeworld::World;
+use rmeworld::{Machine, World};
 use std::alloc::Global;
 
 /// What is answered where a world or a judge of the header's sizes is refused.
@@ -30,17 +40,46 @@ fn at_header(refusal: Refusal) -> ReplayFault
     }
 }
 
-/// Replays a schedule on a new world, before a new judge.
-fn replay_new<W: Sink>(
+/// Replays the lines of a schedule's text, as `replay_on` does, and keeps none of them.
+fn replay_in_place<M: Machine, W: Sink>(
     alloc: Global,
-    schedule: &Schedule,
+    machine: &mut M,
+    judge: &mut Judge,
+    width: u64,
+    text: &[u8],
     w: &mut W,
 ) -> Result<Verdict, ReplayFault>
-    ensures of { OfSchedule (tape (W.taken w.old) (W.failures w.old)) (tape (W.taken w.new) (W.failures w.new)) schedule.now (new_refusal (layout_of schedule.now) schedule.now.limit) result }
+    requires width { (1 ≤ width) × (width ≤ 8) }
+    requires room { length text.now + 2 < 2 ^ 64 }
+    requires read { (lines : List LineOf) × (items_at (line_at width) 2 (parts_of text.now) ≡ Ok lines) }
+    ensures { (start : State) (lines : List LineOf) → Keeps judge.old start → items_at (line_at width) 2 (parts_of text.now) ≡ Ok lines → Replays (tape (W.taken w.old) (W.failures w.old)) (tape (W.taken w.new) (W.failures w.new)) start M.image_of (run_on (behaviour M.start_refusal M.started M.advance_refusal M.stepped M.advanced M.crash_refusal M.crash_deed M.crashed) 2 machine.old lines) result }
+{
+    let mut clerk = Clerk::new(alloc);
+    if let Err(fault) = play_text(machine, judge, &mut clerk, w, width, text) {
+        return Err(settle(w, fault));
+    }
+    let verdict = clerk.verdict();
+    let Ok(image) = machine.image() else {
+        return Err(ReplayFault::OutOfMemory);
+    };
+    close(alloc, &image, verdict, w)?;
+    Ok(verdict)
+}
+
+/// Replays the lines of a schedule's text on a new world, before a new judge.
+fn replay_new<W: Sink>(
+    alloc: Global,
+    head: Head,
+    lines: &[u8],
+    w: &mut W,
+) -> Result<Verdict, ReplayFault>
+    requires width { (1 ≤ head.width) × (head.width ≤ 8) }
+    requires room { length lines.now + 2 < 2 ^ 64 }
+    requires read { (all : List LineOf) × (items_at (line_at head.width) 2 (parts_of lines.now) ≡ Ok all) }
+    ensures of { (all : List LineOf) → items_at (line_at head.width) 2 (parts_of lines.now) ≡ Ok all → OfSchedule (tape (W.taken w.old) (W.failures w.old)) (tape (W.taken w.new) (W.failures w.new)) (scheduled_with (head, all)) (new_refusal (layout_of (scheduled_with (head, all))) head.limit) result }
     ensures fine { IfOk result (λ verdict. verdict ≡ Verdict.Fine) }
 {
     worlds_are_never_found_out();
-    let head = schedule.head();
     let mut world = match World::new(alloc, head.procs, head.limit, head.cap, head.width) {
         Ok(world) => world,
         Err(refusal) => return Err(at_header(refusal)),
@@ -49,16 +88,17 @@ fn replay_new<W: Sink>(
         Ok(judge) => judge,
         Err(_) => return Err(ReplayFault::OutOfMemory),
     };
-    replay_on(alloc, &mut world, &mut judge, schedule, w)
+    replay_in_place(alloc, &mut world, &mut judge, head.width, lines, w)
 }
 
 /// Replays the schedule that the text spells.
 fn replay_text<W: Sink>(alloc: Global, text: &[u8], w: &mut W) -> Result<Verdict, ReplayFault>
+    requires room { length text.now + 2 < 2 ^ 64 }
     ensures of { OfText (tape (W.taken w.old) (W.failures w.old)) (tape (W.taken w.new) (W.failures w.new)) (schedule_at text.now) result }
     ensures fine { IfOk result (λ verdict. verdict ≡ Verdict.Fine) }
 {
-    match read_schedule(alloc, text) {
-        Ok(schedule) => replay_new(alloc, &schedule, w),
+    match read(text) {
+        Ok((head, lines)) => replay_new(alloc, head, lines, w),
         Err(TextFault::At { line, fault }) => Err(ReplayFault::Text {
             line,
             number: fault.number(),

@@ -44,7 +44,7 @@ pub fn close<W: Sink>(
 }
 
 /// Flushes the sink after a run that was not played to its end.
-fn settle<W: Sink>(w: &mut W, fault: ReplayFault) -> ReplayFault
+pub(crate) fn settle<W: Sink>(w: &mut W, fault: ReplayFault) -> ReplayFault
     ensures taken { W.taken w.new ≡ W.taken w.old }
     ensures fault { (result ≡ fault) × (W.failures w.new ≡ W.failures w.old) ⊎ (result ≡ ReplayFault.Write) × (W.failures w.new ≡ min (W.failures w.old + 1) (2 ^ 64 - 1)) × IsRefused fault }
 {

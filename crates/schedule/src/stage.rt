@@ -1,9 +1,11 @@
 //! What is known of a trace after some of its lines.
 
 ghost use Rattle.std.specs.Prelude.{◌≡◌, ℕ, ◌+◌, ◌<◌, ◌≤◌, ◌^◌, List, [], ◌∷◌, ◌++◌, length, OnOk, IfOk};
-ghost use Rattle.schedule.specs.Trials.{IsStage, Stands};
+ghost use Rattle.schedule.specs.declared.stage.Stage.TheVariants as stages;
+ghost use Rattle.schedule.specs.Trials.{IsStage, Stands, Fed};
 
 use crate::deed::read_deed;
+use crate::deed_front::first_deed;
 use crate::fault::LineFault;
 use crate::hearing::Hearing;
 use crate::item::Heading;
@@ -40,6 +42,28 @@ fn begin(alloc: Global, line: &[u8]) -> Result<Stage, AllocError>
             None => Err(AllocError),
         },
     }
+}
+
+/// Hears the judge on the deeds of the lines at the front of a text, and counts these. It stops before a line that has a
+/// fault, that is not whole, or that is read another way, and answers what stands from there on.
+fn hear_lines<'a>(
+    head: &TraceHead,
+    judge: &mut Judge,
+    hearing: &mut Hearing,
+    number: &mut u64,
+    text: &'a [u8],
+) -> &'a [u8]
+    requires { (1 ≤ head.now.width) × (head.now.width ≤ 8) }
+    ensures fed { Fed (stages.Judging head.now judge.old hearing.old) (stages.Judging head.now judge.new hearing.new) text.now result.now number.old number.new }
+    ensures shorter { length result.now ≤ length text.now }
+{
+    let mut rest = text;
+    while let Some((deed, after)) = first_deed(head.width, rest) {
+        hearing.hear(judge, &deed);
+        *number = number.saturating_add(1);
+        rest = after;
+    }
+    rest
 }
 
 impl Stage {
@@ -80,6 +104,19 @@ impl Stage {
                 }
             },
             Stage::Faulty(..) => Ok(()),
+        }
+    }
+    /// Takes lines from the front of a text, the first of which has this number, and counts them. It may leave any of them,
+    /// and answers what stands from there on.
+    pub fn take_front<'a>(&mut self, number: &mut u64, text: &'a [u8]) -> &'a [u8]
+        requires { IsStage self.old }
+        ensures stage { IsStage self.new }
+        ensures fed { Fed self.old self.new text.now result.now number.old number.new }
+        ensures shorter { length result.now ≤ length text.now }
+    {
+        match self {
+            Stage::Judging(head, judge, hearing) => hear_lines(head, judge, hearing, number, text),
+            _ => text,
         }
     }
 }

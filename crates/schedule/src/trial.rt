@@ -81,6 +81,10 @@ impl TakeLine for TraceJudge {
         self.line = self.line.saturating_add(1);
         Ok(())
     }
+
+    fn take_front<'a>(&mut self, text: &'a [u8]) -> &'a [u8] {
+        self.stage.take_front(&mut self.line, text)
+    }
 }
 
 /// Judges the trace that the source gives. It keeps one line at a time, and its answer is that of the whole text, however

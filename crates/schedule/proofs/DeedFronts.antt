@@ -1,0 +1,83 @@
+-- The deed lines at the front of a text.
+use Rattle.std.proofs.Common.{◌≡◌, ℕ, ◌+◌, ◌<◌, List, [], ◌∷◌, ◌++◌, length, map, take, sym, ap, ◌∙◌, append_assoc, arith}
+use Rattle.std.specs.Prelude.{codes, slice_set}
+use Rattle.std.specs.List.{join_with_byte}
+use Rattle.std.specs.Fmt.{decimal}
+use Rattle.std.proofs.lemmas.Grind.{common_steps, flat_map-append}
+use Rattle.std.proofs.lemmas.List.{append-nil}
+use Rattle.redomail.specs.declared.deed.Deed.{Deed}
+use Rattle.redomail.specs.declared.deed.Deed.TheVariants.{Commit, Show}
+use Rattle.schedule.specs.declared.deed.DeedWord.{DeedWord}
+use Rattle.schedule.specs.Words.{spaced}
+use Rattle.schedule.specs.Texts.{line_of, parts_of}
+use Rattle.schedule.specs.Deeds.{words_of_deed, deed_at, IsDeed}
+use Rattle.schedule.specs.Fronts.{Begins, lead}
+use Rattle.schedule.proofs.Deeds.{deed_again, deed_plain}
+use Rattle.schedule.proofs.Joins.{words_of-join, parts_of-line}
+use Rattle.schedule.proofs.Spaced.{join_spaced}
+
+pub deed_begins : (width : ℕ) (d : Deed) → IsDeed width d → (text after : List ℕ) → text ≡ line_of (words_of_deed d) ++ after → Begins (deed_at width) text d after
+deed_begins width d h text after e =
+    let plain = deed_plain width d h in
+    record {
+      line = join_with_byte 32 (words_of_deed d);
+      parts = ap parts_of e ∙ parts_of-line (words_of_deed d) after plain;
+      whole = e ∙ append_assoc (join_with_byte 32 (words_of_deed d)) (10 ∷ []) after;
+      says = ap (deed_at width) (words_of-join (words_of_deed d) plain) ∙ deed_again width d h;
+    }
+
+pub short_begins : (width : ℕ) (word : DeedWord) (p : ℕ) (d : Deed) (text behind rest after : List ℕ) → IsDeed width d
+    → line_of (words_of_deed d) ≡ lead word ++ (decimal p ++ (10 ∷ []))
+    → text ≡ lead word ++ behind → behind ≡ decimal p ++ rest → rest ≡ 10 ∷ after → Begins (deed_at width) text d after
+short_begins width word p d text behind rest after h line a b c =
+    let spelled : (lead word ++ (decimal p ++ (10 ∷ []))) ++ after ≡ lead word ++ (decimal p ++ (10 ∷ after)) =
+    append_assoc (lead word) (decimal p ++ (10 ∷ [])) after ∙ ap (λ (t : List ℕ). lead word ++ t) (append_assoc (decimal p) (10 ∷ []) after) in
+    let whole : text ≡ lead word ++ (decimal p ++ (10 ∷ after)) = a ∙ ap (λ (t : List ℕ). lead word ++ t) (b ∙ ap (λ (t : List ℕ). decimal p ++ t) c) in
+    deed_begins width d h text after (whole ∙ sym spelled ∙ ap (λ (t : List ℕ). t ++ after) (sym line))
+
+pub long_begins : (width : ℕ) (word : DeedWord) (p : ℕ) (d : Deed) (text behind rest after : List ℕ) → IsDeed width d
+    → line_of (words_of_deed d) ++ after ≡ lead word ++ (decimal p ++ rest)
+    → text ≡ lead word ++ behind → behind ≡ decimal p ++ rest → Begins (deed_at width) text d after
+long_begins width word p d text behind rest after h line a b =
+    deed_begins width d h text after (a ∙ ap (λ (t : List ℕ). lead word ++ t) b ∙ sym line)
+
+-- ---- the numbers of a message
+
+one_more : (v : List ℕ) (n : ℕ) → spaced (v ++ n ∷ []) ≡ spaced v ++ (32 ∷ decimal n)
+one_more v n = flat_map-append (λ m. 32 ∷ decimal m) v (n ∷ []) ∙ ap (λ (t : List ℕ). spaced v ++ t) (append-nil (32 ∷ decimal n))
+
+pub value_grows : (text rest after behind words : List ℕ) (j n : ℕ) → j < length words → text ≡ spaced (take j words) ++ rest → rest ≡ 32 ∷ after → after ≡ decimal n ++ behind
+    → text ≡ spaced (take (j + 1) (slice_set words j n)) ++ behind
+value_grows text rest after behind words j n lt a b c =
+    let e : take (j + 1) (slice_set words j n) ≡ take j words ++ n ∷ [] = grind (arith, common_steps) in
+    let front = spaced (take j words) in
+    rw e (a ∙ ap (λ (t : List ℕ). front ++ t) (b ∙ ap (λ (t : List ℕ). 32 ∷ t) c) ∙ sym (append_assoc front (32 ∷ decimal n) behind) ∙ ap (λ (t : List ℕ). t ++ behind) (sym (one_more (take j words) n)))
+
+-- a number, a space and the rest of a line, before its end
+before_end : (n : ℕ) (more rest after : List ℕ) → 32 ∷ (more ++ (10 ∷ after)) ≡ rest → (decimal n ++ (32 ∷ more)) ++ (10 ∷ after) ≡ decimal n ++ rest
+before_end n more rest after e = append_assoc (decimal n) (32 ∷ more) (10 ∷ after) ∙ ap (λ (t : List ℕ). decimal n ++ t) e
+
+abbrev message : ℕ → List ℕ → List ℕ
+message seq v = join_with_byte 32 (decimal seq ∷ map decimal v)
+
+message_is : (seq : ℕ) (v text value end after : List ℕ) → text ≡ decimal seq ++ value → value ≡ spaced v ++ end → end ≡ 10 ∷ after → message seq v ++ (10 ∷ after) ≡ text
+message_is seq v text value end after a b c =
+    ap (λ (t : List ℕ). t ++ (10 ∷ after)) (join_spaced (decimal seq) v) ∙ append_assoc (decimal seq) (spaced v) (10 ∷ after)
+    ∙ ap (λ (t : List ℕ). decimal seq ++ t) (ap (λ (t : List ℕ). spaced v ++ t) (sym c) ∙ sym b) ∙ sym a
+
+ended : (line after : List ℕ) → (line ++ (10 ∷ [])) ++ after ≡ line ++ (10 ∷ after)
+ended line after = append_assoc line (10 ∷ []) after
+
+pub commit_line : (p seq : ℕ) (v rest text value end after : List ℕ) → rest ≡ 32 ∷ text → text ≡ decimal seq ++ value → value ≡ spaced v ++ end → end ≡ 10 ∷ after
+    → line_of (words_of_deed (Commit p seq v)) ++ after ≡ codes "commit " ++ (decimal p ++ rest)
+commit_line p seq v rest text value end after a b c d =
+    let behind : 32 ∷ (message seq v ++ (10 ∷ after)) ≡ rest = ap (λ (t : List ℕ). 32 ∷ t) (message_is seq v text value end after b c d) ∙ sym a in
+    ap (λ (t : List ℕ). codes "commit " ++ t) (ended (decimal p ++ (32 ∷ message seq v)) after ∙ before_end p (message seq v) rest after behind)
+
+pub show_line : (p at seq : ℕ) (v rest place more text value end after : List ℕ) → rest ≡ 32 ∷ place → place ≡ decimal at ++ more → more ≡ 32 ∷ text
+    → text ≡ decimal seq ++ value → value ≡ spaced v ++ end → end ≡ 10 ∷ after
+    → line_of (words_of_deed (Show p at seq v)) ++ after ≡ codes "show " ++ (decimal p ++ rest)
+show_line p at seq v rest place more text value end after a b c d e f =
+    let behind : 32 ∷ (message seq v ++ (10 ∷ after)) ≡ more = ap (λ (t : List ℕ). 32 ∷ t) (message_is seq v text value end after d e f) ∙ sym c in
+    let placed : 32 ∷ ((decimal at ++ (32 ∷ message seq v)) ++ (10 ∷ after)) ≡ rest = ap (λ (t : List ℕ). 32 ∷ t) (before_end at (message seq v) more after behind ∙ sym b) ∙ sym a in
+    ap (λ (t : List ℕ). codes "show " ++ t) (ended (decimal p ++ (32 ∷ (decimal at ++ (32 ∷ message seq v)))) after ∙ before_end p (decimal at ++ (32 ∷ message seq v)) rest after placed)

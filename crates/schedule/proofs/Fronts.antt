@@ -1,0 +1,67 @@
+-- What a text begins with.
+use Rattle.std.proofs.Common.{◌≡◌, ℕ, ◌+◌, ◌-◌, ◌*◌, ◌/◌, ◌%◌, ◌^◌, ◌<◌, ◌≤◌, true, false, eqb, List, [], ◌∷◌, ◌++◌, refl, sym, ap, ◌∙◌, append_assoc, arith}
+use Rattle.std.specs.Prelude.{codes}
+use Rattle.std.specs.List.{join_with_byte}
+use Rattle.std.specs.Char.{is_ascii_digit}
+use Rattle.std.specs.Fmt.{decimal}
+use Rattle.std.proofs.lemmas.Bool.{ne_eqb}
+use Rattle.std.proofs.lemmas.Fmt.{decimal_digit, decimal_step}
+use Rattle.schedule.specs.declared.line.Line.{Line}
+use Rattle.schedule.specs.declared.line.Line.TheVariants.{Step}
+use Rattle.schedule.specs.Commands.{words_of_line, IsLine, line_at}
+use Rattle.schedule.specs.Texts.{line_of, parts_of}
+use Rattle.schedule.specs.Fronts.{Begins}
+use Rattle.schedule.proofs.Joins.{words_of-join, parts_of-line}
+use Rattle.schedule.proofs.Commands.{line_again, line_plain}
+
+pub first_digit : (text after : List ℕ) (byte : ℕ) → is_ascii_digit byte ≡ true → text ≡ byte ∷ after → text ≡ decimal (byte - 48) ++ after
+first_digit text after byte digit is =
+    let range : (48 ≤ byte) × (byte ≤ 57) = grind arith in
+    let low : 48 + (byte - 48) ≡ byte = omega arith in
+    is ∙ rw (decimal_digit (byte - 48) (omega arith), low) refl
+
+pub next_digit : (text rest after : List ℕ) (value byte : ℕ) → is_ascii_digit byte ≡ true → 0 < value → value * 10 + (byte - 48) < 2 ^ 64
+    → rest ≡ byte ∷ after → text ≡ decimal value ++ rest → text ≡ decimal (value * 10 + (byte - 48)) ++ after
+next_digit text rest after value byte digit some small is front =
+    let range : (48 ≤ byte) × (byte ≤ 57) = grind arith in
+    let step = decimal_step (value * 10 + (byte - 48)) (omega arith) small in
+    let top : (value * 10 + (byte - 48)) / 10 ≡ value = omega arith in
+    let low : 48 + (value * 10 + (byte - 48)) % 10 ≡ byte = omega arith in
+    let longer : decimal (value * 10 + (byte - 48)) ≡ decimal value ++ byte ∷ [] = rw (top, low) at step in
+    front ∙ ap (λ (t : List ℕ). decimal value ++ t) is ∙ sym (append_assoc (decimal value) (byte ∷ []) after) ∙ ap (λ (t : List ℕ). t ++ after) (sym longer)
+
+-- ---- a line that is spelled as it is written
+
+line_begins : (width : ℕ) (l : Line) → IsLine width l → (text after : List ℕ) → text ≡ line_of (words_of_line l) ++ after → Begins (line_at width) text l after
+line_begins width l h text after e =
+    let plain = line_plain width l h in
+    record {
+      line = join_with_byte 32 (words_of_line l);
+      parts = ap parts_of e ∙ parts_of-line (words_of_line l) after plain;
+      whole = e ∙ append_assoc (join_with_byte 32 (words_of_line l)) (10 ∷ []) after;
+      says = ap (line_at width) (words_of-join (words_of_line l) plain) ∙ line_again width l h;
+    }
+
+ended : (ds after : List ℕ) → ds ++ 10 ∷ after ≡ (ds ++ 10 ∷ []) ++ after
+ended ds after = sym (append_assoc ds (10 ∷ []) after)
+
+pub one_step : (width p : ℕ) (text word rest after : List ℕ) → p < 2 ^ 64 → text ≡ codes "step " ++ word → word ≡ decimal p ++ rest → rest ≡ 10 ∷ after
+    → Begins (line_at width) text (Step p 1) after
+one_step width p text word rest after small a b c =
+    line_begins width (Step p 1) (small, omega arith, omega arith) text after
+    (a ∙ ap (λ (t : List ℕ). codes "step " ++ t) (b ∙ ap (λ (t : List ℕ). decimal p ++ t) c ∙ ended (decimal p) after))
+
+spelled_steps : (p k : ℕ) (after : List ℕ) → 2 ≤ k → codes "step " ++ (decimal p ++ (32 ∷ (decimal k ++ (10 ∷ after)))) ≡ line_of (words_of_line (Step p k)) ++ after
+spelled_steps p k after more =
+    let isnt : eqb k 1 ≡ false = ne_eqb k 1 (λ z. absurd (omega arith)) in
+    let behind : decimal p ++ (32 ∷ (decimal k ++ (10 ∷ after))) ≡ ((decimal p ++ (32 ∷ decimal k)) ++ (10 ∷ [])) ++ after =
+    sym (append_assoc (decimal p) (32 ∷ decimal k) (10 ∷ after)) ∙ ended (decimal p ++ (32 ∷ decimal k)) after in
+    rw isnt (ap (λ (t : List ℕ). codes "step " ++ t) behind)
+
+pub more_steps : (width p k : ℕ) (text word rest more end after : List ℕ) → p < 2 ^ 64 → 2 ≤ k → k ≤ 1000000
+    → text ≡ codes "step " ++ word → word ≡ decimal p ++ rest → rest ≡ 32 ∷ more → more ≡ decimal k ++ end → end ≡ 10 ∷ after
+    → Begins (line_at width) text (Step p k) after
+more_steps width p k text word rest more end after small least most a b c d e =
+    line_begins width (Step p k) (small, omega arith, most) text after
+    (a ∙ ap (λ (t : List ℕ). codes "step " ++ t) (b ∙ ap (λ (t : List ℕ). decimal p ++ t) (c ∙ ap (λ (t : List ℕ). 32 ∷ t) (d ∙ ap (λ (t : List ℕ). decimal k ++ t) e)))
+    ∙ spelled_steps p k after least)

@@ -1,0 +1,101 @@
+-- Lines that are read where they stand.
+use Rattle.std.proofs.Common.{◌≡◌, ℕ, ◌+◌, ◌<◌, ◌≤◌, false, eqb, List, [], ◌∷◌, ◌++◌, length, Result, Ok, Err, refl, sym, ap, ◌∙◌, append_assoc, arith, length-append}
+use Rattle.std.proofs.lemmas.Bool.{ne_eqb}
+use Rattle.schedule.specs.declared.fault.LineFault.{LineFault}
+use Rattle.schedule.specs.declared.fault.LineFault.TheVariants.{NoNewline}
+use Rattle.schedule.specs.declared.fault.TextFault.{TextFault}
+use Rattle.schedule.specs.declared.fault.TextFault.TheVariants as faults
+use Rattle.schedule.specs.declared.head.Head.{Head}
+use Rattle.schedule.specs.declared.line.Line.{Line}
+use Rattle.schedule.specs.Words.{words_of, ◌>>=◌}
+use Rattle.schedule.specs.Commands.{line_at}
+use Rattle.schedule.specs.Schedules.{Scheduled, head_at, schedule_at, scheduled_with}
+use Rattle.schedule.specs.Texts.{parts_of, items_at, text_at, Fails}
+use Rattle.schedule.specs.Fronts.{Begins}
+use Rattle.schedule.proofs.Items.{items_at-cut}
+use Rattle.schedule.proofs.Places.{bind_ok, ok_is}
+
+no_fault : {A : Type 0} (all : List A) (f : ℕ × LineFault) → Ok all ≡ Err f → ⊥
+no_fault all f e = cc
+
+module _ {A : Type 0} (item : List (List ℕ) → Result A LineFault) where
+  -- a text that begins with an item's line
+  pub items_at-begins : (k : ℕ) (text after : List ℕ) (x : A) → Begins item text x after
+      → items_at item k (parts_of text) ≡ (items_at item (k + 1) (parts_of after) >>= λ xs. Ok (x ∷ xs))
+  items_at-begins k text after x b = rw (items_at-cut item k text b.line after b.parts, b.says) refl
+
+  -- it is as long as its first line, with LF, and what stands behind
+  pub shorter : (text after : List ℕ) (x : A) → Begins item text x after → length after + 1 ≤ length text
+  shorter text after x b = omega (arith, ap length b.whole ∙ length-append b.line (10 ∷ after))
+
+  pub cut_begins : (text line after : List ℕ) (x : A) → parts_of text ≡ line ∷ parts_of after → text ≡ line ++ 10 ∷ after → item (words_of line) ≡ Ok x → Begins item text x after
+  cut_begins text line after x parts whole says = record { line = line; parts = parts; whole = whole; says = says }
+
+  pub cut_fails : (k : ℕ) (text line after : List ℕ) (f : LineFault) → parts_of text ≡ line ∷ parts_of after → item (words_of line) ≡ Err f → items_at item k (parts_of text) ≡ Err (k, f)
+  cut_fails k text line after f parts says = rw (items_at-cut item k text line after parts, says) refl
+
+  pub uncut_fails : (k : ℕ) (text : List ℕ) → parts_of text ≡ text ∷ [] → 0 < length text → items_at item k (parts_of text) ≡ Err (k, NoNewline)
+  unfolding items_at
+  uncut_fails k text parts some =
+      let isnt : eqb (length text) 0 ≡ false = ne_eqb (length text) 0 (λ z. omega arith) in
+      rw parts (rw isnt refl)
+
+  pub empty_reads : (k : ℕ) (text : List ℕ) → length text ≡ 0 → items_at item k (parts_of text) ≡ Ok []
+  unfolding items_at
+  empty_reads k [] e = refl
+  empty_reads k (b ∷ text) e = absurd (omega arith)
+
+  -- ---- what was read before, and is not kept
+
+  abbrev pub GoesOn : Result (List A) (ℕ × LineFault) → ℕ → List ℕ → Type 0
+  GoesOn total k text = (front : List A) × ((items_at item k (parts_of text) >>= λ xs. Ok (front ++ xs)) ≡ total)
+
+  regroup : (front : List A) (x : A) (read : Result (List A) (ℕ × LineFault)) → (read >>= λ xs. Ok (x ∷ xs)) >>= (λ xs. Ok (front ++ xs)) ≡ (read >>= λ xs. Ok ((front ++ x ∷ []) ++ xs))
+  regroup front x (Ok xs) = ap (λ (ys : List A). Ok ys) (sym (append_assoc front (x ∷ []) xs))
+  regroup front x (Err f) = refl
+
+  same : (r : Result (List A) (ℕ × LineFault)) → (r >>= λ xs. Ok ([] ++ xs)) ≡ r
+  same (Ok xs) = refl
+  same (Err f) = refl
+
+  pub goes_first : (k : ℕ) (text : List ℕ) → GoesOn (items_at item k (parts_of text)) k text
+  goes_first k text = ([], same (items_at item k (parts_of text)))
+
+  pub goes_on : (total : Result (List A) (ℕ × LineFault)) (k : ℕ) (text after : List ℕ) (x : A) → Begins item text x after → GoesOn total k text → GoesOn total (k + 1) after
+  goes_on total k text after x b so_far =
+      (so_far.0 ++ x ∷ [], sym (regroup so_far.0 x (items_at item (k + 1) (parts_of after))) ∙ ap (λ (r : Result (List A) (ℕ × LineFault)). r >>= λ xs. Ok (so_far.0 ++ xs)) (sym (items_at-begins k text after x b)) ∙ so_far.1)
+
+  pub goes_wrong : (total : Result (List A) (ℕ × LineFault)) (k : ℕ) (text : List ℕ) (f : LineFault) → items_at item k (parts_of text) ≡ Err (k, f) → GoesOn total k text → total ≡ Err (k, f)
+  goes_wrong total k text f fails so_far = sym so_far.1 ∙ rw fails refl
+
+  pub goes_to_end : (total : Result (List A) (ℕ × LineFault)) (k : ℕ) (text : List ℕ) → length text ≡ 0 → GoesOn total k text → (ys : List A) × (total ≡ Ok ys)
+  goes_to_end total k text none so_far = (so_far.0 ++ [], sym so_far.1 ∙ rw (empty_reads k text none) refl)
+
+  -- ---- a text that is known to be read
+
+  pub reads_on : (k : ℕ) (text after : List ℕ) (x : A) (all : List A) → Begins item text x after → items_at item k (parts_of text) ≡ Ok all
+      → (left : List A) × (all ≡ x ∷ left) × (items_at item (k + 1) (parts_of after) ≡ Ok left)
+  reads_on k text after x all b e =
+      let read = bind_ok (items_at item (k + 1) (parts_of after)) (λ xs. Ok (x ∷ xs)) all (sym (items_at-begins k text after x b) ∙ e) in
+      (read.0, sym (ok_is {E = ℕ × LineFault} (x ∷ read.0) all read.2), read.1)
+
+  pub reads_nothing : (k : ℕ) (text : List ℕ) (all : List A) → length text ≡ 0 → items_at item k (parts_of text) ≡ Ok all → all ≡ []
+  reads_nothing k text all none e = sym (ok_is {E = ℕ × LineFault} [] all (sym (empty_reads k text none) ∙ e))
+
+  pub never_fails : (k : ℕ) (text : List ℕ) (all : List A) (f : LineFault) → items_at item k (parts_of text) ≡ Ok all → items_at item k (parts_of text) ≡ Err (k, f) → ⊥
+  never_fails k text all f good bad = no_fault all (k, f) (sym good ∙ bad)
+
+-- ---- the schedule of a text
+
+abbrev made_of : Result (Head × List Line) (ℕ × LineFault) → Result Scheduled (ℕ × LineFault)
+made_of r = r >>= λ read. Ok (scheduled_with read)
+
+pub is_right : (text : List ℕ) (read : Head × List Line) → text_at head_at (λ h. line_at h.width) (parts_of text) ≡ Ok read → schedule_at text ≡ Ok (scheduled_with read)
+is_right text read e = ap made_of e
+
+pub is_wrong : (text : List ℕ) (f : ℕ × LineFault) → text_at head_at (λ h. line_at h.width) (parts_of text) ≡ Err f → schedule_at text ≡ Err f
+is_wrong text f e = ap made_of e
+
+pub fails_so : (e : TextFault) (text : List ℕ) → Fails e (text_at head_at (λ h. line_at h.width) (parts_of text)) → Fails e (schedule_at text)
+fails_so (faults.At k f) text fails = is_wrong text (k, f) fails
+fails_so faults.OutOfMemory text fails = tt

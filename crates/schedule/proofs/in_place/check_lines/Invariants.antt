@@ -1,0 +1,14 @@
+use Rattle.std.proofs.Common.{◌+◌, ◌≤◌, length}
+use Rattle.schedule.specs.Commands.{line_at}
+use Rattle.schedule.specs.Texts.{items_at, parts_of}
+use Rattle.schedule.proofs.InPlace.{GoesOn}
+use Rattle.schedule.proofs.in_place.check_lines.Given as goal
+
+abbrev pub invariant-loop-rest : goal.invariant-loop-rest
+invariant-loop-rest l = record {
+  so_far : GoesOn (line_at l.width) (items_at (line_at l.width) l.first (parts_of l.text)) l.number l.rest;
+  room : l.number + length l.rest ≤ l.first + length l.text;
+}
+
+abbrev pub decreases-loop-rest : goal.decreases-loop-rest
+decreases-loop-rest l = length l.rest

@@ -1,0 +1,111 @@
+//! The lines of a schedule, read where they stand in its text. A line is not kept, so a text is read twice: once for its
+//! faults, and once more as it is played.
+
+ghost use Rattle.std.specs.Prelude.{◌≡◌, ℕ, ◌+◌, ◌^◌, ◌<◌, ◌≤◌, length, List, Ok, Err, IfOk, IfErr};
+ghost use Rattle.schedule.specs.declared.line.Line.{Line as LineOf};
+ghost use Rattle.schedule.specs.Commands.{line_at};
+ghost use Rattle.schedule.specs.Texts.{items_at, parts_of, Fails};
+ghost use Rattle.schedule.specs.Schedules.{schedule_at, scheduled_with};
+ghost use Rattle.schedule.specs.Fronts.{Begins, Tries};
+
+use crate::cut::cut_once;
+use crate::fault::{LineFault, TextFault};
+use crate::front::steps;
+use crate::head::Head;
+use crate::item::Heading;
+use crate::line::Line;
+use crate::reading::read_line;
+
+/// The first line of a text that is not empty, and what stands behind it.
+pub(crate) fn next_line(width: u64, text: &[u8]) -> Result<(Line, &[u8]), LineFault>
+    requires width { (1 ≤ width) × (width ≤ 8) }
+    requires some { 0 < length text.now }
+    ensures read { IfOk result (λ read. Begins (line_at width) text.now read.0 read.1.now) }
+    ensures fault { IfErr result (λ fault. (k : ℕ) → items_at (line_at width) k (parts_of text.now) ≡ Err (k, fault)) }
+{
+    let Some((line, after)) = cut_once(text, b'\n') else {
+        return Err(LineFault::NoNewline);
+    };
+    match read_line(width, line) {
+        Ok(item) => Ok((item, after)),
+        Err(fault) => Err(fault),
+    }
+}
+
+/// What stands behind the first line of a text that is not empty.
+#[inline(never)]
+fn behind_line(width: u64, text: &[u8]) -> Result<&[u8], LineFault>
+    requires width { (1 ≤ width) × (width ≤ 8) }
+    requires some { 0 < length text.now }
+    ensures read { IfOk result (λ after. (line : LineOf) × Begins (line_at width) text.now line after.now) }
+    ensures fault { IfErr result (λ fault. (k : ℕ) → items_at (line_at width) k (parts_of text.now) ≡ Err (k, fault)) }
+{
+    match next_line(width, text) {
+        Ok((_, after)) => Ok(after),
+        Err(fault) => Err(fault),
+    }
+}
+
+/// What stands behind the first line of a text that is not empty. Most lines are of steps.
+#[inline(always)]
+fn behind_next(width: u64, text: &[u8]) -> Result<&[u8], LineFault>
+    requires width { (1 ≤ width) × (width ≤ 8) }
+    requires some { 0 < length text.now }
+    ensures read { IfOk result (λ after. (line : LineOf) × Begins (line_at width) text.now line after.now) }
+    ensures fault { IfErr result (λ fault. (k : ℕ) → items_at (line_at width) k (parts_of text.now) ≡ Err (k, fault)) }
+{
+    match steps(text) {
+        Some((_, _, after)) => Ok(after),
+        None => behind_line(width, text),
+    }
+}
+
+/// Whether the lines from this number on are those of a schedule.
+fn check_lines(width: u64, first: u64, text: &[u8]) -> Result<(), TextFault>
+    requires width { (1 ≤ width) × (width ≤ 8) }
+    requires room { first + length text.now < 2 ^ 64 }
+    ensures { Tries result (items_at (line_at width) first (parts_of text.now)) }
+{
+    let mut rest = text;
+    let mut number = first;
+    while !rest.is_empty() {
+        match behind_next(width, rest) {
+            Ok(after) => rest = after,
+            Err(fault) => return Err(TextFault::At {
+                line: number,
+                fault,
+            }),
+        }
+        number += 1;
+    }
+    Ok(())
+}
+
+/// The header of a schedule's text, and its other lines, which are all read.
+pub(crate) fn read(text: &[u8]) -> Result<(Head, &[u8]), TextFault>
+    requires room { length text.now + 2 < 2 ^ 64 }
+    ensures lines { IfOk result (λ read. (lines : List LineOf) × (items_at (line_at read.0.width) 2 (parts_of read.1.now) ≡ Ok lines) × (schedule_at text.now ≡ Ok (scheduled_with (read.0, lines)))) }
+    ensures width { IfOk result (λ read. (1 ≤ read.0.width) × (read.0.width ≤ 8)) }
+    ensures room { IfOk result (λ read. length read.1.now + 2 < 2 ^ 64) }
+    ensures fault { IfErr result (λ fault. Fails fault (schedule_at text.now)) }
+{
+    if text.is_empty() {
+        return Err(TextFault::At {
+            line: 1,
+            fault: LineFault::NoHeader,
+        });
+    }
+    let Some((first, lines)) = cut_once(text, b'\n') else {
+        return Err(TextFault::At {
+            line: 1,
+            fault: LineFault::NoNewline,
+        });
+    };
+    match Head::read(first) {
+        Ok(head) => {
+            check_lines(head.width, 2, lines)?;
+            Ok((head, lines))
+        }
+        Err(fault) => Err(TextFault::At { line: 1, fault }),
+    }
+}

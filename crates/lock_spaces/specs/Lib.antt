@@ -1,3 +1,4 @@
 pub mod Spaces
+pub mod Numbered
 pub mod FoundBy
 pub mod SceneWords

@@ -12,3 +12,4 @@ pub mod Choices
 pub mod LockWorlds
 pub mod Lines
 pub mod Scans
+pub mod Jobs

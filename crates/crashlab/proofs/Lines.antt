@@ -103,7 +103,7 @@ told_ends :
     → (next : VariantState) → next ≡ after_line world line → next.layout ≡ world.layout → (deed : Option Deed) → ((h : List Deed) → IsLockWorld world h → IsLockWorld next (h ++ list_of deed))
     → deeds_of_line world line ≡ list_of deed → (made : Made) (written : Scheduled) (later : Kept)
     → written ≡ with_line schedule line → Told (deeds_of_lines (first_world variant) schedule.lines) deed later made → Ends variant written next later made
-told_ends variant schedule world judge played line may next to layout deed locks done (On answer) written later is told =
+told_ends variant schedule world judge played line may next to layout deed locks done On written later is told =
     subst (λ s. IsPlayed variant s next later) (sym is) (goes_on variant schedule world judge played line may next (list_of deed) later to layout locks done told)
 told_ends variant schedule world judge played line may next to layout deed locks done Caught written later is told =
     let h = deeds_of_lines (first_world variant) schedule.lines in

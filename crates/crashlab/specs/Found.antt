@@ -31,7 +31,7 @@ pub record IsCaught (variant : Variant) (schedule : Scheduled) : Type 0 where
 
 -- the round goes on, or its schedule is found
 abbrev pub Ends : Variant → Scheduled → VariantState → Kept → Made → Type 0
-Ends variant schedule world judge (On answer) = IsPlayed variant schedule world judge
+Ends variant schedule world judge On = IsPlayed variant schedule world judge
 Ends variant schedule world judge Caught = IsCaught variant schedule
 
 -- with one more line
@@ -47,7 +47,7 @@ pub record IsRefused (history : List Deed) (deed : Option Deed) : Type 0 where
 
 -- the line is written, and the deed of the move, if it has one, is told to the judge
 abbrev pub Told : List Deed → Option Deed → Kept → Made → Type 0
-Told history deed judge (On answer) = StandsAfter (empty 3 64) (history ++ list_of deed) judge
+Told history deed judge On = StandsAfter (empty 3 64) (history ++ list_of deed) judge
 Told history deed judge Caught = IsRefused history deed
 
 -- a call of a hunt

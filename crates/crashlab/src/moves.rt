@@ -4,7 +4,7 @@ ghost use Rattle.std.specs.Prelude.{◌≡◌, ◌∷◌, []};
 ghost use Rattle.crashlab.specs.Found.{call_by, line_by};
 
 use rmecore::Body;
-use rmeworld::{Answer, Call};
+use rmeworld::Call;
 use schedule::{Count, Line};
 
 /// A call of a hunt.
@@ -68,11 +68,11 @@ impl Move {
     }
 }
 
-/// What came of a move.
+/// What the judge says of a move.
 #[derive(Clone, Copy, Debug, PartialEq, Eq)]
 pub enum Made {
-    /// The round goes on; the move ended its call with this answer. A move that the world refuses is none.
-    On(Option<Answer>),
+    /// The round goes on. A move that the world refuses is none.
+    On,
     /// The judge refuses its deed.
     Caught,
 }

@@ -9,15 +9,17 @@ ghost use Rattle.crashlab.specs.Found.{Ends};
 use crate::hunt_fault::HuntFault;
 use crate::moves::{Due, Made, Move};
 use crate::route::Route;
+use crate::sights::Sights;
 use crate::telling::tell;
 use crate::variant_world::VariantWorld;
 use judge::Judge;
 
-/// Makes a move in a world, of which the route and the judge tell so far.
+/// Makes a move in a world, of which the route and the judge tell so far, and notes what is seen of it.
 pub fn make(
     world: &mut VariantWorld,
     judge: &mut Judge,
     route: &mut Route,
+    sights: &mut Sights,
     made: Move,
 ) -> Result<Made, HuntFault>
     ensures ends { (variant : VariantOf) → IsPlayed variant route.old world.old judge.old → IfOk result (Ends variant route.new world.new judge.new) }
@@ -25,9 +27,9 @@ pub fn make(
     ensures memory { IfErr result (λ e. e ≡ HuntFault.OutOfMemory) }
 {
     match made {
-        Move::Start(p, due) => start(world, route, p, due),
-        Move::Step(p) => step(world, judge, route, p),
-        Move::Crash(p) => crash(world, judge, route, p),
+        Move::Start(p, due) => start(world, route, sights, p, due),
+        Move::Step(p) => step(world, judge, route, sights, p),
+        Move::Crash(p) => crash(world, judge, route, sights, p),
     }
 }
 
@@ -51,7 +53,13 @@ pub fn pass(world: &mut VariantWorld, route: &mut Route, made: Move) -> Result<b
 
 /// Starts a call, of which the judge hears nothing.
 #[inline(never)]
-fn start(world: &mut VariantWorld, route: &mut Route, p: u64, due: Due) -> Result<Made, HuntFault>
+fn start(
+    world: &mut VariantWorld,
+    route: &mut Route,
+    sights: &mut Sights,
+    p: u64,
+    due: Due,
+) -> Result<Made, HuntFault>
     ensures ends { (variant : VariantOf) (judge : Kept) → IsPlayed variant route.old world.old judge → IfOk result (Ends variant route.new world.new judge) }
     ensures grows { OnOk result (length route.new.lines ≤ length route.old.lines + 1) }
     ensures memory { IfErr result (λ e. e ≡ HuntFault.OutOfMemory) }
@@ -59,9 +67,10 @@ fn start(world: &mut VariantWorld, route: &mut Route, p: u64, due: Due) -> Resul
     match world.take_start(p, due.call()) {
         Ok(()) => {
             route.push(Move::Start(p, due))?;
-            Ok(Made::On(None))
+            sights.started(p, due);
+            Ok(Made::On)
         }
-        Err(_) => Ok(Made::On(None)),
+        Err(_) => Ok(Made::On),
     }
 }
 
@@ -71,18 +80,26 @@ fn step(
     world: &mut VariantWorld,
     judge: &mut Judge,
     route: &mut Route,
+    sights: &mut Sights,
     p: u64,
 ) -> Result<Made, HuntFault>
     ensures ends { (variant : VariantOf) → IsPlayed variant route.old world.old judge.old → IfOk result (Ends variant route.new world.new judge.new) }
     ensures grows { OnOk result (length route.new.lines ≤ length route.old.lines + 1) }
     ensures memory { IfErr result (λ e. e ≡ HuntFault.OutOfMemory) }
 {
+    if let Some(access) = world.job_next(p) {
+        let told = world.job_on(judge, p, access);
+        route.push(Move::Step(p))?;
+        sights.stepped(p, told.1);
+        return Ok(told.0);
+    }
     match world.step_before(judge, p) {
-        Ok(made) => {
+        Ok((made, answer)) => {
             route.push(Move::Step(p))?;
+            sights.stepped(p, answer);
             Ok(made)
         }
-        Err(_) => Ok(Made::On(None)),
+        Err(_) => Ok(Made::On),
     }
 }
 
@@ -92,6 +109,7 @@ fn crash(
     world: &mut VariantWorld,
     judge: &mut Judge,
     route: &mut Route,
+    sights: &mut Sights,
     p: u64,
 ) -> Result<Made, HuntFault>
     ensures ends { (variant : VariantOf) → IsPlayed variant route.old world.old judge.old → IfOk result (Ends variant route.new world.new judge.new) }
@@ -100,10 +118,11 @@ fn crash(
 {
     match world.take_crash(p) {
         Ok(deed) => {
-            let made = tell(judge, deed, None);
+            let made = tell(judge, deed);
             route.push(Move::Crash(p))?;
+            sights.crashed(p);
             Ok(made)
         }
-        Err(_) => Ok(Made::On(None)),
+        Err(_) => Ok(Made::On),
     }
 }

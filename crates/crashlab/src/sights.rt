@@ -106,25 +106,28 @@ impl Sights {
         }
     }
 
-    /// A move was made, with this answer.
-    pub fn see(&mut self, made: Move, answer: Option<Answer>) {
-        match made {
-            Move::Crash(p) => {
-                if let Some(sight) = self.sights.get_mut(p as usize) {
-                    sight.stage = Stage::Outside;
-                }
-            }
-            Move::Start(p, due) => {
-                if let Some(sight) = self.sights.get_mut(p as usize) {
-                    sight.stage = Stage::Calling(due);
-                }
-            }
-            Move::Step(p) => {
-                if let Some(sight) = self.sights.get_mut(p as usize) {
-                    if let (Stage::Calling(due), Some(answer)) = (sight.stage, answer) {
-                        sight.answered(due, answer);
-                    }
-                }
+    /// A process crashed.
+    pub fn crashed(&mut self, p: u64) {
+        if let Some(sight) = self.sights.get_mut(p as usize) {
+            sight.stage = Stage::Outside;
+        }
+    }
+
+    /// A process started a call.
+    pub fn started(&mut self, p: u64, due: Due) {
+        if let Some(sight) = self.sights.get_mut(p as usize) {
+            sight.stage = Stage::Calling(due);
+        }
+    }
+
+    /// A process took a step, which was answered where it ended its call.
+    pub fn stepped(&mut self, p: u64, answer: Option<Answer>) {
+        let Some(answer) = answer else {
+            return;
+        };
+        if let Some(sight) = self.sights.get_mut(p as usize) {
+            if let Stage::Calling(due) = sight.stage {
+                sight.answered(due, answer);
             }
         }
     }

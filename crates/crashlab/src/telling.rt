@@ -11,19 +11,18 @@ ghost use Rattle.crashlab.specs.Found.{Told};
 use crate::moves::Made;
 use judge::Judge;
 use redomail::{Deed, Layout};
-use rmecore::Access;
+use rmecore::{Access, Outer};
 use rmeworld::memory::deed_of;
-use rmeworld::{Answer, Outcome};
 
 /// Tells the judge a deed.
 #[inline(never)]
-pub fn tell(judge: &mut Judge, deed: Deed, answer: Option<Answer>) -> Made
+pub fn tell(judge: &mut Judge, deed: Deed) -> Made
     ensures { (history : List DeedOf) → StandsAfter (empty 3 64) history judge.old → Told history (Some deed) judge.new result }
 {
     if judge.feed(deed).is_err() {
         return Made::Caught;
     }
-    Made::On(answer)
+    Made::On
 }
 
 /// Tells the judge the deed of a step of process p, if it is one. Most steps are loads, and few of these are deeds.
@@ -33,16 +32,16 @@ pub fn tell_step(
     p: u64,
     cells: &[u64],
     access: &Access,
-    outcome: &Outcome,
+    outer: &Option<Outer>,
 ) -> Made
     requires size { IsLayout layout.now }
     requires filled { length cells.now ≡ size layout.now }
-    ensures told { (history : List DeedOf) → StandsAfter (empty 3 64) history judge.old → Told history (the_deed (or_else outcome.now.progress.outer (mail_by layout.now p (words_of cells.now) access.now))) judge.new result }
-    ensures one { list_of (the_deed (or_else outcome.now.progress.outer (mail_by layout.now p (words_of cells.now) access.now))) ≡ or_else outcome.now.progress.outer (mail_by layout.now p (words_of cells.now) access.now) }
+    ensures told { (history : List DeedOf) → StandsAfter (empty 3 64) history judge.old → Told history (the_deed (or_else outer.now (mail_by layout.now p (words_of cells.now) access.now))) judge.new result }
+    ensures one { list_of (the_deed (or_else outer.now (mail_by layout.now p (words_of cells.now) access.now))) ≡ or_else outer.now (mail_by layout.now p (words_of cells.now) access.now) }
 {
-    match (&outcome.progress.outer, access) {
-        (None, Access::Load(..)) => Made::On(outcome.answer),
-        _ => tell_deed(judge, layout, p, cells, access, outcome),
+    match (outer, access) {
+        (None, Access::Load(..)) => Made::On,
+        _ => tell_deed(judge, layout, p, cells, access, outer),
     }
 }
 
@@ -54,15 +53,15 @@ fn tell_deed(
     p: u64,
     cells: &[u64],
     access: &Access,
-    outcome: &Outcome,
+    outer: &Option<Outer>,
 ) -> Made
     requires size { IsLayout layout.now }
     requires filled { length cells.now ≡ size layout.now }
-    ensures told { (history : List DeedOf) → StandsAfter (empty 3 64) history judge.old → Told history (the_deed (or_else outcome.now.progress.outer (mail_by layout.now p (words_of cells.now) access.now))) judge.new result }
-    ensures one { list_of (the_deed (or_else outcome.now.progress.outer (mail_by layout.now p (words_of cells.now) access.now))) ≡ or_else outcome.now.progress.outer (mail_by layout.now p (words_of cells.now) access.now) }
+    ensures told { (history : List DeedOf) → StandsAfter (empty 3 64) history judge.old → Told history (the_deed (or_else outer.now (mail_by layout.now p (words_of cells.now) access.now))) judge.new result }
+    ensures one { list_of (the_deed (or_else outer.now (mail_by layout.now p (words_of cells.now) access.now))) ≡ or_else outer.now (mail_by layout.now p (words_of cells.now) access.now) }
 {
-    match deed_of(*layout, p, cells, *access, outcome.progress.outer) {
-        Some(deed) => tell(judge, deed, outcome.answer),
-        None => Made::On(outcome.answer),
+    match deed_of(*layout, p, cells, *access, *outer) {
+        Some(deed) => tell(judge, deed),
+        None => Made::On,
     }
 }

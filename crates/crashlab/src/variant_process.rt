@@ -12,7 +12,7 @@ use crate::variant_memory::VariantMemory;
 use redomail::Layout;
 use redomail::layout::COUNT;
 use rmecore::{Access, CoreCall, Kind, Outer, Progress, Refusal, Scan, Word};
-use rmeworld::{Call, Outcome, Process};
+use rmeworld::{Answer, Call, Outcome, Process};
 use std::marker::Model;
 
 /// A step that is nothing for others and ends no call.
@@ -44,8 +44,9 @@ impl Model for VariantProcess {
 
 impl VariantProcess {
     ghost use Rattle.rmeworld.specs.Spot.{Begins, next_spot};
-    ghost use Rattle.rmecore.specs.Machine.{word_of, place_of, at_scan};
+    ghost use Rattle.rmecore.specs.Machine.{word_of, place_of, at_scan, quiet};
     ghost use Rattle.rmeworld.specs.Advancing.{GoesOn};
+    ghost use Rattle.rmeworld.specs.InPlace.{IsWorking, Works};
     ghost use Rattle.rmeworld.specs.declared.errand.Errand.TheVariants.{Free};
     ghost use Rattle.rmeworld.specs.Errands.{Held};
     ghost use Rattle.crashlab.specs.VariantSeams.{with_variant_memory};
@@ -165,6 +166,28 @@ impl VariantProcess {
         self.process.scan_on(scan, value)
     }
 
+    /// The step that comes next, where it is one of a job, of a process that nothing is changed of.
+    pub(crate) fn job_next(&self) -> Option<Access>
+        ensures plain { IfSome result (λ a. IsPlain self.now) }
+        ensures works { IfSome result (Works self.now.stand) }
+    {
+        match (self.variant, self.detour, self.change) {
+            (Variant::Right, Detour::Straight, Change::Nothing) => self.process.job_next(),
+            _ => None,
+        }
+    }
+
+    /// Takes the next step of such a job, as `feed` does. For others it is nothing, so only its answer is told.
+    pub(crate) fn job_on(&mut self, value: u64) -> Option<Answer>
+        requires plain { IsPlain self.old }
+        requires working { IsWorking self.old.stand.errand }
+        ensures exact { self.new ≡ variant_stepped self.old value }
+        ensures outcome { variant_outcome self.old value ≡ record { progress = quiet; answer = result } }
+        ensures plain { spot_of self.new.stand ≡ spot_after self.old.stand (next_access self.old.stand) value }
+    {
+        self.process.job_on(value)
+    }
+
     /// Starts a call, as the world's process does.
     pub fn start(&mut self, call: Call) -> Result<(), Refusal>
         ensures accepted { OnOk result (start_refusal self.old.stand.layout (spot_of self.old.stand) call ≡ None) }
@@ -187,8 +210,8 @@ impl VariantProcess {
         ensures outcome { result ≡ variant_outcome self.old value }
         ensures plain { IsPlain self.old → spot_of self.new.stand ≡ spot_after self.old.stand (next_access self.old.stand) value }
     {
-        match self.variant {
-            Variant::Right => self.process.feed(value),
+        match (self.variant, self.process.stage()) {
+            (Variant::Right, Some(_)) => self.process.lock_on(value),
             _ => self.feed_otherwise(value),
         }
     }

@@ -19,7 +19,7 @@ use rmecore::simulated::{MOST_LIMIT, MOST_PROCS};
 use rmecore::{Access, Happened, Outer, Own, Refusal, Scan};
 use rmeworld::images::rules::{MOST_CAP, MOST_WIDTH};
 use rmeworld::memory::{deed_of, load, store};
-use rmeworld::{Call, Cells, Image, Machine, Owns, Stepped};
+use rmeworld::{Answer, Call, Cells, Image, Machine, Owns, Stepped};
 use std::alloc::Global;
 use std::marker::Model;
 
@@ -124,6 +124,7 @@ impl VariantWorld {
     ghost use Rattle.crashlab.specs.VariantStands.{IsPlain};
     ghost use Rattle.crashlab.specs.VariantWorlds.{stand_at};
     ghost use Rattle.rmeworld.specs.Advancing.{GoesOn};
+    ghost use Rattle.rmeworld.specs.InPlace.{Works};
     ghost use Rattle.crashlab.specs.LockWorlds.{IsLockWorld};
 
     /// Starts a call of process p.
@@ -175,10 +176,14 @@ impl VariantWorld {
     }
 
     /// Takes the next step of process p, as `take_step` does, and tells a judge of a hunt the deed, if it is one.
-    pub(crate) fn step_before(&mut self, judge: &mut Judge, p: u64) -> Result<Made, Refusal>
+    pub(crate) fn step_before(
+        &mut self,
+        judge: &mut Judge,
+        p: u64,
+    ) -> Result<(Made, Option<Answer>), Refusal>
         ensures accepted { OnOk result (advance_refusal self.old p ≡ None) }
         ensures refused { IfErr result (λ e. advance_refusal self.old p ≡ Some e) }
-        ensures told { (history : List DeedOf) → StandsAfter (empty 3 64) history judge.old → IfOk result (Told history (stepped self.old p).deed judge.new) }
+        ensures told { (history : List DeedOf) → StandsAfter (empty 3 64) history judge.old → IfOk result (λ r. Told history (stepped self.old p).deed judge.new r.0) }
         ensures ok { OnOk result (self.new ≡ advanced self.old p) }
         ensures err { OnErr result ((self.new ≡ self.old) × (judge.new ≡ judge.old)) }
         ensures lock { OnOk result ((history : List DeedOf) → IsLockWorld self.old history → IsLockWorld self.new (history ++ list_of (stepped self.old p).deed)) }
@@ -191,9 +196,45 @@ impl VariantWorld {
         };
         let found = load(&self.words, &self.cells, access.word());
         let outcome = self.processes[p as usize].feed(found);
-        let made = tell_step(judge, &self.layout, p, &self.cells, &access, &outcome);
+        let outer = &outcome.progress.outer;
+        let made = tell_step(judge, &self.layout, p, &self.cells, &access, outer);
         store(&mut self.words, &mut self.cells, access);
-        Ok(made)
+        Ok((made, outcome.answer))
+    }
+
+    /// The step of a job that comes next of process p, of a process that nothing is changed of.
+    pub(crate) fn job_next(&self, p: u64) -> Option<Access>
+        ensures below { IfSome result (λ a. p < self.now.layout.procs) }
+        ensures plain { IfSome result (λ a. IsPlain (stand_at self.now.processes p)) }
+        ensures works { IfSome result (Works (stand_at self.now.processes p).stand) }
+    {
+        if p >= self.layout.procs {
+            return None;
+        }
+        self.processes[p as usize].job_next()
+    }
+
+    /// Takes such a step, and tells a judge of a hunt the deed, if it is one.
+    pub(crate) fn job_on(
+        &mut self,
+        judge: &mut Judge,
+        p: u64,
+        access: Access,
+    ) -> (Made, Option<Answer>)
+        requires below { p < self.old.layout.procs }
+        requires plain { IsPlain (stand_at self.old.processes p) }
+        requires works { Works (stand_at self.old.processes p).stand access }
+        ensures accepted { advance_refusal self.old p ≡ None }
+        ensures told { (history : List DeedOf) → StandsAfter (empty 3 64) history judge.old → Told history (stepped self.old p).deed judge.new result.0 }
+        ensures ok { self.new ≡ advanced self.old p }
+        ensures lock { (history : List DeedOf) → IsLockWorld self.old history → IsLockWorld self.new (history ++ list_of (stepped self.old p).deed) }
+    {
+        let found = load(&self.words, &self.cells, access.word());
+        let process = &mut self.processes[p as usize];
+        let answer = process.job_on(found);
+        let made = tell_step(judge, &self.layout, p, &self.cells, &access, &None);
+        store(&mut self.words, &mut self.cells, access);
+        (made, answer)
     }
 
     /// Takes the next step of process p where it is one of a scan of the lock, which is no deed and ends no call, and

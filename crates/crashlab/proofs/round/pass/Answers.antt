@@ -12,5 +12,5 @@ returns-clause-goes_on c =
     let step = c.if-not-take_quiet_step.ensures in
     λ variant judge played.
     step_ends variant _ _ _ played c.in-Step.p (step.accepted refl) _ (step.ok refl) None (sym (step.quiet refl).0)
-    (λ h lock. subst (IsLockWorld c.take_quiet_step.new.self) (sym (append-nil h)) (step.lock refl h lock)) (On None) _ _ c.in_ok-push.ensures.line
+    (λ h lock. subst (IsLockWorld c.take_quiet_step.new.self) (sym (append-nil h)) (step.lock refl h lock)) On _ _ c.in_ok-push.ensures.line
     (subst (λ list. StandsAfter (empty 3 64) list judge) (sym (append-nil (deeds_of_lines (first_world variant) c.args.route.now.lines))) played.stands)

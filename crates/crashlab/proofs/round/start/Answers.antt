@@ -12,6 +12,6 @@ pub returns-in_ok-push-in-Ok-clause-ends : goal.returns-in_ok-push-in-Ok-clause-
 returns-in_ok-push-in-Ok-clause-ends c =
     let it = c.in-Ok.ensures in
     λ variant judge played.
-    start_ends variant _ _ _ played c.args.p c.call.result it.accepted _ it.ok it.lock (On None) _ _
+    start_ends variant _ _ _ played c.args.p c.call.result it.accepted _ it.ok it.lock On _ _
     (c.in_ok-push-in-Ok.ensures.line ∙ ap (λ call. with_line c.args.route.now (Start c.args.p call)) (sym c.call.ensures))
     (subst (λ list. StandsAfter (empty 3 64) list judge) (sym (append-nil (deeds_of_lines (first_world variant) c.args.route.now.lines))) played.stands)

@@ -2,7 +2,12 @@ use Rattle.std.proofs.Common.{refl}
 use Rattle.crashlab.proofs.Lines.{step_ends}
 use Rattle.crashlab.proofs.round.step.Goals as goal
 
+pub returns-in-Some-clause-ends : goal.returns-in-Some-clause-ends
+returns-in-Some-clause-ends c =
+    let it = c.job_on-told.ensures in
+    λ variant played. step_ends variant _ _ _ played c.args.p it.accepted _ it.ok _ refl it.lock _ _ _ c.in_ok-push.ensures.line (it.told _ played.stands)
+
 pub returns-in_ok-push-in-Ok-clause-ends : goal.returns-in_ok-push-in-Ok-clause-ends
 returns-in_ok-push-in-Ok-clause-ends c =
     let it = c.in-Ok.ensures in
-    λ variant played. step_ends variant _ _ _ played c.args.p it.accepted _ it.ok _ refl it.lock c.in-Ok.made _ _ c.in_ok-push-in-Ok.ensures.line (it.told _ played.stands)
+    λ variant played. step_ends variant _ _ _ played c.args.p it.accepted _ it.ok _ refl it.lock _ _ _ c.in_ok-push-in-Ok.ensures.line (it.told _ played.stands)

@@ -4,7 +4,7 @@ use Rattle.crashlab.specs.declared.variant.Variant.{Variant}
 use Rattle.schedule.specs.Plays.{Tape}
 use Rattle.schedule.specs.Wholes.{Reading}
 use Rattle.laboratory.specs.declared.fault.Fault.{Fault}
-use Rattle.laboratory.specs.declared.order.DrawOrder.{DrawOrder}
+use Rattle.orders.specs.declared.order.DrawOrder.{DrawOrder}
 use Rattle.laboratory.specs.Draws.{DrawEnds}
 use Rattle.laboratory.specs.Settings.{IsWrongText}
 use Rattle.laboratory.specs.Statuses.{status_of}

@@ -3,9 +3,9 @@ use Rattle.std.proofs.Common.{◌≡◌, ℕ, ◌-◌, ◌*◌, ◌^◌, ◌≤�
 use Rattle.std.proofs.Math.Nat.{min-eq_left, one-le-mul}
 use Rattle.std.proofs.lemmas.Nat.{mul-le}
 use Rattle.one_lock.specs.Lab.{IsBadSpec}
-use Rattle.laboratory.specs.declared.order.RunOrder.{RunOrder}
+use Rattle.orders.specs.declared.order.RunOrder.{RunOrder}
 use Rattle.laboratory.specs.Commands.{lab_for}
-use Rattle.laboratory.specs.Sizes.{RunFits}
+use Rattle.orders.specs.Sizes.{RunFits}
 
 -- room for each message is within a mailbox's room
 room_fits : (p m : ℕ) → p ≤ 16 → m ≤ 4096 → min (p * m) (2 ^ 64 - 1) ≡ p * m

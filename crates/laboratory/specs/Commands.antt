@@ -24,15 +24,15 @@ use Rattle.schedule.specs.Runs.{Part, deeds_of}
 use Rattle.schedule.specs.Verdicts.{verdict_on}
 use Rattle.schedule.specs.Wholes.{Reading, WasRead, ReplaysSource, world_run}
 use Rattle.shrinking.specs.Shrunk.{Shrinks}
-use Rattle.laboratory.specs.declared.order.Command.{Command}
-use Rattle.laboratory.specs.declared.order.Command.TheVariants.{Replay, Run, Hunt, Explore, Judge, Draw, Shrink, Explain}
-use Rattle.laboratory.specs.declared.order.HuntOrder.{HuntOrder}
-use Rattle.laboratory.specs.declared.order.ReplayOrder.{ReplayOrder}
-use Rattle.laboratory.specs.declared.order.RunOrder.{RunOrder}
+use Rattle.orders.specs.declared.order.Command.{Command}
+use Rattle.orders.specs.declared.order.Command.TheVariants.{Replay, Run, Hunt, Explore, Judge, Draw, Shrink, Explain}
+use Rattle.orders.specs.declared.order.HuntOrder.{HuntOrder}
+use Rattle.orders.specs.declared.order.ReplayOrder.{ReplayOrder}
+use Rattle.orders.specs.declared.order.RunOrder.{RunOrder}
 use Rattle.laboratory.specs.Draws.{DrawEnds}
 use Rattle.laboratory.specs.Explores.{ExploreEnds}
 use Rattle.laboratory.specs.Shrinks.{ShrinkEnds}
-use Rattle.laboratory.specs.Sizes.{HuntFits, RunFits}
+use Rattle.orders.specs.Sizes.{HuntFits, RunFits}
 use Rattle.laboratory.specs.declared.ending.Ending.{Ending}
 use Rattle.laboratory.specs.declared.fault.Fault.{Fault}
 use Rattle.laboratory.specs.declared.fault.Fault.TheVariants.{BadSize, Read, Write}

@@ -5,7 +5,7 @@ use Rattle.schedule.specs.Plays.{Tape}
 use Rattle.schedule.specs.Wholes.{Reading}
 use Rattle.laboratory.specs.declared.ending.Ending.{Ending}
 use Rattle.laboratory.specs.declared.fault.Fault.{Fault}
-use Rattle.laboratory.specs.declared.order.DrawOrder.{DrawOrder}
+use Rattle.orders.specs.declared.order.DrawOrder.{DrawOrder}
 use Rattle.laboratory.specs.Statuses.{status_ended}
 use Rattle.laboratory.specs.Tellings.{Drawn, TellsRead}
 

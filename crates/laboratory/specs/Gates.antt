@@ -4,7 +4,7 @@ use Rattle.std.specs.List.{range_with_len}
 use Rattle.rand_core.specs.Pcg32Seed.{pcg32_seed}
 use Rattle.rand_pcg.specs.Pcg.{pcg32_of_seed}
 use Rattle.plans.specs.Plans.{Drawing, unasked}
-use Rattle.laboratory.specs.declared.order.RunOrder.{RunOrder}
+use Rattle.orders.specs.declared.order.RunOrder.{RunOrder}
 
 -- those of sender p are drawn from the seed and p, modulo 2^64
 abbrev pub gate_of : RunOrder → ℕ → Drawing

@@ -1,13 +1,11 @@
 pub mod Explores
 pub mod Commands
 pub mod Draws
-pub mod FilesNamed
 pub mod Gates
 pub mod Lines
 pub mod Programs
 pub mod Settings
 pub mod Shrinks
-pub mod Sizes
 pub mod Statuses
 pub mod Tallies
 pub mod Tellings

@@ -6,13 +6,13 @@ use Rattle.schedule.specs.Wholes.{Reading, reading}
 use Rattle.laboratory.specs.declared.ending.Ending.{Ending}
 use Rattle.laboratory.specs.declared.fault.Fault.{Fault}
 use Rattle.laboratory.specs.declared.fault.Fault.TheVariants.{BadVariant, BadSize, Write, OutOfMemory}
-use Rattle.laboratory.specs.declared.order.Command.{Command}
-use Rattle.laboratory.specs.declared.words.WordsFault.{WordsFault}
-use Rattle.laboratory.specs.declared.words.WordsFault.TheVariants as words
+use Rattle.orders.specs.declared.order.Command.{Command}
+use Rattle.orders.specs.declared.words.WordsFault.{WordsFault}
+use Rattle.orders.specs.declared.words.WordsFault.TheVariants as words
 use Rattle.laboratory.specs.Commands.{CommandEnds, IsBroken}
-use Rattle.laboratory.specs.FilesNamed.{image_of, input_of, save_of}
+use Rattle.orders.specs.FilesNamed.{image_of, input_of, save_of}
 use Rattle.laboratory.specs.Lines.{fault_line, IsTold}
-use Rattle.laboratory.specs.Sizes.{IsSized}
+use Rattle.orders.specs.Sizes.{IsSized}
 use Rattle.laboratory.specs.Statuses.{status_ended, status_of}
 
 -- ---- files

@@ -11,7 +11,7 @@ use Rattle.shrinking.specs.Shrunk.{IsWhy, Shrinks}
 use Rattle.laboratory.specs.declared.ending.Ending.{Ending}
 use Rattle.laboratory.specs.declared.fault.Fault.{Fault}
 use Rattle.laboratory.specs.declared.fault.Fault.TheVariants.{Refused}
-use Rattle.laboratory.specs.declared.order.ShrinkOrder.{ShrinkOrder}
+use Rattle.orders.specs.declared.order.ShrinkOrder.{ShrinkOrder}
 use Rattle.laboratory.specs.Settings.{IsWrongText}
 use Rattle.laboratory.specs.Statuses.{outcome, status_ended}
 

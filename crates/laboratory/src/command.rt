@@ -5,7 +5,7 @@ ghost use Rattle.crashlab.specs.Hunts.{IsFound};
 ghost use Rattle.schedule.specs.Plays.{tape};
 ghost use Rattle.schedule.specs.Wholes.{reading};
 ghost use Rattle.laboratory.specs.Commands.{CommandEnds, ExplainEnds, HuntEnds, IsEnded, JudgeEnds, TellsFound};
-ghost use Rattle.laboratory.specs.FilesNamed.{save_of};
+ghost use Rattle.orders.specs.FilesNamed.{save_of};
 ghost use Rattle.laboratory.specs.Programs.{Closes};
 ghost use Rattle.laboratory.specs.Statuses.{status_of};
 
@@ -14,13 +14,14 @@ use crate::ending::{Ending, status_after_verdict};
 use crate::exploring::explore_order;
 use crate::fault::Fault;
 use crate::line::told;
-use crate::order::{Command, HuntOrder};
 use crate::replaying::replay_order;
 use crate::running::run_order;
 use crate::shrunk::{shrink_order, write_lines};
 use crashlab::Variant;
-use crashlab::hunt::hunt;
+use crashlab::hunt::hunt_watched;
 use meanings::{Topic, tell_all_names, tell_topic};
+use orders::order::{Command, HuntOrder};
+use progress::{Meter, Screen, Work};
 use schedule::device::write_all;
 use schedule::{Schedule, Sink, Source, judge_trace, put_verdict};
 use shrinking::shrink_found;
@@ -78,12 +79,27 @@ fn write_found<W: Sink>(
     }
 }
 
-/// The schedule that a hunt finds, or that it finds none.
-fn hunt_order<W: Sink>(alloc: Global, order: &HuntOrder, w: &mut W) -> Result<Ending, Fault>
+/// The schedule that a hunt finds, or that it finds none. How the hunt comes on is shown on the screen.
+pub fn hunt_order<S: Screen, W: Sink>(
+    alloc: Global,
+    order: &HuntOrder,
+    screen: &mut S,
+    w: &mut W,
+) -> Result<Ending, Fault>
     ensures ends { HuntEnds order.now (tape (W.taken w.old) (W.failures w.old)) (tape (W.taken w.new) (W.failures w.new)) result }
     ensures ended { IfOk result (IsEnded false (W.failures w.old) (W.failures w.new)) }
 {
-    match hunt(alloc, order.variant, order.seed, order.rounds, order.steps)? {
+    let mut meter = Meter::new(screen, Work::Hunt);
+    let found = hunt_watched(
+        alloc,
+        order.variant,
+        order.seed,
+        order.rounds,
+        order.steps,
+        &mut meter,
+    );
+    meter.end();
+    match found? {
         Some(schedule) => {
             write_found(alloc, order, &schedule, w)?;
             Ok(Ending {
@@ -118,12 +134,13 @@ fn explain_order<W: Sink>(topic: Option<Topic>, w: &mut W) -> Result<Ending, Fau
 }
 
 /// Does what a command says, or says why not: it reads the schedule or the trace from `r`, and writes what it prints to
-/// `w`. The image is the text of the file that `--image` names.
-pub fn ended<T: Threads + Wait + Sync, R: Source, W: Sink>(
+/// `w`. The image is the text of the file that `--image` names. How a search or a hunt comes on is shown on the screen.
+pub fn ended<T: Threads + Wait + Sync, S: Screen, R: Source, W: Sink>(
     rt: &T,
     alloc: Global,
     command: &Command,
     image: Option<&[u8]>,
+    screen: &mut S,
     r: &mut R,
     w: &mut W,
 ) -> Result<Ending, Fault>
@@ -135,19 +152,20 @@ pub fn ended<T: Threads + Wait + Sync, R: Source, W: Sink>(
         Command::Judge(_) => judge_order(alloc, r, w),
         Command::Draw(order) => draw_order(alloc, order, image, r, w),
         Command::Shrink(order) => shrink_order(alloc, order, r, w),
-        Command::Hunt(order) => hunt_order(alloc, order, w),
-        Command::Explore(order) => explore_order(alloc, order, w),
+        Command::Hunt(order) => hunt_order(alloc, order, screen, w),
+        Command::Explore(order) => explore_order(alloc, order, screen, w),
         Command::Run(order) => run_order(rt, alloc, order, w),
         Command::Explain(topic) => explain_order(*topic, w),
     }
 }
 
 /// Does what a command says over a reader, a writer for what is printed, and one for the one line of a fault.
-pub fn command<T: Threads + Wait + Sync, R: Source, W: Sink, E: Sink>(
+pub fn command<T: Threads + Wait + Sync, S: Screen, R: Source, W: Sink, E: Sink>(
     rt: &T,
     alloc: Global,
     command: &Command,
     image: Option<&[u8]>,
+    screen: &mut S,
     r: &mut R,
     w: &mut W,
     e: &mut E,
@@ -155,7 +173,7 @@ pub fn command<T: Threads + Wait + Sync, R: Source, W: Sink, E: Sink>(
     ensures ends { (end : Result Ending Fault) × CommandEnds command.now (is_some image.entry) (reading (R.given r.old) (R.ended r.old) (R.failures r.old)) (reading (R.given r.new) (R.ended r.new) (R.failures r.new)) (tape (W.taken w.old) (W.failures w.old)) (tape (W.taken w.new) (W.failures w.new)) end × Closes (tape (E.taken e.old) (E.failures e.old)) (tape (E.taken e.new) (E.failures e.new)) end result.status }
     ensures unsaved { is_some (save_of command.now) ≡ false → is_some result.save ≡ false }
 {
-    match ended(rt, alloc, command, image, r, w) {
+    match ended(rt, alloc, command, image, screen, r, w) {
         Ok(ending) => ending,
         Err(fault) => Ending {
             status: told(fault, e),

@@ -20,7 +20,6 @@ ghost use Rattle.laboratory.specs.Tellings.{Drawn, ending_of as ending_for, IsWr
 
 use crate::ending::{Ending, status_after_verdict};
 use crate::fault::Fault;
-use crate::order::DrawOrder;
 use crate::setting::{
     fitting, image_read, image_world, new_judge, new_world, schedule_read, start_at, started_judge,
     variant_world,
@@ -28,6 +27,7 @@ use crate::setting::{
 use crashlab::Variant;
 use drawing::{Drawing, End, Phase, Style, draw, write_drawing};
 use judge::{Judge, Start};
+use orders::order::DrawOrder;
 use rmeworld::{Image, Machine};
 use schedule::laws::worlds_are_never_found_out;
 use schedule::{Schedule, Sink, Source};

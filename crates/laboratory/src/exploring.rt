@@ -11,9 +11,10 @@ ghost use Rattle.lock_spaces.specs.Spaces.{line_by};
 use crate::ending::Ending;
 use crate::fault::Fault;
 use crate::line::line_around;
-use crate::order::ExploreOrder;
 use crate::shrunk::write_lines;
-use lock_search::{Bounds, Found, Move, Unwatched, shortest_schedule};
+use lock_search::{Bounds, Found, Move, shortest_schedule};
+use orders::order::ExploreOrder;
+use progress::{Meter, Screen, Work};
 use redomail::Layout;
 use rmecore::Body;
 use rmeworld::Call;
@@ -144,10 +145,11 @@ fn tell_all<W: Sink>(states: u64, w: &mut W) -> Result<Ending, Fault>
     tell_none("nothing found: all ", states, " states\n", w)
 }
 
-/// The schedule of fewest moves that is found, or that there is none.
-pub fn explore_order<W: Sink>(
+/// The schedule of fewest moves that is found, or that there is none. How the search comes on is shown on the screen.
+pub fn explore_order<S: Screen, W: Sink>(
     alloc: Global,
     order: &ExploreOrder,
+    screen: &mut S,
     w: &mut W,
 ) -> Result<Ending, Fault>
     ensures ends { ExploreEnds order.now (tape (W.taken w.old) (W.failures w.old)) (tape (W.taken w.new) (W.failures w.new)) result }
@@ -167,6 +169,7 @@ pub fn explore_order<W: Sink>(
         states: order.states,
     };
     let calls = calls_of(alloc, order)?;
+    let mut meter = Meter::new(screen, Work::Search);
     let found = shortest_schedule(
         alloc,
         order.variant,
@@ -174,9 +177,10 @@ pub fn explore_order<W: Sink>(
         order.limit,
         &calls,
         &bounds,
-        &mut Unwatched,
-    )?;
-    match found {
+        &mut meter,
+    );
+    meter.end();
+    match found? {
         Found::Path(path) => {
             let schedule = schedule_of(alloc, order, &path)?;
             write_lines(alloc, &schedule, w)?;

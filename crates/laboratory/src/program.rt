@@ -4,10 +4,10 @@ ghost use Rattle.std.specs.Prelude.{◌≡◌, ◌⊎◌, ◌++◌, ◌∷◌, [
 ghost use Rattle.schedule.specs.Plays.{tape, Writes};
 ghost use Rattle.schedule.specs.Wholes.{reading};
 ghost use Rattle.laboratory.specs.Commands.{IsEnded};
-ghost use Rattle.laboratory.specs.FilesNamed.{image_of, input_of, save_of};
+ghost use Rattle.orders.specs.FilesNamed.{image_of, input_of, save_of};
 ghost use Rattle.laboratory.specs.Lines.{IsTold};
 ghost use Rattle.laboratory.specs.Programs.{Answers, Closes, Does, EndsOnFile, EndsOnInput, Helps, IsProgram, Obeys, opens_all, OpensSome, SavesAll, Scolds, used};
-ghost use Rattle.laboratory.specs.Sizes.{IsSized};
+ghost use Rattle.orders.specs.Sizes.{IsSized};
 ghost use Rattle.laboratory.specs.Statuses.{fault_of_opening, fault_of_saving, status_of};
 
 use crate::command::ended;
@@ -15,8 +15,9 @@ use crate::ending::Ending;
 use crate::fault::Fault;
 use crate::folder::{FileFault, Folder};
 use crate::line::told;
-use crate::order::Command;
-use crate::words::{WordsFault, read_words};
+use orders::order::Command;
+use orders::words::{WordsFault, read_words};
+use progress::Screen;
 use schedule::device::write_all;
 use schedule::pieces::read_all;
 use schedule::{Failed, FromReader, Sink, Source, ToWriter};
@@ -78,13 +79,14 @@ fn image_text<F: Folder>(
 }
 
 /// Does what the order says over the file of this name.
-fn ended_on_file<T: Threads + Wait + Sync, F: Folder, W: Sink>(
+fn ended_on_file<T: Threads + Wait + Sync, F: Folder, S: Screen, W: Sink>(
     rt: &T,
     alloc: Global,
     order: &Command,
     image: Option<&[u8]>,
     folder: &mut F,
     name: &String,
+    screen: &mut S,
     out: &mut W,
 ) -> Result<Ending, Fault>
     requires { is_some image ≡ is_some (image_of order.now) }
@@ -95,15 +97,16 @@ fn ended_on_file<T: Threads + Wait + Sync, F: Folder, W: Sink>(
     ensures ended { IfOk result (IsEnded (is_some (save_of order.now)) (W.failures out.old) (W.failures out.new)) }
 {
     let mut file = folder.open(name).map_err(unopened)?;
-    ended(rt, alloc, order, image, &mut file, out)
+    ended(rt, alloc, order, image, screen, &mut file, out)
 }
 
 /// Does what the order says: the image is read first; the input is read where no file is named.
-fn ordered<T: Threads + Wait + Sync, F: Folder, R: Source, W: Sink>(
+fn ordered<T: Threads + Wait + Sync, F: Folder, S: Screen, R: Source, W: Sink>(
     rt: &T,
     alloc: Global,
     order: &Command,
     folder: &mut F,
+    screen: &mut S,
     input: &mut R,
     out: &mut W,
 ) -> Result<Ending, Fault>
@@ -118,8 +121,17 @@ fn ordered<T: Threads + Wait + Sync, F: Folder, R: Source, W: Sink>(
 {
     let image = image_text(alloc, order, folder)?;
     match order.input_file() {
-        Some(name) => ended_on_file(rt, alloc, order, image.as_deref(), folder, name, out),
-        None => ended(rt, alloc, order, image.as_deref(), input, out),
+        Some(name) => ended_on_file(
+            rt,
+            alloc,
+            order,
+            image.as_deref(),
+            folder,
+            name,
+            screen,
+            out,
+        ),
+        None => ended(rt, alloc, order, image.as_deref(), screen, input, out),
     }
 }
 
@@ -138,17 +150,18 @@ fn save<F: Folder>(folder: &mut F, order: &Command, ending: &Ending) -> Result<(
 
 /// Does what the order says, hands on what is printed, and then saves the image. Where the output can't be handed on, that
 /// is the fault.
-fn carried_out<T: Threads + Wait + Sync, F: Folder, R: Source, W: Sink>(
+fn carried_out<T: Threads + Wait + Sync, F: Folder, S: Screen, R: Source, W: Sink>(
     rt: &T,
     alloc: Global,
     order: &Command,
     folder: &mut F,
+    screen: &mut S,
     input: &mut R,
     out: &mut W,
 ) -> Result<Ending, Fault>
     ensures { Does order.now (used (F.opened folder.old) (F.saved folder.old) (F.texts folder.old)) (used (F.opened folder.new) (F.saved folder.new) (F.texts folder.new)) (reading (R.given input.old) (R.ended input.old) (R.failures input.old)) (reading (R.given input.new) (R.ended input.new) (R.failures input.new)) (tape (W.taken out.old) (W.failures out.old)) (tape (W.taken out.new) (W.failures out.new)) result }
 {
-    let ended = ordered(rt, alloc, order, folder, input, out);
+    let ended = ordered(rt, alloc, order, folder, screen, input, out);
     if out.flush().is_err() {
         return Err(Fault::Write);
     }
@@ -167,19 +180,21 @@ pub fn closed<E: Sink>(end: Result<Ending, Fault>, err: &mut E) -> u8
     }
 }
 
-/// Does what the order says, and answers the exit status. The one line of a fault goes to `err`.
-pub fn obey<T: Threads + Wait + Sync, F: Folder, R: Source, W: Sink, E: Sink>(
+/// Does what the order says, and answers the exit status. The one line of a fault goes to `err`; how a search or a hunt comes
+/// on is shown on the screen.
+pub fn obey<T: Threads + Wait + Sync, F: Folder, S: Screen, R: Source, W: Sink, E: Sink>(
     rt: &T,
     alloc: Global,
     order: &Command,
     folder: &mut F,
+    screen: &mut S,
     input: &mut R,
     out: &mut W,
     err: &mut E,
 ) -> u8
     ensures { Obeys order.now (used (F.opened folder.old) (F.saved folder.old) (F.texts folder.old)) (used (F.opened folder.new) (F.saved folder.new) (F.texts folder.new)) (reading (R.given input.old) (R.ended input.old) (R.failures input.old)) (reading (R.given input.new) (R.ended input.new) (R.failures input.new)) (tape (W.taken out.old) (W.failures out.old)) (tape (W.taken out.new) (W.failures out.new)) (tape (E.taken err.old) (E.failures err.old)) (tape (E.taken err.new) (E.failures err.new)) result }
 {
-    let end = carried_out(rt, alloc, order, folder, input, out);
+    let end = carried_out(rt, alloc, order, folder, screen, input, out);
     closed(end, err)
 }
 
@@ -236,11 +251,12 @@ fn order_of(alloc: Global, words: Result<Vec<String>, WordsFault>) -> Result<Com
 }
 
 /// Does what the words say, and answers the exit status.
-pub fn program<T: Threads + Wait + Sync, F: Folder, R: Source, W: Sink, E: Sink>(
+pub fn program<T: Threads + Wait + Sync, F: Folder, S: Screen, R: Source, W: Sink, E: Sink>(
     rt: &T,
     alloc: Global,
     words: Result<Vec<String>, WordsFault>,
     folder: &mut F,
+    screen: &mut S,
     input: &mut R,
     out: &mut W,
     err: &mut E,
@@ -248,17 +264,18 @@ pub fn program<T: Threads + Wait + Sync, F: Folder, R: Source, W: Sink, E: Sink>
     ensures { IsProgram (used (F.opened folder.old) (F.saved folder.old) (F.texts folder.old)) (used (F.opened folder.new) (F.saved folder.new) (F.texts folder.new)) (reading (R.given input.old) (R.ended input.old) (R.failures input.old)) (reading (R.given input.new) (R.ended input.new) (R.failures input.new)) (tape (W.taken out.old) (W.failures out.old)) (tape (W.taken out.new) (W.failures out.new)) (tape (E.taken err.old) (E.failures err.old)) (tape (E.taken err.new) (E.failures err.new)) result }
 {
     match order_of(alloc, words) {
-        Ok(order) => obey(rt, alloc, &order, folder, input, out, err),
+        Ok(order) => obey(rt, alloc, &order, folder, screen, input, out, err),
         Err(fault) => answered(&fault, out, err),
     }
 }
 
 /// The whole program, over the devices of a process. The status is the one that the process ends with.
-pub fn run_program<T: Threads + Wait + Sync, F: Folder>(
+pub fn run_program<T: Threads + Wait + Sync, F: Folder, S: Screen>(
     rt: &T,
     alloc: Global,
     words: Result<Vec<String>, WordsFault>,
     folder: &mut F,
+    screen: &mut S,
     input: impl Read + Drop,
     output: impl Write + Drop,
     errors: impl Write + Drop,
@@ -268,7 +285,9 @@ pub fn run_program<T: Threads + Wait + Sync, F: Folder>(
     let status = match BufWriter::new(alloc, output) {
         Ok(buffer) => {
             let mut out = ToWriter::new(buffer);
-            program(rt, alloc, words, folder, &mut input, &mut out, &mut err)
+            program(
+                rt, alloc, words, folder, screen, &mut input, &mut out, &mut err,
+            )
         }
         Err(_) => told(Fault::OutOfMemory, &mut err),
     };

@@ -24,7 +24,6 @@ ghost use Rattle.std.proofs.Math.ListN.{replicate};
 use crate::ending::{Ending, status_after_verdict};
 use crate::fault::Fault;
 use crate::json::json_report;
-use crate::order::ReplayOrder;
 use crate::setting::{
     fitting, image_read, image_world, new_judge, new_world, schedule_read, start_at, started_judge,
     variant_world,
@@ -32,6 +31,7 @@ use crate::setting::{
 use crashlab::Variant;
 use drawing::{Phase, follow};
 use judge::{Judge, Start};
+use orders::order::ReplayOrder;
 use rmeworld::{Image, Machine, write_image};
 use schedule::device::write_all;
 use schedule::laws::worlds_are_never_found_out;

@@ -3,16 +3,16 @@
 ghost use Rattle.std.specs.Prelude.{◌≡◌, ◌⊎◌, ◌↔◌, All, false, IfErr, IfOk, OnOk, vec_len};
 ghost use Rattle.laboratory.specs.Commands.{IsEnded, lab_for, RunEnds};
 ghost use Rattle.laboratory.specs.Gates.{gates_for};
-ghost use Rattle.laboratory.specs.Sizes.{RunFits};
+ghost use Rattle.orders.specs.Sizes.{RunFits};
 ghost use Rattle.laboratory.specs.Statuses.{status_of};
 ghost use Rattle.laboratory.specs.Tallies.{IsFine};
 
 use crate::ending::Ending;
 use crate::fault::Fault;
-use crate::order::RunOrder;
 use crate::tally::{Tally, tallied};
 use crashlab::Seeded;
 use indexmap::IndexMap;
+use orders::order::RunOrder;
 use robust::{Spec, run_lab};
 use schedule::Sink;
 use schedule::device::write_all;

@@ -11,9 +11,9 @@ ghost use Rattle.laboratory.specs.Statuses.{status_of};
 
 use crate::ending::Ending;
 use crate::fault::Fault;
-use crate::order::ShrinkOrder;
 use crate::setting::schedule_read;
 use crashlab::Variant;
+use orders::order::ShrinkOrder;
 use schedule::device::write_all;
 use schedule::{Schedule, Sink, Source, Verdict, put_verdict, write_schedule};
 use shrinking::shrink;

@@ -8,7 +8,7 @@ use robust::{Arena, Entry, LockFault, Member};
 use std::sync::Wait;
 use std::thread;
 
-/// Enters, mends where this process died inside, leaves, and sends two messages.
+/// Enters, mends where this process died inside, leaves, and sends a message.
 fn send<R: Wait>(rt: &R, mut member: Member, value: Body) -> Result<(Entry, Reply), LockFault> {
     let mut plan = Never::new();
     let entry = member.lock(rt, &mut plan)?;
@@ -16,16 +16,16 @@ fn send<R: Wait>(rt: &R, mut member: Member, value: Body) -> Result<(Entry, Repl
         member.consistent(&mut plan)?;
     }
     member.unlock(&mut plan)?;
-    let first = member.append(rt, 1, value, &mut plan)?;
-    member.append(rt, 2, value, &mut plan)?;
-    Ok((entry, first))
+    let reply = member.append(rt, 1, value, &mut plan)?;
+    Ok((entry, reply))
 }
 
 fn main(rt: HostRuntime) -> Result<(), anyhow::Error> {
     let value = Body::new(&[77])?;
-    let mut members = Arena::new(&rt, rt.alloc(), 3, 1 << 62, 6, 1)?;
+    // 3 processes, numbers up to 2^62, room for 3 messages of 1 word.
+    let mut members = Arena::new(&rt, rt.alloc(), 3, 1 << 62, 3, 1)?;
     if let Some(member) = members.first_mut() {
-        // Process 0 dies inside, right behind the commit of its first message.
+        // Process 0 dies inside at its 22nd step, right after the commit of its message.
         let died = member.append_within(1, value, &mut At::new(22), 0);
         println!(rt; "{died:?}")?;
     }

@@ -19,6 +19,7 @@ mod texts;
 mod trace_memory;
 mod variants;
 mod want_of_memory;
+mod watched;
 mod words;
 
 use invocation::{Printed, all_come_to, invoked, printed_by};

@@ -3,17 +3,21 @@
 
 use laboratory::disk::Disk;
 use laboratory::program::run_program;
-use laboratory::words::words_given;
+use orders::words::words_given;
+use progress::Terminal;
+use std::io::IsTerminal;
 use std::process::ExitCode;
 
 fn main(rt: HostRuntime) -> ExitCode {
     let mut folder = Disk::new(&rt);
+    let mut screen = Terminal::new(&rt, rt.stderr(), rt.stderr().is_terminal());
     let words = words_given(&rt);
     run_program(
         &rt,
         rt.alloc(),
         words,
         &mut folder,
+        &mut screen,
         rt.stdin(),
         rt.stdout(),
         rt.stderr(),

@@ -1,6 +1,6 @@
 //! Searches of all schedules up to a bound. The schedules and the numbers are those of the plain search in bench/explore.
 
-use super::invocation::{all_come_to, invoked};
+use super::invocation::{Failing, all_come_to, invoked};
 use super::ran;
 use std::process::ExitCode;
 use std::test::Fail;
@@ -9,7 +9,7 @@ use std::test::Fail;
 pub const SHORTEST: &str =
     "rme 1 procs 2 limit 1 cap 1\nlock 0\nstep 0\nstep 0\nstep 0\nstep 0\nstep 0\nlock 1\nstep 1\nstep 1\nstep 1\nstep 1\nstep 1\nstep 1\nstep 1\nstep 1\nstep 0\nstep 0\nstep 0\nstep 0\nstep 1\n";
 
-const GONE_OUT: &str =
+pub const GONE_OUT: &str =
     "rme 1 procs 1 limit 1 cap 1\nlock 0\nstep 0\nstep 0\nstep 0\nstep 0\nstep 0\nstep 0\nstep 0\ncrash 0\nlock 0\nstep 0\nstep 0\nstep 0\nstep 0\nstep 0\nstep 0\n";
 
 const NO_PROCS: &str = "error: the following required arguments were not provided:
@@ -84,6 +84,36 @@ fn explores_refused(rt: HostRuntime) -> Result<(), Fail> {
             "rmelab: bad variant\n",
         ),
         invoked("rmelab explore --variant right", "", "").ends(2, NO_PROCS),
+    ];
+    all_come_to(&rt, rt.alloc(), &rows)
+}
+
+#[test]
+fn explores_to_a_writer_that_fails(rt: HostRuntime) -> Result<(), Fail> {
+    let found = "rmelab explore --variant exit-on-crash --procs 1 --limit 1 --crashes 1";
+    let within = "rmelab explore --variant right --procs 1 --limit 1 --moves 3";
+    let all = "rmelab explore --variant right --procs 2 --limit 1";
+    let failed = "rmelab: write failed\n";
+    let rows = [
+        invoked(found, "", "")
+            .where_fails(Failing::Write)
+            .ends(3, failed),
+        invoked(found, "", GONE_OUT)
+            .where_fails(Failing::Flush)
+            .ends(3, failed),
+        invoked(within, "", "")
+            .where_fails(Failing::Write)
+            .ends(3, failed),
+        invoked(all, "", "")
+            .where_fails(Failing::Write)
+            .ends(3, failed),
+        invoked(
+            "rmelab explore --variant right --procs 2 --limit 1 --states 258",
+            "",
+            "",
+        )
+        .where_fails(Failing::Told)
+        .ends(3, ""),
     ];
     all_come_to(&rt, rt.alloc(), &rows)
 }

@@ -80,6 +80,7 @@ Options:
 
 In: nothing.
 Out: the schedule found, which `rmelab replay --variant V` replays to its fault, or `nothing found`.
+Shown: on standard error, where that is a terminal, the rounds, the moves and the moves a second, once a second while it works.
 Exit status: 0 where nothing was found, 1 where a schedule was, 2 after a fault of the words, 3 after one of a device or of memory.
 
 Example: rmelab hunt --variant no-look --seed 1 --rounds 10000 --steps 1000
@@ -103,6 +104,7 @@ Options:
 
 In: nothing. All schedules are tried whose moves are the start of a call of --calls, one step, or a crash, of which there are at most --crashes: the shorter before the longer. Two worlds are one where their words, their processes, the judge and the crashes left are.
 Out: the schedule of fewest moves that goes wrong, which `rmelab replay --variant V` replays to its fault; `nothing found within K moves`; or, where all was tried, `nothing found: all N states`. Nothing is said of a greater size, limit or number of crashes.
+Shown: on standard error, where that is a terminal, the states, how many moves deep and the states a second, once a second while it works.
 Exit status: 0 where nothing was found, 1 where a schedule was, 2 after a fault of the words, 3 after one of a device or of memory, or where there are more states than --states.
 
 Example: rmelab explore --variant no-look --procs 2

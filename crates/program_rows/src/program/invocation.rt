@@ -4,14 +4,17 @@ use super::words_of;
 use histories::Log;
 use laboratory::folder::{FileFault, Folder};
 use laboratory::program::run_program;
-use laboratory::words::WordsFault;
+use orders::words::WordsFault;
+use progress::Terminal;
 use schedule::FromReader;
 use std::alloc::Global;
+use std::cell::Cell;
 use std::io::{ErrorKind, Read, Write};
 use std::process::{Abort, ExitCode};
 use std::sync::Wait;
 use std::test::Fail;
 use std::thread::Threads;
+use std::time::{Clock, Duration};
 use std::{io, mem};
 
 /// Bytes that are read. The second read may fail.
@@ -70,6 +73,24 @@ impl Write for Paper<'_> {
     }
 }
 
+/// A clock that goes on by a tenth of a second each time that it is read.
+#[derive(Drop)]
+struct Ticking {
+    read: Cell<u64>,
+}
+
+impl Clock for Ticking {
+    fn monotonic(&self) -> io::Result<Duration> {
+        let read = self.read.get();
+        self.read.set(read.saturating_add(1));
+        Ok(Duration::from_millis(read.saturating_mul(100)))
+    }
+
+    fn since_1970(&self) -> io::Result<Duration> {
+        Err(io::Error::from(ErrorKind::Other))
+    }
+}
+
 /// What fails.
 #[derive(Clone, Copy, PartialEq, Eq)]
 pub enum Failing {
@@ -80,6 +101,8 @@ pub enum Failing {
     Flush,
     /// Standard error.
     Told,
+    /// Standard error, where it is shown how a command comes on.
+    Shown,
     /// A file that is opened or saved.
     File,
     /// Memory, where a file is opened or saved.
@@ -173,6 +196,8 @@ pub struct Row<'a> {
     input: &'a str,
     files: [(&'a str, &'a str); 2],
     failing: Failing,
+    is_terminal: bool,
+    shown: &'a str,
     printed: &'a str,
     told: &'a str,
     saved: (&'a str, &'a str),
@@ -186,6 +211,8 @@ pub fn invoked<'a>(line: &'a str, input: &'a str, printed: &'a str) -> Row<'a> {
         input,
         files: [("", ""); 2],
         failing: Failing::Nothing,
+        is_terminal: false,
+        shown: "",
         printed,
         told: "",
         saved: ("", ""),
@@ -212,6 +239,15 @@ impl<'a> Row<'a> {
         Row { failing, ..self }
     }
 
+    /// Standard error is a terminal, on which this is shown.
+    pub fn shows(self, shown: &'a str) -> Row<'a> {
+        Row {
+            is_terminal: true,
+            shown,
+            ..self
+        }
+    }
+
     /// The file of this name is written.
     pub fn saves(self, name: &'a str, text: &'a str) -> Row<'a> {
         Row {
@@ -230,11 +266,12 @@ impl<'a> Row<'a> {
     }
 }
 
-/// What an invocation has written to its two outputs and to a file, and the exit status.
+/// What an invocation has written to its two outputs and to a file, what it has shown, and the exit status.
 #[derive(Drop)]
 pub struct Printed {
     pub out: Vec<u8>,
     pub err: Vec<u8>,
+    pub shown: Vec<u8>,
     pub name: String,
     pub save: Vec<u8>,
     pub code: ExitCode,
@@ -261,11 +298,30 @@ pub fn printed_by(
         fails: row.failing == Failing::Told,
         flush_fails: false,
     };
-    let code = run_program(rt, alloc, words, &mut folder, input, output, errors);
+    let clock = Ticking { read: Cell::new(0) };
+    let mut shown = Vec::new(alloc);
+    let lines = Paper {
+        text: &mut shown,
+        fails: row.failing == Failing::Shown,
+        flush_fails: false,
+    };
+    let mut screen = Terminal::new(&clock, lines, row.is_terminal);
+    let code = run_program(
+        rt,
+        alloc,
+        words,
+        &mut folder,
+        &mut screen,
+        input,
+        output,
+        errors,
+    );
+    drop(screen);
     let Fake { name, text, .. } = folder;
     Printed {
         out,
         err,
+        shown,
         name,
         save: text,
         code,
@@ -283,6 +339,7 @@ pub fn comes_to(
     let found = printed_by(rt, alloc, words, row);
     assert_eq!(rt; str::from_utf8(&found.out), Ok(row.printed), "{line}");
     assert_eq!(rt; str::from_utf8(&found.err), Ok(row.told), "{line}");
+    assert_eq!(rt; str::from_utf8(&found.shown), Ok(row.shown), "{line}");
     assert!(rt;
         found.code == ExitCode::from(row.status),
         "{line}: {:?}",

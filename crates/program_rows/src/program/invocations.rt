@@ -4,9 +4,10 @@ use super::invocation::{Failing, all_come_to, comes_to, invoked};
 use super::prints;
 use laboratory::command::command;
 use laboratory::fault::Fault;
-use laboratory::order::Command;
 use laboratory::program::closed;
-use laboratory::words::words_given;
+use orders::order::Command;
+use orders::words::words_given;
+use progress::NoScreen;
 use schedule::{Page, Text};
 use std::env::FillError;
 use std::rt::Env;
@@ -313,7 +314,16 @@ fn a_command_alone(rt: HostRuntime) -> Result<(), Fail> {
         let mut out = Page::new(alloc);
         let mut err = Page::new(alloc);
         let order = Command::Judge(None);
-        let ending = command(&rt, alloc, &order, None, &mut source, &mut out, &mut err);
+        let ending = command(
+            &rt,
+            alloc,
+            &order,
+            None,
+            &mut NoScreen,
+            &mut source,
+            &mut out,
+            &mut err,
+        );
         assert_eq!(rt; str::from_utf8(out.as_slice()), Ok(printed));
         assert_eq!(rt; str::from_utf8(err.as_slice()), Ok(told));
         assert!(rt; ending.status == status && ending.save.is_none());

@@ -2,9 +2,9 @@
 
 use super::prints;
 use crashlab::{CrashPlan, Seeded};
-use laboratory::order::RunOrder;
 use laboratory::running::{gates_of, lines_of, status_of_tallies};
 use laboratory::tally::tallied;
+use orders::order::RunOrder;
 use redomail::Message;
 use rmecore::Body;
 use std::test::Fail;

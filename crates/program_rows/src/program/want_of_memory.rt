@@ -2,6 +2,7 @@
 
 use super::drawings::DRAWN;
 use super::explains::{NO_NAME, NO_NEWLINE};
+use super::explores::GONE_OUT;
 use super::invocation::{Failing, Fake, Feed};
 use super::invocations::{IN_ORDER, OBJECT, REPORT, SMALLEST};
 use super::scarce::{PIECES, Scarce};
@@ -10,6 +11,7 @@ use super::stepwise::TOLD;
 use super::words_of;
 use crate::kit::check;
 use laboratory::program::run_program;
+use progress::NoScreen;
 use std::alloc::{AllocError, Global};
 use std::io::Cursor;
 use std::process::ExitCode;
@@ -39,7 +41,16 @@ fn ends(
     let input = Feed::new(input, false);
     let output = Cursor::new(out);
     let errors = Cursor::new(err);
-    run_program(rt, alloc, Ok(words), &mut folder, input, output, errors)
+    run_program(
+        rt,
+        alloc,
+        Ok(words),
+        &mut folder,
+        &mut NoScreen,
+        input,
+        output,
+        errors,
+    )
 }
 
 /// It tells that it wants memory, and ends with 3, until it meets no refusal; then it prints and tells this.
@@ -71,7 +82,7 @@ fn comes_to(
     check(0 < refused && refused < PIECES as u64, "refused")
 }
 
-const ROWS: [(&str, &str, &str, &str, u8); 9] = [
+const ROWS: [(&str, &str, &str, &str, u8); 11] = [
     ("rmelab replay", SMALLEST, REPORT, "", 0),
     (
         "rmelab replay --json --save a.json",
@@ -91,6 +102,20 @@ const ROWS: [(&str, &str, &str, &str, u8); 9] = [
         0,
     ),
     ("rmelab shrink --variant no-look", TWO_INSIDE, LEAST, "", 1),
+    (
+        "rmelab explore --variant exit-on-crash --procs 1 --limit 1 --crashes 1",
+        "",
+        GONE_OUT,
+        "",
+        1,
+    ),
+    (
+        "rmelab explore --variant right --procs 1 --limit 1 --moves 3",
+        "",
+        "nothing found within 3 moves\n",
+        "",
+        0,
+    ),
     ("rmelab explain fault 5", "", NO_NEWLINE, "", 0),
     ("rmelab explain fault 7", "", "", NO_NAME, 2),
 ];

@@ -2,8 +2,8 @@
 
 use super::words_of;
 use crashlab::Variant;
-use laboratory::order::{Command, HuntOrder, ReplayOrder, RunOrder};
-use laboratory::words::read_words;
+use orders::order::{Command, HuntOrder, ReplayOrder, RunOrder};
+use orders::words::read_words;
 use std::test::Fail;
 
 #[test]

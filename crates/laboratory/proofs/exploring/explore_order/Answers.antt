@@ -1,13 +1,12 @@
 use Rattle.std.proofs.Common.{◌≡◌, ℕ, Result, Ok, Err, IfOk, OnOk, IfErr, ◌∙◌, inl, inr, ap, subst}
-use Rattle.schedule.specs.Plays.{Tape, Writes, tape}
-use Rattle.explore.specs.Answers.{OnNoneWithin, IfNowhere}
+use Rattle.schedule.specs.Plays.{Tape, Writes}
 use Rattle.explore.specs.Paths.{IsNumberOfStates}
 use Rattle.lock_spaces.specs.SceneWords.{scene_words}
 use Rattle.lock_spaces.specs.Spaces.{first_scene, rules}
 use Rattle.lock_search.specs.Finding.{NoneOfAtMost, NoneIsFound}
 use Rattle.laboratory.specs.declared.ending.Ending.{Ending}
 use Rattle.laboratory.specs.declared.fault.Fault.{Fault}
-use Rattle.laboratory.specs.declared.order.ExploreOrder.{ExploreOrder}
+use Rattle.orders.specs.declared.order.ExploreOrder.{ExploreOrder}
 use Rattle.laboratory.specs.Explores.{ExploreEnds, calls_of, layout_of, within_line, all_line}
 use Rattle.laboratory.specs.Statuses.{status_of}
 use Rattle.laboratory.proofs.exploring.explore_order.Goals as goal
@@ -28,15 +27,15 @@ ends_all order before now states (Err f) none number told status failed = inr (i
 pub returns-in-NoneWithin-clause-ends : goal.returns-in-NoneWithin-clause-ends
 returns-in-NoneWithin-clause-ends g c =
     let o : ExploreOrder = c.args.order.now in
-    let none = rw c.in-NoneWithin.is at c.in_ok-found.ensures.none_within in
+    let none = rw c.in-NoneWithin.is at (rw c.in_ok-path.was at c.shortest_schedule-found.ensures.none_within) in
     let calls = c.deref.ensures.value ∙ c.in_ok-calls.ensures.listed in
     ends_within o _ _ c.tell_within.result (subst (λ calls. NoneOfAtMost o.variant (layout_of o) o.limit o.crashes calls o.moves) calls none) c.tell_within.ensures.told c.tell_within.ensures.status c.tell_within.ensures.failed
 
 pub returns-clause-ends : goal.returns-clause-ends
 returns-clause-ends g c =
     let o : ExploreOrder = c.args.order.now in
-    let none = rw c.in-Nowhere.is at c.in_ok-found.ensures.nowhere in
-    let number = rw c.in-Nowhere.is at c.in_ok-found.ensures.states in
+    let none = rw c.in-Nowhere.is at (rw c.in_ok-path.was at c.shortest_schedule-found.ensures.nowhere) in
+    let number = rw c.in-Nowhere.is at (rw c.in_ok-path.was at c.shortest_schedule-found.ensures.states) in
     let calls = c.deref.ensures.value ∙ c.in_ok-calls.ensures.listed in
     ends_all o _ _ c.in-Nowhere.states c.tell_all.result
     (subst (λ calls. NoneIsFound o.variant (layout_of o) o.limit o.crashes calls) calls none)

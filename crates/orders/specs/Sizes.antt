@@ -1,9 +1,9 @@
 -- The ranges of the numbers that the program is asked for.
 use Rattle.std.specs.Prelude.{◌≤◌}
-use Rattle.laboratory.specs.declared.order.Command.{Command}
-use Rattle.laboratory.specs.declared.order.Command.TheVariants.{Replay, Run, Hunt, Explore, Judge, Draw, Shrink, Explain}
-use Rattle.laboratory.specs.declared.order.HuntOrder.{HuntOrder}
-use Rattle.laboratory.specs.declared.order.RunOrder.{RunOrder}
+use Rattle.orders.specs.declared.order.Command.{Command}
+use Rattle.orders.specs.declared.order.Command.TheVariants.{Replay, Run, Hunt, Explore, Judge, Draw, Shrink, Explain}
+use Rattle.orders.specs.declared.order.HuntOrder.{HuntOrder}
+use Rattle.orders.specs.declared.order.RunOrder.{RunOrder}
 
 abbrev pub HuntFits : HuntOrder → Type 0
 HuntFits order = ((1 ≤ order.rounds) × (order.rounds ≤ 10000)) × (1 ≤ order.steps) × (order.steps ≤ 10000)

@@ -114,7 +114,7 @@ pub enum Command {
 }
 
 impl Command {
-    ghost use Rattle.laboratory.specs.FilesNamed.{image_of, input_of, save_of};
+    ghost use Rattle.orders.specs.FilesNamed.{image_of, input_of, save_of};
 
     /// The file that the command reads; none is standard input.
     pub fn input_file(&self) -> Option<&String>

@@ -21,7 +21,8 @@ device, of memory or of a sender.\n\nExample: rmelab run --procs 4 --messages 50
 
 const HUNT_HELP: &str =
     "In: nothing.\nOut: the schedule found, which `rmelab replay --variant V` replays to its fault, or `nothing \
-found`.\nExit status: 0 where nothing was found, 1 where a schedule was, 2 after a fault of the words, 3 after one of a device or \
+found`.\nShown: on standard error, where that is a terminal, the rounds, the moves and the moves a second, once a \
+second while it works.\nExit status: 0 where nothing was found, 1 where a schedule was, 2 after a fault of the words, 3 after one of a device or \
 of memory.\n\nExample: rmelab hunt --variant no-look --seed 1 --rounds 10000 --steps 1000";
 
 const EXPLORE_HELP: &str =
@@ -29,7 +30,8 @@ const EXPLORE_HELP: &str =
 are at most --crashes: the shorter before the longer. Two worlds are one where their words, their processes, the judge and the \
 crashes left are.\nOut: the schedule of fewest moves that goes wrong, which `rmelab replay --variant V` replays to its fault; \
 `nothing found within K moves`; or, where all was tried, `nothing found: all N states`. Nothing is said of a greater size, limit \
-or number of crashes.\nExit status: 0 where nothing was found, 1 where a schedule was, 2 after a fault of the words, 3 after one of \
+or number of crashes.\nShown: on standard error, where that is a terminal, the states, how many moves deep and the \
+states a second, once a second while it works.\nExit status: 0 where nothing was found, 1 where a schedule was, 2 after a fault of the words, 3 after one of \
 a device or of memory, or where there are more states than --states.\n\nExample: rmelab explore --variant no-look --procs 2";
 
 const JUDGE_HELP: &str =

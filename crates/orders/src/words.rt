@@ -3,7 +3,7 @@
 ghost use Rattle.std.specs.Prelude.{◌≡◌, ◌↔◌, IfOk, IsOk, OnErr, IsErrOf};
 ghost use Rattle.meanings.specs.declared.topic.Topic.{Topic as AnyTopic};
 ghost use Rattle.meanings.specs.Names.{name_of};
-ghost use Rattle.laboratory.specs.Sizes.{IsSized, HuntFits, RunFits};
+ghost use Rattle.orders.specs.Sizes.{IsSized, HuntFits, RunFits};
 
 use crate::order::{
     Alphabet, Command, DrawOrder, ExploreOrder, HuntOrder, ReplayOrder, RunOrder, ShrinkOrder,

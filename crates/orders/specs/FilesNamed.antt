@@ -1,8 +1,8 @@
 -- The files that a command names.
 use Rattle.std.specs.Prelude.{String, Option, None}
 use Rattle.std.specs.declared.alloc.Global.{Global}
-use Rattle.laboratory.specs.declared.order.Command.{Command}
-use Rattle.laboratory.specs.declared.order.Command.TheVariants.{Replay, Judge, Draw, Shrink}
+use Rattle.orders.specs.declared.order.Command.{Command}
+use Rattle.orders.specs.declared.order.Command.TheVariants.{Replay, Judge, Draw, Shrink}
 
 -- the image that a world begins with
 abbrev pub image_of : Command → Option (String Global)

@@ -1,0 +1,2 @@
+pub mod FilesNamed
+pub mod Sizes

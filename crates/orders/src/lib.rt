@@ -1,0 +1,8 @@
+//! What `rmelab` can be asked to do: the orders, and the words of a command line that spell them.
+#![tactic(auto)]
+
+pub mod order;
+mod parser;
+pub mod words;
+
+pub use order::Command;

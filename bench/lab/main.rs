@@ -1,37 +1,74 @@
-//! The opponent of `rmelab`'s replay, judge and hunt: the same work in plain Rust, with no contract. It prints the same bytes
-//! for schedules and traces that have no fault of their text.
+//! The opponent of `rmelab`'s replay, judge and hunt: the same work in plain Rust, without contracts, written for speed.
+//! It prints the same bytes, tells the same faults and ends with the same status.
 //!
 //!     lab replay < SCHEDULE        lab judge < TRACE        lab hunt right|no-look SEED ROUNDS STEPS
+//!
+//! It also draws what the two are measured by, with so many crashes among 1,000 moves:
+//!
+//!     lab schedule PROCS LINES SEED CRASHES        lab trace PROCS DEEDS SEED CRASHES
 
+mod drawn;
+mod draws;
+mod fault;
 mod hunt;
 mod judge;
+mod line;
+mod lock;
+mod mail;
 mod replay;
+mod report;
 mod terms;
-mod texts;
+mod trial;
+mod walk;
+mod words;
 mod world;
 
-use std::env;
-use std::io::{self, BufWriter, Read, Write};
+use drawn::Plan;
+use fault::Fault;
+use std::io::{self, Read, Write};
+use std::process::ExitCode;
 
-fn main() -> io::Result<()> {
-    let words: Vec<String> = env::args().skip(1).collect();
-    let mut out = BufWriter::new(io::stdout().lock());
-    if words[0] == "hunt" {
-        let numbers: Vec<u64> = words[2..].iter().map(|word| word.parse().expect("a number")).collect();
-        let found = hunt::hunt(words[1] != "no-look", numbers[0], numbers[1], numbers[2]);
-        return match found {
-            Some(lines) => write!(out, "{}", texts::spelt(&lines)),
-            None => writeln!(out, "nothing found"),
-        };
+/// Does what the words ask for, writing to `out`. Answers whether all is fine.
+fn obey(words: &[String], out: &mut Vec<u8>) -> Result<bool, Fault> {
+    let command = words.first().map_or("", String::as_str);
+    let numbers: Vec<u64> = words.iter().skip(1).filter_map(|word| word.parse().ok()).collect();
+    match (command, &numbers[..]) {
+        ("replay", []) => {
+            let mut text = Vec::new();
+            io::stdin().lock().read_to_end(&mut text).map_err(|_| Fault::Read)?;
+            replay::replay(&text, out)
+        }
+        ("judge", []) => trial::judge(&mut io::stdin().lock(), out),
+        ("hunt", &[seed, rounds, steps]) => hunt::hunt(words[1] != "no-look", [seed, rounds, steps], out),
+        ("schedule", &[procs, lines, seed, crashes]) => {
+            *out = Plan { procs, lines, seed, crashes }.schedule();
+            Ok(true)
+        }
+        ("trace", &[procs, lines, seed, crashes]) => {
+            *out = Plan { procs, lines, seed, crashes }.trace();
+            Ok(true)
+        }
+        _ => panic!("no such words"),
     }
-    let mut text = String::new();
-    io::stdin().read_to_string(&mut text)?;
-    if words[0] == "replay" {
-        return replay::replay(&text, &mut out);
+}
+
+/// Writes what there is to write. After a fault of a text that is nothing.
+fn main() -> ExitCode {
+    let words: Vec<String> = std::env::args().skip(1).collect();
+    let mut out = Vec::new();
+    let mut ended = obey(&words, &mut out);
+    if matches!(ended, Ok(_) | Err(Fault::Refused { .. })) {
+        let mut device = io::stdout().lock();
+        if device.write_all(&out).and_then(|()| device.flush()).is_err() {
+            ended = Err(Fault::Write);
+        }
     }
-    let mut lines = text.lines();
-    let sizes = texts::head(lines.next().expect("a header"), false);
-    let mut judge = judge::Judge::new(sizes);
-    lines.for_each(|line| judge.hear(&texts::deed_of(line, sizes.width)));
-    writeln!(out, "{}", judge.verdict())
+    match ended {
+        Ok(fine) => ExitCode::from(u8::from(!fine)),
+        Err(fault) => {
+            let (line, status) = fault.told();
+            eprintln!("rmelab: {line}");
+            ExitCode::from(status)
+        }
+    }
 }

@@ -22,14 +22,16 @@ use std::sync::Wait;
 
 impl Member {
     /// Stores a message with this number, from 1, unless the process is blocked once more than it was given turns
-    /// (docs/mailbox.md, Append; its lock is docs/model.md, Lock). Where it answers Stored or Already, the message is shown;
-    /// Full, Closed and OutOfOrder tell what held of the mailbox at one moment of the call.
+    /// (docs/mailbox.md, Append; its lock is docs/model.md, Lock). Where it answers Stored or Already, the message is shown.
+    /// Full, Closed and OutOfOrder tell what held of the mailbox at one moment of the call. The first two stay so; after
+    /// OutOfOrder send the number that comes next of this sender.
     ///
     /// `BadWidth`: the value has not as many words as the arena's values; send one that has. `AlreadyIn`: the process is in the
     /// section; unlock first. `Crashed`: the message may be stored or not; send it again with the same number, which answers
     /// Already where it is. `NotYet`: the process still waits, with its place kept; send again to wait on, or `withdraw`.
-    /// `NumbersSpent`: another held the last number, nothing is stored; send again once it has left. `NotRecoverable` (POSIX:
-    /// ENOTRECOVERABLE): the lock is ruined, nothing is stored and nobody will store any more; `read_from` still reads.
+    /// `NumbersSpent`: another held the last number, this call has stored nothing; send again once it has left.
+    /// `NotRecoverable` (POSIX: ENOTRECOVERABLE): the lock is ruined, this call has stored nothing, and nobody will store any
+    /// more; `read_from` still reads.
     pub fn append_within<C: CrashPlan>(
         &mut self,
         seq: u64,
@@ -59,8 +61,9 @@ impl Member {
             .mail_within(plan, &Call::Append { seq, value }, turns)
     }
 
-    /// Closes the mailbox, unless the process is blocked once more than it was given turns (docs/mailbox.md, Close). From then on
-    /// each new message is answered Closed.
+    /// Closes the mailbox, unless the process is blocked once more than it was given turns (docs/mailbox.md, Close; its lock is
+    /// docs/model.md, Lock). It answers ClosedNow, or AlreadyClosed where it was. From then on each sender's next message is
+    /// answered Closed.
     ///
     /// `AlreadyIn`: the process is in the section; unlock first. `Crashed`: the mailbox may be closed or not; close it again,
     /// which answers AlreadyClosed where it is. `NotYet`: the process still waits, with its place kept; close again to wait on,

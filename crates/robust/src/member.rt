@@ -193,8 +193,9 @@ impl Member {
     /// Mends what a crash inside has left, as a holder that came in again (POSIX: `pthread_mutex_consistent`). Answers whether
     /// an append was cut off behind its commit; its message is shown from then on.
     ///
-    /// `NotInconsistent` (POSIX: EINVAL): the process has nothing to mend; go on. `Crashed`: lock again, which answers
-    /// `OwnerDied`, and mend then. `NotRecoverable`: the lock is ruined; the process is inside still, and can but unlock.
+    /// `NotInconsistent` (POSIX: EINVAL): the process is in the section with nothing to mend, and goes on; or it isn't there, or
+    /// crashed there: lock first. `Crashed`: lock again, which answers `OwnerDied`, and mend then. `NotRecoverable`: the lock is
+    /// ruined; the process is inside still, and can but unlock.
     pub fn consistent<C: CrashPlan>(&mut self, plan: &mut C) -> Result<bool, LockFault>
         ensures accepted { OnOk result (refusal_now self.old Call.Consistent ≡ None) }
         ensures served { IfOk result (λ mended. (mine : List TakenStep) × Served (began self.old Call.Consistent) Call.Consistent (Answer.Mail (Reply.Mended mended) ∷ []) 0 self.new mine × Calm (length mine + 1) (C.asked plan.old) (C.asked plan.new) (C.fallen plan.old) (C.fallen plan.new)) }
@@ -213,7 +214,7 @@ impl Member {
 
     /// Finds out where a crash has left the process, and goes no further than it must: it never waits (docs/model.md,
     /// Recover). Found inside, the process is a holder that has to mend, or ruins the lock at its unlock. Found waiting or in
-    /// its doorway, it holds nothing, and its next lock goes on from there.
+    /// its doorway, it holds nothing, and its next lock goes on from there. Found idle or left, it is at rest.
     ///
     /// `AlreadyIn`: the process is in the section; there is nothing to find out. `Crashed`: recover, or lock, again.
     pub fn recover<C: CrashPlan>(&mut self, plan: &mut C) -> Result<Found, LockFault>

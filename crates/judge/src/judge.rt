@@ -351,10 +351,20 @@ impl Judge {
         ensures fed { (start : State) (history : List Deed) → StandsAfter start history self.old → MatchResult result (λ _. StandsAfter start (history ++ deed ∷ []) self.new) (λ fault. judged_all start (history ++ deed ∷ []) ≡ Err fault) }
         ensures same { OnErr result (self.new ≡ self.old) }
     {
-        if let Some(fault) = self.fault(&deed) {
+        self.feed_from(&deed)
+    }
+
+    /// As `feed`, with a deed that stands elsewhere.
+    #[inline(always)]
+    pub fn feed_from(&mut self, deed: &Deed) -> Result<(), Fault>
+        ensures judged { (s : State) → Keeps self.old s → MatchResult result (λ _. (judged s deed.now ≡ Ok (after s deed.now)) × Keeps self.new (after s deed.now)) (λ fault. judged s deed.now ≡ Err fault) }
+        ensures fed { (start : State) (history : List Deed) → StandsAfter start history self.old → MatchResult result (λ _. StandsAfter start (history ++ deed.now ∷ []) self.new) (λ fault. judged_all start (history ++ deed.now ∷ []) ≡ Err fault) }
+        ensures same { OnErr result (self.new ≡ self.old) }
+    {
+        if let Some(fault) = self.fault(deed) {
             return Err(fault);
         }
-        self.take(&deed);
+        self.take(deed);
         Ok(())
     }
 }

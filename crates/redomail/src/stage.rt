@@ -103,7 +103,7 @@ impl Stage {
             Stage::AskAt => Next::Get(RECORD),
             Stage::AskSeq(_) => Next::Get(RECORD + 1),
             Stage::AskValue(_, _, _, read) => Next::Get(RECORD + 2 + read),
-            Stage::Write(record, step, _) => {
+            Stage::Write(ref record, step, _) => {
                 let (i, v) = record.put(layout, sender, step);
                 Next::Put(i, v)
             }

@@ -204,6 +204,7 @@ impl Process {
     }
 
     /// A step of the lock in a scan that goes on.
+    #[inline(always)]
     fn move_by(&mut self, scan: Scan, value: u64) -> Progress
         requires free { self.old.errand ≡ Errand.Free }
         requires at { at_scan (standing self.old) scan ≡ standing self.old }

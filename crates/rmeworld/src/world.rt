@@ -228,6 +228,7 @@ impl World {
 
     /// Takes the next step of a process. Refused for want of memory it has changed nothing, and can be taken again. A step
     /// that is no deed takes no memory.
+    #[inline(always)]
     pub fn advance(&mut self, p: u64) -> Result<Stepped, Refusal>
         ensures accepted { OnOk result (advance_refusal self.old p ≡ None) }
         ensures refused { IfErr result (λ e. (e ≡ Refusal.OutOfMemory) ⊎ (advance_refusal self.old p ≡ Some e)) }
@@ -262,6 +263,7 @@ impl World {
     /// Takes the next step of process p where it sees at once that it is no deed and ends no call, and answers true: each step
     /// of a scan, the other quiet steps of the lock's part but for a mark taken off, and those of an append. Any other step it
     /// leaves to `advance`, and answers false.
+    #[inline(always)]
     pub fn step_quietly(&mut self, p: u64) -> bool
         ensures accepted { IsTrue result → advance_refusal self.old p ≡ None }
         ensures quiet { IsTrue result → ((stepped self.old p).deed ≡ None) × ((stepped self.old p).answer ≡ None) }
@@ -440,10 +442,12 @@ impl Machine for World {
         World::start(self, p, call)
     }
 
+    #[inline(always)]
     fn advance(&mut self, p: u64) -> Result<Stepped, Refusal> {
         World::advance(self, p)
     }
 
+    #[inline(always)]
     fn step_quietly(&mut self, p: u64) -> bool {
         World::step_quietly(self, p)
     }

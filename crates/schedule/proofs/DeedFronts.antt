@@ -54,18 +54,18 @@ value_grows text rest after behind words j n lt a b c =
     rw e (a ∙ ap (λ (t : List ℕ). front ++ t) (b ∙ ap (λ (t : List ℕ). 32 ∷ t) c) ∙ sym (append_assoc front (32 ∷ decimal n) behind) ∙ ap (λ (t : List ℕ). t ++ behind) (sym (one_more (take j words) n)))
 
 -- a number, a space and the rest of a line, before its end
-before_end : (n : ℕ) (more rest after : List ℕ) → 32 ∷ (more ++ (10 ∷ after)) ≡ rest → (decimal n ++ (32 ∷ more)) ++ (10 ∷ after) ≡ decimal n ++ rest
+pub before_end : (n : ℕ) (more rest after : List ℕ) → 32 ∷ (more ++ (10 ∷ after)) ≡ rest → (decimal n ++ (32 ∷ more)) ++ (10 ∷ after) ≡ decimal n ++ rest
 before_end n more rest after e = append_assoc (decimal n) (32 ∷ more) (10 ∷ after) ∙ ap (λ (t : List ℕ). decimal n ++ t) e
 
-abbrev message : ℕ → List ℕ → List ℕ
+abbrev pub message : ℕ → List ℕ → List ℕ
 message seq v = join_with_byte 32 (decimal seq ∷ map decimal v)
 
-message_is : (seq : ℕ) (v text value end after : List ℕ) → text ≡ decimal seq ++ value → value ≡ spaced v ++ end → end ≡ 10 ∷ after → message seq v ++ (10 ∷ after) ≡ text
+pub message_is : (seq : ℕ) (v text value end after : List ℕ) → text ≡ decimal seq ++ value → value ≡ spaced v ++ end → end ≡ 10 ∷ after → message seq v ++ (10 ∷ after) ≡ text
 message_is seq v text value end after a b c =
     ap (λ (t : List ℕ). t ++ (10 ∷ after)) (join_spaced (decimal seq) v) ∙ append_assoc (decimal seq) (spaced v) (10 ∷ after)
     ∙ ap (λ (t : List ℕ). decimal seq ++ t) (ap (λ (t : List ℕ). spaced v ++ t) (sym c) ∙ sym b) ∙ sym a
 
-ended : (line after : List ℕ) → (line ++ (10 ∷ [])) ++ after ≡ line ++ (10 ∷ after)
+pub ended : (line after : List ℕ) → (line ++ (10 ∷ [])) ++ after ≡ line ++ (10 ∷ after)
 ended line after = append_assoc line (10 ∷ []) after
 
 pub commit_line : (p seq : ℕ) (v rest text value end after : List ℕ) → rest ≡ 32 ∷ text → text ≡ decimal seq ++ value → value ≡ spaced v ++ end → end ≡ 10 ∷ after

@@ -32,7 +32,7 @@ next_digit text rest after value byte digit some small is front =
 
 -- ---- a line that is spelled as it is written
 
-line_begins : (width : ℕ) (l : Line) → IsLine width l → (text after : List ℕ) → text ≡ line_of (words_of_line l) ++ after → Begins (line_at width) text l after
+pub line_begins : (width : ℕ) (l : Line) → IsLine width l → (text after : List ℕ) → text ≡ line_of (words_of_line l) ++ after → Begins (line_at width) text l after
 line_begins width l h text after e =
     let plain = line_plain width l h in
     record {
@@ -65,3 +65,9 @@ more_steps width p k text word rest more end after small least most a b c d e =
     line_begins width (Step p k) (small, omega arith, most) text after
     (a ∙ ap (λ (t : List ℕ). codes "step " ++ t) (b ∙ ap (λ (t : List ℕ). decimal p ++ t) (c ∙ ap (λ (t : List ℕ). 32 ∷ t) (d ∙ ap (λ (t : List ℕ). decimal k ++ t) e)))
     ∙ spelled_steps p k after least)
+
+-- a digit names who takes one step
+pub digit_step : (width byte : ℕ) (text after : List ℕ) → is_ascii_digit byte ≡ true → text ≡ codes "step " ++ (byte ∷ (10 ∷ after)) → Begins (line_at width) text (Step (byte - 48) 1) after
+digit_step width byte text after digit e =
+    let range : (48 ≤ byte) × (byte ≤ 57) = grind arith in
+    one_step width (byte - 48) text (byte ∷ (10 ∷ after)) (10 ∷ after) after (omega arith) e (first_digit (byte ∷ (10 ∷ after)) (10 ∷ after) byte digit refl) refl

@@ -27,4 +27,5 @@ pub mod Cutting
 pub mod Kept
 pub mod WorldRuns
 pub mod DeedFronts
+pub mod LineFronts
 pub mod Fed

@@ -2,6 +2,8 @@
 use Rattle.std.specs.Prelude.{◌≡◌, ℕ, List, ◌∷◌, ◌++◌, Result, Ok, Err, codes}
 use Rattle.schedule.specs.declared.fault.LineFault.{LineFault}
 use Rattle.schedule.specs.declared.fault.TextFault.{TextFault}
+use Rattle.schedule.specs.declared.command.Command.{Command}
+use Rattle.schedule.specs.declared.command.Command.TheVariants as commands
 use Rattle.schedule.specs.declared.deed.DeedWord.{DeedWord}
 use Rattle.schedule.specs.declared.deed.DeedWord.TheVariants as names
 use Rattle.schedule.specs.Words.{words_of}
@@ -36,3 +38,17 @@ lead names.Commit = codes "commit "
 lead names.Show = codes "show "
 lead names.Close = codes "close "
 lead names.Ruin = codes "ruin "
+
+-- the first word of a schedule's line, with the space behind it
+abbrev pub opening : Command → List ℕ
+opening commands.Lock = codes "lock "
+opening commands.Unlock = codes "unlock "
+opening commands.Consistent = codes "consistent "
+opening commands.Recover = codes "recover "
+opening commands.Append = codes "append "
+opening commands.Close = codes "close "
+opening commands.Put = codes "put "
+opening commands.Get = codes "get "
+opening commands.Withdraw = codes "withdraw "
+opening commands.Step = codes "step "
+opening commands.Crash = codes "crash "

@@ -16,8 +16,8 @@ use std::alloc::AllocError;
 fn put_deed_words(out: &mut Vec<u8>, deed: &Deed) -> Result<(), AllocError>
     ensures { OnOk result (out.new.items ≡ out.old.items ++ join_with_byte 32 (words_of_deed deed.now)) }
 {
-    match *deed {
-        Deed::Outer(outer) => match outer {
+    match deed {
+        Deed::Outer(outer) => match *outer {
             Outer::Begin(p) => put_start(out, b"begin", p),
             Outer::Ready(p) => put_start(out, b"ready", p),
             Outer::Enter(p) => put_start(out, b"enter", p),
@@ -26,10 +26,10 @@ fn put_deed_words(out: &mut Vec<u8>, deed: &Deed) -> Result<(), AllocError>
             Outer::Leave(p) => put_start(out, b"leave", p),
             Outer::Quit(p) => put_start(out, b"quit", p),
         },
-        Deed::Commit { p, seq, v } => put_message(out, b"commit", p, seq, &v),
-        Deed::Show { p, at, seq, v } => put_placed(out, b"show", p, at, seq, &v),
-        Deed::Close { p } => put_start(out, b"close", p),
-        Deed::Ruin { p } => put_start(out, b"ruin", p),
+        Deed::Commit { p, seq, v } => put_message(out, b"commit", *p, *seq, v),
+        Deed::Show { p, at, seq, v } => put_placed(out, b"show", *p, *at, *seq, v),
+        Deed::Close { p } => put_start(out, b"close", *p),
+        Deed::Ruin { p } => put_start(out, b"ruin", *p),
     }
 }
 

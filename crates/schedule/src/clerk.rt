@@ -66,10 +66,10 @@ impl Clerk {
         w: &mut W,
         p: u64,
         deed: &Option<Deed>,
-        answer: Option<Answer>,
+        answer: &Option<Answer>,
     ) -> Result<(), Halt>
-        ensures written { OnOk result (Writes (tape (W.taken w.old) (W.failures w.old)) (tape (W.taken w.new) (W.failures w.new)) (told_text (told_of p deed.now answer))) }
-        ensures halted { IfErr result (λ halt. Halts (tape (W.taken w.old) (W.failures w.old)) (tape (W.taken w.new) (W.failures w.new)) (told_text (told_of p deed.now answer)) None halt) }
+        ensures written { OnOk result (Writes (tape (W.taken w.old) (W.failures w.old)) (tape (W.taken w.new) (W.failures w.new)) (told_text (told_of p deed.now answer.now))) }
+        ensures halted { IfErr result (λ halt. Halts (tape (W.taken w.old) (W.failures w.old)) (tape (W.taken w.new) (W.failures w.new)) (told_text (told_of p deed.now answer.now)) None halt) }
         ensures same { self.new ≡ self.old }
     {
         self.page.clear();
@@ -86,9 +86,9 @@ impl Clerk {
         w: &mut W,
         p: u64,
         deed: &Option<Deed>,
-        answer: Option<Answer>,
+        answer: &Option<Answer>,
     ) -> Result<(), Halt>
-        ensures { Tells (tape (W.taken w.old) (W.failures w.old)) (tape (W.taken w.new) (W.failures w.new)) (bench judge.old self.old) (bench judge.new self.new) (told_of p deed.now answer) result }
+        ensures { Tells (tape (W.taken w.old) (W.failures w.old)) (tape (W.taken w.new) (W.failures w.new)) (bench judge.old self.old) (bench judge.new self.new) (told_of p deed.now answer.now) result }
     {
         self.hear(judge, deed);
         self.write(w, p, deed, answer)
@@ -101,9 +101,9 @@ impl Clerk {
         w: &mut W,
         p: u64,
         deed: &Option<Deed>,
-        answer: Option<Answer>,
+        answer: &Option<Answer>,
     ) -> Result<(), Halt>
-        ensures { Tells (tape (W.taken w.old) (W.failures w.old)) (tape (W.taken w.new) (W.failures w.new)) (bench judge.old self.old) (bench judge.new self.new) (told_of p deed.now answer) result }
+        ensures { Tells (tape (W.taken w.old) (W.failures w.old)) (tape (W.taken w.new) (W.failures w.new)) (bench judge.old self.old) (bench judge.new self.new) (told_of p deed.now answer.now) result }
     {
         if deed.is_none() && answer.is_none() {
             return Ok(());
@@ -116,16 +116,16 @@ fn put_told(
     page: &mut Vec<u8>,
     p: u64,
     deed: &Option<Deed>,
-    answer: Option<Answer>,
+    answer: &Option<Answer>,
 ) -> Result<(), AllocError>
-    ensures written { OnOk result (page.new.items ≡ page.old.items ++ told_text (told_of p deed.now answer)) }
-    ensures wanted { OnErr result (told_text (told_of p deed.now answer) ≡ [] → ⊥) }
+    ensures written { OnOk result (page.new.items ≡ page.old.items ++ told_text (told_of p deed.now answer.now)) }
+    ensures wanted { OnErr result (told_text (told_of p deed.now answer.now) ≡ [] → ⊥) }
 {
     if let Some(deed) = deed {
         put_deed(page, deed)?;
     }
     if let Some(answer) = answer {
-        put_answer(page, p, answer)?;
+        put_answer(page, p, *answer)?;
     }
     Ok(())
 }

@@ -1,18 +1,16 @@
 //! The deed lines of a trace, read where they stand.
 
-ghost use Rattle.std.specs.Prelude.{◌≡◌, ℕ, ◌<◌, ◌^◌, ◌≤◌, ◌++◌, ◌∷◌, [], take, IfSome};
+ghost use Rattle.std.specs.Prelude.{◌≡◌, ℕ, ◌≤◌, ◌++◌, ◌∷◌, [], IfSome};
 ghost use Rattle.std.specs.Fmt.{decimal};
 ghost use Rattle.schedule.specs.declared.deed.DeedWord.TheVariants as names;
-ghost use Rattle.schedule.specs.Words.{spaced};
 ghost use Rattle.schedule.specs.Texts.{line_of};
-ghost use Rattle.schedule.specs.Deeds.{words_of_deed, deed_at, IsDeed, IsValue};
+ghost use Rattle.schedule.specs.Deeds.{words_of_deed, deed_at, IsDeed};
 ghost use Rattle.schedule.specs.Fronts.{Begins, lead};
 
 use crate::deed::DeedWord;
-use crate::front::{behind_end, behind_space, number};
-use crate::range::fit_words;
+use crate::front::{behind_end, behind_space, number, numbers, value};
 use redomail::Deed;
-use rmecore::{Body, Outer};
+use rmecore::Outer;
 
 /// The first word of a deed's line, and what stands behind the space after it.
 #[inline(always)]
@@ -36,34 +34,6 @@ fn word(text: &[u8]) -> Option<(DeedWord, &[u8])>
         [b'r', b'u', b'i', b'n', b' ', rest @ ..] => Some((DeedWord::Ruin, rest)),
         _ => None,
     }
-}
-
-/// Reads as many words, with a space before each, and answers what stands behind them.
-#[inline(always)]
-fn numbers<'a>(width: u64, words: &mut [u64; 8], text: &'a [u8]) -> Option<&'a [u8]>
-    requires { (1 ≤ width) × (width ≤ 8) }
-    ensures { IfSome result (λ rest. text.now ≡ spaced (take width words.new) ++ rest.now) }
-{
-    let mut rest = text;
-    for j in 0..width as usize {
-        let after = behind_space(rest)?;
-        let (n, behind) = number(after)?;
-        words[j] = n;
-        rest = behind;
-    }
-    Some(rest)
-}
-
-/// The value of the first of the words, as many as this.
-#[inline(always)]
-fn value(width: u64, words: &[u64; 8]) -> Body
-    requires { (1 ≤ width) × (width ≤ 8) }
-    ensures words { result ≡ take width words.now }
-    ensures value { IsValue width result }
-{
-    let all = &words[..width as usize];
-    fit_words(all);
-    Body::new(all).unwrap()
 }
 
 /// The deed of a word that has one number, which is its process.

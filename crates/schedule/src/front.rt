@@ -1,10 +1,15 @@
 //! What a text begins with, read byte by byte: the common lines, spelled as they are written.
 
-ghost use Rattle.std.specs.Prelude.{◌≡◌, ℕ, ◌<◌, ◌≤◌, ◌^◌, ◌++◌, ◌∷◌, IfSome, codes};
+ghost use Rattle.std.specs.Prelude.{◌≡◌, ℕ, ◌<◌, ◌≤◌, ◌^◌, ◌++◌, ◌∷◌, [], IfSome, codes, take};
 ghost use Rattle.std.specs.Fmt.{decimal};
+ghost use Rattle.schedule.specs.Words.{spaced};
+ghost use Rattle.schedule.specs.Deeds.{IsValue};
 ghost use Rattle.schedule.specs.declared.line.Line.TheVariants.{Step};
 ghost use Rattle.schedule.specs.Commands.{line_at};
 ghost use Rattle.schedule.specs.Fronts.{Begins};
+
+use crate::range::fit_words;
+use rmecore::Body;
 
 /// A number at the front of a text, and what stands behind it. One of twenty digits may be left to others.
 #[inline(always)]
@@ -56,6 +61,34 @@ pub(crate) fn behind_space(text: &[u8]) -> Option<&[u8]>
     }
 }
 
+/// Reads as many words, with a space before each, and answers what stands behind them.
+#[inline(always)]
+pub(crate) fn numbers<'a>(width: u64, words: &mut [u64; 8], text: &'a [u8]) -> Option<&'a [u8]>
+    requires { (1 ≤ width) × (width ≤ 8) }
+    ensures { IfSome result (λ rest. text.now ≡ spaced (take width words.new) ++ rest.now) }
+{
+    let mut rest = text;
+    for j in 0..width as usize {
+        let after = behind_space(rest)?;
+        let (n, behind) = number(after)?;
+        words[j] = n;
+        rest = behind;
+    }
+    Some(rest)
+}
+
+/// The value of the first of the words, as many as this.
+#[inline(always)]
+pub(crate) fn value(width: u64, words: &[u64; 8]) -> Body
+    requires { (1 ≤ width) × (width ≤ 8) }
+    ensures words { result ≡ take width words.now }
+    ensures value { IsValue width result }
+{
+    let all = &words[..width as usize];
+    fit_words(all);
+    Body::new(all).unwrap()
+}
+
 /// What stands behind the word of a line of steps.
 #[inline(always)]
 fn behind_step(text: &[u8]) -> Option<&[u8]>
@@ -67,12 +100,40 @@ fn behind_step(text: &[u8]) -> Option<&[u8]>
     }
 }
 
+/// The one byte that stands where a line of one step names its process, and what stands behind that line.
+#[inline(always)]
+fn short_step(text: &[u8]) -> Option<(u8, &[u8])>
+    ensures { IfSome result (λ read. text.now ≡ codes "step " ++ (read.0 ∷ (10 ∷ read.1.now))) }
+{
+    match text {
+        [b's', b't', b'e', b'p', b' ', name, b'\n', rest @ ..] => Some((*name, rest)),
+        _ => None,
+    }
+}
+
+/// Who takes the one step that the first line of a text asks for, where one digit names it, and what stands behind that
+/// line.
+#[inline(always)]
+#[tactic(auto, using(crate::proofs::Fronts::digit_step))]
+fn one_step(text: &[u8]) -> Option<(u64, &[u8])>
+    ensures { IfSome result (λ read. (width : ℕ) → Begins (line_at width) text.now (Step read.0 1) read.1.now) }
+{
+    let (name, rest) = short_step(text)?;
+    if !name.is_ascii_digit() {
+        return None;
+    }
+    Some((u64::from(name - b'0'), rest))
+}
+
 /// Who takes the steps that the first line of a text asks for, how many these are, and what stands behind that line.
 #[inline(always)]
 pub(crate) fn steps(text: &[u8]) -> Option<(u64, u64, &[u8])>
     ensures read { (width : ℕ) → IfSome result (λ read. Begins (line_at width) text.now (Step read.0 read.1) read.2.now) }
     ensures least { IfSome result (λ read. 1 ≤ read.1) }
 {
+    if let Some((p, rest)) = one_step(text) {
+        return Some((p, 1, rest));
+    }
     let word = behind_step(text)?;
     let (p, rest) = number(word)?;
     if let Some(after) = behind_end(rest) {

@@ -33,7 +33,7 @@ impl Hearing {
         requires { self.old.verdict ≡ Verdict.Fine }
         ensures { Hears (bench judge.old self.old) (deed.now ∷ []) (bench judge.new self.new) }
     {
-        if let Err(fault) = judge.feed(*deed) {
+        if let Err(fault) = judge.feed_from(deed) {
             self.verdict = Verdict::Against {
                 at: self.number,
                 fault,

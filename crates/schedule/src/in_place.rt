@@ -14,10 +14,12 @@ use crate::front::steps;
 use crate::head::Head;
 use crate::item::Heading;
 use crate::line::Line;
+use crate::line_front::first_line;
 use crate::reading::read_line;
 
-/// The first line of a text that is not empty, and what stands behind it.
-pub(crate) fn next_line(width: u64, text: &[u8]) -> Result<(Line, &[u8]), LineFault>
+/// The first line of a text that is not empty, read by its words, and what stands behind it.
+#[inline(never)]
+fn line_by_words(width: u64, text: &[u8]) -> Result<(Line, &[u8]), LineFault>
     requires width { (1 ≤ width) × (width ≤ 8) }
     requires some { 0 < length text.now }
     ensures read { IfOk result (λ read. Begins (line_at width) text.now read.0 read.1.now) }
@@ -29,6 +31,20 @@ pub(crate) fn next_line(width: u64, text: &[u8]) -> Result<(Line, &[u8]), LineFa
     match read_line(width, line) {
         Ok(item) => Ok((item, after)),
         Err(fault) => Err(fault),
+    }
+}
+
+/// The first line of a text that is not empty, and what stands behind it.
+#[inline(always)]
+pub(crate) fn next_line(width: u64, text: &[u8]) -> Result<(Line, &[u8]), LineFault>
+    requires width { (1 ≤ width) × (width ≤ 8) }
+    requires some { 0 < length text.now }
+    ensures read { IfOk result (λ read. Begins (line_at width) text.now read.0 read.1.now) }
+    ensures fault { IfErr result (λ fault. (k : ℕ) → items_at (line_at width) k (parts_of text.now) ≡ Err (k, fault)) }
+{
+    match first_line(width, text) {
+        Some((line, after)) => Ok((line, after)),
+        None => line_by_words(width, text),
     }
 }
 
@@ -61,6 +77,7 @@ fn behind_next(width: u64, text: &[u8]) -> Result<&[u8], LineFault>
 }
 
 /// Whether the lines from this number on are those of a schedule.
+#[inline(never)]
 fn check_lines(width: u64, first: u64, text: &[u8]) -> Result<(), TextFault>
     requires width { (1 ≤ width) × (width ≤ 8) }
     requires room { first + length text.now < 2 ^ 64 }

@@ -19,6 +19,7 @@ pub mod item;
 mod last_words;
 pub mod laws;
 pub mod line;
+mod line_front;
 mod number;
 pub mod pieces;
 mod play;

@@ -36,7 +36,7 @@ fn more_steps<M: Machine, W: Sink>(
                 None => return Err(Halt::OutOfMemory),
             },
         };
-        clerk.tell(judge, w, p, &stepped.deed, stepped.answer)?;
+        clerk.tell(judge, w, p, &stepped.deed, &stepped.answer)?;
         if stepped.answer.is_some() {
             return Ok(());
         }
@@ -58,8 +58,10 @@ fn take_told_steps<M: Machine, W: Sink>(
     ensures { Plays (tape (W.taken w.old) (W.failures w.old)) (tape (W.taken w.new) (W.failures w.new)) (bench judge.old clerk.old) (bench judge.new clerk.new) (steps (behaviour M.start_refusal M.started M.advance_refusal M.stepped M.advanced M.crash_refusal M.crash_deed M.crashed) p n machine.old).0 (steps (behaviour M.start_refusal M.started M.advance_refusal M.stepped M.advanced M.crash_refusal M.crash_deed M.crashed) p n machine.old).1 (M.advance_refusal machine.old p) machine.new result }
 {
     let stepped = machine.advance(p)?;
-    clerk.tell(judge, w, p, &stepped.deed, stepped.answer)?;
-    if stepped.answer.is_some() {
+    let deed = stepped.deed;
+    let answer = stepped.answer;
+    clerk.tell(judge, w, p, &deed, &answer)?;
+    if answer.is_some() {
         return Ok(());
     }
     if n == 1 {
@@ -69,6 +71,7 @@ fn take_told_steps<M: Machine, W: Sink>(
 }
 
 /// At most n steps of p, until its call is answered. They are refused where the first is.
+#[inline(always)]
 pub(crate) fn take_steps<M: Machine, W: Sink>(
     machine: &mut M,
     judge: &mut Judge,
@@ -102,7 +105,8 @@ fn take_crash<M: Machine, W: Sink>(
     ensures { let part = unless (M.crash_refusal machine.old p) machine.old (Did (M.crash_deed machine.old p) ∷ []) (M.crashed machine.old p) in Plays (tape (W.taken w.old) (W.failures w.old)) (tape (W.taken w.new) (W.failures w.new)) (bench judge.old clerk.old) (bench judge.new clerk.new) part.told part.left part.refused machine.new result }
 {
     let deed = Some(machine.crash(p)?);
-    clerk.tell(judge, w, p, &deed, None)
+    let nothing = None;
+    clerk.tell(judge, w, p, &deed, &nothing)
 }
 
 /// One line.

@@ -66,6 +66,7 @@ fn play_first<'a, M: Machine, W: Sink>(
 }
 
 /// The lines of a text, of which the first has number 2.
+#[inline(never)]
 pub(crate) fn play_text<M: Machine, W: Sink>(
     machine: &mut M,
     judge: &mut Judge,

@@ -17,12 +17,27 @@ use rmecore::Body;
 use rmeworld::Call;
 use std::alloc::{AllocError, Global};
 
-/// Writes one more word of a line: a space and the number.
-pub fn put_number(out: &mut Vec<u8>, number: u64) -> Result<(), AllocError>
+/// As `put_number`, for a number of any length.
+#[inline(never)]
+fn put_long_number(out: &mut Vec<u8>, number: u64) -> Result<(), AllocError>
     ensures { OnOk result (out.new.items ≡ out.old.items ++ 32 ∷ decimal number) }
 {
     out.push(b' ')?;
     out.extend_from_slice(Buffer::new().format(number).as_bytes())
+}
+
+/// Writes one more word of a line: a space and the number. Most are of one digit.
+#[inline(always)]
+#[tactic(auto, using(crate::proofs::Spaced::digit_written))]
+pub fn put_number(out: &mut Vec<u8>, number: u64) -> Result<(), AllocError>
+    ensures { OnOk result (out.new.items ≡ out.old.items ++ 32 ∷ decimal number) }
+{
+    if number > 9 {
+        return put_long_number(out, number);
+    }
+    out.push(b' ')?;
+    out.push(b'0' + number as u8)?;
+    Ok(())
 }
 
 /// Writes one more word of a line for each word of the value.
@@ -36,6 +51,7 @@ pub fn put_body(out: &mut Vec<u8>, body: &Body) -> Result<(), AllocError>
 }
 
 /// Writes the first words of a line: a name and a process.
+#[inline(always)]
 pub fn put_start(out: &mut Vec<u8>, name: &[u8], p: u64) -> Result<(), AllocError>
     ensures { OnOk result (out.new.items ≡ out.old.items ++ name.now ++ 32 ∷ decimal p) }
 {

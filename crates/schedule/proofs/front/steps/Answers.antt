@@ -2,9 +2,9 @@ use Rattle.std.proofs.Common.{arith}
 use Rattle.schedule.proofs.Fronts.{one_step, more_steps}
 use Rattle.schedule.proofs.front.steps.Goals as goal
 
-pub returns-in-Some-clause-read : goal.returns-in-Some-clause-read
-returns-in-Some-clause-read c width =
-    one_step width c.in_ok-p.p c.args.text.now c.in_ok-word.word.now c.in_ok-p.rest.now c.in-Some.after.now c.in_ok-p.ensures.1 c.in_ok-word.ensures c.in_ok-p.ensures.0 c.in-Some.ensures
+pub returns-in-Some-behind_end-clause-read : goal.returns-in-Some-behind_end-clause-read
+returns-in-Some-behind_end-clause-read c width =
+    one_step width c.in_ok-p.p c.args.text.now c.in_ok-word.word.now c.in_ok-p.rest.now c.in-Some-behind_end.after.now c.in_ok-p.ensures.1 c.in_ok-word.ensures c.in_ok-p.ensures.0 c.in-Some-behind_end.ensures
 
 pub returns-clause-read : goal.returns-clause-read
 returns-clause-read c width =

@@ -1,7 +1,7 @@
 use Rattle.std.proofs.Common.{◌∙◌, arith}
 use Rattle.std.proofs.Math.ListN.{length-set}
 use Rattle.schedule.proofs.DeedFronts.{value_grows}
-use Rattle.schedule.proofs.deed_front.numbers.Goals as goal
+use Rattle.schedule.proofs.front.numbers.Goals as goal
 
 pub loop-j-preserved : goal.loop-j-preserved
 loop-j-preserved c = record {

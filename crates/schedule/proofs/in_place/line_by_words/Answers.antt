@@ -1,6 +1,6 @@
 use Rattle.schedule.specs.Commands.{line_at}
 use Rattle.schedule.proofs.InPlace.{cut_begins, cut_fails, uncut_fails}
-use Rattle.schedule.proofs.in_place.next_line.Goals as goal
+use Rattle.schedule.proofs.in_place.line_by_words.Goals as goal
 
 pub returns-in_default-clause-fault : goal.returns-in_default-clause-fault
 returns-in_default-clause-fault c k = uncut_fails (line_at c.args.width) k c.args.text.now c.in_default.ensures.parts c.requires.some

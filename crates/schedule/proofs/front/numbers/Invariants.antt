@@ -1,6 +1,6 @@
 use Rattle.std.proofs.Common.{◌≡◌, ◌++◌, take, length}
 use Rattle.schedule.specs.Words.{spaced}
-use Rattle.schedule.proofs.deed_front.numbers.Given as goal
+use Rattle.schedule.proofs.front.numbers.Given as goal
 
 abbrev pub invariant-loop-j : goal.invariant-loop-j
 invariant-loop-j l = record {

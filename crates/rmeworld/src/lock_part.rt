@@ -24,6 +24,7 @@ pub(crate) fn lock_step(lock: &mut LockProcess, mended: bool, value: u64) -> (Pr
 }
 
 /// A step of the lock's part in a scan that goes on, as `lock_step`.
+#[inline(always)]
 pub(crate) fn lock_scan(
     lock: &mut LockProcess,
     scan: Scan,

@@ -103,6 +103,7 @@ pub(crate) fn puts_quietly(access: Access) -> bool
 }
 
 /// The deed of a step of process p, if it is one: the lock's, or that of a put.
+#[inline(always)]
 pub fn deed_of(
     layout: Layout,
     p: u64,

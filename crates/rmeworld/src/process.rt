@@ -191,6 +191,7 @@ impl Process {
     }
 
     /// Takes the next step of a scan that goes on, as `feed` does.
+    #[inline(always)]
     pub fn scan_on(&mut self, scan: Scan, value: u64) -> Outcome
         requires free { self.old.errand ≡ Errand.Free }
         requires at { at_scan (standing self.old) scan ≡ standing self.old }

@@ -1,6 +1,7 @@
 -- Lines that are read where they stand.
-use Rattle.std.proofs.Common.{◌≡◌, ℕ, ◌+◌, ◌<◌, ◌≤◌, false, eqb, List, [], ◌∷◌, ◌++◌, length, Result, Ok, Err, refl, sym, ap, ◌∙◌, append_assoc, arith, length-append}
+use Rattle.std.proofs.Common.{◌≡◌, ℕ, ◌+◌, ◌-◌, ◌<◌, ◌≤◌, false, eqb, List, [], ◌∷◌, ◌++◌, length, drop, Result, Ok, Err, refl, sym, ap, ◌∙◌, append_assoc, arith, length-append}
 use Rattle.std.proofs.lemmas.Bool.{ne_eqb}
+use Rattle.std.proofs.Math.Seq.{drop-append_seam}
 use Rattle.schedule.specs.declared.fault.LineFault.{LineFault}
 use Rattle.schedule.specs.declared.fault.LineFault.TheVariants.{NoNewline}
 use Rattle.schedule.specs.declared.fault.TextFault.{TextFault}
@@ -14,6 +15,12 @@ use Rattle.schedule.specs.Texts.{parts_of, items_at, text_at, Fails}
 use Rattle.schedule.specs.Fronts.{Begins}
 use Rattle.schedule.proofs.Items.{items_at-cut}
 use Rattle.schedule.proofs.Places.{bind_ok, ok_is}
+
+-- what stands behind the front of a text
+pub behind_front : (text front after : List ℕ) → text ≡ front ++ after → drop (length text - length after) text ≡ after
+behind_front text front after e =
+    let n : length text - length after ≡ length front = omega (arith, ap length e ∙ length-append front after) in
+    ap (λ (k : ℕ). drop k text) n ∙ ap (λ (t : List ℕ). drop (length front) t) e ∙ drop-append_seam front after
 
 no_fault : {A : Type 0} (all : List A) (f : ℕ × LineFault) → Ok all ≡ Err f → ⊥
 no_fault all f e = cc

@@ -1,7 +1,7 @@
 //! The lines of a schedule, read where they stand in its text. A line is not kept, so a text is read twice: once for its
 //! faults, and once more as it is played.
 
-ghost use Rattle.std.specs.Prelude.{◌≡◌, ℕ, ◌+◌, ◌^◌, ◌<◌, ◌≤◌, length, List, Ok, Err, IfOk, IfErr};
+ghost use Rattle.std.specs.Prelude.{◌≡◌, ℕ, ◌+◌, ◌^◌, ◌<◌, ◌≤◌, ◌++◌, length, List, drop, Ok, Err, IfOk, IfErr};
 ghost use Rattle.schedule.specs.declared.line.Line.{Line as LineOf};
 ghost use Rattle.schedule.specs.Commands.{line_at};
 ghost use Rattle.schedule.specs.Texts.{items_at, parts_of, Fails};
@@ -99,11 +99,13 @@ fn check_lines(width: u64, first: u64, text: &[u8]) -> Result<(), TextFault>
 }
 
 /// The header of a schedule's text, and its other lines, which are all read.
-pub(crate) fn read(text: &[u8]) -> Result<(Head, &[u8]), TextFault>
+fn read(text: &[u8]) -> Result<(Head, &[u8]), TextFault>
     requires room { length text.now + 2 < 2 ^ 64 }
     ensures lines { IfOk result (λ read. (lines : List LineOf) × (items_at (line_at read.0.width) 2 (parts_of read.1.now) ≡ Ok lines) × (schedule_at text.now ≡ Ok (scheduled_with (read.0, lines)))) }
     ensures width { IfOk result (λ read. (1 ≤ read.0.width) × (read.0.width ≤ 8)) }
     ensures room { IfOk result (λ read. length read.1.now + 2 < 2 ^ 64) }
+    ensures shorter { IfOk result (λ read. length read.1.now ≤ length text.now) }
+    ensures behind { IfOk result (λ read. (first : List ℕ) × (text.now ≡ first ++ read.1.now)) }
     ensures fault { IfErr result (λ fault. Fails fault (schedule_at text.now)) }
 {
     if text.is_empty() {
@@ -125,4 +127,29 @@ pub(crate) fn read(text: &[u8]) -> Result<(Head, &[u8]), TextFault>
         }
         Err(fault) => Err(TextFault::At { line: 1, fault }),
     }
+}
+
+/// The header of a schedule's text, and where its other lines begin, which are all read.
+fn read_to(text: &[u8]) -> Result<(Head, usize), TextFault>
+    requires room { length text.now + 2 < 2 ^ 64 }
+    ensures lines { IfOk result (λ read. (lines : List LineOf) × (items_at (line_at read.0.width) 2 (parts_of (drop read.1 text.now)) ≡ Ok lines) × (schedule_at text.now ≡ Ok (scheduled_with (read.0, lines)))) }
+    ensures width { IfOk result (λ read. (1 ≤ read.0.width) × (read.0.width ≤ 8)) }
+    ensures within { IfOk result (λ read. read.1 ≤ length text.now) }
+    ensures fault { IfErr result (λ fault. Fails fault (schedule_at text.now)) }
+{
+    match read(text) {
+        Ok((head, lines)) => Ok((head, text.len() - lines.len())),
+        Err(fault) => Err(fault),
+    }
+}
+
+/// As `read_to`, of a text that is owned.
+pub(crate) fn read_whole(text: &Vec<u8>) -> Result<(Head, usize), TextFault>
+    requires room { length text.now.items + 2 < 2 ^ 64 }
+    ensures lines { IfOk result (λ read. (lines : List LineOf) × (items_at (line_at read.0.width) 2 (parts_of (drop read.1 text.now.items)) ≡ Ok lines) × (schedule_at text.now.items ≡ Ok (scheduled_with (read.0, lines)))) }
+    ensures width { IfOk result (λ read. (1 ≤ read.0.width) × (read.0.width ≤ 8)) }
+    ensures within { IfOk result (λ read. read.1 ≤ length text.now.items) }
+    ensures fault { IfErr result (λ fault. Fails fault (schedule_at text.now.items)) }
+{
+    read_to(text)
 }

@@ -1,6 +1,6 @@
 //! Replaying the text of a schedule.
 
-ghost use Rattle.std.specs.Prelude.{◌≡◌, ◌+◌, ◌^◌, ◌<◌, ◌≤◌, List, length, Ok, IfOk};
+ghost use Rattle.std.specs.Prelude.{◌≡◌, ◌+◌, ◌^◌, ◌<◌, ◌≤◌, List, length, drop, Ok, IfOk};
 ghost use Rattle.judge.specs.Table.{State};
 ghost use Rattle.judge.specs.Stands.{Keeps};
 ghost use Rattle.schedule.specs.Replays.{Replays};
@@ -10,7 +10,8 @@ ghost use Rattle.rmeworld.specs.WorldState.{new_refusal};
 ghost use Rattle.schedule.specs.declared.line.Line.{Line as LineOf};
 ghost use Rattle.schedule.specs.Commands.{line_at};
 ghost use Rattle.schedule.specs.Texts.{items_at, parts_of};
-ghost use Rattle.schedule.specs.Plays.{tape};
+ghost use Rattle.schedule.specs.Hearings.{bench};
+ghost use Rattle.schedule.specs.Plays.{tape, Runs};
 ghost use Rattle.schedule.specs.Schedules.{schedule_at, scheduled_with};
 ghost use Rattle.schedule.specs.Wholes.{layout_of, header_fault, OfSchedule, OfText, reading, ReplaysSource};
 
@@ -18,7 +19,7 @@ use crate::clerk::Clerk;
 use crate::device::{Sink, Source};
 use crate::fault::TextFault;
 use crate::head::Head;
-use crate::in_place::read;
+use crate::in_place::read_whole;
 use crate::laws::worlds_are_never_found_out;
 use crate::pieces::read_all;
 use crate::play_in_place::play_text;
@@ -40,22 +41,44 @@ fn at_header(refusal: Refusal) -> ReplayFault
     }
 }
 
-/// Replays the lines of a schedule's text, as `replay_on` does, and keeps none of them.
+/// The lines of a schedule's text from a place on, as `play_text`. Then the text is let go.
+fn play_behind<M: Machine, W: Sink>(
+    machine: &mut M,
+    judge: &mut Judge,
+    clerk: &mut Clerk,
+    w: &mut W,
+    width: u64,
+    text: Vec<u8>,
+    from: usize,
+) -> Result<(), ReplayFault>
+    requires width { (1 ≤ width) × (width ≤ 8) }
+    requires room { length text.items + 2 < 2 ^ 64 }
+    requires within { from ≤ length text.items }
+    requires read { (lines : List LineOf) × (items_at (line_at width) 2 (parts_of (drop from text.items)) ≡ Ok lines) }
+    ensures { (lines : List LineOf) → items_at (line_at width) 2 (parts_of (drop from text.items)) ≡ Ok lines → Runs (tape (W.taken w.old) (W.failures w.old)) (tape (W.taken w.new) (W.failures w.new)) (bench judge.old clerk.old) (bench judge.new clerk.new) (run_on (behaviour M.start_refusal M.started M.advance_refusal M.stepped M.advanced M.crash_refusal M.crash_deed M.crashed) 2 machine.old lines) machine.new result }
+{
+    play_text(machine, judge, clerk, w, width, &text[from..])
+}
+
+/// Replays the lines of a schedule's text from a place on, as `replay_on` does, and keeps none of them. What is written at the
+/// end takes memory too, so the text is let go before.
 fn replay_in_place<M: Machine, W: Sink>(
     alloc: Global,
     machine: &mut M,
     judge: &mut Judge,
     width: u64,
-    text: &[u8],
+    text: Vec<u8>,
+    from: usize,
     w: &mut W,
 ) -> Result<Verdict, ReplayFault>
     requires width { (1 ≤ width) × (width ≤ 8) }
-    requires room { length text.now + 2 < 2 ^ 64 }
-    requires read { (lines : List LineOf) × (items_at (line_at width) 2 (parts_of text.now) ≡ Ok lines) }
-    ensures { (start : State) (lines : List LineOf) → Keeps judge.old start → items_at (line_at width) 2 (parts_of text.now) ≡ Ok lines → Replays (tape (W.taken w.old) (W.failures w.old)) (tape (W.taken w.new) (W.failures w.new)) start M.image_of (run_on (behaviour M.start_refusal M.started M.advance_refusal M.stepped M.advanced M.crash_refusal M.crash_deed M.crashed) 2 machine.old lines) result }
+    requires room { length text.items + 2 < 2 ^ 64 }
+    requires within { from ≤ length text.items }
+    requires read { (lines : List LineOf) × (items_at (line_at width) 2 (parts_of (drop from text.items)) ≡ Ok lines) }
+    ensures { (start : State) (lines : List LineOf) → Keeps judge.old start → items_at (line_at width) 2 (parts_of (drop from text.items)) ≡ Ok lines → Replays (tape (W.taken w.old) (W.failures w.old)) (tape (W.taken w.new) (W.failures w.new)) start M.image_of (run_on (behaviour M.start_refusal M.started M.advance_refusal M.stepped M.advanced M.crash_refusal M.crash_deed M.crashed) 2 machine.old lines) result }
 {
     let mut clerk = Clerk::new(alloc);
-    if let Err(fault) = play_text(machine, judge, &mut clerk, w, width, text) {
+    if let Err(fault) = play_behind(machine, judge, &mut clerk, w, width, text, from) {
         return Err(settle(w, fault));
     }
     let verdict = clerk.verdict();
@@ -66,17 +89,19 @@ fn replay_in_place<M: Machine, W: Sink>(
     Ok(verdict)
 }
 
-/// Replays the lines of a schedule's text on a new world, before a new judge.
+/// Replays the lines of a schedule's text from a place on, on a new world, before a new judge.
 fn replay_new<W: Sink>(
     alloc: Global,
     head: Head,
-    lines: &[u8],
+    text: Vec<u8>,
+    from: usize,
     w: &mut W,
 ) -> Result<Verdict, ReplayFault>
     requires width { (1 ≤ head.width) × (head.width ≤ 8) }
-    requires room { length lines.now + 2 < 2 ^ 64 }
-    requires read { (all : List LineOf) × (items_at (line_at head.width) 2 (parts_of lines.now) ≡ Ok all) }
-    ensures of { (all : List LineOf) → items_at (line_at head.width) 2 (parts_of lines.now) ≡ Ok all → OfSchedule (tape (W.taken w.old) (W.failures w.old)) (tape (W.taken w.new) (W.failures w.new)) (scheduled_with (head, all)) (new_refusal (layout_of (scheduled_with (head, all))) head.limit) result }
+    requires room { length text.items + 2 < 2 ^ 64 }
+    requires within { from ≤ length text.items }
+    requires read { (all : List LineOf) × (items_at (line_at head.width) 2 (parts_of (drop from text.items)) ≡ Ok all) }
+    ensures of { (all : List LineOf) → items_at (line_at head.width) 2 (parts_of (drop from text.items)) ≡ Ok all → OfSchedule (tape (W.taken w.old) (W.failures w.old)) (tape (W.taken w.new) (W.failures w.new)) (scheduled_with (head, all)) (new_refusal (layout_of (scheduled_with (head, all))) head.limit) result }
     ensures fine { IfOk result (λ verdict. verdict ≡ Verdict.Fine) }
 {
     worlds_are_never_found_out();
@@ -88,17 +113,17 @@ fn replay_new<W: Sink>(
         Ok(judge) => judge,
         Err(_) => return Err(ReplayFault::OutOfMemory),
     };
-    replay_in_place(alloc, &mut world, &mut judge, head.width, lines, w)
+    replay_in_place(alloc, &mut world, &mut judge, head.width, text, from, w)
 }
 
 /// Replays the schedule that the text spells.
-fn replay_text<W: Sink>(alloc: Global, text: &[u8], w: &mut W) -> Result<Verdict, ReplayFault>
-    requires room { length text.now + 2 < 2 ^ 64 }
-    ensures of { OfText (tape (W.taken w.old) (W.failures w.old)) (tape (W.taken w.new) (W.failures w.new)) (schedule_at text.now) result }
+fn replay_text<W: Sink>(alloc: Global, text: Vec<u8>, w: &mut W) -> Result<Verdict, ReplayFault>
+    requires room { length text.items + 2 < 2 ^ 64 }
+    ensures of { OfText (tape (W.taken w.old) (W.failures w.old)) (tape (W.taken w.new) (W.failures w.new)) (schedule_at text.items) result }
     ensures fine { IfOk result (λ verdict. verdict ≡ Verdict.Fine) }
 {
-    match read(text) {
-        Ok((head, lines)) => replay_new(alloc, head, lines, w),
+    match read_whole(&text) {
+        Ok((head, from)) => replay_new(alloc, head, text, from, w),
         Err(TextFault::At { line, fault }) => Err(ReplayFault::Text {
             line,
             number: fault.number(),
@@ -121,5 +146,5 @@ pub fn replay<R: Source, W: Sink>(
     ensures fine { IfOk result (λ verdict. verdict ≡ Verdict.Fine) }
 {
     let text = read_all(alloc, source)?;
-    replay_text(alloc, &text, w)
+    replay_text(alloc, text, w)
 }

@@ -1,4 +1,4 @@
-use Rattle.std.proofs.Common.{arith}
+use Rattle.std.proofs.Common.{◌++◌, ◌∷◌, [], ◌∙◌, sym, append_assoc, length, ap, length-append, arith}
 use Rattle.std.proofs.lemmas.Result.{err_from_is_err_and}
 use Rattle.schedule.specs.Commands.{line_at}
 use Rattle.schedule.specs.Schedules.{head_at}
@@ -24,3 +24,10 @@ returns-in_ok-check_lines-in-Ok-clause-lines c =
 
 pub returns-in-Err-clause-fault : goal.returns-in-Err-clause-fault
 returns-in-Err-clause-fault c = is_wrong c.args.text.now _ (head_fails head_at (λ h. line_at h.width) c.args.text.now c.in-Some.first.now c.in-Some.lines.now c.in-Err.fault c.in-Some.ensures.parts c.in-Err.ensures.head)
+
+pub returns-in_ok-check_lines-in-Ok-clause-behind : goal.returns-in_ok-check_lines-in-Ok-clause-behind
+returns-in_ok-check_lines-in-Ok-clause-behind c =
+    (c.in-Some.first.now ++ 10 ∷ [], c.in-Some.ensures.whole ∙ sym (append_assoc c.in-Some.first.now (10 ∷ []) c.in-Some.lines.now))
+
+pub returns-in_ok-check_lines-in-Ok-clause-shorter : goal.returns-in_ok-check_lines-in-Ok-clause-shorter
+returns-in_ok-check_lines-in-Ok-clause-shorter c = omega (arith, ap length c.in-Some.ensures.whole ∙ length-append c.in-Some.first.now (10 ∷ c.in-Some.lines.now))

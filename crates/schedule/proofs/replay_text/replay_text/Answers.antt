@@ -3,5 +3,5 @@ use Rattle.schedule.specs.Schedules.{schedule_at}
 use Rattle.schedule.proofs.Heading.{no_memory_at_all}
 use Rattle.schedule.proofs.replay_text.replay_text.Goals as goal
 
-pub returns-in-Err-OutOfMemory-clause-of : goal.returns-in-Err-OutOfMemory-clause-of
-returns-in-Err-OutOfMemory-clause-of g c = no_memory_at_all (tape (g.W.Sink.taken c.args.w.now) (g.W.Sink.failures c.args.w.now)) (schedule_at c.args.text.now)
+pub returns-clause-of : goal.returns-clause-of
+returns-clause-of g c = no_memory_at_all (tape (g.W.Sink.taken c.args.w.now) (g.W.Sink.failures c.args.w.now)) (schedule_at c.args.text.items)

@@ -1,14 +1,13 @@
 //! What a process has to do with the data words.
 
-ghost use Rattle.std.specs.Prelude.{◌≡◌, None, IsTrue, IsSome, IfSome, if◌then◌else◌};
+ghost use Rattle.std.specs.Prelude.{◌≡◌, None, IsTrue, if◌then◌else◌};
 ghost use Rattle.redomail.specs.Left.{begun, fed, left};
 ghost use Rattle.redomail.specs.Refusals.{refused};
-ghost use Rattle.redomail.specs.Script.{tail, Done};
 ghost use Rattle.rmeworld.specs.Errands.{HasStep};
 
 use crate::why::Why;
 use redomail::stage::Stage;
-use redomail::{Job, Layout, Next, Reply, Task};
+use redomail::{Job, Layout, Task};
 
 /// What a process that is inside has to do with the data words next.
 #[derive(Clone, Copy)]
@@ -41,8 +40,18 @@ pub(crate) fn check_next(errand: &mut Errand, layout: Layout, index: u64, checks
     }
 }
 
+/// Whether a job is likely to have a step left once it is fed. Any answer is right.
+#[inline(always)]
+pub(crate) fn may_go_on(job: &Job) -> bool {
+    match job.seam_stage() {
+        Stage::AskClosed(..) | Stage::AskCount(..) | Stage::AskLast(..) | Stage::Write(..) => true,
+        _ => false,
+    }
+}
+
 /// Whether a job is seen at once to have a step left once it is fed with this word, as an append does at all steps but its
 /// last. The other tasks are short, or rare.
+#[inline(always)]
 pub(crate) fn goes_on(job: &Job, word: u64) -> bool
     ensures { IsTrue result → HasStep (left (fed job.now word)) }
 {
@@ -56,26 +65,5 @@ pub(crate) fn goes_on(job: &Job, word: u64) -> bool
             width == job.layout().width && step < 7 + 2 * width
         }
         _ => false,
-    }
-}
-
-/// Feeds a job in its place, where it has a step left then. Elsewhere nothing changes, and it answers the reply with which
-/// the job ends.
-pub(crate) fn feed_on(job: &mut Job, value: u64) -> Option<Reply>
-    ensures exact { result ≡ None → job.new ≡ fed job.old value }
-    ensures left { result ≡ None → left job.new ≡ tail (left job.old) value }
-    ensures goes_on { result ≡ None → HasStep (left job.new) }
-    ensures ends { IfSome result (λ reply. left (fed job.old value) ≡ Done reply) }
-    ensures last { IfSome result (λ reply. tail (left job.old) value ≡ Done reply) }
-    ensures same { IsSome result → job.new ≡ job.old }
-{
-    let before = *job;
-    job.feed(value);
-    match job.next() {
-        Next::Get(_) | Next::Put(..) => None,
-        Next::Done(reply) => {
-            *job = before;
-            Some(reply)
-        }
     }
 }

@@ -3,14 +3,15 @@
 ghost use Rattle.std.specs.Prelude.{◌≡◌, Bool, false, Some, None, IfSome, IsSome};
 ghost use Rattle.rmecore.specs.Place.{Inside, Leaving, started as lock_started};
 ghost use Rattle.rmecore.specs.Refused.{start_refusal as lock_refusal};
-ghost use Rattle.rmecore.specs.Machine.{after_access, at_scan, progress, next_access as lock_access, IsAllowed as IsLockAllowed};
+ghost use Rattle.rmecore.specs.Machine.{place_of, after_access, at_scan, progress, next_access as lock_access, IsAllowed as IsLockAllowed};
 ghost use Rattle.rmeworld.specs.Spot.{mended_entered};
 ghost use Rattle.rmeworld.specs.Entered.{is_entry, mended_done, checks_done};
 
-use rmecore::{CoreCall, CoreDone, Found, LockProcess, Progress, Scan};
+use rmecore::{CoreCall, CoreDone, Found, LockProcess, Progress, Scan, Stage};
 
 /// A step of the lock's part: what it was, whether the process is mended then, and whether the ruin check comes next. Who
 /// enters by a lock checks, and who enters again is not mended.
+#[inline(always)]
 pub(crate) fn lock_step(lock: &mut LockProcess, mended: bool, value: u64) -> (Progress, bool, bool)
     ensures lock { lock.new ≡ record lock.old { place = after_access lock.old (lock_access lock.old) value } }
     ensures allowed { IfSome (lock_access lock.old) (IsLockAllowed lock.old) }
@@ -45,6 +46,7 @@ pub(crate) fn lock_scan(
 
 /// A step of the lock's part that is no deed and ends nothing, where the next one is such a step: whether it was blocked.
 /// Elsewhere nothing changes.
+#[inline(always)]
 pub(crate) fn lock_quietly(lock: &mut LockProcess, value: u64) -> Option<bool>
     ensures lock { IsSome result → lock.new ≡ record lock.old { place = after_access lock.old (lock_access lock.old) value } }
     ensures allowed { IfSome (lock_access lock.old) (IsLockAllowed lock.old) }
@@ -53,7 +55,43 @@ pub(crate) fn lock_quietly(lock: &mut LockProcess, value: u64) -> Option<bool>
     ensures checks { IsSome result → is_entry lock.old.place lock.new.place ≡ false }
     ensures same { result ≡ None → lock.new ≡ lock.old }
 {
-    let stage = lock.stage();
+    match lock.stage() {
+        Stage::ReadingChoosing { call } => {
+            let choosing = value;
+            lock.seam_stand(Stage::ReadingNumber { call, choosing });
+            Some(false)
+        }
+        Stage::ReadingNumber { call, choosing } => {
+            lock.seam_stand(Stage::ReadingInside {
+                call,
+                choosing,
+                number: value,
+            });
+            Some(false)
+        }
+        Stage::ReadingInside {
+            call: CoreCall::Lock,
+            choosing: 0,
+            number,
+        } if value == 0 && number != 0 => {
+            lock.seam_stand(Stage::waiting(number));
+            Some(false)
+        }
+        stage => lock_back(lock, stage, value),
+    }
+}
+
+/// As `lock_quietly`, of any step: one that is not such a step is taken back.
+#[inline(never)]
+fn lock_back(lock: &mut LockProcess, stage: Stage, value: u64) -> Option<bool>
+    requires { lock.old.place ≡ place_of lock.old.procs lock.old.index stage }
+    ensures lock { IsSome result → lock.new ≡ record lock.old { place = after_access lock.old (lock_access lock.old) value } }
+    ensures allowed { IfSome (lock_access lock.old) (IsLockAllowed lock.old) }
+    ensures progress { IfSome result (λ blocked. progress lock.old (lock_access lock.old) value ≡ record { outer = None; done = None; blocked = blocked }) }
+    ensures mended { IsSome result → (mended : Bool) → mended_entered mended lock.old.place lock.new.place ≡ mended }
+    ensures checks { IsSome result → is_entry lock.old.place lock.new.place ≡ false }
+    ensures same { result ≡ None → lock.new ≡ lock.old }
+{
     let progress = lock.feed(value);
     match progress {
         Progress {
@@ -69,6 +107,7 @@ pub(crate) fn lock_quietly(lock: &mut LockProcess, value: u64) -> Option<bool>
 }
 
 /// What an answer of the lock's part says of the process: whether it is mended then, and whether it checks.
+#[inline(always)]
 fn entry(done: Option<CoreDone>, mended: bool) -> (bool, bool)
     ensures mended { result.0 ≡ mended_done mended done }
     ensures checks { result.1 ≡ checks_done done }

@@ -16,6 +16,7 @@ use redomail::{Deed, Layout};
 use rmecore::{Access, Outer, Own, Word};
 
 /// A data word. One past the end is 0.
+#[inline(always)]
 fn cell(cells: &[u64], i: u64) -> u64
     ensures { result ≡ slice_index cells.now i }
 {
@@ -26,6 +27,7 @@ fn cell(cells: &[u64], i: u64) -> u64
 }
 
 /// A word as it stands.
+#[inline(always)]
 pub fn load(words: &[Own], cells: &[u64], word: Word) -> u64
     requires { InWords (length words.now) word }
     ensures { result ≡ reading_of (own_at words.now) (words_of cells.now) word }
@@ -39,6 +41,7 @@ pub fn load(words: &[Own], cells: &[u64], word: Word) -> u64
 }
 
 /// Stores what an access stores.
+#[inline(always)]
 pub fn store(words: &mut [Own], cells: &mut [u64], access: Access)
     requires { InWords (length words.old) (word_of access) }
     ensures words { words.new ≡ words_by words.old access }
@@ -56,6 +59,7 @@ pub fn store(words: &mut [Own], cells: &mut [u64], access: Access)
 }
 
 /// Writes a data word. One past the end isn't there, and nothing changes.
+#[inline(always)]
 fn put(cells: &mut [u64], i: u64, value: u64)
     ensures { cells.new ≡ slice_set cells.old i value }
 {
@@ -93,7 +97,8 @@ fn put_deed(layout: Layout, p: u64, cells: &[u64], i: u64, value: u64) -> Option
 }
 
 /// Whether an access is seen at once to put nothing that may be a deed: no data word, or one behind the first four.
-pub(crate) fn puts_quietly(access: Access) -> bool
+#[inline(always)]
+pub fn puts_quietly(access: Access) -> bool
     ensures { IsTrue result → (l : LayoutOf) → (p : ℕ) → (cells : Words) → mail_by l p cells access ≡ [] }
 {
     match access {

@@ -24,19 +24,13 @@ pub struct Outcome {
     pub answer: Option<Answer>,
 }
 
-/// What a step is that is no deed of the lock and ends no call.
-pub(crate) const UNHEARD: Outcome = Outcome {
-    progress: QUIET,
-    answer: None,
-};
-
-/// What the step of a script is that ends it with this reply.
-pub(crate) fn script_end(why: Why, mended: bool, reply: Reply) -> Outcome
-    ensures { result ≡ record { progress = quiet; answer = by_reply why mended reply } }
+/// What a step of a job is, with the answer that its call has, if it ends it.
+pub(crate) fn job_step(answer: Option<Answer>) -> Outcome
+    ensures { result ≡ record { progress = quiet; answer = answer } }
 {
     Outcome {
         progress: QUIET,
-        answer: reply_answer(why, mended, reply),
+        answer,
     }
 }
 
@@ -82,14 +76,10 @@ pub(crate) fn asked(value: u64) -> Outcome
 pub(crate) fn job_outcome(why: Why, mended: bool, job: &Job) -> Outcome
     ensures { result ≡ record { progress = quiet; answer = by_script why mended (left job.now) } }
 {
-    let answer = match job.next() {
+    job_step(match job.next() {
         Next::Done(reply) => reply_answer(why, mended, reply),
         Next::Get(_) | Next::Put(..) => None,
-    };
-    Outcome {
-        progress: QUIET,
-        answer,
-    }
+    })
 }
 
 /// What is answered where a script ends.

@@ -14,9 +14,9 @@ mod in_place;
 mod quiet;
 
 use crate::call::Call;
-use crate::errand::{Errand, check_next, feed_on, job};
+use crate::errand::{Errand, check_next, job};
 use crate::lock_part::{begin_lock, leave, lock_scan, lock_step};
-use crate::outcome::{Outcome, UNHEARD, asked, job_outcome, lock_outcome, script_end};
+use crate::outcome::{Outcome, asked, job_outcome, job_step, lock_outcome};
 use crate::private_memory::PrivateMemory;
 use crate::why::Why;
 use redomail::{Job, Layout, Next, Reply, Task};
@@ -88,7 +88,10 @@ impl Process {
         self.lock.crash();
         self.mended = true;
         self.barred = false;
-        self.errand = Errand::Free;
+        match &self.errand {
+            Errand::Free => {}
+            Errand::Asking(_) | Errand::Doing(..) => self.errand = Errand::Free,
+        }
     }
 
     /// The step that comes next, if a call is under way. It may be taken whatever a load reads, and where the definition
@@ -147,20 +150,12 @@ impl Process {
                 self.go_on(value, repair);
                 asked(value)
             }
-            Errand::Doing(why, job) => {
-                let Some(reply) = feed_on(job, value) else {
-                    return UNHEARD;
-                };
-                let why = *why;
-                let same = why;
-                let outcome = script_end(same, self.mended, reply);
-                self.end(why, reply);
-                outcome
-            }
+            Errand::Doing(..) => job_step(self.job_on(value)),
         }
     }
 
     /// A step of the lock.
+    #[inline(always)]
     fn move_on(&mut self, value: u64) -> Progress
         requires { self.old.errand ≡ Errand.Free }
         ensures exact { self.new ≡ stepped self.old value }
@@ -175,6 +170,7 @@ impl Process {
     }
 
     /// A scan that goes on, and the load that comes next in it. It is what `next` answers, for a scan alone.
+    #[inline(always)]
     pub fn scan(&self) -> Option<(Scan, Access)>
         ensures free { IfSome result (λ r. self.now.errand ≡ Errand.Free) }
         ensures at { IfSome result (λ r. at_scan (standing self.now) r.0 ≡ standing self.now) }
@@ -221,6 +217,7 @@ impl Process {
     }
 
     /// Where the lock's part stands, in the machine's own terms, if there is nothing to do with the data words.
+    #[inline(always)]
     pub fn stage(&self) -> Option<Stage>
         ensures free { IfSome result (λ t. self.now.errand ≡ Errand.Free) }
         ensures place { IfSome result (λ t. place_of self.now.layout.procs self.now.index t ≡ self.now.lock) }

@@ -31,6 +31,7 @@ impl Process {
     ghost use Rattle.rmeworld.specs.Stand.{InWords, IsAllowed, StoresOwn, spot_of, stepped, next_access, spot_after, outcome};
 
     /// The step that comes next, where it is one of a job. It is what `next` answers, for a job alone.
+    #[inline(always)]
     pub fn job_next(&self) -> Option<Access>
         ensures working { IfSome result (λ a. IsWorking self.now.errand) }
         ensures next { IfSome result (λ a. next_access self.now ≡ Some a) }
@@ -49,6 +50,7 @@ impl Process {
     }
 
     /// Takes the next step of a job, as `feed` does. For others it is nothing, so only its answer is told.
+    #[inline(always)]
     pub fn job_on(&mut self, value: u64) -> Option<Answer>
         requires { IsWorking self.old.errand }
         ensures exact { self.new ≡ stepped self.old value }
@@ -72,7 +74,7 @@ impl Process {
     }
 
     /// Takes the next step of the lock, as `feed` does.
-    #[inline(never)]
+    #[inline(always)]
     pub fn lock_on(&mut self, value: u64) -> Outcome
         requires { self.old.errand ≡ Free }
         ensures exact { self.new ≡ stepped self.old value }

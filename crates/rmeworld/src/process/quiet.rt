@@ -1,15 +1,16 @@
 //! Steps of a process that are no deed of the lock and end no call, taken in place.
 
-ghost use Rattle.std.specs.Prelude.{◌≡◌, None, IfSome, IsSome};
+ghost use Rattle.std.specs.Prelude.{◌≡◌, Some, None, IfSome, IsSome};
 
-use crate::errand::{Errand, goes_on};
+use crate::errand::{Errand, goes_on, may_go_on};
 use crate::lock_part::lock_quietly;
 use crate::process::Process;
-use rmecore::Stage;
+use rmecore::{Access, Stage};
 
 impl Process {
     ghost use Rattle.rmeworld.specs.Advancing.{unheard};
-    ghost use Rattle.rmeworld.specs.Stand.{spot_of, stepped, next_access, spot_after, outcome};
+    ghost use Rattle.rmecore.specs.Machine.{word_of};
+    ghost use Rattle.rmeworld.specs.Stand.{InWords, IsAllowed, StoresOwn, spot_of, stepped, next_access, spot_after, outcome};
 
     /// Whether the next step is likely to be no deed and to end nothing. Any answer is right.
     #[inline(always)]
@@ -23,13 +24,28 @@ impl Process {
                 _ => false,
             },
             Errand::Asking(_) => false,
-            Errand::Doing(_, _) => true,
+            Errand::Doing(_, job) => may_go_on(job),
         }
+    }
+
+    /// The step that comes next, where it is likely to be no deed and to end nothing. It is what `next` answers, or none.
+    #[inline(always)]
+    pub fn next_quietly(&self) -> Option<Access>
+        ensures next { IfSome result (λ a. next_access self.now ≡ Some a) }
+        ensures within { IfSome result (λ a. InWords self.now.layout.procs (word_of a)) }
+        ensures allowed { IfSome result (IsAllowed self.now) }
+        ensures own { IfSome result (StoresOwn self.now.index) }
+    {
+        if !self.is_promising() {
+            return None;
+        }
+        self.next()
     }
 
     /// Takes the next step, with the value that it read, where it sees at once that it is no deed of the lock and ends
     /// nothing, and answers whether it was blocked. Elsewhere nothing changes.
-    pub(crate) fn feed_quietly(&mut self, value: u64) -> Option<bool>
+    #[inline(always)]
+    pub fn feed_quietly(&mut self, value: u64) -> Option<bool>
         ensures exact { IsSome result → self.new ≡ stepped self.old value }
         ensures spot { IsSome result → spot_of self.new ≡ spot_after self.old (next_access self.old) value }
         ensures outcome { IfSome result (λ blocked. outcome self.old (next_access self.old) value ≡ unheard blocked) }

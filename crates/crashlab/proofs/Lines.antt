@@ -1,5 +1,5 @@
 -- One more line of a hunt.
-use Rattle.std.proofs.Common.{◌≡◌, ℕ, Bool, true, false, List, [], ◌∷◌, ◌++◌, Option, Some, None, Result, Ok, Err, OnOk, IfOk, is_err, MatchResult, refl, sym, ap, ◌∙◌, subst, append-nil, append_assoc, arith}
+use Rattle.std.proofs.Common.{◌≡◌, ℕ, Bool, true, false, List, [], ◌∷◌, ◌++◌, Option, Some, None, Result, Ok, Err, IfSome, is_err, MatchResult, refl, sym, ap, ◌∙◌, subst, append-nil, append_assoc, arith}
 use Rattle.std.proofs.lemmas.Bool.{cond_both}
 use Rattle.rmecore.specs.declared.fault.Fault.{Fault}
 use Rattle.redomail.specs.declared.deed.Deed.{Deed}
@@ -21,7 +21,6 @@ use Rattle.crashlab.specs.LockWorlds.{IsLockWorld}
 use Rattle.redomail.specs.Layout.{IsLayout}
 use Rattle.rmecore.specs.declared.access.Access.{Access}
 use Rattle.rmeworld.specs.Law.{EveryStoryIsLegal}
-use Rattle.crashlab.specs.declared.hunt_fault.HuntFault.{HuntFault}
 use Rattle.crashlab.specs.VariantWorlds.{VariantState, start_refusal, started, advance_refusal, access_at, stepped, advanced, advanced_if, crash_refusal, crash_deed, crashed}
 
 after_more : (s : VariantState) (lines : List Line) (line : Line) → after_lines s (lines ++ line ∷ []) ≡ after_line (after_lines s lines) line
@@ -144,10 +143,10 @@ start_ends variant schedule world judge played p call may next to locks made wri
     told_ends variant schedule world judge played (Start p call) may next to (ap (λ (s : VariantState). s.layout) to) None (λ h lock. subst (IsLockWorld next) (sym (append-nil h)) (locks h lock)) refl made written later is
     told
 
--- what was written and told, where the call went well
-pub if_told : {L : Type 0} {T E : Made → Type 0} (r : Result Made HuntFault) → OnOk r L → IfOk r T → (L → (made : Made) → T made → E made) → IfOk r E
-if_told (Ok made) line told go = go line made told
-if_told (Err e) line told go = tt
+-- what a move ends with, where the world took it
+pub then_ends : {P Q : Made → Type 0} (o : Option Made) → ((m : Made) → P m → Q m) → IfSome o P → IfSome o Q
+then_ends None go h = tt
+then_ends (Some m) go h = go m h
 
 -- a deed that the judge has refused
 pub is_refused : (P : Unit → Type 0) (r : Result Unit Fault) (history : List Deed) (d : Deed) (deed : Option Deed) → deed ≡ Some d → is_err r ≡ true → MatchResult r P (λ fault. judged_all (empty 3 64) (history ++ d ∷ []) ≡ Err fault) → IsRefused history deed

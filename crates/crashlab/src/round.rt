@@ -1,128 +1,103 @@
-//! One move of a hunt: made in the world, its deed told to the judge, and written down.
+//! One move of a hunt: made in the world, and its deed told to the judge.
 
-ghost use Rattle.std.specs.Prelude.{◌≡◌, ◌+◌, ◌≤◌, false, IfOk, IfErr, OnOk, length};
+ghost use Rattle.std.specs.Prelude.{◌≡◌, None, IfSome};
 ghost use Rattle.judge.specs.Kept.{Kept};
+ghost use Rattle.schedule.specs.Schedules.{Scheduled};
 ghost use Rattle.crashlab.specs.declared.variant.Variant.{Variant as VariantOf};
 ghost use Rattle.crashlab.specs.Hunts.{IsPlayed};
-ghost use Rattle.crashlab.specs.Found.{Ends};
+ghost use Rattle.crashlab.specs.Found.{Ends, call_by, line_by, with_line};
 
-use crate::hunt_fault::HuntFault;
 use crate::moves::{Due, Made, Move};
-use crate::route::Route;
 use crate::sights::Sights;
 use crate::telling::tell;
 use crate::variant_world::VariantWorld;
 use judge::Judge;
+use rmeworld::Call;
 
-/// Makes a move in a world, of which the route and the judge tell so far, and notes what is seen of it.
+/// Makes a move in a world, of whose deeds the judge was told so far, and notes what is seen of it. The answer is none where
+/// the world refuses the move, which then is none.
+#[inline(always)]
 pub fn make(
     world: &mut VariantWorld,
     judge: &mut Judge,
-    route: &mut Route,
     sights: &mut Sights,
     made: Move,
-) -> Result<Made, HuntFault>
-    ensures ends { (variant : VariantOf) → IsPlayed variant route.old world.old judge.old → IfOk result (Ends variant route.new world.new judge.new) }
-    ensures grows { OnOk result (length route.new.lines ≤ length route.old.lines + 1) }
-    ensures memory { IfErr result (λ e. e ≡ HuntFault.OutOfMemory) }
+) -> Option<Made>
+    ensures ends { IfSome result (λ m. (variant : VariantOf) (schedule : Scheduled) → IsPlayed variant schedule world.old judge.old → Ends variant (with_line schedule (line_by made)) world.new judge.new m) }
+    ensures same { result ≡ None → (world.new ≡ world.old) × (judge.new ≡ judge.old) }
 {
     match made {
-        Move::Start(p, due) => start(world, route, sights, p, due),
-        Move::Step(p) => step(world, judge, route, sights, p),
-        Move::Crash(p) => crash(world, judge, route, sights, p),
+        Move::Step(p) => walk(world, judge, sights, p),
+        Move::Start(p, Due::Lock) => start(world, sights, p, Due::Lock, Call::Lock),
+        Move::Start(p, due) => start(world, sights, p, due, due.call()),
+        Move::Crash(p) => crash(world, judge, sights, p),
     }
-}
-
-/// Takes the step of a move, where nothing comes of it: no deed and no answer. Any other move it leaves to `make`, and
-/// answers false.
-pub fn pass(world: &mut VariantWorld, route: &mut Route, made: Move) -> Result<bool, HuntFault>
-    ensures goes_on { (variant : VariantOf) (judge : Kept) → IsPlayed variant route.old world.old judge → OnOk result (IsPlayed variant route.new world.new judge) }
-    ensures grows { OnOk result (length route.new.lines ≤ length route.old.lines + 1) }
-    ensures same { IfOk result (λ passed. passed ≡ false → (route.new ≡ route.old) × (world.new ≡ world.old)) }
-    ensures memory { IfErr result (λ e. e ≡ HuntFault.OutOfMemory) }
-{
-    let Move::Step(p) = made else {
-        return Ok(false);
-    };
-    if !world.take_quiet_step(p) {
-        return Ok(false);
-    }
-    route.push(Move::Step(p))?;
-    Ok(true)
 }
 
 /// Starts a call, of which the judge hears nothing.
-#[inline(never)]
+#[inline(always)]
 fn start(
     world: &mut VariantWorld,
-    route: &mut Route,
     sights: &mut Sights,
     p: u64,
     due: Due,
-) -> Result<Made, HuntFault>
-    ensures ends { (variant : VariantOf) (judge : Kept) → IsPlayed variant route.old world.old judge → IfOk result (Ends variant route.new world.new judge) }
-    ensures grows { OnOk result (length route.new.lines ≤ length route.old.lines + 1) }
-    ensures memory { IfErr result (λ e. e ≡ HuntFault.OutOfMemory) }
+    call: Call,
+) -> Option<Made>
+    requires { call ≡ call_by due }
+    ensures ends { IfSome result (λ m. (variant : VariantOf) (schedule : Scheduled) (judge : Kept) → IsPlayed variant schedule world.old judge → Ends variant (with_line schedule (line_by (Move.Start p due))) world.new judge m) }
+    ensures same { result ≡ None → world.new ≡ world.old }
 {
-    match world.take_start(p, due.call()) {
+    match world.take_start(p, call) {
         Ok(()) => {
-            route.push(Move::Start(p, due))?;
             sights.started(p, due);
-            Ok(Made::On)
+            Some(Made::On)
         }
-        Err(_) => Ok(Made::On),
+        Err(_) => None,
     }
 }
 
+/// Takes a step. Nothing comes of most: no deed, and no answer.
+#[inline(always)]
+fn walk(world: &mut VariantWorld, judge: &mut Judge, sights: &mut Sights, p: u64) -> Option<Made>
+    ensures ends { IfSome result (λ m. (variant : VariantOf) (schedule : Scheduled) → IsPlayed variant schedule world.old judge.old → Ends variant (with_line schedule (line_by (Move.Step p))) world.new judge.new m) }
+    ensures same { result ≡ None → (world.new ≡ world.old) × (judge.new ≡ judge.old) }
+{
+    if world.take_quiet_step(p) {
+        return Some(Made::On);
+    }
+    step(world, judge, sights, p)
+}
+
 /// Takes a step that may be a deed, or end its call.
-#[inline(never)]
-fn step(
-    world: &mut VariantWorld,
-    judge: &mut Judge,
-    route: &mut Route,
-    sights: &mut Sights,
-    p: u64,
-) -> Result<Made, HuntFault>
-    ensures ends { (variant : VariantOf) → IsPlayed variant route.old world.old judge.old → IfOk result (Ends variant route.new world.new judge.new) }
-    ensures grows { OnOk result (length route.new.lines ≤ length route.old.lines + 1) }
-    ensures memory { IfErr result (λ e. e ≡ HuntFault.OutOfMemory) }
+fn step(world: &mut VariantWorld, judge: &mut Judge, sights: &mut Sights, p: u64) -> Option<Made>
+    ensures ends { IfSome result (λ m. (variant : VariantOf) (schedule : Scheduled) → IsPlayed variant schedule world.old judge.old → Ends variant (with_line schedule (line_by (Move.Step p))) world.new judge.new m) }
+    ensures same { result ≡ None → (world.new ≡ world.old) × (judge.new ≡ judge.old) }
 {
     if let Some(access) = world.job_next(p) {
         let told = world.job_on(judge, p, access);
-        route.push(Move::Step(p))?;
         sights.stepped(p, told.1);
-        return Ok(told.0);
+        return Some(told.0);
     }
     match world.step_before(judge, p) {
         Ok((made, answer)) => {
-            route.push(Move::Step(p))?;
             sights.stepped(p, answer);
-            Ok(made)
+            Some(made)
         }
-        Err(_) => Ok(Made::On),
+        Err(_) => None,
     }
 }
 
 /// Crashes a process.
-#[inline(never)]
-fn crash(
-    world: &mut VariantWorld,
-    judge: &mut Judge,
-    route: &mut Route,
-    sights: &mut Sights,
-    p: u64,
-) -> Result<Made, HuntFault>
-    ensures ends { (variant : VariantOf) → IsPlayed variant route.old world.old judge.old → IfOk result (Ends variant route.new world.new judge.new) }
-    ensures grows { OnOk result (length route.new.lines ≤ length route.old.lines + 1) }
-    ensures memory { IfErr result (λ e. e ≡ HuntFault.OutOfMemory) }
+fn crash(world: &mut VariantWorld, judge: &mut Judge, sights: &mut Sights, p: u64) -> Option<Made>
+    ensures ends { IfSome result (λ m. (variant : VariantOf) (schedule : Scheduled) → IsPlayed variant schedule world.old judge.old → Ends variant (with_line schedule (line_by (Move.Crash p))) world.new judge.new m) }
+    ensures same { result ≡ None → (world.new ≡ world.old) × (judge.new ≡ judge.old) }
 {
     match world.take_crash(p) {
         Ok(deed) => {
             let made = tell(judge, deed);
-            route.push(Move::Crash(p))?;
             sights.crashed(p);
-            Ok(made)
+            Some(made)
         }
-        Err(_) => Ok(Made::On),
+        Err(_) => None,
     }
 }

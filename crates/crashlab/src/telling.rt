@@ -15,7 +15,7 @@ use rmecore::{Access, Outer};
 use rmeworld::memory::deed_of;
 
 /// Tells the judge a deed.
-#[inline(never)]
+#[inline(always)]
 pub fn tell(judge: &mut Judge, deed: Deed) -> Made
     ensures { (history : List DeedOf) → StandsAfter (empty 3 64) history judge.old → Told history (Some deed) judge.new result }
 {
@@ -26,6 +26,7 @@ pub fn tell(judge: &mut Judge, deed: Deed) -> Made
 }
 
 /// Tells the judge the deed of a step of process p, if it is one. Most steps are loads, and few of these are deeds.
+#[inline(always)]
 pub fn tell_step(
     judge: &mut Judge,
     layout: &Layout,
@@ -41,6 +42,7 @@ pub fn tell_step(
 {
     match (outer, access) {
         (None, Access::Load(..)) => Made::On,
+        (Some(outer), _) => tell(judge, Deed::Outer(*outer)),
         _ => tell_deed(judge, layout, p, cells, access, outer),
     }
 }

@@ -69,6 +69,7 @@ impl VariantProcess {
     }
 
     /// Loses the private memory.
+    #[inline(always)]
     pub fn crash(&mut self)
         ensures { self.new ≡ variant_crashed self.old }
     {
@@ -104,6 +105,7 @@ impl VariantProcess {
     }
 
     /// The step that comes next, if a call is under way.
+    #[inline(always)]
     pub fn next(&self) -> Option<Access>
         ensures next { result ≡ variant_next_access self.now }
         ensures within { IfSome result (λ a. InWords self.now.stand.layout.procs (word_of a)) }
@@ -139,6 +141,7 @@ impl VariantProcess {
     }
 
     /// A scan that goes on, of a process that nothing is changed of, and the load that comes next in it.
+    #[inline(always)]
     pub(crate) fn scan(&self) -> Option<(Scan, Access)>
         ensures plain { IfSome result (λ r. IsPlain self.now) }
         ensures goes_on { IfSome result (λ r. GoesOn self.now.stand r.0 r.1) }
@@ -155,6 +158,7 @@ impl VariantProcess {
     }
 
     /// Takes the next step of such a scan, as `feed` does.
+    #[inline(always)]
     pub(crate) fn scan_on(&mut self, scan: Scan, value: u64) -> Outcome
         requires plain { IsPlain self.old }
         requires free { self.old.stand.errand ≡ Free }
@@ -166,7 +170,39 @@ impl VariantProcess {
         self.process.scan_on(scan, value)
     }
 
+    /// The step that comes next, where it is likely to be no deed and to end nothing, of a process that nothing is changed of.
+    #[inline(always)]
+    pub(crate) fn next_quietly(&self) -> Option<Access>
+        ensures plain { IfSome result (λ a. IsPlain self.now) }
+        ensures next { IfSome result (λ a. variant_next_access self.now ≡ Some a) }
+        ensures within { IfSome result (λ a. InWords self.now.stand.layout.procs (word_of a)) }
+        ensures allowed { IfSome result (IsAllowed self.now.stand) }
+        ensures own { IfSome result (StoresOwn self.now.stand.index) }
+    {
+        match (self.variant, self.detour, self.change) {
+            (Variant::Right, Detour::Straight, Change::Nothing) => self.process.next_quietly(),
+            _ => None,
+        }
+    }
+
+    /// Takes the next step of such a process, with the value that it read, where it sees at once that it is no deed of the lock
+    /// and ends nothing, and answers true. Elsewhere nothing changes.
+    #[inline(always)]
+    pub(crate) fn feed_quietly(&mut self, value: u64) -> bool
+        requires plain { IsPlain self.old }
+        ensures exact { IsTrue result → self.new ≡ variant_stepped self.old value }
+        ensures quiet { IsTrue result → ((variant_outcome self.old value).progress.outer ≡ None) × ((variant_outcome self.old value).answer ≡ None) }
+        ensures plain { IsTrue result → spot_of self.new.stand ≡ spot_after self.old.stand (next_access self.old.stand) value }
+        ensures same { result ≡ false → self.new ≡ self.old }
+    {
+        match self.process.feed_quietly(value) {
+            Some(_) => true,
+            None => false,
+        }
+    }
+
     /// The step that comes next, where it is one of a job, of a process that nothing is changed of.
+    #[inline(always)]
     pub(crate) fn job_next(&self) -> Option<Access>
         ensures plain { IfSome result (λ a. IsPlain self.now) }
         ensures works { IfSome result (Works self.now.stand) }
@@ -178,6 +214,7 @@ impl VariantProcess {
     }
 
     /// Takes the next step of such a job, as `feed` does. For others it is nothing, so only its answer is told.
+    #[inline(always)]
     pub(crate) fn job_on(&mut self, value: u64) -> Option<Answer>
         requires plain { IsPlain self.old }
         requires working { IsWorking self.old.stand.errand }
@@ -189,6 +226,7 @@ impl VariantProcess {
     }
 
     /// Starts a call, as the world's process does.
+    #[inline(always)]
     pub fn start(&mut self, call: Call) -> Result<(), Refusal>
         ensures accepted { OnOk result (start_refusal self.old.stand.layout (spot_of self.old.stand) call ≡ None) }
         ensures refused { IfErr result (λ e. start_refusal self.old.stand.layout (spot_of self.old.stand) call ≡ Some e) }
@@ -198,6 +236,12 @@ impl VariantProcess {
         ensures err { OnErr result (self.new ≡ self.old) }
     {
         let change = change_by(self.variant, &call);
+        if let Call::Lock = call {
+            if self.process.start_lock() {
+                self.change = change;
+                return Ok(());
+            }
+        }
         self.process.start(call)?;
         self.change = change;
         Ok(())
@@ -205,6 +249,7 @@ impl VariantProcess {
 
     /// Takes the next step, with the value that it read. A step that stores ignores the value, and where there is no step
     /// nothing changes.
+    #[inline(always)]
     pub fn feed(&mut self, value: u64) -> Outcome
         ensures exact { self.new ≡ variant_stepped self.old value }
         ensures outcome { result ≡ variant_outcome self.old value }

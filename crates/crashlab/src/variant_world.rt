@@ -18,7 +18,7 @@ use redomail::{Deed, Layout};
 use rmecore::simulated::{MOST_LIMIT, MOST_PROCS};
 use rmecore::{Access, Happened, Outer, Own, Refusal, Scan};
 use rmeworld::images::rules::{MOST_CAP, MOST_WIDTH};
-use rmeworld::memory::{deed_of, load, store};
+use rmeworld::memory::{deed_of, load, puts_quietly, store};
 use rmeworld::{Answer, Call, Cells, Image, Machine, Owns, Stepped};
 use std::alloc::Global;
 use std::marker::Model;
@@ -128,6 +128,7 @@ impl VariantWorld {
     ghost use Rattle.crashlab.specs.LockWorlds.{IsLockWorld};
 
     /// Starts a call of process p.
+    #[inline(always)]
     pub(crate) fn take_start(&mut self, p: u64, call: Call) -> Result<(), Refusal>
         ensures accepted { OnOk result (start_refusal self.old p call ≡ None) }
         ensures refused { IfErr result (λ e. start_refusal self.old p call ≡ Some e) }
@@ -176,6 +177,7 @@ impl VariantWorld {
     }
 
     /// Takes the next step of process p, as `take_step` does, and tells a judge of a hunt the deed, if it is one.
+    #[inline(always)]
     pub(crate) fn step_before(
         &mut self,
         judge: &mut Judge,
@@ -203,6 +205,7 @@ impl VariantWorld {
     }
 
     /// The step of a job that comes next of process p, of a process that nothing is changed of.
+    #[inline(always)]
     pub(crate) fn job_next(&self, p: u64) -> Option<Access>
         ensures below { IfSome result (λ a. p < self.now.layout.procs) }
         ensures plain { IfSome result (λ a. IsPlain (stand_at self.now.processes p)) }
@@ -215,6 +218,7 @@ impl VariantWorld {
     }
 
     /// Takes such a step, and tells a judge of a hunt the deed, if it is one.
+    #[inline(always)]
     pub(crate) fn job_on(
         &mut self,
         judge: &mut Judge,
@@ -239,6 +243,7 @@ impl VariantWorld {
 
     /// Takes the next step of process p where it is one of a scan of the lock, which is no deed and ends no call, and
     /// answers true. Any other step it leaves to `take_step`, and answers false.
+    #[inline(always)]
     pub(crate) fn take_quiet_step(&mut self, p: u64) -> bool
         ensures accepted { IsTrue result → advance_refusal self.old p ≡ None }
         ensures quiet { IsTrue result → ((stepped self.old p).deed ≡ None) × ((stepped self.old p).answer ≡ None) }
@@ -251,11 +256,38 @@ impl VariantWorld {
                 self.scan_on(p, scan, access);
                 true
             }
-            None => false,
+            None => self.step_unheard(p),
         }
     }
 
+    /// As `take_quiet_step`, of a step that is none of a scan.
+    #[inline(always)]
+    fn step_unheard(&mut self, p: u64) -> bool
+        ensures accepted { IsTrue result → advance_refusal self.old p ≡ None }
+        ensures quiet { IsTrue result → ((stepped self.old p).deed ≡ None) × ((stepped self.old p).answer ≡ None) }
+        ensures ok { IsTrue result → self.new ≡ advanced self.old p }
+        ensures same { result ≡ false → self.new ≡ self.old }
+        ensures lock { IsTrue result → (history : List DeedOf) → IsLockWorld self.old history → IsLockWorld self.new history }
+    {
+        if p >= self.layout.procs {
+            return false;
+        }
+        let Some(access) = self.processes[p as usize].next_quietly() else {
+            return false;
+        };
+        if !puts_quietly(access) {
+            return false;
+        }
+        let found = load(&self.words, &self.cells, access.word());
+        if !self.processes[p as usize].feed_quietly(found) {
+            return false;
+        }
+        store(&mut self.words, &mut self.cells, access);
+        true
+    }
+
     /// A scan of process p that goes on, of a process that nothing is changed of, and its next load.
+    #[inline(always)]
     fn scan(&self, p: u64) -> Option<(Scan, Access)>
         ensures below { IfSome result (λ r. p < self.now.layout.procs) }
         ensures plain { IfSome result (λ r. IsPlain (stand_at self.now.processes p)) }
@@ -268,6 +300,7 @@ impl VariantWorld {
     }
 
     /// Takes the next step of such a scan.
+    #[inline(always)]
     fn scan_on(&mut self, p: u64, scan: Scan, access: Access)
         requires below { p < self.old.layout.procs }
         requires plain { IsPlain (stand_at self.old.processes p) }
@@ -283,6 +316,7 @@ impl VariantWorld {
     }
 
     /// Crashes process p.
+    #[inline(always)]
     pub(crate) fn take_crash(&mut self, p: u64) -> Result<Deed, Refusal>
         ensures accepted { OnOk result (crash_refusal self.old p ≡ None) }
         ensures refused { IfErr result (λ e. crash_refusal self.old p ≡ Some e) }

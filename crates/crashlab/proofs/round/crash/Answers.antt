@@ -1,13 +1,13 @@
-use Rattle.std.proofs.Common.{Some, subst}
+use Rattle.std.proofs.Common.{Some, refl, subst}
 use Rattle.redomail.specs.declared.deed.Deed.{Deed}
 use Rattle.crashlab.specs.Found.{Told}
 use Rattle.crashlab.specs.Hunts.{first_world, deeds_of_lines}
 use Rattle.crashlab.proofs.Lines.{crash_ends}
 use Rattle.crashlab.proofs.round.crash.Goals as goal
 
-pub returns-in_ok-push-in-Ok-clause-ends : goal.returns-in_ok-push-in-Ok-clause-ends
-returns-in_ok-push-in-Ok-clause-ends c =
+pub returns-in-Ok-clause-ends : goal.returns-in-Ok-clause-ends
+returns-in-Ok-clause-ends c =
     let it = c.in-Ok.ensures in
-    λ variant played.
-    let told = subst (λ (d : Deed). Told (deeds_of_lines (first_world variant) c.args.route.now.lines) (Some d) c.tell-made.new.judge c.tell-made.result) it.told (c.tell-made.ensures _ played.stands) in
-    crash_ends variant _ _ _ played c.args.p it.accepted _ it.ok it.lock c.tell-made.result _ _ c.in_ok-push-in-Ok.ensures.line told
+    λ variant schedule played.
+    let told = subst (λ (d : Deed). Told (deeds_of_lines (first_world variant) schedule.lines) (Some d) c.tell-made.new.judge c.tell-made.result) it.told (c.tell-made.ensures _ played.stands) in
+    crash_ends variant _ _ _ played c.args.p it.accepted _ it.ok it.lock c.tell-made.result _ _ refl told

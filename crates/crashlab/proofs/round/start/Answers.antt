@@ -1,4 +1,4 @@
-use Rattle.std.proofs.Common.{None, ap, sym, subst, append-nil, ◌∙◌}
+use Rattle.std.proofs.Common.{ap, sym, subst, append-nil}
 use Rattle.judge.specs.Stands.{StandsAfter}
 use Rattle.judge.specs.Table.{empty}
 use Rattle.schedule.specs.declared.line.Line.TheVariants.{Start}
@@ -8,10 +8,10 @@ use Rattle.crashlab.specs.declared.moves.Made.TheVariants.{On}
 use Rattle.crashlab.proofs.Lines.{start_ends}
 use Rattle.crashlab.proofs.round.start.Goals as goal
 
-pub returns-in_ok-push-in-Ok-clause-ends : goal.returns-in_ok-push-in-Ok-clause-ends
-returns-in_ok-push-in-Ok-clause-ends c =
+pub returns-in-Ok-clause-ends : goal.returns-in-Ok-clause-ends
+returns-in-Ok-clause-ends c =
     let it = c.in-Ok.ensures in
-    λ variant judge played.
-    start_ends variant _ _ _ played c.args.p c.call.result it.accepted _ it.ok it.lock On _ _
-    (c.in_ok-push-in-Ok.ensures.line ∙ ap (λ call. with_line c.args.route.now (Start c.args.p call)) (sym c.call.ensures))
-    (subst (λ list. StandsAfter (empty 3 64) list judge) (sym (append-nil (deeds_of_lines (first_world variant) c.args.route.now.lines))) played.stands)
+    λ variant schedule judge played.
+    start_ends variant _ _ _ played c.args.p c.args.call it.accepted _ it.ok it.lock On _ _
+    (ap (λ call. with_line schedule (Start c.args.p call)) (sym c.requires))
+    (subst (λ list. StandsAfter (empty 3 64) list judge) (sym (append-nil (deeds_of_lines (first_world variant) schedule.lines))) played.stands)

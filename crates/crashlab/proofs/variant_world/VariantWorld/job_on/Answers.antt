@@ -1,4 +1,4 @@
-use Rattle.std.proofs.Common.{◌≡◌, ◌<◌, ◌++◌, List, length, take, drop, slice_set, Some, None, refl, sym, ap, ◌∙◌, subst}
+use Rattle.std.proofs.Common.{◌≡◌, ◌<◌, ◌++◌, List, length, take, drop, slice_set, None, sym, ap, ◌∙◌, subst}
 use Rattle.rmecore.proofs.CoreSteps.{refill}
 use Rattle.rmecore.specs.Machine.{word_of, quiet}
 use Rattle.rmecore.specs.Simulated.{own_at}

@@ -1,0 +1,16 @@
+use Rattle.std.proofs.Common.{None, refl, sym, subst, append-nil}
+use Rattle.judge.specs.Stands.{StandsAfter}
+use Rattle.judge.specs.Table.{empty}
+use Rattle.crashlab.specs.Hunts.{first_world, deeds_of_lines}
+use Rattle.crashlab.specs.LockWorlds.{IsLockWorld}
+use Rattle.crashlab.specs.declared.moves.Made.TheVariants.{On}
+use Rattle.crashlab.proofs.Lines.{step_ends}
+use Rattle.crashlab.proofs.round.walk.Goals as goal
+
+pub returns-then-take_quiet_step-clause-ends : goal.returns-then-take_quiet_step-clause-ends
+returns-then-take_quiet_step-clause-ends c =
+    let step = c.if-take_quiet_step.ensures in
+    λ variant schedule played.
+    step_ends variant _ _ _ played c.args.p (step.accepted refl) _ (step.ok refl) None (sym (step.quiet refl).0)
+    (λ h lock. subst (IsLockWorld c.take_quiet_step.new.self) (sym (append-nil h)) (step.lock refl h lock)) On _ _ refl
+    (subst (λ list. StandsAfter (empty 3 64) list c.args.judge.now) (sym (append-nil (deeds_of_lines (first_world variant) schedule.lines))) played.stands)

@@ -1,24 +1,12 @@
 -- A call that has been started is under way, and has not many steps left.
 use Rattle.std.proofs.Common.{◌≡◌, ℕ, zero, suc, ◌+◌, ◌*◌, ◌≤◌, Bool, true, false, ◌&&◌, ◌==◌, nat_lt, nat_le, if◌then◌else◌, List, [], ◌∷◌, ◌++◌, length, Some, None, IsSome, unwrap_or, refl, sym, ap, ◌∙◌, subst, arith, length-append, eqb-true}
-use Rattle.std.proofs.lemmas.Bool.{and_parts, ltb-true}
-use Rattle.rmecore.specs.Place.{Place, Rest, Dead, Wait, Inside}
-use Rattle.redomail.specs.declared.layout.Layout.{Layout}
-use Rattle.redomail.specs.declared.reply.Reply.{Reply}
+use Rattle.runs.proofs.Common.{and_parts, ltb-true, Place, Rest, Dead, Wait, Inside, Layout, Reply, IsLayout, place_at, last_at, held, Script, Get as Asks, Put as Writes, Done, puts, gets, in_row}
+use Rattle.runs.proofs.Common.{append, repair, redo, consistent, apply_steps, store_steps, record_of, Call, Lock, Unlock, Consistent, Recover, Append, Close, Withdraw, Why, Errand, Free, Doing, Spot}
+use Rattle.runs.proofs.Common.{begun_from, inside_only, Begins, next_spot, Setup, Within, Pass, IsPass, spot_now, Replies, Mends, Begun, Appends}
 use Rattle.redomail.specs.declared.reply.Reply.TheVariants as reply
 use Rattle.redomail.specs.declared.record.Record.{Record}
-use Rattle.redomail.specs.Layout.{IsLayout, place_at, last_at, held}
-use Rattle.redomail.specs.Script.{Script, Get as Asks, Put as Writes, Done, puts, gets, in_row}
-use Rattle.redomail.specs.Tasks.{append, repair, redo, consistent, apply_steps, store_steps, record_of}
-use Rattle.rmeworld.specs.declared.call.Call.{Call}
-use Rattle.rmeworld.specs.declared.call.Call.TheVariants.{Lock, Unlock, Consistent, Recover, Append, Close, Get, Put, Withdraw}
-use Rattle.rmeworld.specs.declared.why.Why.{Why}
-use Rattle.rmeworld.specs.Spot.{Errand, Free, Doing, Spot, begun_from, inside_only}
-use Rattle.rmeworld.specs.Spot.{Begins, next_spot}
-use Rattle.runs.specs.declared.setup.Setup.{Setup}
-use Rattle.runs.specs.Pass.{Pass, IsPass, spot_now}
+use Rattle.rmeworld.specs.declared.call.Call.TheVariants.{Get, Put}
 use Rattle.runs.proofs.Running.{spot_begun}
-use Rattle.runs.specs.Lasting.{Within}
-use Rattle.runs.specs.Under.{Replies, Mends, Begun, Appends}
 
 within_puts : (xs : List (ℕ × ℕ)) (r : Script Reply) (k : ℕ) → Within k r → Within (length xs + k) (puts xs r)
 within_puts [] r k h = let e : k ≡ 0 + k = omega arith in subst (λ (m : ℕ). Within m r) e h

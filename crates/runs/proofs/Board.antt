@@ -1,27 +1,11 @@
 -- The words of the board are what was put there last; and since its Enter a process's own puts are the last.
 use Rattle.std.proofs.Common.{◌≡◌, ℕ, ◌+◌, ◌*◌, ◌<◌, ◌==◌, ◌&&◌, nat_lt, lt-ltb, Bool, true, false, if◌then◌else◌, List, [], ◌∷◌, ◌++◌, Option, Some, None, refl, sym, ap, ◌∙◌, subst, arith, append_assoc, eqb-true, eq-eqb}
-use Rattle.std.proofs.lemmas.Bool.{and_parts, eqb-false, true≢false}
-use Rattle.rmecore.specs.World.{is_store}
-use Rattle.rmecore.specs.declared.kind.Kind.{Kind}
-use Rattle.rmecore.specs.declared.word.Word.{Word}
-use Rattle.rmecore.specs.declared.word.Word.TheVariants.{Choosing as ChoosingOf, Number as NumberOf, Inside as InsideOf, Data as DataAt}
-use Rattle.rmecore.specs.Needs.{put}
-use Rattle.rmecore.proofs.Invariant.{put_same, put_other}
-use Rattle.redomail.specs.Layout.{Words, IsLayout, board_at, size, place_at}
-use Rattle.redomail.specs.declared.layout.Layout.{Layout}
+use Rattle.runs.proofs.Common.{and_parts, eqb-false, true≢false, Kind, Word, Choosing as ChoosingOf, Number as NumberOf, Data as DataAt, put, is_store, put_same, put_other, Layout, IsLayout, place_at}
+use Rattle.runs.proofs.Common.{Words, board_at, size, Answer, Call, Happening, Scene, at_first, Story, last_scene, put_cell, holders_put, TakenStep, Setup, is_data, or_earlier, last_put, value_or}
+use Rattle.runs.proofs.Common.{LastIsOwn, Served, IsPass, Seated, began, before, taken, happenings, spelled, own, IsRun, end_of}
+use Rattle.rmecore.specs.declared.word.Word.TheVariants.{Inside as InsideOf}
 use Rattle.rmeworld.specs.Holders.{puts_data, AllPutBy}
-use Rattle.rmeworld.specs.Spot.{Happening}
-use Rattle.rmeworld.specs.World.{Scene, at_first, Story, last_scene, put_cell}
-use Rattle.rmeworld.proofs.Holders.{holders_put}
-use Rattle.runs.specs.declared.setup.Setup.{Setup}
-use Rattle.runs.specs.declared.entry.TakenStep.{TakenStep}
-use Rattle.runs.specs.Runs.{before, taken, happenings, spelled, own, IsRun, end_of}
-use Rattle.rmeworld.specs.declared.answer.Answer.{Answer}
-use Rattle.rmeworld.specs.declared.call.Call.{Call}
-use Rattle.runs.specs.Pass.{IsPass}
-use Rattle.runs.specs.Running.{Seated, began}
-use Rattle.runs.specs.Calls.{Served}
-use Rattle.runs.specs.Board.{is_data, puts, or_earlier, last_put, value_or, LastIsOwn}
+use Rattle.runs.specs.Board.{puts}
 use Rattle.runs.proofs.Runs.{spelled-append, by_kind, who_taken, scene-append, cells_entry, cells_now}
 
 pub none_earlier : (o : Option TakenStep) → or_earlier o None ≡ o

@@ -1,15 +1,7 @@
 -- Steps make a call.
 use Rattle.std.proofs.Common.{◌≡◌, ℕ, suc, ◌+◌, ◌⊎◌, true, false, List, [], ◌∷◌, ◌++◌, length, Option, Some, None, Result, Ok, Err, OnErr, All, refl, sym, ap, ◌∙◌, subst, inl, inr, arith, append-nil, append_assoc}
-use Rattle.std.proofs.lemmas.List.Elements.{All-nil, All-cons}
-use Rattle.rmeworld.specs.declared.call.Call.{Call}
-use Rattle.rmeworld.specs.declared.answer.Answer.{Answer}
-use Rattle.rmecore.specs.Paid.{is_glance}
-use Rattle.rmecore.specs.Simulated.{one_more}
-use Rattle.runs.specs.declared.entry.TakenStep.{TakenStep}
-use Rattle.runs.specs.Runs.{own, IsRun}
-use Rattle.runs.specs.Pass.{Pass, IsPass, EndsWith, Adds, Calls}
-use Rattle.runs.specs.Running.{Seated, many_more, fell}
-use Rattle.runs.specs.Calls.{and_call, starts, FirstStart, AreMoves, FirstCrash, answers_of, blocked_of, Takes, blocks, Ran, CutOff, Served, Crashes}
+use Rattle.runs.proofs.Common.{All-nil, All-cons, is_glance, one_more, Answer, Call, TakenStep, Served, and_call, starts, FirstStart, AreMoves, FirstCrash, answers_of, blocked_of, Takes, blocks, Ran}
+use Rattle.runs.proofs.Common.{CutOff, Crashes, Pass, IsPass, EndsWith, Adds, Calls, Seated, many_more, fell, own, IsRun}
 use Rattle.runs.proofs.Runs.{own-append, own_mine}
 
 calls_none : (x : Pass) → IsRun x.setup x.seen → Calls x [] x

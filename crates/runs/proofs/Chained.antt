@@ -1,19 +1,8 @@
 -- Calls one after another are calls.
 use Rattle.std.proofs.Common.{◌≡◌, ℕ, suc, ◌+◌, ◌⊎◌, Bool, false, List, [], ◌∷◌, ◌++◌, length, Option, Some, None, All, refl, sym, ap, ◌∙◌, subst, inl, inr, arith, append-nil, append_assoc, length-append}
-use Rattle.std.proofs.lemmas.List.Elements.{All-nil, All-cons, All-append}
-use Rattle.rmecore.specs.Paid.{is_glance}
-use Rattle.rmecore.specs.Simulated.{one_more}
-use Rattle.rmeworld.specs.declared.call.Call.{Call}
-use Rattle.rmeworld.specs.declared.answer.Answer.{Answer}
-use Rattle.rmeworld.specs.Spot.{Spot, at_rest}
-use Rattle.runs.specs.declared.setup.Setup.{Setup}
-use Rattle.runs.specs.declared.entry.TakenStep.{TakenStep}
-use Rattle.runs.specs.Runs.{own, spelled, gone, spot_of}
-use Rattle.runs.specs.Pass.{Pass, IsPass, EndsWith, Calls}
-use Rattle.runs.specs.Running.{Seated, many_more, fell, behind}
-use Rattle.runs.specs.Calls.{and_call, starts, StartsWith, FirstStart, FirstStarts, FirstCrash, answers_from, blocked_from, answers_of, blocked_of, Ran, CutOff, ServedAll, CrashesIn, Crashes, Calm, Fell}
-use Rattle.rmeworld.specs.declared.call.Call.TheVariants.{Lock}
-use Rattle.runs.specs.Faults.{CutBy, CutIn, AnsweredBy, LockBy, LockEnds}
+use Rattle.runs.proofs.Common.{All-nil, All-cons, All-append, is_glance, one_more, Answer, Call, Lock, Spot, at_rest, TakenStep, Setup, and_call, starts, FirstStart, FirstCrash, answers_of}
+use Rattle.runs.proofs.Common.{blocked_of, Ran, CutOff, Crashes, StartsWith, FirstStarts, answers_from, blocked_from, ServedAll, CrashesIn, Calm, Fell, CutBy, CutIn, AnsweredBy, LockBy, LockEnds}
+use Rattle.runs.proofs.Common.{Pass, IsPass, EndsWith, Calls, Seated, many_more, fell, behind, spelled, own, gone, spot_of}
 use Rattle.runs.proofs.Runs.{own-append, spelled-append}
 use Rattle.runs.proofs.Leads.{gone-append}
 use Rattle.runs.proofs.Called.{ends_cons, calls_fell, served_ran, crashes_of}

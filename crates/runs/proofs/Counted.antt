@@ -1,28 +1,13 @@
 -- What a member counts of its calls is the table's.
 use Rattle.std.proofs.Common.{Bool, true, false, if◌then◌else◌, ◌≡◌, ℕ, zero, suc, ◌+◌, ◌^◌, ◌<◌, ◌≤◌, ◌⊎◌, List, [], ◌∷◌, ◌++◌, length, drop, Option, Some, None, Result, Ok, Err, IfOk, IfErr, OnOk, refl, sym, ap, ◌∙◌, subst, inl, inr, arith}
-use Rattle.rmecore.specs.Simulated.{one_more}
-use Rattle.redomail.specs.declared.layout.Layout.{Layout}
-use Rattle.redomail.specs.Layout.{IsLayout}
-use Rattle.rmeworld.specs.OwnSteps.{most_steps}
-use Rattle.rmeworld.specs.Stand.{IsSize}
-use Rattle.rmeworld.specs.declared.answer.Answer.{Answer}
-use Rattle.rmeworld.specs.declared.answer.Answer.TheVariants.{NumbersSpent as SpentAnswer, NotRecoverable as RuinedAnswer}
-use Rattle.rmeworld.specs.declared.call.Call.{Call}
-use Rattle.rmeworld.specs.declared.call.Call.TheVariants.{Lock, Unlock, Consistent, Recover, Append, Close, Get, Put, Withdraw}
+use Rattle.runs.proofs.Common.{one_more, Layout, IsLayout, Answer, NumbersSpent as SpentAnswer, NotRecoverable as RuinedAnswer, Call, Lock, Unlock, Consistent, Recover, Append, Close, Withdraw}
+use Rattle.runs.proofs.Common.{most_steps, is_idle, IsSize, TakenStep, Entry as Entering, LockFault, NotYet, Setup, Served, answers_of, blocked_of, Takes, blocks, Ran, CutOff, Calm, Turning, LockEnds}
+use Rattle.runs.proofs.Common.{ready, Pass, IsPass, spot_now, Calls, Seated, began, many_more, fell, own, KeepsTable, CountsAtMost, words_begun, spot_begun, table_steps, blocked_since, LockCounts}
+use Rattle.runs.proofs.Common.{LockCountsOut}
+use Rattle.rmeworld.specs.declared.call.Call.TheVariants.{Get, Put}
 use Rattle.rmeworld.proofs.CallBounds.{table_most}
-use Rattle.runs.specs.declared.entry.TakenStep.{TakenStep}
-use Rattle.runs.specs.declared.lock_fault.LockFault.{LockFault}
-use Rattle.runs.specs.declared.lock_fault.LockFault.TheVariants.{NotYet, NumbersSpent, NotRecoverable}
-use Rattle.runs.specs.declared.entry_kind.Entry.{Entry as Entering}
-use Rattle.runs.specs.Runs.{own}
-use Rattle.runs.specs.Pass.{Pass, spot_now, IsPass, Calls}
-use Rattle.runs.specs.declared.setup.Setup.{Setup}
-use Rattle.runs.specs.Running.{Seated, many_more, began, fell}
+use Rattle.runs.specs.declared.lock_fault.LockFault.TheVariants.{NumbersSpent, NotRecoverable}
 use Rattle.runs.proofs.Turned.{later_blocked, turned_served, turned_cut, turned_out}
-use Rattle.runs.specs.Calls.{Turning, answers_of, blocked_of, blocks, Takes, Ran, CutOff, Served, Calm}
-use Rattle.rmeworld.specs.Refused.{is_idle}
-use Rattle.runs.specs.Faults.{ready, LockEnds}
-use Rattle.runs.specs.Tabled.{KeepsTable, CountsAtMost, words_begun, spot_begun, table_steps, blocked_since, LockCounts, LockCountsOut}
 use Rattle.runs.proofs.Called.{first_crash, first_start, are_moves, calls_of}
 use Rattle.runs.proofs.Tabled.{keeps_the_table, calls_keep_the_table}
 
@@ -82,22 +67,6 @@ lock_counts x y turns a b c d None h =
     let r = h.1 in
     let told = calls_keep_the_table x Lock [] (turns + 1) y h.0 r in
     (told.0, told.2, counted_as x y Lock [] (turns + 1) h.0 told.0 r told.1)
-
-out_of : (x y : Seated) (a : Answer) (e : LockFault) → LockCounts x (Some a) y → ((e ≡ NumbersSpent) × (a ≡ SpentAnswer)) ⊎ ((e ≡ NotRecoverable) × (a ≡ RuinedAnswer)) → LockCountsOut x y e
-out_of x y a e h (inl k) = (
-  λ f. let no : NotYet ≡ NumbersSpent = sym f ∙ k.0 in absurd (cc),
-  λ f. subst (λ (b : Answer). LockCounts x (Some b) y) k.1 h,
-  λ f. let no : NotRecoverable ≡ NumbersSpent = sym f ∙ k.0 in absurd (cc),
-)
-out_of x y a e h (inr k) = (
-  λ f. let no : NotYet ≡ NotRecoverable = sym f ∙ k.0 in absurd (cc),
-  λ f. let no : NumbersSpent ≡ NotRecoverable = sym f ∙ k.0 in absurd (cc),
-  λ f. subst (λ (b : Answer). LockCounts x (Some b) y) k.1 h,
-)
-
-pub counts_out : (x y : Seated) (o : Option Answer) (a : Answer) (r : Result Entering LockFault) → o ≡ Some a → LockCounts x o y → IfErr r (λ e. ((e ≡ NumbersSpent) × (a ≡ SpentAnswer)) ⊎ ((e ≡ NotRecoverable) × (a ≡ RuinedAnswer))) → IfErr r (LockCountsOut x y)
-counts_out x y o a (Ok entry) is h k = tt
-counts_out x y o a (Err e) is h k = out_of x y a e (subst (λ (u : Option Answer). LockCounts x u y) is h) k
 
 -- a call that a crash cuts off
 many_at_most : (k : ℕ) → many_more k 0 ≤ k

@@ -1,21 +1,10 @@
 -- What the seat knows into which the other members' seats are joined, and what its glances tell once it answers for all.
 use Rattle.std.proofs.Common.{◌≡◌, ◌⊎◌, ℕ, suc, ◌+◌, ◌<◌, ◌==◌, ◌||◌, Bool, true, false, true≢false, List, [], ◌∷◌, ◌++◌, length, map, get_or, All, refl, sym, ap, ◌∙◌, subst, inl, inr, ⊎_elim, arith, append-nil, append_assoc, length-append, eq-eqb, eqb-true, remove}
-use Rattle.std.specs.Prelude.{slice_index}
-use Rattle.std.proofs.lemmas.Bool.{or_cases}
-use Rattle.std.proofs.lemmas.List.Elements.{All-nil, All-cons, All-head, All-tail, All-append}
-use Rattle.rmecore.specs.declared.own.Own.{Own}
-use Rattle.rmecore.specs.declared.word.Word.{Word}
-use Rattle.redomail.specs.Layout.{size}
-use Rattle.rmeworld.specs.World.{reading}
-use Rattle.runs.specs.declared.setup.Setup.{Setup}
-use Rattle.runs.specs.declared.entry.TakenStep.{TakenStep}
-use Rattle.runs.specs.declared.entry.View.{View}
-use Rattle.runs.specs.declared.entry.Known.{Known}
-use Rattle.runs.specs.Runs.{own, has, IsRun, end_of, index, InTable}
-use Rattle.runs.specs.Rule.{count_from, joined, Begins, IsIn, Did, MayLoad, stepper, entry_of}
-use Rattle.runs.specs.Pass.{alone, view_of, glanced}
-use Rattle.runs.specs.Running.{Seated}
-use Rattle.runs.specs.Gathering.{OneArena, has_member, image_at, IsGlance, IsWhole, IsTold, Gathers, answers_of, Knows, Absorbs, AnswersAll, Looked, Stays}
+use Rattle.runs.proofs.Common.{or_cases, All-nil, All-cons, All-append, All-head, All-tail, slice_index, Own, Word, size, reading, Known, TakenStep, View, Setup, OneArena, has_member, image_at}
+use Rattle.runs.proofs.Common.{IsGlance, IsWhole, IsTold, Gathers, Knows, Absorbs, AnswersAll, Looked, Stays, alone, view_of, glanced, count_from, joined, IsIn, Did, MayLoad, stepper, entry_of}
+use Rattle.runs.proofs.Common.{Seated, own, IsRun, end_of, has, index, InTable}
+use Rattle.runs.specs.Rule.{Begins}
+use Rattle.runs.specs.Gathering.{answers_of}
 use Rattle.rmeworld.specs.declared.image.Image.{Image}
 use Rattle.runs.proofs.Leads.{has_one}
 use Rattle.runs.proofs.Keeps.{has-append_left, has-append_right}

@@ -1,23 +1,10 @@
 -- Glances one after another: what they add to a pass, and what they read.
 use Rattle.std.proofs.Common.{◌≡◌, ℕ, zero, suc, ◌+◌, ◌*◌, ◌-◌, ◌<◌, ◌≤◌, List, [], ◌∷◌, ◌++◌, length, refl, sym, ap, ◌∙◌, subst, arith, length-append, inl, inr, get_or-set_same, get_or-set_other, drop, Result, Ok, Err, IfOk, OnOk, OnErr}
-use Rattle.std.specs.Prelude.{slice_index, slice_set}
-use Rattle.std.proofs.lemmas.Bool.{cases_eq}
-use Rattle.std.proofs.lemmas.List.{drop-append-le, drop_all, length-drop}
-use Rattle.rmecore.specs.declared.word.Word.{Word}
-use Rattle.rmecore.specs.declared.word.Word.TheVariants.{Data as DataAt}
-use Rattle.redomail.specs.declared.layout.Layout.{Layout}
-use Rattle.redomail.specs.Layout.{Words, words_of, row, place_at, held, size}
-use Rattle.redomail.specs.Mailbox.{message}
-use Rattle.redomail.specs.Shape.{entry, entries}
-use Rattle.redomail.specs.declared.message.Message.{Message}
+use Rattle.runs.proofs.Common.{cases_eq, drop-append-le, drop_all, length-drop, slice_index, slice_set, Word, Data as DataAt, Layout, Message, place_at, held, Words, size, words_of, row, message}
+use Rattle.runs.proofs.Common.{entry, entries, TakenStep, Setup, Pass, IsPass, Calls, glanced, glance_entry, Looks, cells_of, row_words, entry_words, AreGlances, up_to_count, ReadsFrom, Seated, IsRun}
 use Rattle.redomail.proofs.Changes.{length-entries}
 use Rattle.redomail.proofs.Words.{row-from_entry, place_low, place_up, place_small}
-use Rattle.runs.specs.declared.setup.Setup.{Setup}
-use Rattle.runs.specs.declared.entry.TakenStep.{TakenStep}
-use Rattle.runs.specs.Runs.{IsRun}
-use Rattle.runs.specs.Pass.{Pass, glance_entry, glanced, IsPass, Looks, Calls}
-use Rattle.runs.specs.Running.{Seated}
-use Rattle.runs.specs.Reading.{cells_of, row_words, entry_words, Glances, AreGlances, up_to_count, ReadsFrom}
+use Rattle.runs.specs.Reading.{Glances}
 use Rattle.runs.proofs.Called.{Grows, calls_grown}
 use Rattle.runs.proofs.Runs.{last_reads, cells_snoc}
 use Rattle.runs.proofs.Shown.{runs_show, entries_stand_in_runs}

@@ -1,30 +1,14 @@
 -- What a step leads to, from a spot of a call.
 use Rattle.std.proofs.Common.{◌≡◌, ℕ, zero, suc, ◌+◌, ◌<◌, ◌≤◌, Bool, true, false, ◌||◌, ◌==◌, if◌then◌else◌, Option, Some, None, IsSome, unwrap_or, refl, sym, ap, ◌∙◌, subst, inl, inr, arith}
-use Rattle.std.proofs.lemmas.Bool.{cases_Bool}
-use Rattle.rmecore.specs.Place.{Place, Rest, Dead, Reread, Opening, Door, Shutting, Wait, Inside, Leaving, Withdrawing, Unmarking, has, is_before, next}
-use Rattle.rmecore.specs.Machine.{answer, is_blocked}
-use Rattle.rmecore.specs.Paid.{is_glance}
-use Rattle.rmecore.specs.declared.kind.Kind.{Kind}
-use Rattle.rmecore.specs.declared.kind.Kind.TheVariants.{Get as Gets, Put as Puts, Look as Looks, Weigh as Weighs}
-use Rattle.rmecore.specs.declared.word.Word.{Word}
-use Rattle.rmecore.specs.declared.word.Word.TheVariants.{Choosing as ChoosingOf, Number as NumberOf, Data as DataAt}
-use Rattle.redomail.specs.declared.layout.Layout.{Layout}
-use Rattle.redomail.specs.declared.reply.Reply.{Reply}
+use Rattle.runs.proofs.Common.{cases_Bool, Kind, Look as Looks, Weigh as Weighs, Word, Choosing as ChoosingOf, Number as NumberOf, Data as DataAt, answer, is_blocked, is_glance, Place, Rest, Dead}
+use Rattle.runs.proofs.Common.{Wait, Inside, Reread, Opening, Door, Shutting, Leaving, Withdrawing, Unmarking, is_before, next, Layout, Reply, Script, Get as Asks, Put as Writes, Done, Answer, Mail}
+use Rattle.runs.proofs.Common.{Call, Lock, Unlock, Consistent, Append, Close, Why, Checking, Ruining, Mending, Working, by_lock, by_reply, by_script, answer_at, blocked_by, is_entry, is_idle}
+use Rattle.runs.proofs.Common.{is_waiting, Errand, Free, Doing, Spot, next_spot, Moves, at_lock, only_spot, settled, mended_entered, entry_inside, Within, lock_left, IsFair, exit_of, Lasts, Replies}
+use Rattle.runs.proofs.Common.{Mends, under_place, IsWord, UnderScript, IsUnder, Fits, Leaves}
+use Rattle.rmecore.specs.Place.{has}
+use Rattle.rmecore.specs.declared.kind.Kind.TheVariants.{Get as Gets, Put as Puts}
 use Rattle.redomail.specs.declared.reply.Reply.TheVariants as reply
-use Rattle.redomail.specs.Script.{Script, Get as Asks, Put as Writes, Done}
-use Rattle.rmeworld.specs.declared.call.Call.{Call}
-use Rattle.rmeworld.specs.declared.call.Call.TheVariants.{Lock, Unlock, Consistent, Append, Close, Get, Put}
-use Rattle.rmeworld.specs.declared.answer.Answer.{Answer}
-use Rattle.rmeworld.specs.declared.why.Why.{Why}
-use Rattle.rmeworld.specs.declared.why.Why.TheVariants.{Checking, Ruining, Mending, Working}
-use Rattle.rmeworld.specs.Entered.{is_entry}
-use Rattle.rmeworld.specs.Answered.{by_lock, by_reply, by_script, answer_at, blocked_by}
-use Rattle.rmeworld.specs.Refused.{is_idle, is_waiting}
-use Rattle.rmeworld.specs.Spot.{Errand, Free, Doing, Spot, Moves, next_spot, at_lock, only_spot, settled, mended_entered}
-use Rattle.runs.specs.Lasting.{Within, lock_left, IsFair, exit_of, Lasts}
-use Rattle.rmeworld.specs.declared.answer.Answer.TheVariants.{Mail}
-use Rattle.rmeworld.proofs.Projection.{entry_inside}
-use Rattle.runs.specs.Under.{under_place, Replies, Mends, IsWord, UnderScript, IsUnder, Fits, Leaves}
+use Rattle.rmeworld.specs.declared.call.Call.TheVariants.{Get, Put}
 use Rattle.runs.proofs.Lasting.{Burns, burns}
 use Rattle.runs.proofs.Under.{LockTo, lock_to}
 

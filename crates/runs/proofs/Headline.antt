@@ -1,27 +1,10 @@
 -- The lock theorem over a run: where an append is answered it is shown.
 use Rattle.std.proofs.Common.{◌≡◌, ℕ, Bool, true, false, ◌⊎◌, List, [], ◌∷◌, ◌++◌, Option, Some, None, refl, sym, ap, ◌∙◌, subst, inl, inr, append_assoc, append-nil, eq-eqb}
-use Rattle.redomail.specs.Mailbox.{IsAmong}
-use Rattle.redomail.specs.Script.{Script, Done, tail}
-use Rattle.redomail.specs.declared.layout.Layout.{Layout}
-use Rattle.redomail.specs.declared.message.Message.{Message}
-use Rattle.redomail.specs.declared.reply.Reply.{Reply}
-use Rattle.redomail.specs.declared.reply.Reply.TheVariants.{Stored, Already}
+use Rattle.runs.proofs.Common.{Layout, Message, Reply, Stored, Already, IsAmong, Script, Done, tail, all_after, State, empty, state_led, Call, Working, answer_by, Errand, Doing, Spot, Happening}
+use Rattle.runs.proofs.Common.{Moves, Scene, at_first, last_scene, onward, event_deeds, deeds, own_happenings, all_after-append, sound_ends, answers, TakenStep, Setup, deeds_of, judged_by, shown_by}
+use Rattle.runs.proofs.Common.{spot_at, AnsweredIsShown, before, taken, spelled, end_of, gone}
 use Rattle.redomail.specs.declared.task.Task.TheVariants as task
-use Rattle.judge.specs.Halves.{all_after}
-use Rattle.judge.specs.Table.{State, empty}
-use Rattle.judge.proofs.Halves.{state_led}
-use Rattle.rmeworld.specs.declared.call.Call.{Call}
-use Rattle.rmeworld.specs.declared.why.Why.TheVariants.{Working}
-use Rattle.rmeworld.specs.Answered.{answer_by}
 use Rattle.rmeworld.specs.Law.{AppendTells, ErrandTells, Tells, Sound, Sits}
-use Rattle.rmeworld.specs.Spot.{Spot, Errand, Doing, Happening, Moves}
-use Rattle.rmeworld.specs.World.{Scene, at_first, onward, last_scene, event_deeds, deeds, own_happenings}
-use Rattle.rmeworld.proofs.Reaching.{all_after-append, sound_ends}
-use Rattle.rmeworld.proofs.Replies.{answers}
-use Rattle.runs.specs.declared.setup.Setup.{Setup}
-use Rattle.runs.specs.declared.entry.TakenStep.{TakenStep}
-use Rattle.runs.specs.Runs.{before, taken, spelled, end_of, gone}
-use Rattle.runs.specs.Headline.{deeds_of, judged_by, shown_by, spot_at, AnsweredIsShown}
 use Rattle.runs.proofs.Runs.{spelled-append, spelled_snoc, spot_own, spot_in_run, scene-append}
 use Rattle.runs.proofs.Running.{taken_moves}
 

@@ -1,23 +1,12 @@
 -- Each step keeps the rule. What is proved here knows nothing of the automaton.
 use Rattle.std.proofs.Common.{◌≡◌, ◌≢◌, ◌⊎◌, ℕ, zero, suc, ◌+◌, ◌<◌, ◌≤◌, ◌==◌, ◌||◌, ltb, Bool, true, false, cond, All, true≢false, List, [], ◌∷◌, ◌++◌, length, set, replicate, refl, sym, ap, ◌∙◌, subst, inl, inr, ⊎_elim, arith, eqb-true, eq-eqb, ne_eqb, length-set, length-append, append_assoc, append-nil, ltb-true, ltb-false}
-use Rattle.std.specs.Prelude.{slice_index}
-use Rattle.std.proofs.lemmas.List.{set-get_or}
-use Rattle.std.proofs.lemmas.List.Elements.{All-append, All-nil}
-use mathlib.Core.Logic.{dite}
-use native.Mathlib.Decide.{ℕ_discrete}
+use Rattle.runs.proofs.Common.{set-get_or, All-nil, All-append, slice_index, dite, ℕ_discrete, keeps, Allows, Splits, Joins, opening, Spot, at_rest, at_first, reading, Known, Step, TakenStep, View}
+use Rattle.runs.proofs.Common.{Setup, count_from, joined, IsIn, Did, MayLoad, stepper, entry_of, opening_known, longer, spent_known, IsAnswered, AllFit, IsMember, IsKept, Kept, May, MayStore, MayPass}
+use Rattle.runs.proofs.Common.{happenings, spelled, own, IsRun, end_of, gone, spot_of, has, index, InTable, Goes, word_count, IsBeyond, Shows, stores}
 use mathlib.Core.Option.{some, some-injective, some-ne-none}
 use lib.ListN.{get_elem?}
-use Rattle.atomic_table.specs.Table.{keeps, Allows, Splits, Joins, opening}
 use Rattle.atomic_table.proofs.Lists.{at_set, at_longer, at_last, set_here, set_else}
-use Rattle.rmeworld.specs.Spot.{Spot, at_rest}
-use Rattle.rmeworld.specs.World.{at_first, reading}
-use Rattle.runs.specs.declared.setup.Setup.{Setup}
-use Rattle.runs.specs.declared.entry.Step.{Step}
-use Rattle.runs.specs.declared.entry.TakenStep.{TakenStep}
-use Rattle.runs.specs.declared.entry.View.{View}
-use Rattle.runs.specs.declared.entry.Known.{Known}
-use Rattle.runs.specs.Runs.{own, has, spelled, happenings, IsRun, end_of, gone, Goes, spot_of, word_count, index, InTable, IsBeyond, Shows, stores}
-use Rattle.runs.specs.Rule.{count_from, opening_known, longer, joined, spent_known, Begins, IsAnswered, Fits, AllFit, IsIn, IsMember, IsKept, Kept, stepper, entry_of, Did, May, MayLoad, MayStore, MayPass}
+use Rattle.runs.specs.Rule.{Begins, Fits}
 use Rattle.runs.proofs.Runs.{own-append, own_other, prolongs, shows_load, shows_store, shows_beyond, reads_beyond, shows_rest}
 
 nothing_after : (xs ys zs : List TakenStep) → xs ≡ ys ++ zs → length xs ≡ length ys → zs ≡ []

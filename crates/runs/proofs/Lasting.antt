@@ -1,17 +1,13 @@
 -- Each step that isn't blocked leaves one step fewer.
 use Rattle.std.proofs.Common.{◌≡◌, ℕ, zero, suc, ◌+◌, ◌-◌, ◌*◌, ◌<◌, ◌≤◌, max, Bool, true, false, ◌||◌, ◌==◌, if◌then◌else◌, List, [], ◌∷◌, length, Some, None, IsSome, unwrap_or, refl, sym, ap, ◌∙◌, subst, inl, inr, arith, eqb-true, eq-eqb, ne_eqb}
-use Rattle.std.proofs.lemmas.Bool.{cases_Bool, cases_eq}
-use Rattle.rmecore.specs.Place.{Place, Rest, Reread, Opening, Door, Shutting, Wait, Inside, Leaving, Withdrawing, Unmarking, has, without, span, others, is_before, relocked, recovered, restart, shut, unmarked, next}
-use Rattle.rmecore.specs.Machine.{is_blocked}
-use Rattle.rmecore.specs.Paid.{is_glance}
+use Rattle.runs.proofs.Common.{cases_eq, cases_Bool, Kind, Look as Looks, Weigh as Weighs, Open as Opens, Peek as Peeks, Take as Takes, Shut as Shuts, Mark as Marks, Drop as Drops, Glance as Glances}
+use Rattle.runs.proofs.Common.{Word, Choosing as ChoosingOf, Number as NumberOf, is_blocked, is_glance, Place, Rest, Wait, Inside, Reread, Opening, Door, Shutting, Leaving, Withdrawing, Unmarking}
+use Rattle.runs.proofs.Common.{is_before, next, without, span, others, relocked, recovered, restart, shut, unmarked, guard, lock_left, IsFair}
+use Rattle.rmecore.specs.Place.{has}
 use Rattle.rmecore.specs.declared.core_call.CoreCall.{CoreCall}
 use Rattle.rmecore.specs.declared.core_call.CoreCall.TheVariants.{Lock, Recover, Unlock, Withdraw}
-use Rattle.rmecore.specs.declared.kind.Kind.{Kind}
-use Rattle.rmecore.specs.declared.kind.Kind.TheVariants.{Reread as Rereads, Open as Opens, Peek as Peeks, Take as Takes, Shut as Shuts, Look as Looks, Weigh as Weighs, Mark as Marks, Drop as Drops, Glance as Glances}
-use Rattle.rmecore.specs.declared.word.Word.{Word}
-use Rattle.rmecore.specs.declared.word.Word.TheVariants.{Choosing as ChoosingOf, Number as NumberOf, Inside as InsideOf}
-use Rattle.rmecore.proofs.Runs.{guard}
-use Rattle.runs.specs.Lasting.{lock_left, IsFair}
+use Rattle.rmecore.specs.declared.kind.Kind.TheVariants.{Reread as Rereads}
+use Rattle.rmecore.specs.declared.word.Word.TheVariants.{Inside as InsideOf}
 
 without_less : (js : List ℕ) (j : ℕ) → length (without j js) ≤ length js
 without_less [] j = omega arith

@@ -1,29 +1,12 @@
 -- The words at the end of a run are a lawful image.
 use Rattle.std.proofs.Common.{◌≡◌, ℕ, zero, suc, ◌+◌, ◌<◌, ◌≤◌, ◌^◌, List, [], ◌∷◌, length, map, refl, sym, ap, ◌∙◌, subst, inl, inr, arith}
-use Rattle.std.specs.Prelude.{slice_index_or}
-use Rattle.std.proofs.lemmas.Bool.{cases_lt}
-use Rattle.std.proofs.lemmas.List.{get_or_past, length-map}
+use Rattle.runs.proofs.Common.{cases_lt, get_or_past, length-map, slice_index_or, Own, Data as DataAt, Event, zeros, own_at, World, after, Run, final, Tied, kept, size, words_of, empty, IsSize}
+use Rattle.runs.proofs.Common.{at_first, every_story_leaves_an_image, projected, TakenStep, Setup, image_at, count_from, spelled, IsRun, end_of}
 use Rattle.rmecore.specs.AbstractLock.{Abstract, nobody}
-use Rattle.rmecore.specs.Place.{Event}
-use Rattle.rmecore.specs.Simulated.{zeros, own_at}
-use Rattle.rmecore.specs.World.{World, at_rest as core_rest, after, Run, final}
-use Rattle.rmecore.specs.declared.own.Own.{Own}
-use Rattle.rmecore.specs.declared.word.Word.TheVariants.{Data as DataAt}
-use Rattle.rmecore.proofs.Invariant.{Tied}
-use Rattle.rmecore.proofs.Runs.{kept, at_first as core_first}
-use Rattle.redomail.specs.Layout.{words_of, size}
-use Rattle.judge.specs.Table.{empty}
+use Rattle.rmecore.specs.World.{at_rest as core_rest}
+use Rattle.rmecore.proofs.Runs.{at_first as core_first}
 use Rattle.rmeworld.specs.ImageRules.{IsLawfulImage}
 use Rattle.rmeworld.specs.Reached.{IsImageOf}
-use Rattle.rmeworld.specs.Stand.{IsSize}
-use Rattle.rmeworld.specs.World.{at_first}
-use Rattle.rmeworld.proofs.LawfulNow.{every_story_leaves_an_image}
-use Rattle.rmeworld.proofs.Projection.{projected}
-use Rattle.runs.specs.declared.setup.Setup.{Setup}
-use Rattle.runs.specs.declared.entry.TakenStep.{TakenStep}
-use Rattle.runs.specs.Runs.{spelled, IsRun, end_of}
-use Rattle.runs.specs.Rule.{count_from}
-use Rattle.runs.specs.Gathering.{image_at}
 use Rattle.runs.proofs.Runs.{reads_beyond}
 
 length-count_from : (k n : ℕ) → length (count_from k n) ≡ n

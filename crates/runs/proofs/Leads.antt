@@ -1,18 +1,8 @@
 -- What a member's own entries tell of its spot.
 use Rattle.std.proofs.Common.{◌≡◌, ℕ, ◌^◌, ◌<◌, ◌≤◌, Bool, true, false, List, [], ◌∷◌, ◌++◌, Option, IsSome, unwrap_or, refl, sym, ap, ◌∙◌, subst, eq-eqb, append-nil}
-use Rattle.rmecore.specs.World.{is_store}
-use Rattle.rmecore.specs.declared.kind.Kind.{Kind}
-use Rattle.rmecore.specs.declared.word.Word.{Word}
-use Rattle.rmeworld.specs.declared.call.Call.{Call}
-use Rattle.rmeworld.specs.Spot.{Spot, at_rest, Happening, next_spot}
-use Rattle.runs.specs.declared.setup.Setup.{Setup}
-use Rattle.runs.specs.declared.entry.Step.{Step}
-use Rattle.runs.specs.declared.entry.TakenStep.{TakenStep}
-use Rattle.runs.specs.declared.entry.Known.{Known}
-use Rattle.rmeworld.specs.Stand.{IsSize}
-use Rattle.runs.specs.Runs.{own, has, word_count, before, taken, happenings, spelled, gone, spot_of, Goes, index, InTable, IsBeyond, IsRun}
-use Rattle.runs.specs.Rule.{Did, May, MayLoad, MayPass}
-use Rattle.runs.specs.Pass.{Pass, view_of, alone, owed, next_entry, glanced, glance_entry, spot_now, moved_spot, IsPass, Adds, Advances, Looks}
+use Rattle.runs.proofs.Common.{Kind, Word, is_store, Call, Spot, next_spot, Happening, at_rest, IsSize, Known, Step, TakenStep, Setup, Pass, IsPass, spot_now, Adds, alone, view_of, glanced}
+use Rattle.runs.proofs.Common.{glance_entry, Looks, owed, next_entry, moved_spot, Advances, Did, MayLoad, May, MayPass, before, taken, happenings, spelled, own, IsRun, gone, spot_of, has, index}
+use Rattle.runs.proofs.Common.{InTable, Goes, word_count, IsBeyond}
 use Rattle.runs.proofs.Runs.{own-append, own_mine, spelled_snoc}
 
 pub has_one : (p : ℕ) → has p (p ∷ []) ≡ true
@@ -28,9 +18,6 @@ goes-append s spot (x ∷ xs) ys g h = (g.0, goes-append s (unwrap_or (next_spot
 
 pub may : (x : Pass) (kind : Kind) (word : Word) (value : ℕ) → IsPass x → IsSome (moved_spot x kind word value) → May (owed x kind word) (view_of x) value
 may x kind word value k some = (has_one x.by, goes-append x.setup (spot_of x.setup x.by x.seen) (before x.fallen x.start x.by) (taken x.by kind word value ∷ []) k.goes (some, tt))
-
-pub may_glance : (x : Pass) (word : Word) (value : ℕ) → May (glanced word) (view_of x) value
-may_glance x word value = (has_one x.by, (refl, tt))
 
 own_grown : (p : ℕ) (seen between : List TakenStep) (e : TakenStep) → own p between ≡ [] → e.by ≡ p → own p ((seen ++ between) ++ e ∷ []) ≡ own p seen ++ e ∷ []
 own_grown p seen between e none by =

@@ -1,3 +1,4 @@
+pub mod Common
 pub mod Runs
 pub mod Keeps
 pub mod Leads

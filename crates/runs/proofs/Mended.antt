@@ -1,36 +1,11 @@
 -- A task leaves a holder that has nothing to mend so, and a mending that finds the lock ruined leaves the holder unmended.
 use Rattle.std.proofs.Common.{◌≡◌, ℕ, ◌==◌, ◌&&◌, Bool, true, false, List, [], ◌∷◌, ◌++◌, length, Option, Some, None, unwrap_or, All, refl, sym, ap, ◌∙◌, subst, append_assoc, append-nil}
-use Rattle.std.proofs.lemmas.List.Elements.{All-nil, All-cons, All-head, All-tail}
-use Rattle.rmecore.specs.Place.{Place, Inside, next}
-use Rattle.rmecore.specs.Paid.{is_glance}
-use Rattle.rmecore.specs.declared.kind.Kind.{Kind}
-use Rattle.rmecore.specs.declared.kind.Kind.TheVariants.{Get as Gets, Put as Puts, Glance as Glancing}
-use Rattle.rmecore.specs.declared.word.Word.{Word}
-use Rattle.rmecore.specs.declared.word.Word.TheVariants.{Data as DataAt}
-use Rattle.redomail.specs.Script.{Script, Get as Asks, Put as Writes, Done}
-use Rattle.redomail.specs.Tasks.{script}
-use Rattle.redomail.specs.declared.layout.Layout.{Layout}
-use Rattle.redomail.specs.declared.reply.Reply.{Reply}
-use Rattle.redomail.specs.declared.reply.Reply.TheVariants.{Mended}
-use Rattle.redomail.specs.declared.task.Task.{Task}
+use Rattle.runs.proofs.Common.{All-nil, All-cons, All-head, All-tail, Kind, Glance as Glancing, Word, Data as DataAt, is_glance, Place, Inside, next, Layout, Reply, Mended, Task, Script, Get as Asks}
+use Rattle.runs.proofs.Common.{Put as Writes, Done, script, Answer, NotRecoverable, Mail, Call, Consistent, Append, Close, Mending, Working, by_script, answer_at, answer_by, next_or_same, and_answer}
+use Rattle.runs.proofs.Common.{answers_in, Errand, Free, Doing, Spot, begun_from, Begins, Happening, Moves, at_lock, only_spot, settled, Falls, Glances, moved_by, TakenStep, Setup, Served, FirstStart}
+use Rattle.runs.proofs.Common.{AreMoves, FirstCrash, answers_of, spot_before, Pass, spot_now, Calls, Seated, before, spelled, gone, spot_of, crash_first, spot_begun, IsHolder, IsTask}
+use Rattle.rmecore.specs.declared.kind.Kind.TheVariants.{Get as Gets, Put as Puts}
 use Rattle.redomail.specs.declared.task.Task.TheVariants as task
-use Rattle.rmeworld.specs.Answered.{by_script, answer_by, answer_at}
-use Rattle.rmeworld.specs.CallWalk.{next_or_same, and_answer, answers_in}
-use Rattle.rmeworld.specs.Spot.{Errand, Free, Doing, Spot, Happening, Begins, Falls, Moves, Glances, moved_by, begun_from, at_lock, only_spot, settled}
-use Rattle.rmeworld.specs.declared.answer.Answer.{Answer}
-use Rattle.rmeworld.specs.declared.answer.Answer.TheVariants.{NotRecoverable, Mail}
-use Rattle.rmeworld.specs.declared.call.Call.{Call}
-use Rattle.rmeworld.specs.declared.call.Call.TheVariants.{Append, Close, Consistent}
-use Rattle.rmeworld.specs.declared.why.Why.TheVariants.{Mending, Working}
-use Rattle.runs.specs.declared.setup.Setup.{Setup}
-use Rattle.runs.specs.declared.entry.TakenStep.{TakenStep}
-use Rattle.runs.specs.Runs.{before, crash_first, spelled, gone, spot_of}
-use Rattle.runs.specs.Pass.{Pass, Calls, spot_now}
-use Rattle.runs.specs.Running.{Seated}
-use Rattle.runs.specs.Calls.{FirstStart, FirstCrash, AreMoves, answers_of, Served, spot_before}
-use Rattle.runs.specs.Tabled.{spot_begun}
-use Rattle.runs.specs.Under.{IsHolder}
-use Rattle.runs.specs.Whole.{IsTask}
 use Rattle.runs.proofs.Chained.{calls_spot}
 use Rattle.runs.proofs.Leads.{gone-append}
 use Rattle.runs.proofs.Tabled.{steps_of, ArePlain, plain_all, own_moves, own_are, taken_own, spelled_plain, answers_first, answers_plain, start_leads}

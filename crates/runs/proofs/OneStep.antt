@@ -1,42 +1,16 @@
 -- A call of one step, as a get or a put of the board is: the run ends with that step.
 use Rattle.std.proofs.Common.{◌≡◌, ℕ, ◌<◌, ◌==◌, ◌&&◌, nat_lt, ltb-true, Bool, true, false, if◌then◌else◌, List, [], ◌∷◌, ◌++◌, Option, Some, None, IsSome, All, unwrap_or, refl, sym, ap, ◌∙◌, subst, eqb-true, eq-eqb}
-use Rattle.std.proofs.lemmas.Bool.{and_parts, eqb-false}
-use Rattle.std.proofs.lemmas.List.Elements.{All-head, All-tail}
-use Rattle.rmecore.specs.Paid.{is_glance}
-use Rattle.rmecore.specs.Place.{Place, Rest, Dead, Reread, Opening, Door, Shutting, Wait, Inside, Leaving, Withdrawing, Unmarking, next}
-use Rattle.rmecore.specs.World.{is_store}
-use Rattle.rmecore.specs.declared.kind.Kind.{Kind}
-use Rattle.rmecore.specs.declared.kind.Kind.TheVariants.{Get as Gets, Put as Puts, Glance as Glances}
+use Rattle.runs.proofs.Common.{and_parts, eqb-false, All-head, All-tail, Kind, Glance as Glances, Word, Data as DataAt, is_glance, Place, Rest, Dead, Wait, Inside, Reread, Opening, Door, Shutting}
+use Rattle.runs.proofs.Common.{Leaving, Withdrawing, Unmarking, next, is_store, put_same, put_other, Layout, Reply, Task, board_at, Script, Get as Asks, Put as Writes, Done, script, Answer, Mail}
+use Rattle.runs.proofs.Common.{Call, Working, answer_at, and_answer, start_refusal, Errand, Free, Doing, Spot, Begins, next_spot, Happening, at_rest, Moves, at_lock, only_spot, who, working, Scene}
+use Rattle.runs.proofs.Common.{at_first, Story, reading, onward, own_happenings, TakenStep, Setup, is_data, or_earlier, last_put, value_or, Served, FirstStart, AreMoves, FirstCrash, answers_of}
+use Rattle.runs.proofs.Common.{spot_before, refusal_now, Pass, spot_now, Calls, Seated, began, before, taken, happenings, spelled, own, IsRun, end_of, gone, spot_of, Goes, stores}
+use Rattle.rmecore.specs.declared.kind.Kind.TheVariants.{Get as Gets, Put as Puts}
 use Rattle.rmecore.specs.declared.refusal.Refusal.TheVariants.{BadIndex}
-use Rattle.rmecore.specs.declared.word.Word.{Word}
-use Rattle.rmecore.specs.declared.word.Word.TheVariants.{Data as DataAt}
-use Rattle.rmecore.proofs.Invariant.{put_same, put_other}
-use Rattle.redomail.specs.Layout.{board_at}
-use Rattle.redomail.specs.Script.{Script, Get as Asks, Put as Writes, Done}
-use Rattle.redomail.specs.Tasks.{script}
-use Rattle.redomail.specs.declared.layout.Layout.{Layout}
-use Rattle.redomail.specs.declared.reply.Reply.{Reply}
 use Rattle.redomail.specs.declared.reply.Reply.TheVariants as reply
-use Rattle.redomail.specs.declared.task.Task.{Task}
 use Rattle.redomail.specs.declared.task.Task.TheVariants as task
-use Rattle.rmeworld.specs.declared.answer.Answer.{Answer}
-use Rattle.rmeworld.specs.declared.answer.Answer.TheVariants.{Mail}
-use Rattle.rmeworld.specs.declared.call.Call.{Call}
 use Rattle.rmeworld.specs.declared.call.Call.TheVariants.{Get, Put}
-use Rattle.rmeworld.specs.declared.why.Why.TheVariants.{Working}
-use Rattle.rmeworld.specs.Answered.{answer_at}
-use Rattle.rmeworld.specs.Refused.{start_refusal}
-use Rattle.rmeworld.specs.Spot.{Errand, Free, Doing, Spot, at_rest, Happening, Begins, Moves, who, next_spot, at_lock, only_spot, working}
-use Rattle.rmeworld.specs.World.{Scene, at_first, Story, onward, reading, own_happenings}
-use Rattle.rmeworld.specs.CallWalk.{and_answer}
-use Rattle.runs.specs.declared.setup.Setup.{Setup}
-use Rattle.runs.specs.declared.entry.TakenStep.{TakenStep}
-use Rattle.runs.specs.Runs.{before, taken, happenings, spelled, own, IsRun, end_of, gone, spot_of, Goes, stores}
-use Rattle.runs.specs.Pass.{Pass, spot_now, Calls}
-use Rattle.runs.specs.Running.{Seated, began}
-use Rattle.runs.specs.Calls.{spot_before, answers_of, FirstStart, FirstCrash, AreMoves, Served}
-use Rattle.runs.specs.Faults.{refusal_now}
-use Rattle.runs.specs.Board.{is_data, puts, or_earlier, last_put, value_or}
+use Rattle.runs.specs.Board.{puts}
 use Rattle.runs.proofs.Runs.{own-append, own_spelled, spelled-append, last_reads}
 use Rattle.runs.proofs.Leads.{gone-append}
 use Rattle.runs.proofs.Running.{taken_moves, spot_begun}

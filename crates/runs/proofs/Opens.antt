@@ -1,13 +1,7 @@
 -- The members of a new table, and how many words it has.
 use Rattle.std.proofs.Common.{◌≡◌, ℕ, zero, suc, ◌+◌, ◌-◌, ◌<◌, List, [], ◌∷◌, ◌++◌, map, refl, sym, ap, ◌∙◌, subst, arith}
+use Rattle.runs.proofs.Common.{Splits, Layout, IsLayout, place_at, size, Known, Setup, rest_known, count_from, Kept, without_first, first_alone}
 use Rattle.std.proofs.lemmas.Nat.{mul-le}
-use Rattle.atomic_table.specs.Table.{Splits}
-use Rattle.redomail.specs.declared.layout.Layout.{Layout}
-use Rattle.redomail.specs.Layout.{IsLayout, size, place_at}
-use Rattle.runs.specs.declared.setup.Setup.{Setup}
-use Rattle.runs.specs.declared.entry.Known.{Known}
-use Rattle.runs.specs.Rule.{count_from, Kept, without_first, first_alone}
-use Rattle.runs.specs.Pass.{rest_known}
 use Rattle.runs.proofs.Runs.{count_step, above_absent}
 use Rattle.runs.proofs.Keeps.{cuts}
 

@@ -1,23 +1,8 @@
 -- A worker's appends start their calls in order, and one that is told of a ruin has read it.
 use Rattle.std.proofs.Common.{◌≡◌, ◌⊎◌, ℕ, Bool, true, false, if◌then◌else◌, List, [], ◌∷◌, ◌++◌, Option, Some, None, Result, Ok, Err, IfOk, IfErr, All, refl, sym, ap, ◌∙◌, subst, inl, inr}
-use Rattle.std.proofs.lemmas.List.Elements.{All-head, All-tail}
-use Rattle.redomail.specs.declared.reply.Reply.{Reply}
-use Rattle.rmeworld.specs.declared.answer.Answer.{Answer}
-use Rattle.rmeworld.specs.declared.call.Call.{Call}
-use Rattle.rmeworld.specs.declared.call.Call.TheVariants.{Lock, Unlock, Consistent, Append}
-use Rattle.rmeworld.specs.Refused.{is_idle}
-use Rattle.runs.specs.declared.entry_kind.Entry.{Entry as Entering}
+use Rattle.runs.proofs.Common.{All-head, All-tail, Reply, Answer, Call, Lock, Unlock, Consistent, Append, is_idle, TakenStep, Entry as Entering, LockFault, and_call, starts, FirstCrash, ready}
+use Rattle.runs.proofs.Common.{IsGlance, spot_now, Calls, own_of, last_call, last_of, MayStart, AreInOrder, Seated, began, fell, own, WholeEnds, AppendFails, Comes, IsFront, IsWithin, calls_inside}
 use Rattle.runs.specs.declared.entry_kind.Entry.TheVariants as entering
-use Rattle.runs.specs.declared.entry.TakenStep.{TakenStep}
-use Rattle.runs.specs.declared.lock_fault.LockFault.{LockFault}
-use Rattle.runs.specs.Calls.{starts, and_call, FirstCrash}
-use Rattle.runs.specs.Faults.{ready}
-use Rattle.runs.specs.Gathering.{IsGlance}
-use Rattle.runs.specs.Pass.{spot_now, own_of, Calls}
-use Rattle.runs.specs.Ruins.{last_call, last_of, MayStart, AreInOrder}
-use Rattle.runs.specs.Running.{Seated, began, fell}
-use Rattle.runs.specs.Runs.{own}
-use Rattle.runs.specs.Whole.{WholeEnds, AppendFails, Comes, IsFront, IsWithin, calls_inside}
 use Rattle.runs.proofs.Runs.{own-append}
 
 -- calls in order, one after the other, without a crash between

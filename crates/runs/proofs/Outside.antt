@@ -1,16 +1,7 @@
 -- A process that isn't in the section may set out on another lock.
 use Rattle.std.proofs.Common.{◌≡◌, ◌≢◌, ℕ, List, Bool, true, false, if◌then◌else◌, Option, None, refl, sym, ap, ◌∙◌}
-use Rattle.rmecore.specs.Place.{Rest, Dead}
-use Rattle.rmeworld.specs.declared.answer.Answer.{Answer}
-use Rattle.rmeworld.specs.declared.answer.Answer.TheVariants.{Clean, OwnerDied, NumbersSpent, NotRecoverable}
-use Rattle.rmeworld.specs.declared.call.Call.{Call}
-use Rattle.rmeworld.specs.declared.call.Call.TheVariants.{Lock, Withdraw}
-use Rattle.rmeworld.specs.Refused.{is_idle, is_inside, is_waiting}
-use Rattle.runs.specs.Faults.{refusal_now, ready, CutBy}
-use Rattle.runs.specs.Pass.{spot_now}
-use Rattle.runs.specs.Running.{Seated, fell}
-use Rattle.runs.specs.Runs.{before, gone, spot_of}
-use Rattle.runs.specs.Under.{Fits, Leaves}
+use Rattle.runs.proofs.Common.{Rest, Dead, Answer, NumbersSpent, NotRecoverable, Clean, OwnerDied, Call, Lock, Withdraw, is_idle, is_waiting, is_inside, CutBy, ready, refusal_now, spot_now, Seated}
+use Rattle.runs.proofs.Common.{fell, before, gone, spot_of, Fits, Leaves}
 
 either_out : (b : Bool) (x : Seated) → is_idle (spot_now x.pass) ≡ b → (b ≡ true → is_inside (spot_now x.pass).lock ≡ false) → refusal_now (if b then x else fell x) Lock ≡ None
 either_out true x idle away = rw idle (rw (away refl) refl)
@@ -27,9 +18,6 @@ busy_out x busy = either_out (is_idle (spot_now x.pass)) x refl (λ idle. absurd
 pub waiting_out : (x : Seated) → is_waiting (spot_now x.pass).lock ≡ true → refusal_now x Withdraw ≡ None
 waiting_out x waits = rw waits refl
 
-pub rest_out : (x : Seated) → (spot_now x.pass).lock ≡ Rest → refusal_now (ready x) Lock ≡ None
-rest_out x rest = away_out x (ap is_inside rest)
-
 -- one that has crashed
 pub fallen_out : (x : Seated) → x.pass.fallen ≡ true → x.pass.start ≡ None → refusal_now (ready x) Lock ≡ None
 fallen_out x fallen none =
@@ -40,11 +28,3 @@ fallen_out x fallen none =
 -- one that a crash cut off
 pub cut_out : (x y : Seated) (P : List Call → Type 0) (a b c d : ℕ) → CutBy x P y a b c d → refusal_now (ready y) Lock ≡ None
 cut_out x y P a b c d h = fallen_out y h.1.fallen h.1.idle
-
--- behind a lock that didn't enter
-pub turned_out : (x : Seated) (a : Answer) → Fits Lock a → Leaves Lock a (spot_now x.pass) → a ≢ Clean → a ≢ OwnerDied → refusal_now (ready x) Lock ≡ None
-turned_out x Clean fits leaves clean died = absurd (clean refl)
-turned_out x OwnerDied fits leaves clean died = absurd (died refl)
-turned_out x NumbersSpent fits leaves clean died = rest_out x leaves
-turned_out x NotRecoverable fits leaves clean died = rest_out x leaves
-turned_out x _ fits leaves clean died = absurd fits

@@ -1,32 +1,16 @@
 -- A worker ruins no lock: it starts an unlock only behind an append or a mending. So it is told of a ruin only where it has
 -- read one, and it leaves nothing unmended unless it has read one.
 use Rattle.std.proofs.Common.{◌≡◌, ℕ, zero, suc, ◌+◌, ◌==◌, ◌&&◌, Bool, true, false, if◌then◌else◌, ◌⊎◌, List, [], ◌∷◌, ◌++◌, length, Option, Some, None, IsSome, unwrap_or, refl, sym, ap, ◌∙◌, subst, inl, inr, eqb-true}
-use Rattle.std.proofs.lemmas.Bool.{cases_Bool, and_parts}
-use Rattle.rmecore.specs.Place.{Place, Dead, Inside, next, started}
-use Rattle.rmecore.specs.World.{is_store}
+use Rattle.runs.proofs.Common.{and_parts, cases_Bool, Kind, Glance as Looks, Word, Choosing as ChoosingOf, Number as NumberOf, Data as DataAt, Place, Dead, Inside, next, started, is_store, Layout}
+use Rattle.runs.proofs.Common.{Reply, Task, Script, Get as Asks, Put as Writes, Done, puts, gets, repair, redo, consistent, apply_steps, record_of, script, Call, Lock, Unlock, Consistent, Append, Why}
+use Rattle.runs.proofs.Common.{Checking, Ruining, Mending, Working, is_entry, Errand, Free, Doing, Spot, begun_from, inside_only, Begins, next_spot, Happening, at_lock, only_spot, settled}
+use Rattle.runs.proofs.Common.{mended_entered, moved_by, dead, TakenStep, Setup, last_call, last_of, MayStart, AreInOrder, ReadsRuin, HasReadRuin, settles, before, taken, happenings, spelled, gone}
+use Rattle.runs.proofs.Common.{Goes, Replies}
 use Rattle.rmecore.specs.declared.core_call.CoreCall.TheVariants as core
-use Rattle.rmecore.specs.declared.kind.Kind.{Kind}
-use Rattle.rmecore.specs.declared.kind.Kind.TheVariants.{Get as Gets, Put as Puts, Glance as Looks}
-use Rattle.rmecore.specs.declared.word.Word.{Word}
-use Rattle.rmecore.specs.declared.word.Word.TheVariants.{Choosing as ChoosingOf, Number as NumberOf, Inside as InsideOf, Data as DataAt}
-use Rattle.redomail.specs.Script.{Script, Get as Asks, Put as Writes, Done, puts, gets}
-use Rattle.redomail.specs.Tasks.{script, consistent, repair, redo, apply_steps, record_of}
-use Rattle.redomail.specs.declared.layout.Layout.{Layout}
-use Rattle.redomail.specs.declared.reply.Reply.{Reply}
+use Rattle.rmecore.specs.declared.kind.Kind.TheVariants.{Get as Gets, Put as Puts}
+use Rattle.rmecore.specs.declared.word.Word.TheVariants.{Inside as InsideOf}
 use Rattle.redomail.specs.declared.reply.Reply.TheVariants as reply
-use Rattle.redomail.specs.declared.task.Task.{Task}
 use Rattle.redomail.specs.declared.task.Task.TheVariants as task
-use Rattle.rmeworld.specs.declared.call.Call.{Call}
-use Rattle.rmeworld.specs.declared.call.Call.TheVariants.{Lock, Unlock, Consistent, Append}
-use Rattle.rmeworld.specs.declared.why.Why.{Why}
-use Rattle.rmeworld.specs.declared.why.Why.TheVariants.{Checking, Ruining, Mending, Working}
-use Rattle.rmeworld.specs.Entered.{is_entry}
-use Rattle.rmeworld.specs.Spot.{Errand, Free, Doing, Spot, Happening, Begins, dead, mended_entered, next_spot, at_lock, settled, only_spot, moved_by, inside_only, begun_from}
-use Rattle.runs.specs.declared.entry.TakenStep.{TakenStep}
-use Rattle.runs.specs.declared.setup.Setup.{Setup}
-use Rattle.runs.specs.Ruins.{ReadsRuin, HasReadRuin, last_call, last_of, settles, MayStart, AreInOrder}
-use Rattle.runs.specs.Runs.{before, taken, happenings, spelled, gone, Goes}
-use Rattle.runs.specs.Under.{Replies}
 use Rattle.runs.proofs.Leads.{gone-append}
 use Rattle.runs.proofs.OneStep.{goes_front, goes_back}
 use Rattle.runs.proofs.Runs.{by_kind}

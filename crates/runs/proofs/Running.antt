@@ -1,30 +1,16 @@
 -- The machine and the pass stay together.
 use Rattle.std.proofs.Common.{◌≡◌, ℕ, ◌+◌, ◌*◌, Bool, true, false, ◌==◌, nat_lt, [], ◌∷◌, Option, Some, None, IsSome, unwrap_or, if◌then◌else◌, refl, sym, ap, ◌∙◌, subst}
-use Rattle.rmecore.specs.Place.{Place, Rest, Dead, Reread, Opening, Door, Shutting, Wait, Inside, Leaving, Withdrawing, Unmarking}
-use Rattle.rmecore.specs.Machine.{access, kind_of, word_of, carried}
-use Rattle.rmecore.specs.Paid.{is_glance}
+use Rattle.runs.proofs.Common.{Kind, Word, access, kind_of, word_of, carried, is_glance, Place, Rest, Dead, Wait, Inside, Reread, Opening, Door, Shutting, Leaving, Withdrawing, Unmarking, Layout}
+use Rattle.runs.proofs.Common.{Reply, place_at, size, Script, Get, Put, Done, Call, Why, Ruining, Mending, answer_at, Errand, Free, Doing, Spot, Begins, next_spot, Moves, Stand, access_by}
+use Rattle.runs.proofs.Common.{next_access, outcome, spot_after, IsAllowed, progress_by, stepped, stepped_by, job_left, placed, works, calm, Setup, Pass, spot_now, Looks, moved_spot, Advances}
+use Rattle.runs.proofs.Common.{IsRunBy, next_of, outcome_of, before, taken, gone, spot_of}
 use Rattle.rmecore.specs.declared.access.Access.{Access}
-use Rattle.rmecore.specs.declared.kind.Kind.{Kind}
 use Rattle.rmecore.specs.declared.kind.Kind.TheVariants as kind
-use Rattle.rmecore.specs.declared.word.Word.{Word}
-use Rattle.redomail.specs.declared.layout.Layout.{Layout}
-use Rattle.redomail.specs.Layout.{size, place_at}
-use Rattle.redomail.specs.Script.{Script, Get, Put, Done}
-use Rattle.rmeworld.specs.declared.call.Call.{Call}
-use Rattle.rmeworld.specs.Spot.{Errand, Free, Doing, Spot, Moves, Begins, next_spot}
-use Rattle.rmeworld.specs.Stand.{Stand, spot_of as standing_at, access_by, next_access, outcome, spot_after, IsAllowed, progress_by, stepped, stepped_by, job_left, started, placed, works, calm}
+use Rattle.rmeworld.specs.Stand.{spot_of as standing_at, started}
 use Rattle.rmeworld.specs.declared.errand.Errand.{Errand as Chore}
 use Rattle.rmeworld.specs.declared.errand.Errand.TheVariants.{Free as IsFree, Asking, Doing as Does}
-use Rattle.rmeworld.specs.declared.why.Why.{Why}
-use Rattle.rmeworld.specs.declared.why.Why.TheVariants.{Mending, Ruining}
 use Rattle.rmeworld.specs.declared.call.Call.TheVariants as call
-use Rattle.redomail.specs.declared.reply.Reply.{Reply}
 use Rattle.redomail.specs.Left.{Pending, left, fed}
-use Rattle.rmeworld.specs.Answered.{answer_at}
-use Rattle.runs.specs.declared.setup.Setup.{Setup}
-use Rattle.runs.specs.Runs.{taken, gone, before, spot_of}
-use Rattle.runs.specs.Pass.{Pass, spot_now, moved_spot, Advances, Looks}
-use Rattle.runs.specs.Running.{IsRunBy, next_of, outcome_of}
 use Rattle.runs.proofs.Leads.{spot_moves, spot_stays}
 
 pub size_is : (l : Layout) → 10 + l.width + l.procs + (2 + l.width) * l.cap ≡ size l

@@ -1,28 +1,13 @@
 -- Two laws of runs of entries: the spot of a process follows from its own entries, and an allowed entry prolongs a run.
 use Rattle.std.proofs.Common.{◌≡◌, ◌≢◌, ℕ, zero, suc, ◌-◌, ◌<◌, ◌==◌, ◌≤◌, nat_lt, lt-ltb, le-ltb, ltb-true, Bool, true, false, if◌then◌else◌, List, [], ◌∷◌, ◌++◌, length, set, get_or, replicate, Option, Some, None, IsSome, unwrap_or, refl, sym, ap, ◌∙◌, subst, inl, inr, arith, append_assoc, append-nil, eqb-true, eq-eqb, ne_eqb, length-set, get_or-set_same, get_or-set_other}
-use Rattle.std.proofs.lemmas.List.{length-replicate, get_or-replicate}
-use Rattle.std.proofs.lemmas.List.Elements.{filter-append}
-use Rattle.std.proofs.lemmas.Bool.{cases_eq, eqb-false}
-use mathlib.Core.Logic.{dite}
-use native.Mathlib.Decide.{ℕ_discrete}
-use Rattle.rmecore.specs.Needs.{put}
-use Rattle.rmecore.specs.World.{write, is_store}
-use Rattle.rmecore.specs.declared.own.Own.{Own}
-use Rattle.rmecore.specs.declared.kind.Kind.{Kind}
-use Rattle.rmecore.specs.declared.kind.Kind.TheVariants.{Open, Peek, Take, Shut, Look, Weigh, Mark, Drop, Reread, Get, Put, Glance}
-use Rattle.rmecore.specs.declared.word.Word.{Word}
-use Rattle.rmecore.specs.declared.word.Word.TheVariants.{Choosing as ChoosingOf, Number as NumberOf, Inside as InsideOf, Data as DataAt}
-use Rattle.rmecore.proofs.Invariant.{put_same, put_other}
-use Rattle.redomail.specs.declared.layout.Layout.{Layout}
-use Rattle.redomail.specs.Layout.{Words, size}
-use Rattle.rmeworld.specs.declared.call.Call.{Call}
-use Rattle.rmeworld.specs.Spot.{Spot, at_rest, dead, Happening, Begins, Falls, Moves, Glances, who, next_spot}
-use Rattle.rmeworld.proofs.Holders.{story_front, story_back}
-use Rattle.rmeworld.specs.World.{Scene, at_first, Story, last_scene, onward, Reads, reading, words_after, cells_after, put_cell, own_happenings}
-use Rattle.runs.specs.declared.setup.Setup.{Setup}
-use Rattle.runs.specs.declared.entry.TakenStep.{TakenStep}
-use Rattle.runs.specs.Rule.{count_from}
-use Rattle.runs.specs.Runs.{before, taken, happenings, spelled, own, has, IsRun, end_of, gone, spot_of, Goes, word_count, index, InTable, IsBeyond, Shows, stores}
+use Rattle.runs.proofs.Common.{eqb-false, cases_eq, length-replicate, get_or-replicate, filter-append, dite, ℕ_discrete, Kind, Look, Weigh, Open, Peek, Take, Shut, Mark, Drop, Glance, Own, Word}
+use Rattle.runs.proofs.Common.{Choosing as ChoosingOf, Number as NumberOf, Data as DataAt, put, is_store, write, put_same, put_other, Layout, Words, size, Call, Spot, Begins, next_spot, Happening}
+use Rattle.runs.proofs.Common.{at_rest, Moves, Falls, Glances, who, dead, Scene, at_first, Story, last_scene, put_cell, reading, onward, own_happenings, words_after, cells_after, story_front}
+use Rattle.runs.proofs.Common.{story_back, TakenStep, Setup, count_from, before, taken, happenings, spelled, own, IsRun, end_of, gone, spot_of, has, index, InTable, Goes, word_count, IsBeyond, Shows}
+use Rattle.runs.proofs.Common.{stores}
+use Rattle.rmecore.specs.declared.kind.Kind.TheVariants.{Reread, Get, Put}
+use Rattle.rmecore.specs.declared.word.Word.TheVariants.{Inside as InsideOf}
+use Rattle.rmeworld.specs.World.{Reads}
 
 pub own-append : (p : ℕ) (xs ys : List TakenStep) → own p (xs ++ ys) ≡ own p xs ++ own p ys
 own-append p xs ys = filter-append (λ (e : TakenStep). e.by == p) xs ys

@@ -1,29 +1,14 @@
 -- After each run the data words stand for a mailbox list, and what it shows stays, whoever steps later.
 use Rattle.std.proofs.Common.{◌≡◌, ℕ, ◌<◌, ◌≤◌, List, [], ◌∷◌, ◌++◌, refl, sym, ap, ◌∙◌, inl, inr, ◌⊎◌, arith, append-nil, append_assoc}
-use Rattle.std.proofs.lemmas.Bool.{cases_eq}
+use Rattle.runs.proofs.Common.{cases_eq, Layout, Message, IsLayout, message, entry, entries, Shape, all_after, State, empty, state_led, at_first, deeds, Someone, Nobody, find_in, all_after-append}
+use Rattle.runs.proofs.Common.{Arrived, origin, arrives, deeds-append, TakenStep, Setup, deeds_of, shown_by, cells_of, AreShown, RunsShow, EntriesStandInRuns, spelled, IsRun, end_of}
 use Rattle.rmecore.specs.Sole.{IsIn}
 use Rattle.redomail.specs.declared.deed.Deed.{Deed}
 use Rattle.redomail.specs.declared.deed.Deed.TheVariants.{Outer, Commit, Show, Close, Ruin}
-use Rattle.redomail.specs.declared.layout.Layout.{Layout}
-use Rattle.redomail.specs.declared.message.Message.{Message}
-use Rattle.redomail.specs.Layout.{IsLayout}
-use Rattle.redomail.specs.Mailbox.{message}
-use Rattle.redomail.specs.Shape.{Shape, entry, entries}
 use Rattle.redomail.proofs.Stands.{stand_by}
-use Rattle.judge.specs.Halves.{all_after}
 use Rattle.judge.specs.Legal.{Leads, judged_all}
-use Rattle.judge.specs.Table.{State, empty, after}
-use Rattle.judge.proofs.Halves.{state_led}
-use Rattle.rmeworld.specs.World.{at_first, deeds}
-use Rattle.rmeworld.proofs.LawfulNow.{Someone, Nobody, find_in}
-use Rattle.rmeworld.proofs.Reaching.{Arrived, origin, arrives, all_after-append}
+use Rattle.judge.specs.Table.{after}
 use Rattle.rmeworld.proofs.Stories.{before_is, goes_on}
-use Rattle.rmeworld.proofs.Replies.{deeds-append}
-use Rattle.runs.specs.declared.setup.Setup.{Setup}
-use Rattle.runs.specs.declared.entry.TakenStep.{TakenStep}
-use Rattle.runs.specs.Runs.{spelled, IsRun, end_of}
-use Rattle.runs.specs.Headline.{deeds_of, shown_by}
-use Rattle.runs.specs.Reading.{cells_of, AreShown, RunsShow, EntriesStandInRuns}
 use Rattle.runs.proofs.Runs.{spelled-append, legal_front}
 
 -- deeds take no message away that is shown

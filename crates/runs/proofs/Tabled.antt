@@ -1,20 +1,9 @@
 -- The own steps of a member's call are those of the table.
 use Rattle.std.proofs.Common.{◌≡◌, ℕ, suc, ◌+◌, ◌==◌, Bool, true, false, if◌then◌else◌, List, [], ◌∷◌, ◌++◌, length, Option, Some, None, All, refl, sym, ap, ◌∙◌, subst, append_assoc, eqb-true}
-use Rattle.std.proofs.lemmas.List.Elements.{All-nil, All-cons, All-head, All-tail}
-use Rattle.rmecore.specs.Paid.{is_glance}
-use Rattle.rmeworld.specs.Answered.{answer_at, blocked_by}
-use Rattle.rmeworld.specs.CallWalk.{next_or_same, blocked_in, and_answer, answers_in, last_spot, Tells}
-use Rattle.rmeworld.specs.Spot.{Spot, Happening, Begins, Moves}
-use Rattle.rmeworld.specs.World.{Scene, Story, own_happenings}
-use Rattle.rmeworld.specs.declared.answer.Answer.{Answer}
-use Rattle.rmeworld.specs.declared.call.Call.{Call}
+use Rattle.runs.proofs.Common.{All-nil, All-cons, All-head, All-tail, is_glance, Answer, Call, answer_at, blocked_by, next_or_same, and_answer, answers_in, blocked_in, last_spot, Tells, Spot, Begins}
+use Rattle.runs.proofs.Common.{Happening, Moves, Scene, Story, own_happenings, TakenStep, Setup, FirstStart, AreMoves, FirstCrash, answers_of, blocked_of, answers_from, blocked_from, spot_before}
+use Rattle.runs.proofs.Common.{Pass, Calls, before, taken, happenings, spelled, own, IsRun, end_of, gone, spot_of, crash_first, KeepsTable, words_begun, spot_begun, CallsKeepTheTable}
 use Rattle.rmeworld.proofs.CallWalks.{calls_take_their_steps}
-use Rattle.runs.specs.declared.setup.Setup.{Setup}
-use Rattle.runs.specs.declared.entry.TakenStep.{TakenStep}
-use Rattle.runs.specs.Runs.{before, crash_first, taken, happenings, spelled, own, IsRun, end_of, gone, spot_of}
-use Rattle.runs.specs.Pass.{Pass, Calls}
-use Rattle.runs.specs.Calls.{spot_before, answers_from, blocked_from, answers_of, blocked_of, FirstStart, FirstCrash, AreMoves}
-use Rattle.runs.specs.Tabled.{words_begun, spot_begun, KeepsTable, CallsKeepTheTable}
 use Rattle.runs.proofs.Runs.{own_spelled, spot_in_run, legal_back}
 use Rattle.runs.proofs.Leads.{gone-append}
 use Rattle.runs.proofs.Running.{taken_moves}

@@ -1,32 +1,10 @@
 -- Steps one after another, and what they tell.
 use Rattle.std.proofs.Common.{◌≡◌, ℕ, suc, ◌+◌, ◌≤◌, Bool, true, false, if◌then◌else◌, List, [], ◌∷◌, ◌++◌, length, Option, Some, None, IsSome, unwrap_or, refl, sym, ap, ◌∙◌, subst, arith, length-append}
-use Rattle.rmecore.specs.Machine.{kind_of, word_of, carried}
-use Rattle.rmecore.specs.Simulated.{one_more}
-use Rattle.rmecore.specs.declared.kind.Kind.{Kind}
-use Rattle.rmecore.specs.declared.word.Word.{Word}
-use Rattle.rmeworld.specs.declared.call.Call.{Call}
-use Rattle.rmeworld.specs.declared.answer.Answer.{Answer}
+use Rattle.runs.proofs.Common.{Kind, Look, Weigh, Word, answer, is_blocked, kind_of, word_of, carried, is_glance, Place, Wait, one_more, Answer, Call, Lock, by_lock, answer_at, blocked_by, and_answer}
+use Rattle.runs.proofs.Common.{is_idle, is_waiting, Errand, Free, Doing, Spot, next_spot, Moves, TakenStep, Setup, answers_of, blocked_of, Takes, Ran, answers_from, blocked_from, spot_before}
+use Rattle.runs.proofs.Common.{is_blocked_at, Going, Still, Lasts, LastsBy, Pass, spot_now, next_entry, moved_spot, Advances, Seated, many_more, TakesStep, before, happenings, spelled, gone, spot_of}
+use Rattle.runs.proofs.Common.{IsUnder, Fits, Leaves, UnderBy}
 use Rattle.rmeworld.specs.declared.outcome.Outcome.{Outcome}
-use Rattle.rmeworld.specs.Answered.{answer_at, blocked_by}
-use Rattle.rmeworld.specs.Spot.{Spot, Moves, next_spot}
-use Rattle.runs.specs.declared.setup.Setup.{Setup}
-use Rattle.runs.specs.declared.entry.TakenStep.{TakenStep}
-use Rattle.runs.specs.Runs.{before, happenings, spelled, gone, spot_of}
-use Rattle.runs.specs.Pass.{Pass, spot_now, moved_spot, next_entry, Advances}
-use Rattle.runs.specs.Running.{Seated, many_more, TakesStep}
-use Rattle.runs.specs.Calls.{spot_before, answers_from, is_blocked_at, blocked_from, answers_of, blocked_of, Takes, Ran, Going}
-use Rattle.rmecore.specs.Place.{Place, Wait}
-use Rattle.rmecore.specs.Machine.{answer, is_blocked}
-use Rattle.rmecore.specs.Paid.{is_glance}
-use Rattle.rmecore.specs.declared.kind.Kind.TheVariants.{Look, Weigh}
-use Rattle.rmeworld.specs.declared.call.Call.TheVariants.{Lock}
-use Rattle.rmeworld.specs.Spot.{Errand, Free, Doing}
-use Rattle.rmeworld.specs.Answered.{by_lock}
-use Rattle.rmeworld.specs.Refused.{is_idle, is_waiting}
-use Rattle.rmeworld.specs.CallWalk.{and_answer}
-use Rattle.runs.specs.Lasting.{Lasts, LastsBy}
-use Rattle.runs.specs.Under.{UnderBy, IsUnder, Fits, Leaves}
-use Rattle.runs.specs.Calls.{Still}
 use Rattle.runs.proofs.Under.{blocked_lock}
 use Rattle.runs.proofs.Leads.{gone-append, spot_after, spot_moves}
 use Rattle.runs.proofs.Running.{taken_moves, next_moves}

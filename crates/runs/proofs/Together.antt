@@ -1,13 +1,7 @@
 -- What holds of each member's own entries holds of its process's entries in the one run that gathering finds.
 use Rattle.std.proofs.Common.{◌≡◌, ℕ, ◌==◌, ◌||◌, Bool, true, false, List, [], ◌∷◌, ◌++◌, All, refl, sym, subst, inl, inr, eqb-true}
-use Rattle.std.proofs.lemmas.Bool.{cases_eq}
-use Rattle.std.proofs.lemmas.List.Elements.{All-nil, All-cons, All-head, All-tail, All-weaker}
-use Rattle.runs.specs.declared.entry.TakenStep.{TakenStep}
-use Rattle.runs.specs.Gathering.{IsGlance, IsTold, IsWhole, has_member}
-use Rattle.runs.specs.Pass.{own_of}
+use Rattle.runs.proofs.Common.{cases_eq, All-nil, All-cons, All-head, All-tail, All-weaker, TakenStep, has_member, IsGlance, IsWhole, IsTold, own_of, Seated, own}
 use Rattle.runs.specs.Rule.{Begins}
-use Rattle.runs.specs.Running.{Seated}
-use Rattle.runs.specs.Runs.{own}
 
 pub all_both : {X : Type 0} (P Q : X → Type 0) (xs : List X) → All P xs → All Q xs → All (λ (x : X). P x × Q x) xs
 all_both P Q [] h g = All-nil _

@@ -1,42 +1,15 @@
 -- A worker that is told of a ruined lock has read that it is.
 use Rattle.std.proofs.Common.{◌≡◌, ◌⊎◌, ℕ, ◌==◌, Bool, true, false, if◌then◌else◌, List, [], ◌∷◌, ◌++◌, Option, Some, None, Result, Ok, Err, IfErr, IsSome, refl, sym, ap, ◌∙◌, subst, inl, inr, append_assoc, eqb-true}
-use Rattle.std.proofs.lemmas.List.Elements.{All-head, All-tail}
-use Rattle.rmecore.specs.Machine.{answer}
-use Rattle.rmecore.specs.Paid.{is_glance}
-use Rattle.rmecore.specs.Place.{Place}
+use Rattle.runs.proofs.Common.{All-head, All-tail, Kind, Word, Data as DataAt, answer, is_glance, Place, Layout, Reply, Task, Script, Get as Asks, Put as Writes, Done, tail, repair, consistent}
+use Rattle.runs.proofs.Common.{Answer, NotRecoverable as RuinedAnswer, OwnerDied, Unlocked, Call, Lock, Append, Checking, Ruining, Mending, Working, by_lock, by_reply, by_script, answer_at, answer_by}
+use Rattle.runs.proofs.Common.{and_answer, is_idle, Errand, Free, Doing, Spot, next_spot, Happening, at_rest, Moves, only_spot, settled, moved_by, TakenStep, LockFault, NotYet, Setup, AreMoves}
+use Rattle.runs.proofs.Common.{answers_from, ServedAll, spot_before, ready, spot_now, own_of, last_call, last_of, AreInOrder, ReadsRuin, HasReadRuin, Seated, began, fell, before, taken, happenings}
+use Rattle.runs.proofs.Common.{spelled, own, IsRun, gone, Goes, Replies, WholeEnds, AppendFails, Comes}
 use Rattle.rmecore.specs.declared.core_done.CoreDone.{CoreDone}
 use Rattle.rmecore.specs.declared.core_done.CoreDone.TheVariants as ends
-use Rattle.rmecore.specs.declared.kind.Kind.{Kind}
 use Rattle.rmecore.specs.declared.kind.Kind.TheVariants.{Get as Gets}
-use Rattle.rmecore.specs.declared.word.Word.{Word}
-use Rattle.rmecore.specs.declared.word.Word.TheVariants.{Data as DataAt}
-use Rattle.redomail.specs.declared.layout.Layout.{Layout}
-use Rattle.redomail.specs.declared.reply.Reply.{Reply}
 use Rattle.redomail.specs.declared.reply.Reply.TheVariants as reply
-use Rattle.redomail.specs.declared.task.Task.{Task}
-use Rattle.redomail.specs.Script.{Script, Get as Asks, Put as Writes, Done, tail}
-use Rattle.redomail.specs.Tasks.{consistent, repair}
-use Rattle.rmeworld.specs.declared.answer.Answer.{Answer}
-use Rattle.rmeworld.specs.declared.answer.Answer.TheVariants.{OwnerDied, NotRecoverable as RuinedAnswer, Unlocked}
-use Rattle.rmeworld.specs.declared.call.Call.{Call}
-use Rattle.rmeworld.specs.declared.call.Call.TheVariants.{Lock, Append}
-use Rattle.rmeworld.specs.declared.why.Why.TheVariants.{Checking, Ruining, Mending, Working}
-use Rattle.rmeworld.specs.Answered.{by_lock, by_reply, by_script, answer_by, answer_at}
-use Rattle.rmeworld.specs.Refused.{is_idle}
-use Rattle.rmeworld.specs.Spot.{Errand, Free, Doing, Spot, Happening, Moves, at_rest, next_spot, moved_by, only_spot, settled}
-use Rattle.rmeworld.specs.CallWalk.{and_answer}
-use Rattle.runs.specs.declared.entry.TakenStep.{TakenStep}
-use Rattle.runs.specs.declared.lock_fault.LockFault.{LockFault}
-use Rattle.runs.specs.declared.lock_fault.LockFault.TheVariants.{NotYet, NumbersSpent, NotRecoverable}
-use Rattle.runs.specs.declared.setup.Setup.{Setup}
-use Rattle.runs.specs.Calls.{spot_before, answers_from, AreMoves, ServedAll}
-use Rattle.runs.specs.Faults.{ready}
-use Rattle.runs.specs.Pass.{spot_now, own_of}
-use Rattle.runs.specs.Ruins.{ReadsRuin, HasReadRuin, last_call, last_of, AreInOrder}
-use Rattle.runs.specs.Running.{Seated, began, fell}
-use Rattle.runs.specs.Runs.{before, taken, happenings, spelled, own, gone, Goes, IsRun}
-use Rattle.runs.specs.Under.{Replies}
-use Rattle.runs.specs.Whole.{WholeEnds, AppendFails, Comes}
+use Rattle.runs.specs.declared.lock_fault.LockFault.TheVariants.{NumbersSpent, NotRecoverable}
 use Rattle.runs.proofs.OneStep.{run_goes, goes_front, goes_back}
 use Rattle.runs.proofs.Ordered.{own_now, mine_order}
 use Rattle.runs.proofs.Ruins.{IsMended, IsRuin, Stands, StandsAt, entry_stands, before_stands, walk, later_ruin}
@@ -192,7 +165,3 @@ module _ (x y : Seated) (seq : ℕ) (value : List ℕ) (a b c d : ℕ) (old : Ar
   pub append_told : (r : Result Reply LockFault) (e : LockFault) → r ≡ Err e → e ≡ NotRecoverable → IfErr r (λ e. (turns : ℕ) × AppendFails x turns seq value y a b c d e) → HasReadRuin (own_of y.pass)
   append_told (Ok reply) e is ruined h = absurd (cc)
   append_told (Err f) e is ruined h = fails_told h.0 f (let same : f ≡ e = cc in same ∙ ruined) h.1
-
-pub faulted : (why : LockFault) (es : List TakenStep) → (why ≡ NumbersSpent) ⊎ (why ≡ NotRecoverable) → (why ≡ NotRecoverable → HasReadRuin es) → (why ≡ NumbersSpent) ⊎ ((why ≡ NotRecoverable) × HasReadRuin es)
-faulted why es (inl spent) read = inl spent
-faulted why es (inr ruined) read = inr (ruined, read ruined)

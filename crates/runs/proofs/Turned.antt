@@ -1,17 +1,7 @@
 -- Some steps and then some more.
 use Rattle.std.proofs.Common.{◌≡◌, ℕ, zero, suc, ◌+◌, if◌then◌else◌, List, [], ◌∷◌, ◌++◌, length, Option, Some, None, refl, sym, ap, ◌∙◌, subst, arith, length-append}
-use Rattle.rmecore.specs.Simulated.{one_more}
-use Rattle.rmeworld.specs.declared.call.Call.{Call}
-use Rattle.rmeworld.specs.declared.answer.Answer.{Answer}
-use Rattle.rmeworld.specs.Answered.{answer_at}
-use Rattle.rmeworld.specs.Spot.{Spot}
-use Rattle.rmeworld.specs.CallWalk.{and_answer}
-use Rattle.runs.specs.declared.setup.Setup.{Setup}
-use Rattle.runs.specs.declared.entry.TakenStep.{TakenStep}
-use Rattle.runs.specs.Runs.{happenings, spelled, gone, spot_of}
-use Rattle.runs.specs.Pass.{Pass, IsPass}
-use Rattle.runs.specs.Running.{Seated, many_more, fell}
-use Rattle.runs.specs.Calls.{spot_before, answers_from, is_blocked_at, blocked_from, answers_of, blocked_of, Takes, blocks, Ran, CutOff, Turning, Served}
+use Rattle.runs.proofs.Common.{one_more, Answer, Call, answer_at, and_answer, Spot, TakenStep, Setup, Served, answers_of, blocked_of, Takes, blocks, Ran, CutOff, answers_from, blocked_from, Turning}
+use Rattle.runs.proofs.Common.{spot_before, is_blocked_at, Pass, IsPass, Seated, many_more, fell, happenings, spelled, gone, spot_of}
 use Rattle.runs.proofs.Leads.{gone-append}
 use Rattle.runs.proofs.Taken.{takes_sizes, takes_spot, and_append}
 use Rattle.runs.proofs.Called.{served_of}
@@ -83,9 +73,6 @@ module _ (x y z : Seated) (a b : List TakenStep) (k : ℕ) (t : Turning x a k y)
 
   pub turned_cut : CutOff y b z → CutOff x (a ++ b) z
   turned_cut cut = record { last = cut.last; takes = takes-append x.pass y.pass cut.last.pass a b t.takes cut.takes; steps = cut.steps ∙ ap (many_more (length b)) t.steps ∙ many_append a b x.steps; crash = cut.crash }
-
-  pub turned_ran_cut : {o : Option Answer} → (u : Seated) → Ran y o z b → u ≡ fell z → CutOff x (a ++ b) u
-  turned_ran_cut {o} u r e = record { last = z; takes = takes-append x.pass y.pass z.pass a b t.takes r.takes; steps = later_steps r.steps; crash = e }
 
 pub turned_out : (x y : Seated) (mine : List TakenStep) (k : ℕ) (call : Call) → IsPass x.pass → x.pass.start ≡ Some call → Turning x mine (k + 1) y → Served x call [] (k + 1) y mine
 turned_out x y mine k call pass start t =

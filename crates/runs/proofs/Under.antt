@@ -1,24 +1,14 @@
 -- What a step of a call leads to: the call goes on, or has an answer that fits it.
 use Rattle.std.proofs.Common.{◌≡◌, ℕ, zero, suc, max, Bool, true, false, ◌||◌, ◌==◌, if◌then◌else◌, ◌⊎◌, [], ◌∷◌, Option, Some, None, IsSome, unwrap_or, refl, inl, inr}
-use Rattle.std.proofs.lemmas.Bool.{cases_Bool}
-use Rattle.rmecore.specs.Place.{Place, Rest, Reread, Opening, Door, Shutting, Wait, Inside, Leaving, Withdrawing, Unmarking, has, without, others, is_before, relocked, recovered, next}
-use Rattle.rmecore.specs.Machine.{answer, again, found, is_blocked}
+use Rattle.runs.proofs.Common.{cases_Bool, Kind, Look as Looks, Weigh as Weighs, Open as Opens, Peek as Peeks, Take as Takes, Shut as Shuts, Mark as Marks, Drop as Drops, Glance as Glances, Word}
+use Rattle.runs.proofs.Common.{Choosing as ChoosingOf, Number as NumberOf, answer, is_blocked, again, found, is_glance, Place, Rest, Wait, Inside, Reread, Opening, Door, Shutting, Leaving}
+use Rattle.runs.proofs.Common.{Withdrawing, Unmarking, is_before, next, without, others, relocked, recovered, guard, Answer, NumbersSpent, NotRecoverable, Unlocked, Call, Lock, Unlock, Recover}
+use Rattle.runs.proofs.Common.{Withdraw, by_lock, is_entry, Spot, under_place, Fits, Leaves}
+use Rattle.rmecore.specs.Place.{has}
 use Rattle.rmecore.specs.Refused.{is_idle as is_idle_place}
-use Rattle.rmecore.specs.Paid.{is_glance}
 use Rattle.rmecore.specs.declared.core_call.CoreCall.TheVariants as core
-use Rattle.rmecore.specs.declared.kind.Kind.{Kind}
-use Rattle.rmecore.specs.declared.kind.Kind.TheVariants.{Reread as Rereads, Open as Opens, Peek as Peeks, Take as Takes, Shut as Shuts, Look as Looks, Weigh as Weighs, Mark as Marks, Drop as Drops, Glance as Glances}
-use Rattle.rmecore.specs.declared.word.Word.{Word}
-use Rattle.rmecore.specs.declared.word.Word.TheVariants.{Choosing as ChoosingOf, Number as NumberOf, Inside as InsideOf}
-use Rattle.rmecore.proofs.Runs.{guard}
-use Rattle.rmeworld.specs.declared.call.Call.{Call}
-use Rattle.rmeworld.specs.declared.call.Call.TheVariants.{Lock, Unlock, Recover, Withdraw}
-use Rattle.rmeworld.specs.declared.answer.Answer.{Answer}
-use Rattle.rmeworld.specs.declared.answer.Answer.TheVariants.{NumbersSpent, NotRecoverable, Unlocked}
-use Rattle.rmeworld.specs.Entered.{is_entry}
-use Rattle.rmeworld.specs.Answered.{by_lock}
-use Rattle.rmeworld.specs.Spot.{Spot}
-use Rattle.runs.specs.Under.{under_place, Fits, Leaves}
+use Rattle.rmecore.specs.declared.kind.Kind.TheVariants.{Reread as Rereads}
+use Rattle.rmecore.specs.declared.word.Word.TheVariants.{Inside as InsideOf}
 
 -- what a step of the lock's part leads to
 abbrev pub LockTo : Call → Bool → Place → Option Answer → Place → Type 0

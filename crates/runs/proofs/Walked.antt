@@ -1,31 +1,19 @@
 -- The steps of one process in a story are a walk: each comes where it may, and a reread finds its word as it stood when the
 -- call began, since nobody else stores into the lock words of a process.
 use Rattle.std.proofs.Common.{◌≡◌, ◌≢◌, ℕ, ◌+◌, ◌<◌, ◌==◌, ◌&&◌, nat_lt, nat_le, Bool, true, false, if◌then◌else◌, List, [], ◌∷◌, Option, Some, None, IsSome, unwrap_or, refl, sym, ◌∙◌, subst, eqb-true}
-use Rattle.std.proofs.lemmas.Bool.{and_parts, eqb-false}
-use Rattle.rmecore.specs.Paid.{ReadsBegun, is_glance}
-use Rattle.rmecore.specs.Place.{Place, Rest, Dead, Reread, Opening, Door, Shutting, Wait, Inside, Leaving, Withdrawing, Unmarking, only, next, started}
+use Rattle.runs.proofs.Common.{and_parts, eqb-false, Kind, Look as Looks, Weigh as Weighs, Open as Opens, Peek as Peeks, Take as Takes, Shut as Shuts, Mark as Marks, Drop as Drops, Glance as Glancing}
+use Rattle.runs.proofs.Common.{Own, Word, Choosing as ChoosingOf, Number as NumberOf, Data as DataAt, is_glance, ReadsBegun, Place, Rest, Dead, Wait, Inside, Reread, Opening, Door, Shutting, Leaving}
+use Rattle.runs.proofs.Common.{Withdrawing, Unmarking, next, started, only, Steps, is_store, write, Reads as CoreReads, put_same, put_other, Layout, Reply, Script, Get as Asks, Put as Writes, Call}
+use Rattle.runs.proofs.Common.{Lock, Unlock, Consistent, Recover, Append, Close, Withdraw, Why, next_or_same, Walks, Errand, Free, Doing, Spot, begun_from, inside_only, Begins, next_spot, Happening}
+use Rattle.runs.proofs.Common.{Moves, at_lock, only_spot, settled, Falls, Glances, moved_by, who, dead, errand_entered, Scene, Story, onward, own_happenings, Can, reading_of}
 use Rattle.rmecore.specs.Tallied.{IsRereading}
-use Rattle.rmecore.specs.World.{is_store, write, Reads as CoreReads}
-use Rattle.rmecore.specs.Place.{Steps}
 use Rattle.rmecore.specs.declared.core_call.CoreCall.TheVariants as core
-use Rattle.rmecore.specs.declared.kind.Kind.{Kind}
-use Rattle.rmecore.specs.declared.kind.Kind.TheVariants.{Reread as Rereads, Open as Opens, Peek as Peeks, Take as Takes, Shut as Shuts, Look as Looks, Weigh as Weighs, Mark as Marks, Drop as Drops, Get as Gets, Put as Puts, Glance as Glancing}
-use Rattle.rmecore.specs.declared.own.Own.{Own}
-use Rattle.rmecore.specs.declared.word.Word.{Word}
-use Rattle.rmecore.specs.declared.word.Word.TheVariants.{Choosing as ChoosingOf, Number as NumberOf, Inside as InsideOf, Data as DataAt}
+use Rattle.rmecore.specs.declared.kind.Kind.TheVariants.{Reread as Rereads, Get as Gets, Put as Puts}
+use Rattle.rmecore.specs.declared.word.Word.TheVariants.{Inside as InsideOf}
 use Rattle.rmecore.proofs.Accesses.{passed}
-use Rattle.rmecore.proofs.Invariant.{put_same, put_other}
 use Rattle.rmecore.proofs.Tallies.{rereads_on, reads_begun}
 use Rattle.rmecore.proofs.Turns.{not_data}
-use Rattle.redomail.specs.Script.{Script, Get as Asks, Put as Writes}
-use Rattle.redomail.specs.declared.layout.Layout.{Layout}
-use Rattle.redomail.specs.declared.reply.Reply.{Reply}
-use Rattle.rmeworld.specs.CallWalk.{next_or_same, Walks}
-use Rattle.rmeworld.specs.Spot.{Errand, Free, Doing, Spot, Happening, Begins, Falls, Moves, Glances, who, dead, next_spot, settled, only_spot, at_lock, errand_entered, moved_by, inside_only, begun_from}
-use Rattle.rmeworld.specs.World.{Scene, Can, onward, Story, reading_of, own_happenings}
-use Rattle.rmeworld.specs.declared.call.Call.{Call}
-use Rattle.rmeworld.specs.declared.call.Call.TheVariants.{Lock, Unlock, Consistent, Recover, Append, Close, Get, Put, Withdraw}
-use Rattle.rmeworld.specs.declared.why.Why.{Why}
+use Rattle.rmeworld.specs.declared.call.Call.TheVariants.{Get, Put}
 use Rattle.rmeworld.proofs.WorldTallies.{at_lock_some, settled_not}
 
 -- nobody else's step stores into the lock words of p

@@ -1,26 +1,13 @@
 -- A whole mailbox call from its parts.
 use Rattle.std.proofs.Common.{◌≡◌, ℕ, ◌+◌, ◌≤◌, ◌⊎◌, Bool, true, List, [], ◌∷◌, Result, Ok, Err, Option, Some, None, IfOk, IfErr, refl, sym, ap, ◌∙◌, subst, inl, inr, arith, append-nil}
-use Rattle.rmecore.specs.Simulated.{one_more}
-use Rattle.redomail.specs.declared.reply.Reply.{Reply}
+use Rattle.runs.proofs.Common.{one_more, Reply, Answer, Call, is_idle, TakenStep, Entry as Entering, LockFault, Setup, starts, Ran, CutOff, Crashes, ServedAll, CutBy, CutIn, AnsweredBy, LockBy, ready}
+use Rattle.runs.proofs.Common.{refusal_now, answer_of, IsPass, spot_now, Seated, began, fell, behind, Fits, IsTask, WholeEnds, Comes, IsFront, IsWithin, calls_inside, IsInner, Inner, WholeBy}
+use Rattle.runs.proofs.Common.{WholeGoes, WholeFails, mended_by, SumCounts, InsideCounts}
 use Rattle.redomail.specs.declared.reply.Reply.TheVariants as reply
-use Rattle.rmeworld.specs.declared.call.Call.{Call}
 use Rattle.rmeworld.specs.declared.call.Call.TheVariants as call
-use Rattle.rmeworld.specs.declared.answer.Answer.{Answer}
 use Rattle.rmeworld.specs.declared.answer.Answer.TheVariants as answer
-use Rattle.rmeworld.specs.Refused.{is_idle}
-use Rattle.runs.specs.declared.lock_fault.LockFault.{LockFault}
 use Rattle.runs.specs.declared.lock_fault.LockFault.TheVariants as fault
-use Rattle.runs.specs.declared.entry_kind.Entry.{Entry as Entering}
 use Rattle.runs.specs.declared.entry_kind.Entry.TheVariants as entering
-use Rattle.runs.specs.declared.entry.TakenStep.{TakenStep}
-use Rattle.runs.specs.declared.setup.Setup.{Setup}
-use Rattle.runs.specs.Pass.{IsPass, spot_now}
-use Rattle.runs.specs.Running.{Seated, fell, began, behind}
-use Rattle.runs.specs.Calls.{starts, Ran, CutOff, ServedAll, Crashes}
-use Rattle.runs.specs.Under.{Fits}
-use Rattle.runs.specs.Faults.{refusal_now, ready, CutBy, CutIn, AnsweredBy, LockBy, answer_of}
-use Rattle.runs.specs.WholeSteps.{mended_by, SumCounts, InsideCounts}
-use Rattle.runs.specs.Whole.{IsTask, IsFront, IsInner, IsWithin, Inner, Comes, WholeBy, WholeEnds, WholeGoes, WholeFails, calls_inside}
 use Rattle.runs.proofs.WholeSteps.{whole_counts}
 use Rattle.runs.proofs.Chained.{asked_behind, cut_asked, answered-append, cut_after, ran_behind, cut_behind, lock_setup}
 use Rattle.runs.proofs.Counted.{ready_setup}

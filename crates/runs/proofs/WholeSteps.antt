@@ -1,25 +1,11 @@
 -- What a whole mailbox call counts is the sum of the table, and no more than its most.
 use Rattle.std.proofs.Common.{◌≡◌, ℕ, ◌+◌, ◌*◌, ◌≤◌, Bool, true, false, List, [], ◌∷◌, Option, Some, None, IfSome, Err, refl, sym, ap, ◌∙◌, subst, inl, inr, arith}
-use Rattle.rmecore.specs.declared.own.Own.{Own}
-use Rattle.redomail.specs.declared.layout.Layout.{Layout}
-use Rattle.redomail.specs.declared.reply.Reply.{Reply}
-use Rattle.redomail.specs.declared.reply.Reply.TheVariants.{Mended}
-use Rattle.rmeworld.specs.declared.answer.Answer.{Answer}
+use Rattle.runs.proofs.Common.{Own, Layout, Reply, Mended, Answer, Call, Lock, Unlock, Consistent, Append, Close, most_steps, own_steps, Entry as Entering, Setup, AnsweredBy, LockBy, ready, answer_of}
+use Rattle.runs.proofs.Common.{spot_now, Seated, began, many_more, behind, CountsAtMost, words_begun, spot_begun, table_steps, Fits, IsHolder, IsTask, WholeBy, mended_by, SumCounts, InsideCounts}
+use Rattle.runs.proofs.Common.{both, table_sum, StoredAppendSteps, most_inside, most_whole}
 use Rattle.rmeworld.specs.declared.answer.Answer.TheVariants as answer
-use Rattle.rmeworld.specs.declared.call.Call.{Call}
-use Rattle.rmeworld.specs.declared.call.Call.TheVariants.{Lock, Unlock, Consistent, Append, Close}
-use Rattle.rmeworld.specs.OwnSteps.{own_steps, most_steps}
 use Rattle.runs.specs.declared.lock_fault.LockFault.TheVariants as fault
-use Rattle.runs.specs.declared.entry_kind.Entry.{Entry as Entering}
 use Rattle.runs.specs.declared.entry_kind.Entry.TheVariants as entering
-use Rattle.runs.specs.declared.setup.Setup.{Setup}
-use Rattle.runs.specs.Pass.{spot_now}
-use Rattle.runs.specs.Running.{Seated, many_more, behind, began}
-use Rattle.runs.specs.Under.{IsHolder, Fits}
-use Rattle.runs.specs.Faults.{ready, AnsweredBy, LockBy, answer_of}
-use Rattle.runs.specs.Tabled.{words_begun, spot_begun, table_steps, CountsAtMost}
-use Rattle.runs.specs.WholeSteps.{both, mended_by, table_sum, SumCounts, StoredAppendSteps, InsideCounts, most_inside, most_whole}
-use Rattle.runs.specs.Whole.{IsTask, WholeBy}
 use Rattle.runs.proofs.Counted.{few_out}
 use Rattle.runs.proofs.Mended.{still_mended, still_unmended}
 use Rattle.runs.proofs.Tabled.{calls_keep_the_table}

@@ -1,6 +1,6 @@
 -- A call that has been started is under way, and has not many steps left.
 use Rattle.std.proofs.Common.{◌≡◌, ℕ, zero, suc, ◌+◌, ◌*◌, ◌≤◌, Bool, true, false, ◌&&◌, ◌==◌, nat_lt, nat_le, if◌then◌else◌, List, [], ◌∷◌, ◌++◌, length, Some, None, IsSome, unwrap_or, refl, sym, ap, ◌∙◌, subst, arith, length-append, eqb-true}
-use Rattle.runs.proofs.Common.{and_parts, ltb-true, Place, Rest, Dead, Wait, Inside, Layout, Reply, IsLayout, place_at, last_at, held, Script, Get as Asks, Put as Writes, Done, puts, gets, in_row}
+use Rattle.runs.proofs.Common.{and_parts, ltb-true, Place, Rest, Dead, Wait, Inside, Layout, Reply, IsLayout, last_at, held, place_at, Script, Get as Asks, Put as Writes, Done, puts, gets, in_row}
 use Rattle.runs.proofs.Common.{append, repair, redo, consistent, apply_steps, store_steps, record_of, Call, Lock, Unlock, Consistent, Recover, Append, Close, Withdraw, Why, Errand, Free, Doing, Spot}
 use Rattle.runs.proofs.Common.{begun_from, inside_only, Begins, next_spot, Setup, Within, Pass, IsPass, spot_now, Replies, Mends, Begun, Appends}
 use Rattle.redomail.specs.declared.reply.Reply.TheVariants as reply

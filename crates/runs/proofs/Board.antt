@@ -1,7 +1,7 @@
 -- The words of the board are what was put there last; and since its Enter a process's own puts are the last.
 use Rattle.std.proofs.Common.{◌≡◌, ℕ, ◌+◌, ◌*◌, ◌<◌, ◌==◌, ◌&&◌, nat_lt, lt-ltb, Bool, true, false, if◌then◌else◌, List, [], ◌∷◌, ◌++◌, Option, Some, None, refl, sym, ap, ◌∙◌, subst, arith, append_assoc, eqb-true, eq-eqb}
-use Rattle.runs.proofs.Common.{and_parts, eqb-false, true≢false, Kind, Word, Choosing as ChoosingOf, Number as NumberOf, Data as DataAt, put, is_store, put_same, put_other, Layout, IsLayout, place_at}
-use Rattle.runs.proofs.Common.{Words, board_at, size, Answer, Call, Happening, Scene, at_first, Story, last_scene, put_cell, holders_put, TakenStep, Setup, is_data, or_earlier, last_put, value_or}
+use Rattle.runs.proofs.Common.{and_parts, eqb-false, true≢false, Kind, Word, Choosing as ChoosingOf, Number as NumberOf, Data as DataAt, put, is_store, put_same, put_other, Layout, IsLayout, Words}
+use Rattle.runs.proofs.Common.{board_at, size, place_at, Answer, Call, Happening, Scene, at_first, Story, last_scene, put_cell, holders_put, TakenStep, Setup, is_data, or_earlier, last_put, value_or}
 use Rattle.runs.proofs.Common.{LastIsOwn, Served, IsPass, Seated, began, before, taken, happenings, spelled, own, IsRun, end_of}
 use Rattle.rmecore.specs.declared.word.Word.TheVariants.{Inside as InsideOf}
 use Rattle.rmeworld.specs.Holders.{puts_data, AllPutBy}

@@ -34,7 +34,7 @@ pub use Rattle.judge.specs.Halves.{all_after}
 pub use Rattle.judge.specs.Table.{State, empty}
 pub use Rattle.judge.proofs.Halves.{state_led}
 pub use Rattle.rmeworld.specs.declared.answer.Answer.{Answer}
-pub use Rattle.rmeworld.specs.declared.answer.Answer.TheVariants.{NumbersSpent, NotRecoverable, Mail, Clean, OwnerDied, Unlocked}
+pub use Rattle.rmeworld.specs.declared.answer.Answer.TheVariants.{NumbersSpent, NotRecoverable, Mail, OwnerDied, Unlocked}
 pub use Rattle.rmeworld.specs.declared.call.Call.{Call}
 pub use Rattle.rmeworld.specs.declared.call.Call.TheVariants.{Lock, Unlock, Consistent, Recover, Append, Close, Withdraw}
 pub use Rattle.rmeworld.specs.declared.why.Why.{Why}
@@ -58,7 +58,6 @@ pub use Rattle.runs.specs.declared.entry.TakenStep.{TakenStep}
 pub use Rattle.runs.specs.declared.entry.View.{View}
 pub use Rattle.runs.specs.declared.entry_kind.Entry.{Entry}
 pub use Rattle.runs.specs.declared.lock_fault.LockFault.{LockFault}
-pub use Rattle.runs.specs.declared.lock_fault.LockFault.TheVariants.{NotYet}
 pub use Rattle.runs.specs.declared.setup.Setup.{Setup}
 pub use Rattle.runs.specs.Board.{is_data, or_earlier, last_put, value_or, LastIsOwn}
 pub use Rattle.runs.specs.Calls.{Served, and_call, starts, FirstStart, AreMoves, FirstCrash, answers_of, blocked_of, Takes, blocks, Ran, CutOff, Crashes, StartsWith, FirstStarts, answers_from, blocked_from, ServedAll, CrashesIn, Calm, Fell, Turning, spot_before, is_blocked_at, Going, Still}
@@ -72,7 +71,7 @@ pub use Rattle.runs.specs.Ruins.{last_call, last_of, MayStart, AreInOrder, Reads
 pub use Rattle.runs.specs.Rule.{count_from, joined, IsIn, Did, MayLoad, stepper, entry_of, opening_known, longer, spent_known, IsAnswered, AllFit, IsMember, IsKept, Kept, May, MayStore, MayPass, without_first, first_alone}
 pub use Rattle.runs.specs.Running.{Seated, began, many_more, fell, behind, IsRunBy, next_of, outcome_of, TakesStep}
 pub use Rattle.runs.specs.Runs.{before, taken, happenings, spelled, own, IsRun, end_of, gone, spot_of, has, index, InTable, Goes, word_count, IsBeyond, Shows, stores, crash_first}
-pub use Rattle.runs.specs.Tabled.{KeepsTable, CountsAtMost, words_begun, spot_begun, table_steps, blocked_since, LockCounts, LockCountsOut, CallsKeepTheTable}
+pub use Rattle.runs.specs.Tabled.{KeepsTable, CountsAtMost, words_begun, spot_begun, table_steps, blocked_since, LockCounts, CallsKeepTheTable}
 pub use Rattle.runs.specs.Under.{Replies, Mends, Begun, Appends, under_place, IsWord, UnderScript, IsUnder, Fits, Leaves, IsHolder, UnderBy}
 pub use Rattle.runs.specs.Whole.{IsTask, WholeEnds, AppendFails, Comes, IsFront, IsWithin, calls_inside, IsInner, Inner, WholeBy, WholeGoes, WholeFails}
 pub use Rattle.runs.specs.WholeSteps.{mended_by, SumCounts, InsideCounts, both, table_sum, StoredAppendSteps, most_inside, most_whole}

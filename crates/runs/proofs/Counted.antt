@@ -1,12 +1,10 @@
 -- What a member counts of its calls is the table's.
-use Rattle.std.proofs.Common.{Bool, true, false, if◌then◌else◌, ◌≡◌, ℕ, zero, suc, ◌+◌, ◌^◌, ◌<◌, ◌≤◌, ◌⊎◌, List, [], ◌∷◌, ◌++◌, length, drop, Option, Some, None, Result, Ok, Err, IfOk, IfErr, OnOk, refl, sym, ap, ◌∙◌, subst, inl, inr, arith}
-use Rattle.runs.proofs.Common.{one_more, Layout, IsLayout, Answer, NumbersSpent as SpentAnswer, NotRecoverable as RuinedAnswer, Call, Lock, Unlock, Consistent, Recover, Append, Close, Withdraw}
-use Rattle.runs.proofs.Common.{most_steps, is_idle, IsSize, TakenStep, Entry as Entering, LockFault, NotYet, Setup, Served, answers_of, blocked_of, Takes, blocks, Ran, CutOff, Calm, Turning, LockEnds}
-use Rattle.runs.proofs.Common.{ready, Pass, IsPass, spot_now, Calls, Seated, began, many_more, fell, own, KeepsTable, CountsAtMost, words_begun, spot_begun, table_steps, blocked_since, LockCounts}
-use Rattle.runs.proofs.Common.{LockCountsOut}
+use Rattle.std.proofs.Common.{Bool, true, false, if◌then◌else◌, ◌≡◌, ℕ, zero, suc, ◌+◌, ◌^◌, ◌<◌, ◌≤◌, List, [], ◌∷◌, ◌++◌, length, drop, Option, Some, None, Result, Ok, Err, IfOk, IfErr, OnOk, refl, sym, ap, ◌∙◌, subst, arith}
+use Rattle.runs.proofs.Common.{one_more, Layout, IsLayout, Answer, Call, Lock, Unlock, Consistent, Recover, Append, Close, Withdraw, most_steps, is_idle, IsSize, TakenStep, LockFault, Setup, Served}
+use Rattle.runs.proofs.Common.{answers_of, blocked_of, Takes, blocks, Ran, CutOff, Calm, Turning, LockEnds, ready, Pass, IsPass, spot_now, Calls, Seated, began, many_more, fell, own, KeepsTable}
+use Rattle.runs.proofs.Common.{CountsAtMost, words_begun, spot_begun, table_steps, blocked_since, LockCounts}
 use Rattle.rmeworld.specs.declared.call.Call.TheVariants.{Get, Put}
 use Rattle.rmeworld.proofs.CallBounds.{table_most}
-use Rattle.runs.specs.declared.lock_fault.LockFault.TheVariants.{NumbersSpent, NotRecoverable}
 use Rattle.runs.proofs.Turned.{later_blocked, turned_served, turned_cut, turned_out}
 use Rattle.runs.proofs.Called.{first_crash, first_start, are_moves, calls_of}
 use Rattle.runs.proofs.Tabled.{keeps_the_table, calls_keep_the_table}

@@ -1,6 +1,6 @@
 -- Glances one after another: what they add to a pass, and what they read.
 use Rattle.std.proofs.Common.{◌≡◌, ℕ, zero, suc, ◌+◌, ◌*◌, ◌-◌, ◌<◌, ◌≤◌, List, [], ◌∷◌, ◌++◌, length, refl, sym, ap, ◌∙◌, subst, arith, length-append, inl, inr, get_or-set_same, get_or-set_other, drop, Result, Ok, Err, IfOk, OnOk, OnErr}
-use Rattle.runs.proofs.Common.{cases_eq, drop-append-le, drop_all, length-drop, slice_index, slice_set, Word, Data as DataAt, Layout, Message, place_at, held, Words, size, words_of, row, message}
+use Rattle.runs.proofs.Common.{cases_eq, drop-append-le, drop_all, length-drop, slice_index, slice_set, Word, Data as DataAt, Layout, Message, held, Words, size, words_of, row, place_at, message}
 use Rattle.runs.proofs.Common.{entry, entries, TakenStep, Setup, Pass, IsPass, Calls, glanced, glance_entry, Looks, cells_of, row_words, entry_words, AreGlances, up_to_count, ReadsFrom, Seated, IsRun}
 use Rattle.redomail.proofs.Changes.{length-entries}
 use Rattle.redomail.proofs.Words.{row-from_entry, place_low, place_up, place_small}

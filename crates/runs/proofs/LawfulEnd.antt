@@ -1,5 +1,5 @@
 -- The words at the end of a run are a lawful image.
-use Rattle.std.proofs.Common.{◌≡◌, ℕ, zero, suc, ◌+◌, ◌<◌, ◌≤◌, ◌^◌, List, [], ◌∷◌, length, map, refl, sym, ap, ◌∙◌, subst, inl, inr, arith}
+use Rattle.std.proofs.Common.{◌≡◌, ℕ, zero, suc, ◌+◌, ◌<◌, ◌≤◌, ◌^◌, List, [], ◌∷◌, length, map, refl, sym, ap, ◌∙◌, inl, inr, arith}
 use Rattle.runs.proofs.Common.{cases_lt, get_or_past, length-map, slice_index_or, Own, Data as DataAt, Event, zeros, own_at, World, after, Run, final, Tied, kept, size, words_of, empty, IsSize}
 use Rattle.runs.proofs.Common.{at_first, every_story_leaves_an_image, projected, TakenStep, Setup, image_at, count_from, spelled, IsRun, end_of}
 use Rattle.rmecore.specs.AbstractLock.{Abstract, nobody}

@@ -1,6 +1,6 @@
 -- The members of a new table, and how many words it has.
 use Rattle.std.proofs.Common.{◌≡◌, ℕ, zero, suc, ◌+◌, ◌-◌, ◌<◌, List, [], ◌∷◌, ◌++◌, map, refl, sym, ap, ◌∙◌, subst, arith}
-use Rattle.runs.proofs.Common.{Splits, Layout, IsLayout, place_at, size, Known, Setup, rest_known, count_from, Kept, without_first, first_alone}
+use Rattle.runs.proofs.Common.{Splits, Layout, IsLayout, size, place_at, Known, Setup, rest_known, count_from, Kept, without_first, first_alone}
 use Rattle.std.proofs.lemmas.Nat.{mul-le}
 use Rattle.runs.proofs.Runs.{count_step, above_absent}
 use Rattle.runs.proofs.Keeps.{cuts}

@@ -1,7 +1,6 @@
 -- A process that isn't in the section may set out on another lock.
-use Rattle.std.proofs.Common.{◌≡◌, ◌≢◌, ℕ, List, Bool, true, false, if◌then◌else◌, Option, None, refl, sym, ap, ◌∙◌}
-use Rattle.runs.proofs.Common.{Rest, Dead, Answer, NumbersSpent, NotRecoverable, Clean, OwnerDied, Call, Lock, Withdraw, is_idle, is_waiting, is_inside, CutBy, ready, refusal_now, spot_now, Seated}
-use Rattle.runs.proofs.Common.{fell, before, gone, spot_of, Fits, Leaves}
+use Rattle.std.proofs.Common.{◌≡◌, ℕ, List, Bool, true, false, if◌then◌else◌, Option, None, refl, sym, ap, ◌∙◌}
+use Rattle.runs.proofs.Common.{Dead, Call, Lock, Withdraw, is_idle, is_waiting, is_inside, CutBy, ready, refusal_now, spot_now, Seated, fell, before, gone, spot_of}
 
 either_out : (b : Bool) (x : Seated) → is_idle (spot_now x.pass) ≡ b → (b ≡ true → is_inside (spot_now x.pass).lock ≡ false) → refusal_now (if b then x else fell x) Lock ≡ None
 either_out true x idle away = rw idle (rw (away refl) refl)

@@ -1,7 +1,7 @@
 -- The machine and the pass stay together.
 use Rattle.std.proofs.Common.{◌≡◌, ℕ, ◌+◌, ◌*◌, Bool, true, false, ◌==◌, nat_lt, [], ◌∷◌, Option, Some, None, IsSome, unwrap_or, if◌then◌else◌, refl, sym, ap, ◌∙◌, subst}
 use Rattle.runs.proofs.Common.{Kind, Word, access, kind_of, word_of, carried, is_glance, Place, Rest, Dead, Wait, Inside, Reread, Opening, Door, Shutting, Leaving, Withdrawing, Unmarking, Layout}
-use Rattle.runs.proofs.Common.{Reply, place_at, size, Script, Get, Put, Done, Call, Why, Ruining, Mending, answer_at, Errand, Free, Doing, Spot, Begins, next_spot, Moves, Stand, access_by}
+use Rattle.runs.proofs.Common.{Reply, size, place_at, Script, Get, Put, Done, Call, Why, Ruining, Mending, answer_at, Errand, Free, Doing, Spot, Begins, next_spot, Moves, Stand, access_by}
 use Rattle.runs.proofs.Common.{next_access, outcome, spot_after, IsAllowed, progress_by, stepped, stepped_by, job_left, placed, works, calm, Setup, Pass, spot_now, Looks, moved_spot, Advances}
 use Rattle.runs.proofs.Common.{IsRunBy, next_of, outcome_of, before, taken, gone, spot_of}
 use Rattle.rmecore.specs.declared.access.Access.{Access}

@@ -1,5 +1,5 @@
 -- The own steps of a member's call are those of the table.
-use Rattle.std.proofs.Common.{◌≡◌, ℕ, suc, ◌+◌, ◌==◌, Bool, true, false, if◌then◌else◌, List, [], ◌∷◌, ◌++◌, length, Option, Some, None, All, refl, sym, ap, ◌∙◌, subst, append_assoc, eqb-true}
+use Rattle.std.proofs.Common.{◌≡◌, ℕ, suc, ◌+◌, ◌==◌, Bool, true, false, if◌then◌else◌, List, [], ◌∷◌, ◌++◌, length, Some, None, All, refl, sym, ap, ◌∙◌, subst, append_assoc, eqb-true}
 use Rattle.runs.proofs.Common.{All-nil, All-cons, All-head, All-tail, is_glance, Answer, Call, answer_at, blocked_by, next_or_same, and_answer, answers_in, blocked_in, last_spot, Tells, Spot, Begins}
 use Rattle.runs.proofs.Common.{Happening, Moves, Scene, Story, own_happenings, TakenStep, Setup, FirstStart, AreMoves, FirstCrash, answers_of, blocked_of, answers_from, blocked_from, spot_before}
 use Rattle.runs.proofs.Common.{Pass, Calls, before, taken, happenings, spelled, own, IsRun, end_of, gone, spot_of, crash_first, KeepsTable, words_begun, spot_begun, CallsKeepTheTable}

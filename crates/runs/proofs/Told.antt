@@ -1,15 +1,15 @@
 -- A worker that is told of a ruined lock has read that it is.
-use Rattle.std.proofs.Common.{◌≡◌, ◌⊎◌, ℕ, ◌==◌, Bool, true, false, if◌then◌else◌, List, [], ◌∷◌, ◌++◌, Option, Some, None, Result, Ok, Err, IfErr, IsSome, refl, sym, ap, ◌∙◌, subst, inl, inr, append_assoc, eqb-true}
+use Rattle.std.proofs.Common.{◌≡◌, ℕ, ◌==◌, Bool, true, false, if◌then◌else◌, List, [], ◌∷◌, ◌++◌, Option, Some, None, Result, Ok, Err, IfErr, IsSome, refl, sym, ap, ◌∙◌, subst, inl, inr, append_assoc, eqb-true}
 use Rattle.runs.proofs.Common.{All-head, All-tail, Kind, Word, Data as DataAt, answer, is_glance, Place, Layout, Reply, Task, Script, Get as Asks, Put as Writes, Done, tail, repair, consistent}
 use Rattle.runs.proofs.Common.{Answer, NotRecoverable as RuinedAnswer, OwnerDied, Unlocked, Call, Lock, Append, Checking, Ruining, Mending, Working, by_lock, by_reply, by_script, answer_at, answer_by}
-use Rattle.runs.proofs.Common.{and_answer, is_idle, Errand, Free, Doing, Spot, next_spot, Happening, at_rest, Moves, only_spot, settled, moved_by, TakenStep, LockFault, NotYet, Setup, AreMoves}
-use Rattle.runs.proofs.Common.{answers_from, ServedAll, spot_before, ready, spot_now, own_of, last_call, last_of, AreInOrder, ReadsRuin, HasReadRuin, Seated, began, fell, before, taken, happenings}
-use Rattle.runs.proofs.Common.{spelled, own, IsRun, gone, Goes, Replies, WholeEnds, AppendFails, Comes}
+use Rattle.runs.proofs.Common.{and_answer, is_idle, Errand, Free, Doing, Spot, next_spot, Happening, at_rest, Moves, only_spot, settled, moved_by, TakenStep, LockFault, Setup, AreMoves, answers_from}
+use Rattle.runs.proofs.Common.{ServedAll, spot_before, ready, spot_now, own_of, last_call, last_of, AreInOrder, ReadsRuin, HasReadRuin, Seated, began, fell, before, taken, happenings, spelled, own}
+use Rattle.runs.proofs.Common.{IsRun, gone, Goes, Replies, WholeEnds, AppendFails, Comes}
 use Rattle.rmecore.specs.declared.core_done.CoreDone.{CoreDone}
 use Rattle.rmecore.specs.declared.core_done.CoreDone.TheVariants as ends
 use Rattle.rmecore.specs.declared.kind.Kind.TheVariants.{Get as Gets}
 use Rattle.redomail.specs.declared.reply.Reply.TheVariants as reply
-use Rattle.runs.specs.declared.lock_fault.LockFault.TheVariants.{NumbersSpent, NotRecoverable}
+use Rattle.runs.specs.declared.lock_fault.LockFault.TheVariants.{NumbersSpent, NotRecoverable, NotYet}
 use Rattle.runs.proofs.OneStep.{run_goes, goes_front, goes_back}
 use Rattle.runs.proofs.Ordered.{own_now, mine_order}
 use Rattle.runs.proofs.Ruins.{IsMended, IsRuin, Stands, StandsAt, entry_stands, before_stands, walk, later_ruin}

@@ -1,7 +1,7 @@
 -- Some steps and then some more.
 use Rattle.std.proofs.Common.{◌≡◌, ℕ, zero, suc, ◌+◌, if◌then◌else◌, List, [], ◌∷◌, ◌++◌, length, Option, Some, None, refl, sym, ap, ◌∙◌, subst, arith, length-append}
 use Rattle.runs.proofs.Common.{one_more, Answer, Call, answer_at, and_answer, Spot, TakenStep, Setup, Served, answers_of, blocked_of, Takes, blocks, Ran, CutOff, answers_from, blocked_from, Turning}
-use Rattle.runs.proofs.Common.{spot_before, is_blocked_at, Pass, IsPass, Seated, many_more, fell, happenings, spelled, gone, spot_of}
+use Rattle.runs.proofs.Common.{spot_before, is_blocked_at, Pass, IsPass, Seated, many_more, happenings, spelled, gone, spot_of}
 use Rattle.runs.proofs.Leads.{gone-append}
 use Rattle.runs.proofs.Taken.{takes_sizes, takes_spot, and_append}
 use Rattle.runs.proofs.Called.{served_of}

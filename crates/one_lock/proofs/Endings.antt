@@ -1,26 +1,13 @@
 -- How workers ended, by those that were looked at so far.
 use Rattle.std.proofs.Common.{◌≡◌, ◌≢◌, ℕ, ◌+◌, ◌<◌, ◌≤◌, inl, inr, true, List, map, length, take, get_or, slice_get, All, Contains, Option, Some, None, option_map, refl, sym, ap, ◌∙◌, subst, arith}
-use Rattle.std.proofs.lemmas.Bool.{true≢false, cases_lt}
-use Rattle.std.proofs.lemmas.List.{get_or-map, length-map, take_all}
-use Rattle.std.proofs.lemmas.List.Elements.{All-more, All-contains, All-get_or, Contains-get_or}
+use Rattle.one_lock.proofs.Common.{true≢false, cases_lt, get_or-map, length-map, take_all, All-more, All-contains, All-get_or, Contains-get_or, Layout, Reply as ReplyOf, NumbersSpent as SpentAnswer}
+use Rattle.one_lock.proofs.Common.{Lock, Append, LockFault, Crashed, OutOfMemory, NotRecoverable, NotYet, AlreadyIn, NotOwner, NotInconsistent, BadIndex, BadWidth, Setup, AllSent, Fault, Refused}
+use Rattle.one_lock.proofs.Common.{LabFault, BadSpec, Member, Spec, IsAnswered, IsReply, EndsAtLock, HaveAllSent, WantedMemory, fault_by, IsOfLeast, IsReplyTo, WasSent, WereSent, MayEnd, MayEndLab}
+use Rattle.one_lock.proofs.Common.{setup_of, words_sent, Seat, Goes, of_wait, new_seats, place_of}
 use Rattle.std.proofs.lemmas.Option.{slice_get-get_or, slice_get_within, slice_get-map, get_or_from_slice_get}
-use Rattle.redomail.specs.declared.layout.Layout.{Layout}
-use Rattle.redomail.specs.declared.reply.Reply.{Reply as ReplyOf}
-use Rattle.rmeworld.specs.declared.call.Call.TheVariants.{Lock, Append}
-use Rattle.rmeworld.specs.declared.answer.Answer.TheVariants.{NumbersSpent as SpentAnswer}
-use Rattle.runs.specs.declared.lock_fault.LockFault.{LockFault}
-use Rattle.runs.specs.declared.setup.Setup.{Setup}
-use Rattle.one_lock.specs.declared.lab.spec.Spec.{Spec}
-use Rattle.one_lock.specs.declared.lab.lab_fault.LabFault.{LabFault}
 use Rattle.one_lock.specs.declared.lab.ending.Ending.{Ending}
-use Rattle.one_lock.specs.declared.lab.lab_fault.LabFault.TheVariants.{BadSpec, OutOfMemory as WantsMemory, Member, Reply}
-use Rattle.one_lock.specs.declared.lab.ending.Ending.TheVariants.{AllSent, Fault, Refused}
-use Rattle.runs.specs.declared.lock_fault.LockFault.TheVariants.{Crashed, NotYet, NumbersSpent, NotRecoverable, AlreadyIn, NotOwner, NotInconsistent, BadIndex, BadWidth, OutOfMemory}
-use Rattle.one_lock.specs.Answers.{IsAnswered, IsReply, EndsAtLock}
-use Rattle.one_lock.specs.Endings.{HaveAllSent, WantedMemory, fault_by, IsOfLeast, IsReplyTo, WasSent, WereSent, MayEnd, MayEndLab}
-use Rattle.one_lock.specs.Lab.{setup_of, words_sent}
-use Rattle.one_lock.specs.Member.{Seat, Goes, of_wait, new_seats}
-use Rattle.one_lock.specs.Shown.{place_of}
+use Rattle.one_lock.specs.declared.lab.lab_fault.LabFault.TheVariants.{OutOfMemory as WantsMemory, Reply}
+use Rattle.runs.specs.declared.lock_fault.LockFault.TheVariants.{NumbersSpent}
 use Rattle.one_lock.proofs.Seats.{new_count, number_at}
 
 -- the ending of the worker at a place

@@ -1,3 +1,4 @@
+pub mod Common
 pub mod Stories
 pub mod Endings
 pub mod Steps

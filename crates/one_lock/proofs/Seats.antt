@@ -1,13 +1,7 @@
 -- All members of an arena, at its making and when they are handed back.
 use Rattle.std.proofs.Common.{◌≡◌, ℕ, zero, suc, ◌<◌, List, [], ◌∷◌, ◌++◌, map, length, get_or, All, refl, sym, ap, ◌∙◌, subst, inl, inr, arith, append_assoc}
+use Rattle.one_lock.proofs.Common.{cases_lt, length-map, map-append, get_or_append_left, All-nil, All-cons, All-head, All-tail, All-push, Layout, Out, Seat, new_seats, AreAll, place_of, CanSend}
 use Rattle.std.proofs.Math.Seq.{get_or-append_seam}
-use Rattle.std.proofs.lemmas.Bool.{cases_lt}
-use Rattle.std.proofs.lemmas.List.{map-append, length-map, get_or_append_left}
-use Rattle.std.proofs.lemmas.List.Elements.{All-nil, All-cons, All-head, All-tail, All-push}
-use Rattle.redomail.specs.declared.layout.Layout.{Layout}
-use Rattle.one_lock.specs.declared.member_state.MemberState.TheVariants.{Out}
-use Rattle.one_lock.specs.Member.{Seat, new_seats, AreAll}
-use Rattle.one_lock.specs.Shown.{CanSend, place_of}
 
 -- the members are of an arena of so many processes
 abbrev FitAll : ℕ → List Seat → Type 0

@@ -1,6 +1,6 @@
 -- The steps of several members, added up.
 use Rattle.std.proofs.Common.{◌≡◌, ◌+◌, List, [], ◌∷◌, ◌++◌, arith}
-use Rattle.one_lock.specs.Member.{Seat, steps_taken}
+use Rattle.one_lock.proofs.Common.{Seat, steps_taken}
 
 pub steps_more : (ms : List Seat) (m : Seat) → steps_taken (ms ++ m ∷ []) ≡ steps_taken ms + m.steps
 steps_more [] m = omega arith

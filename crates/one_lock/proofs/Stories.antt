@@ -1,12 +1,9 @@
 -- What is known of the world under the lock stays known at each happening.
 use Rattle.std.proofs.Common.{◌≡◌, ℕ, ◌+◌, List, [], ◌∷◌, ◌++◌, refl, sym, ap, ◌∙◌, subst, arith, Option, Some, None}
-use Rattle.rmeworld.specs.Spot.{Happening, Begins, Falls, Moves, Glances}
+use Rattle.one_lock.proofs.Common.{Happening, Begins, Falls, Moves, Glances, WorldState, scene_of, Takes, new_world, Setup, IsTold, AreSizes, steps_of}
 use Rattle.rmeworld.specs.World.{at_first, Can, onward, Story, last_scene, event_deeds, deeds}
-use Rattle.rmeworld.specs.WorldState.{WorldState, scene_of, Takes, new_world}
 use Rattle.rmeworld.proofs.StoryGrows.{story_more, last_more, deeds_more}
 use Rattle.rmeworld.proofs.Worlds.{new_scene}
-use Rattle.runs.specs.declared.setup.Setup.{Setup}
-use Rattle.one_lock.specs.Story.{steps_of, IsTold, AreSizes}
 
 pub steps_more : (es : List Happening) (e : Happening) → steps_of (es ++ e ∷ []) ≡ steps_of (e ∷ []) + steps_of es
 steps_more [] (Begins p call) = refl

@@ -1,5 +1,5 @@
 use Rattle.std.proofs.Common.{◌≡◌, ◌+◌}
-use Rattle.one_lock.specs.Member.{new_seats}
+use Rattle.one_lock.proofs.Common.{new_seats}
 use Rattle.one_lock.proofs.arena.members_of.Given as goal
 
 abbrev pub invariant-loop-process : goal.invariant-loop-process

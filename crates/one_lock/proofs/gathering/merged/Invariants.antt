@@ -1,6 +1,5 @@
 use Rattle.std.proofs.Common.{◌≡◌, ◌+◌, vec_len}
-use Rattle.std.specs.Vec.Iter.{into_iter_items, into_iter_len}
-use Rattle.one_lock.specs.Member.{steps_taken}
+use Rattle.one_lock.proofs.Common.{into_iter_items, into_iter_len, steps_taken}
 use Rattle.one_lock.proofs.gathering.merged.Given as goal
 
 abbrev pub invariant-loop-member : goal.invariant-loop-member

@@ -1,8 +1,7 @@
 use Rattle.std.proofs.Common.{◌≡◌, ◌<◌, All, sym, ◌∙◌, subst}
+use Rattle.one_lock.proofs.Common.{Layout, new_seats, AreAll}
 use Rattle.std.proofs.lemmas.Result.{IfOk-weaker}
-use Rattle.redomail.specs.declared.layout.Layout.{Layout}
 use Rattle.rmeworld.proofs.Beginning.{sized}
-use Rattle.one_lock.specs.Member.{new_seats, AreAll}
 use Rattle.one_lock.proofs.Seats.{new_arena, new_all}
 use Rattle.one_lock.proofs.arena.Arena.of_sizes.Goals as goal
 

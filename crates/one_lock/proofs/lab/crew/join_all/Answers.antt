@@ -1,9 +1,5 @@
 use Rattle.std.proofs.Common.{◌≡◌, ◌∙◌, ◌++◌, map, All, sym, ap, subst}
-use Rattle.std.specs.Vec.Iter.{into_iter_items}
-use Rattle.std.proofs.lemmas.List.Elements.{All-head, All-push, All-tail}
-use Rattle.one_lock.specs.declared.lab.spec.Spec.{Spec}
-use Rattle.one_lock.specs.Endings.{MayEnd}
-use Rattle.one_lock.specs.Shown.{place_of}
+use Rattle.one_lock.proofs.Common.{All-head, All-tail, All-push, into_iter_items, Spec, MayEnd, place_of}
 use Rattle.one_lock.proofs.Seats.{moved_on}
 use Rattle.one_lock.proofs.lab.crew.join_all.Goals as goal
 

@@ -1,8 +1,5 @@
 use Rattle.std.proofs.Common.{◌≡◌, ◌++◌, map, All}
-use Rattle.std.specs.Vec.Iter.{into_iter_items}
-use Rattle.one_lock.specs.declared.lab.spec.Spec.{Spec}
-use Rattle.one_lock.specs.Endings.{MayEnd}
-use Rattle.one_lock.specs.Shown.{place_of}
+use Rattle.one_lock.proofs.Common.{into_iter_items, Spec, MayEnd, place_of}
 use Rattle.one_lock.proofs.lab.crew.join_all.Given as goal
 
 abbrev pub invariant-loop-thread : goal.invariant-loop-thread

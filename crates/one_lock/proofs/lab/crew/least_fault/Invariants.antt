@@ -1,5 +1,5 @@
 use Rattle.std.proofs.Common.{map, take}
-use Rattle.one_lock.specs.Endings.{HaveAllSent}
+use Rattle.one_lock.proofs.Common.{HaveAllSent}
 use Rattle.one_lock.proofs.lab.crew.least_fault.Given as goal
 
 abbrev pub invariant-loop-p : goal.invariant-loop-p

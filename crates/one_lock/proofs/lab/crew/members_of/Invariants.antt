@@ -1,6 +1,5 @@
 use Rattle.std.proofs.Common.{◌≡◌, ◌++◌, map}
-use Rattle.std.specs.Vec.Iter.{into_iter_items}
-use Rattle.one_lock.specs.Shown.{place_of}
+use Rattle.one_lock.proofs.Common.{into_iter_items, place_of}
 use Rattle.one_lock.proofs.lab.crew.members_of.Given as goal
 
 abbrev pub invariant-loop-done : goal.invariant-loop-done

@@ -1,5 +1,5 @@
 use Rattle.std.proofs.Common.{◌≡◌, length}
-use Rattle.one_lock.specs.Shown.{CanSend, place_of}
+use Rattle.one_lock.proofs.Common.{place_of, CanSend}
 use Rattle.one_lock.proofs.lab.crew.send.Given as goal
 
 abbrev pub invariant-loop : goal.invariant-loop

@@ -1,7 +1,5 @@
 use Rattle.std.proofs.Common.{◌≡◌, ◌∙◌, ◌++◌, map, All, ap, sym, subst, arith}
-use Rattle.std.specs.Vec.Iter.{into_iter_items}
-use Rattle.std.proofs.lemmas.List.Elements.{All-push, All-tail}
-use Rattle.one_lock.specs.Shown.{CanSend, place_of}
+use Rattle.one_lock.proofs.Common.{All-tail, All-push, into_iter_items, place_of, CanSend}
 use Rattle.one_lock.proofs.Seats.{moved_on}
 use Rattle.one_lock.proofs.lab.crew.start_all.Goals as goal
 

@@ -1,6 +1,5 @@
 use Rattle.std.proofs.Common.{◌≡◌, ◌++◌, map, All}
-use Rattle.std.specs.Vec.Iter.{into_iter_items, into_iter_len}
-use Rattle.one_lock.specs.Shown.{CanSend, place_of}
+use Rattle.one_lock.proofs.Common.{into_iter_items, into_iter_len, place_of, CanSend}
 use Rattle.one_lock.proofs.lab.crew.start_all.Given as goal
 
 abbrev pub invariant-loop-member : goal.invariant-loop-member

@@ -1,6 +1,5 @@
 use Rattle.std.proofs.Common.{rules, ◌≢◌, true≢false, sym, subst}
-use Rattle.one_lock.specs.declared.lab.ending.Ending.TheVariants.{Fault}
-use Rattle.runs.specs.declared.lock_fault.LockFault.TheVariants.{OutOfMemory}
+use Rattle.one_lock.proofs.Common.{OutOfMemory, Fault}
 use Rattle.one_lock.proofs.Endings.{all_more, all_of, none_wanted}
 use Rattle.one_lock.proofs.lab.crew.want_memory.Goals as goal
 

@@ -1,6 +1,5 @@
 use Rattle.std.proofs.Common.{◌≢◌, map, take, All}
-use Rattle.one_lock.specs.declared.lab.ending.Ending.TheVariants.{Fault}
-use Rattle.runs.specs.declared.lock_fault.LockFault.TheVariants.{OutOfMemory}
+use Rattle.one_lock.proofs.Common.{OutOfMemory, Fault}
 use Rattle.one_lock.proofs.lab.crew.want_memory.Given as goal
 
 abbrev pub invariant-loop-done : goal.invariant-loop-done

@@ -1,7 +1,6 @@
 use Rattle.std.proofs.Common.{◌≡◌, ◌∙◌, ◌⊎◌, ℕ, true, false, inl, inr, refl, sym, ap, subst}
-use Rattle.redomail.specs.declared.layout.Layout.{Layout}
+use Rattle.one_lock.proofs.Common.{Layout, WasSent, WasRefused}
 use Rattle.redomail.specs.declared.reply.Reply.TheVariants.{Stored, Already}
-use Rattle.one_lock.specs.Endings.{WasSent, WasRefused}
 use Rattle.one_lock.proofs.Endings.{replied_to, sent_more}
 use Rattle.one_lock.proofs.lab.crew.work.Goals as goal
 

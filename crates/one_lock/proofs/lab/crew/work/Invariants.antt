@@ -1,6 +1,5 @@
 use Rattle.std.proofs.Common.{◌≡◌, ℕ, ◌≤◌, ◌<◌}
-use Rattle.one_lock.specs.Endings.{WasSent}
-use Rattle.one_lock.specs.Shown.{CanSend, place_of}
+use Rattle.one_lock.proofs.Common.{WasSent, place_of, CanSend}
 use Rattle.one_lock.proofs.lab.crew.work.Given as goal
 
 abbrev pub invariant-loop-seq : goal.invariant-loop-seq

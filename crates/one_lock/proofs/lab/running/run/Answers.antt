@@ -1,18 +1,11 @@
 use Rattle.std.proofs.Common.{rules, ◌≡◌, ℕ, List, map, All, Result, Ok, Err, IfOk, OnOk, slice_index, sym, ap, ◌∙◌, subst, Option, Some, refl}
-use Rattle.redomail.specs.declared.layout.Layout.{Layout}
+use Rattle.one_lock.proofs.Common.{Layout, Setup, LabFault, HaveAllSent, setup_of, steps_taken, place_of, CanSend, AreShown, AreSizes, IsLeftBy}
 use Rattle.redomail.specs.declared.message.Message.{Message}
 use Rattle.redomail.specs.Content.{IsContent}
 use Rattle.redomail.specs.Layout.{words_of}
 use Rattle.redomail.specs.Shape.{entries}
 use Rattle.rmeworld.specs.declared.image.Image.{Image}
 use Rattle.rmeworld.specs.ImageRules.{IsLawfulImage}
-use Rattle.runs.specs.declared.setup.Setup.{Setup}
-use Rattle.one_lock.specs.declared.lab.lab_fault.LabFault.{LabFault}
-use Rattle.one_lock.specs.Shown.{AreShown, CanSend, place_of}
-use Rattle.one_lock.specs.Endings.{HaveAllSent}
-use Rattle.one_lock.specs.Lab.{setup_of}
-use Rattle.one_lock.specs.Member.{steps_taken}
-use Rattle.one_lock.specs.Story.{IsLeftBy, AreSizes}
 use Rattle.one_lock.proofs.Endings.{lab_ended, all_sent, may_end_lab}
 use Rattle.one_lock.proofs.Seats.{same_fit, same_count, new_ready}
 use Rattle.one_lock.proofs.lab.running.run.Goals as goal

@@ -1,5 +1,5 @@
+use Rattle.one_lock.proofs.Common.{setup_of}
 use Rattle.std.specs.Prelude.{Some}
-use Rattle.one_lock.specs.Lab.{setup_of}
 use Rattle.one_lock.proofs.lab.running.run_lab.Given as goal
 
 -- the ledger of the blank that was just made

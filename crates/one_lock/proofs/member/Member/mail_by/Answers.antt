@@ -1,5 +1,5 @@
 use Rattle.std.proofs.Common.{◌≡◌, subst}
-use Rattle.one_lock.specs.Member.{falls_by}
+use Rattle.one_lock.proofs.Common.{falls_by}
 use Rattle.one_lock.proofs.member.Member.mail_by.Goals as goal
 
 pub conclude-requires-in-Err : goal.conclude-requires-in-Err

@@ -1,5 +1,5 @@
 use Rattle.std.proofs.Common.{rules, ◌≡◌, ℕ, ◌+◌, Some, None, IsNone, refl, subst}
-use Rattle.one_lock.specs.Answers.{Gives, spent, further}
+use Rattle.one_lock.proofs.Common.{Gives, further, spent}
 use Rattle.one_lock.proofs.Answered.{goes_free, goes_blocked, still_none}
 use Rattle.one_lock.proofs.member.Member.pursue.Goals as goal
 

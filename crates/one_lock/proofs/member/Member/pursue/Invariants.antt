@@ -1,5 +1,5 @@
 use Rattle.std.proofs.Common.{◌≡◌, IsNone}
-use Rattle.one_lock.specs.Member.{Goes, AskedEach, CountsOn}
+use Rattle.one_lock.proofs.Common.{Goes, AskedEach, CountsOn}
 use Rattle.one_lock.proofs.Answered.{IsUnderWay}
 use Rattle.one_lock.proofs.member.Member.pursue.Given as goal
 

@@ -1,5 +1,5 @@
 use Rattle.std.proofs.Common.{◌≡◌, ◌+◌, arith}
-use Rattle.rmeworld.specs.WorldState.{happening_of}
+use Rattle.one_lock.proofs.Common.{happening_of}
 use Rattle.one_lock.proofs.Stories.{told_more, still_sized}
 use Rattle.one_lock.proofs.shared.Shared.advance.Goals as goal
 

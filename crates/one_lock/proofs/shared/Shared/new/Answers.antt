@@ -1,5 +1,5 @@
 use Rattle.std.proofs.Common.{sym, subst}
-use Rattle.one_lock.specs.Story.{IsTold}
+use Rattle.one_lock.proofs.Common.{IsTold}
 use Rattle.one_lock.proofs.Stories.{told_first}
 use Rattle.one_lock.proofs.shared.Shared.new.Goals as goal
 

@@ -1,5 +1,5 @@
 use Rattle.std.proofs.Common.{◌≡◌, ◌+◌, arith}
-use Rattle.rmeworld.specs.Spot.{Begins}
+use Rattle.one_lock.proofs.Common.{Begins}
 use Rattle.one_lock.proofs.Stories.{told_more, still_sized}
 use Rattle.one_lock.proofs.shared.Shared.start.Goals as goal
 

@@ -1,40 +1,15 @@
 -- What the mailbox list shows at the end of a lab: just what its workers sent.
 use Rattle.std.proofs.Common.{◌≡◌, ℕ, ◌<◌, ◌≤◌, ◌==◌, Bool, true, false, List, [], ◌∷◌, ◌++◌, length, slice_index, Option, Some, None, All, refl, sym, ap, ◌∙◌, subst, inl, inr, arith, eq-eqb}
-use Rattle.std.proofs.lemmas.Bool.{cases_eq}
-use Rattle.std.proofs.lemmas.List.Elements.{All-nil, All-cons, All-head, All-tail, All-append, All-weaker, All-contains}
-use Rattle.redomail.specs.declared.layout.Layout.{Layout}
-use Rattle.redomail.specs.declared.message.Message.{Message}
-use Rattle.redomail.specs.Content.{IsContent}
-use Rattle.redomail.specs.Layout.{Words, IsLayout, words_of}
-use Rattle.redomail.specs.Mailbox.{IsAmong}
-use Rattle.redomail.specs.Shape.{entries, count_of, IsNumbered, RecordRule}
+use Rattle.robust.proofs.Common.{cases_eq, All-nil, All-cons, All-head, All-tail, All-append, All-weaker, All-contains, Layout, Message, IsContent, Words, IsLayout, words_of, IsAmong, entries}
+use Rattle.robust.proofs.Common.{count_of, IsNumbered, RecordRule, Call, Append, Image, layout_of, EveryMessageWasSent, IsSent, Happening, Begins, Falls, TakenStep, Setup, Gathers, IsGlance, IsTold}
+use Rattle.robust.proofs.Common.{has_member, image_at, deeds_of, shown_by, cells_of, RunsShow, Seated, before, taken, happenings, spelled, own, IsRun, end_of, length-counted, cells_counted, by_kind}
+use Rattle.robust.proofs.Common.{shown_on, all_both, member_at, Keeps, Holds, all_hold, Spec, AreAllSent, words_sent, messages_sent, messages_by, AreShownByRun, OfStart, IsSending, AreSending}
+use Rattle.robust.proofs.Common.{HasSent, sizes_of}
 use Rattle.judge.specs.Table.{State, empty}
 use Rattle.judge.proofs.Halves.{state_led}
-use Rattle.rmeworld.specs.declared.call.Call.{Call}
-use Rattle.rmeworld.specs.declared.call.Call.TheVariants.{Append}
-use Rattle.rmeworld.specs.declared.image.Image.{Image}
-use Rattle.rmeworld.specs.ImageRules.{layout_of}
-use Rattle.rmeworld.specs.Sent.{EveryMessageWasSent, IsSent}
-use Rattle.rmeworld.specs.Spot.{Happening, Begins, Falls}
-use Rattle.runs.specs.declared.entry.TakenStep.{TakenStep}
-use Rattle.one_lock.specs.declared.lab.spec.Spec.{Spec}
-use Rattle.runs.specs.declared.setup.Setup.{Setup}
-use Rattle.runs.specs.Gathering.{Gathers, IsGlance, IsTold, has_member, image_at}
-use Rattle.runs.specs.Headline.{deeds_of, shown_by}
-use Rattle.one_lock.specs.Lab.{AreAllSent, words_sent, messages_sent, messages_by}
-use Rattle.runs.specs.Reading.{cells_of, RunsShow}
 use Rattle.runs.specs.Rule.{Begins as Starts}
-use Rattle.runs.specs.Running.{Seated}
-use Rattle.runs.specs.Runs.{before, taken, happenings, spelled, own, IsRun, end_of}
-use Rattle.robust.specs.LabRuns.{AreShownByRun}
-use Rattle.robust.specs.Worked.{sizes_of}
-use Rattle.robust.specs.Sending.{OfStart, IsSending, AreSending, HasSent}
 use Rattle.robust.proofs.Appended.{own_taken, own_passed, among_more}
-use Rattle.runs.proofs.LawfulEnd.{length-counted, cells_counted}
 use Rattle.robust.proofs.Numbered.{many, few, sent_by, senders, counted_all}
-use Rattle.runs.proofs.Runs.{by_kind}
-use Rattle.runs.proofs.Shown.{shown_on}
-use Rattle.runs.proofs.Together.{all_both, member_at, Keeps, Holds, all_hold}
 
 -- what holds of each call that a process starts
 pub OfBegins : (Call → Type 0) → ℕ → Happening → Type 0

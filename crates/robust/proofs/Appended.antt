@@ -1,47 +1,16 @@
 -- At which point of a whole mailbox call its append was answered, and what that tells: where the answer was Stored or Already
 -- the message is shown; what another reply says of the mailbox held there.
 use Rattle.std.proofs.Common.{◌≡◌, ℕ, ◌==◌, Bool, true, false, if◌then◌else◌, List, [], ◌∷◌, ◌++◌, Option, Some, None, Result, Ok, Err, IfOk, OnOk, All, refl, sym, ap, ◌∙◌, subst, inl, inr, append_assoc, eqb-true, ◌⊎◌}
-use Rattle.std.proofs.lemmas.List.Elements.{All-nil, All-cons, All-head, All-tail}
+use Rattle.robust.proofs.Common.{All-nil, All-cons, All-head, All-tail, Place, Message, Reply, Stored, Already, Mended, Task, IsLayout, IsAmong, message, Answer, Mail, Unlocked, Call, Append, Lock}
+use Rattle.robust.proofs.Common.{Unlock, Consistent, answer_at, is_idle, is_idle_by, mail_after, ReplyTells, RepliesTell, Happening, Errand, Free, Doing, Spot, Moves, at_rest, Scene, at_first}
+use Rattle.robust.proofs.Common.{last_scene, Story, TakenStep, Entry as Entering, LockFault, Setup, spot_before, AreMoves, ServedAll, refusal_now, ready, answer_of, shown_by, judged_by, spot_at}
+use Rattle.robust.proofs.Common.{EndsAppend, EveryRunIsSound, IsPass, spot_now, Seated, fell, began, before, spelled, own, IsRun, gone, spot_of, ToldIn, Appends, WholeEnds, calls_inside}
+use Rattle.robust.proofs.Common.{answers_inside, scene_at, spot_is, spelled_to, gone-append, spot_begun, taken_moves, own-append, spelled-append, scene-append, shown_on, OfStart}
 use Rattle.rmecore.specs.Paid.{is_glance}
-use Rattle.rmecore.specs.Place.{Place}
 use Rattle.rmecore.specs.declared.refusal.Refusal.{Refusal}
-use Rattle.redomail.specs.declared.message.Message.{Message}
-use Rattle.redomail.specs.declared.reply.Reply.{Reply}
-use Rattle.redomail.specs.declared.reply.Reply.TheVariants.{Stored, Already, Mended}
-use Rattle.redomail.specs.declared.task.Task.{Task}
 use Rattle.redomail.specs.declared.task.Task.TheVariants as task
-use Rattle.redomail.specs.Layout.{IsLayout}
-use Rattle.redomail.specs.Mailbox.{message, IsAmong}
-use Rattle.rmeworld.specs.declared.answer.Answer.{Answer}
-use Rattle.rmeworld.specs.declared.answer.Answer.TheVariants.{Mail, Unlocked}
-use Rattle.rmeworld.specs.declared.call.Call.{Call}
-use Rattle.rmeworld.specs.declared.call.Call.TheVariants.{Lock, Unlock, Consistent, Append}
-use Rattle.rmeworld.specs.Answered.{answer_at}
-use Rattle.rmeworld.specs.Refused.{is_idle, is_idle_by}
-use Rattle.rmeworld.specs.Sent.{mail_after, ReplyTells, RepliesTell}
-use Rattle.rmeworld.specs.Spot.{Errand, Free, Doing, Spot, Happening, Moves, at_rest}
-use Rattle.rmeworld.specs.World.{Scene, at_first, last_scene, Story}
-use Rattle.runs.specs.declared.entry_kind.Entry.{Entry as Entering}
 use Rattle.runs.specs.declared.entry_kind.Entry.TheVariants as entering
-use Rattle.runs.specs.declared.entry.TakenStep.{TakenStep}
-use Rattle.runs.specs.declared.lock_fault.LockFault.{LockFault}
-use Rattle.runs.specs.declared.setup.Setup.{Setup}
-use Rattle.runs.specs.Calls.{spot_before, AreMoves, ServedAll}
-use Rattle.runs.specs.Faults.{refusal_now, ready, answer_of}
-use Rattle.runs.specs.Headline.{judged_by, shown_by, spot_at, EndsAppend, EveryRunIsSound}
-use Rattle.runs.specs.Pass.{IsPass, spot_now}
-use Rattle.runs.specs.Running.{Seated, fell, began}
-use Rattle.runs.specs.Runs.{before, own, spelled, gone, spot_of, IsRun}
-use Rattle.runs.specs.Whole.{WholeEnds, calls_inside, answers_inside}
-use Rattle.robust.specs.Sending.{OfStart}
-use Rattle.runs.specs.Telling.{ToldIn}
-use Rattle.runs.specs.Under.{Appends}
 use Rattle.robust.proofs.Errands.{Only, Brings, each_start, only_begun, Answering, find, IsTasks, task_mails}
-use Rattle.runs.proofs.Leads.{gone-append}
-use Rattle.runs.proofs.Headline.{scene_at, spot_is, spelled_to}
-use Rattle.runs.proofs.Running.{spot_begun, taken_moves}
-use Rattle.runs.proofs.Runs.{own-append, spelled-append, scene-append}
-use Rattle.runs.proofs.Shown.{shown_on}
 
 -- an entry of a process, and those before it and behind it
 pub record Own (p : ℕ) (es front : List TakenStep) (e : TakenStep) : Type 0 where

@@ -1,17 +1,6 @@
 -- How far the fast path of a lock leads, put together from its parts.
-use Rattle.std.proofs.Common.{◌≡◌, ℕ, ◌+◌, Bool, true, false, if◌then◌else◌, refl, sym, ap, ◌∙◌, subst, inl, inr}
-use Rattle.std.proofs.lemmas.Bool.{cases_Bool}
-use Rattle.rmecore.specs.Place.{Place}
-use Rattle.rmecore.specs.Machine.{place_of}
-use Rattle.rmecore.specs.declared.stage.Stage.{Stage}
-use Rattle.rmeworld.specs.Refused.{is_waiting}
-use Rattle.rmeworld.specs.Spot.{Spot, Free}
-use Rattle.rmeworld.specs.declared.answer.Answer.TheVariants.{Clean}
-use Rattle.rmeworld.specs.declared.call.Call.TheVariants.{Lock}
-use Rattle.runs.specs.declared.setup.Setup.{Setup}
-use Rattle.runs.specs.Pass.{Pass, spot_now}
-use Rattle.runs.specs.Under.{IsUnder, UnderBy, Begun, under_place}
-use Rattle.robust.specs.FastPath.{free_spot, IsSame, Unanswered, EndsIn, Enters, checked_spot}
+use Rattle.std.proofs.Common.{◌≡◌, ℕ, ◌+◌, Bool, true, false, if◌then◌else◌, refl, ap, ◌∙◌, subst}
+use Rattle.robust.proofs.Common.{Stage, place_of, Clean, Lock, is_waiting, Setup, spot_now, Pass, Begun, free_spot, IsSame, Unanswered, EndsIn, Enters, checked_spot}
 use Rattle.robust.specs.declared.fast_path.Reached.{Reached}
 use Rattle.robust.specs.declared.fast_path.Reached.TheVariants as Reaches
 use Rattle.robust.proofs.FreeSteps.{unanswered_then, ends_then}
@@ -73,12 +62,3 @@ enters_then x y z j k r p s mended free e = record {
 
     begun : Begun Lock y.setup.layout.procs (spot_now z) → Begun Lock x.setup.layout.procs (spot_now z)
     begun b = subst (λ (u : Setup). Begun Lock u.layout.procs (spot_now z)) s.0 b
-
--- a lock under way that was not turned away
-pub free_place : (s : Spot) (t : Place) → IsUnder Lock s → s.errand ≡ Free → s.lock ≡ t → under_place Lock true t ≡ false → s ≡ free_spot t s.mended
-free_place s t under free at not =
-    let u : under_place Lock s.barred s.lock ≡ true = subst (UnderBy Lock s.lock s.barred) free under in
-    elim (cases_Bool s.barred) [
-      | inl e ↦ (let f : under_place Lock true t ≡ true = ap (λ (b : Bool). under_place Lock b t) (sym e) ∙ ap (under_place Lock s.barred) (sym at) ∙ u in absurd (cc))
-      | inr e ↦ λ i. record { lock = at i; mended = s.mended; barred = e i; errand = free i }
-    ]

@@ -1,41 +1,18 @@
 -- At which spots of a whole mailbox call a reply can come: but for a mending's only its task's.
 use Rattle.std.proofs.Common.{◌≡◌, ℕ, ◌==◌, ◌&&◌, Bool, true, false, if◌then◌else◌, List, [], ◌∷◌, ◌++◌, length, Option, Some, None, All, unwrap_or, refl, sym, ap, ◌∙◌, subst}
-use Rattle.std.proofs.lemmas.List.Elements.{All-nil, All-cons, All-head, All-tail}
-use Rattle.rmecore.specs.Place.{Place, Dead, Inside, next, started}
-use Rattle.rmecore.specs.Machine.{answer}
+use Rattle.robust.proofs.Common.{All-nil, All-cons, All-head, All-tail, Kind, Get as Gets, Put as Puts, Word, Data as DataAt, answer, Place, Dead, Inside, next, started, Layout, Reply, Task, Script}
+use Rattle.robust.proofs.Common.{tail, script, consistent, Answer, Mail, Call, Append, Lock, Unlock, Consistent, Recover, Close, Withdraw, Checking, Ruining, Mending, Working, answer_at, by_lock}
+use Rattle.robust.proofs.Common.{by_reply, by_script, answer_by, is_entry, Errand, Free, Doing, Spot, at_lock, settled, only_spot, moved_by, inside_only, begun_from, TakenStep, Setup, spot_before}
+use Rattle.robust.proofs.Common.{answers_from, and_call, starts, before, taken, happenings, spelled, gone, Replies, Mends, mends_consistent, gone-append, by_kind, OfStart}
 use Rattle.rmecore.specs.declared.core_call.CoreCall.TheVariants as core
 use Rattle.rmecore.specs.declared.core_done.CoreDone.{CoreDone}
 use Rattle.rmecore.specs.declared.core_done.CoreDone.TheVariants as ends
-use Rattle.rmecore.specs.declared.kind.Kind.{Kind}
-use Rattle.rmecore.specs.declared.kind.Kind.TheVariants.{Get as Gets, Put as Puts}
-use Rattle.rmecore.specs.declared.word.Word.{Word}
-use Rattle.rmecore.specs.declared.word.Word.TheVariants.{Data as DataAt}
-use Rattle.redomail.specs.Script.{Script, Get as Asks, Put as Writes, Done, tail}
-use Rattle.redomail.specs.Tasks.{script, consistent}
-use Rattle.redomail.specs.declared.layout.Layout.{Layout}
-use Rattle.redomail.specs.declared.reply.Reply.{Reply}
+use Rattle.redomail.specs.Script.{Get as Asks, Put as Writes, Done}
 use Rattle.redomail.specs.declared.reply.Reply.TheVariants as reply
-use Rattle.redomail.specs.declared.task.Task.{Task}
 use Rattle.redomail.specs.declared.task.Task.TheVariants as task
-use Rattle.rmeworld.specs.declared.answer.Answer.{Answer}
-use Rattle.rmeworld.specs.declared.answer.Answer.TheVariants.{Mail}
-use Rattle.rmeworld.specs.declared.call.Call.{Call}
-use Rattle.rmeworld.specs.declared.call.Call.TheVariants.{Lock, Unlock, Consistent, Recover, Append, Close, Get, Put, Withdraw}
+use Rattle.rmeworld.specs.declared.call.Call.TheVariants.{Get, Put}
 use Rattle.rmeworld.specs.declared.why.Why.{Why}
-use Rattle.rmeworld.specs.declared.why.Why.TheVariants.{Checking, Ruining, Mending, Working}
-use Rattle.rmeworld.specs.Answered.{by_lock, by_reply, by_script, answer_by, answer_at}
-use Rattle.rmeworld.specs.Entered.{is_entry}
-use Rattle.rmeworld.specs.Spot.{Errand, Free, Doing, Spot, at_lock, settled, only_spot, moved_by, inside_only, begun_from}
 use Rattle.rmeworld.specs.CallWalk.{and_answer}
-use Rattle.runs.specs.declared.setup.Setup.{Setup}
-use Rattle.runs.specs.declared.entry.TakenStep.{TakenStep}
-use Rattle.runs.specs.Runs.{before, taken, happenings, spelled, gone}
-use Rattle.runs.specs.Calls.{spot_before, answers_from, and_call, starts}
-use Rattle.runs.specs.Under.{Replies, Mends}
-use Rattle.robust.specs.Sending.{OfStart}
-use Rattle.runs.proofs.Begun.{mends_consistent}
-use Rattle.runs.proofs.Leads.{gone-append}
-use Rattle.runs.proofs.Runs.{by_kind}
 
 -- of all tasks at most this one is under way here, and a mending replies as mendings do
 abbrev pub Only : Task → Errand → Type 0

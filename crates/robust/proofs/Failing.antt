@@ -1,31 +1,11 @@
 -- How a worker's append can fail, where its member is outside the section and its value has the right width.
 use Rattle.std.proofs.Common.{◌≡◌, ◌≢◌, ◌⊎◌, ℕ, ◌+◌, ◌-◌, ◌<◌, ◌≤◌, Bool, true, false, if◌then◌else◌, List, [], ◌++◌, length, Some, None, Result, Ok, Err, IfOk, IfErr, refl, sym, ap, ◌∙◌, subst, inl, inr, arith, append_assoc, append-nil}
-use Rattle.atomic_table.specs.Seated.{TableId}
-use Rattle.rmecore.specs.declared.refusal.Refusal.TheVariants.{AlreadyIn as IsIn, CallUnderWay}
-use Rattle.redomail.specs.Mailbox.{IsAmong}
-use Rattle.redomail.specs.declared.reply.Reply.{Reply}
+use Rattle.robust.proofs.Common.{TableId, CallUnderWay, Reply, IsAmong, Answer, Call, Append, Lock, is_idle, ReplyTells, TakenStep, LockFault, Crashed, NotYet, AlreadyIn, Setup, refusal_now, ready}
+use Rattle.robust.proofs.Common.{shown_by, judged_by, spot_now, Calls, Seated, fell, began, ToldIn, Appends, WholeEnds, AppendFails, Comes, shown_on, RefusedAt, HasShown, seat_of}
+use Rattle.rmecore.specs.declared.refusal.Refusal.TheVariants.{AlreadyIn as IsIn}
 use Rattle.redomail.specs.declared.reply.Reply.TheVariants as reply
-use Rattle.rmeworld.specs.declared.answer.Answer.{Answer}
-use Rattle.rmeworld.specs.declared.call.Call.{Call}
-use Rattle.rmeworld.specs.declared.call.Call.TheVariants.{Lock, Append}
-use Rattle.rmeworld.specs.Refused.{is_idle}
-use Rattle.rmeworld.specs.Sent.{ReplyTells}
-use Rattle.runs.specs.declared.entry.TakenStep.{TakenStep}
-use Rattle.runs.specs.declared.lock_fault.LockFault.{LockFault}
-use Rattle.runs.specs.declared.lock_fault.LockFault.TheVariants.{Crashed, NotYet, NumbersSpent, NotRecoverable, AlreadyIn, BadWidth}
-use Rattle.runs.specs.declared.setup.Setup.{Setup}
-use Rattle.runs.specs.Faults.{refusal_now, ready}
-use Rattle.runs.specs.Headline.{judged_by, shown_by}
-use Rattle.robust.specs.LabFaults.{RefusedAt}
-use Rattle.runs.specs.Pass.{spot_now, Calls}
-use Rattle.runs.specs.Running.{Seated, began, fell}
-use Rattle.robust.specs.Sending.{HasShown}
-use Rattle.runs.specs.Telling.{ToldIn}
-use Rattle.runs.specs.Under.{Appends}
-use Rattle.runs.specs.Whole.{WholeEnds, AppendFails, Comes}
-use Rattle.robust.specs.Working.{seat_of}
+use Rattle.runs.specs.declared.lock_fault.LockFault.TheVariants.{NumbersSpent, NotRecoverable, BadWidth}
 use Rattle.robust.proofs.Appended.{among_more, either_seen}
-use Rattle.runs.proofs.Shown.{shown_on}
 
 -- a process that may lock isn't in the section
 idle_in : (b : Bool) (x : Seated) → is_idle (spot_now x.pass) ≡ b → refusal_now x Lock ≡ Some IsIn → refusal_now (if b then x else fell x) Lock ≡ None → ⊥

@@ -1,49 +1,14 @@
 -- Steps of a script on the data words in a row, told by passes alone.
 use Rattle.std.proofs.Common.{◌≡◌, ℕ, zero, suc, ◌+◌, ◌*◌, ◌<◌, ◌≤◌, ◌==◌, ◌&&◌, Bool, true, false, if◌then◌else◌, List, [], ◌∷◌, ◌++◌, length, drop, slice_index, Some, None, IsSome, unwrap_or, refl, sym, ap, ◌∙◌, subst, arith, eq-eqb, length-append}
-use Rattle.std.proofs.lemmas.Bool.{eqb-true}
-use Rattle.std.proofs.lemmas.List.{drop_all}
-use Rattle.rmecore.specs.declared.kind.Kind.TheVariants.{Get as Gets, Put as Puts}
-use Rattle.rmecore.specs.declared.word.Word.TheVariants.{Data as DataAt}
-use Rattle.rmecore.specs.declared.access.Access.{Access}
-use Rattle.rmecore.specs.declared.access.Access.TheVariants.{Load, Store}
-use Rattle.rmecore.specs.Machine.{kind_of, word_of, carried}
-use Rattle.rmecore.specs.Place.{Inside}
-use Rattle.rmecore.specs.Simulated.{one_more}
-use Rattle.redomail.specs.declared.layout.Layout.{Layout}
-use Rattle.redomail.specs.declared.reply.Reply.{Reply}
-use Rattle.redomail.specs.declared.reply.Reply.TheVariants.{Stored}
+use Rattle.robust.proofs.Common.{eqb-true, drop_all, Access, Load, Store, Get as Gets, Put as Puts, BadWidth, Data as DataAt, kind_of, word_of, carried, Inside, one_more, Layout, Reply, Stored}
+use Rattle.robust.proofs.Common.{IsLayout, held, last_at, place_at, size, Script, puts, decided, store_steps, record_of, held-small, length-store_steps, step-record, step-entry, step-disarm}
+use Rattle.robust.proofs.Common.{place_low, place_up, place_small, Answer, Mail, Call, Append, Working, answer_at, by_script, blocked_by, start_refusal, Begins, Doing, Spot, next_spot, Stand}
+use Rattle.robust.proofs.Common.{access_by, TakenStep, Setup, answers_from, Going, Turning, IsPass, spot_now, Pass, moved_spot, next_entry, Adds, Advances, cells_of, IsRunBy, TakesStep, outcome_of}
+use Rattle.robust.proofs.Common.{many_more, taken, spelled, IsRun, gone, spot_of, spot_moves, spot_begun, last_reads, legal_front, runs_show, more, goes_on, ran_answered, length_snoc, takes_sizes}
+use Rattle.robust.proofs.Common.{takes_spot, answers-append, later_blocked, at_append, append_begun, HasLeft, stored_so_far, free_spot, IsSame, Unanswered, EndsIn}
 use Rattle.redomail.specs.declared.record.Record.{Record}
 use Rattle.redomail.specs.declared.task.Task.TheVariants as task
-use Rattle.redomail.specs.Script.{Script, Get as Asks, Put as Writes, Done, puts}
-use Rattle.redomail.specs.Layout.{IsLayout, held, last_at, place_at, size}
-use Rattle.redomail.specs.Tasks.{decided, store_steps, record_of}
-use Rattle.redomail.proofs.Scripts.{held-small, length-store_steps, step-record, step-entry, step-disarm}
-use Rattle.redomail.proofs.Words.{place_low, place_up, place_small}
-use Rattle.rmecore.specs.declared.refusal.Refusal.TheVariants.{BadWidth}
-use Rattle.rmeworld.specs.declared.answer.Answer.{Answer}
-use Rattle.rmeworld.specs.declared.answer.Answer.TheVariants.{Mail}
-use Rattle.rmeworld.specs.declared.why.Why.TheVariants.{Working}
-use Rattle.rmeworld.specs.Answered.{answer_at, blocked_by, by_script}
-use Rattle.rmeworld.specs.declared.call.Call.{Call}
-use Rattle.rmeworld.specs.declared.call.Call.TheVariants.{Append}
-use Rattle.rmeworld.specs.Refused.{start_refusal}
-use Rattle.rmeworld.specs.Spot.{Spot, Begins, Doing, next_spot}
-use Rattle.rmeworld.specs.Stand.{Stand, access_by}
-use Rattle.runs.specs.declared.setup.Setup.{Setup}
-use Rattle.runs.specs.declared.entry.TakenStep.{TakenStep}
-use Rattle.runs.specs.Runs.{taken, spelled, gone, spot_of, IsRun}
-use Rattle.runs.specs.Pass.{Pass, IsPass, spot_now, moved_spot, next_entry, Adds, Advances}
-use Rattle.runs.specs.Running.{IsRunBy, TakesStep, outcome_of, many_more}
-use Rattle.runs.specs.Calls.{Going, Turning, answers_from}
-use Rattle.runs.specs.Reading.{cells_of}
-use Rattle.runs.proofs.Leads.{spot_moves}
-use Rattle.runs.proofs.Runs.{last_reads, legal_front}
-use Rattle.runs.proofs.Running.{spot_begun}
-use Rattle.runs.proofs.Shown.{runs_show}
-use Rattle.runs.proofs.Taken.{more, goes_on, ran_answered, length_snoc, takes_sizes, takes_spot}
-use Rattle.runs.proofs.Turned.{answers-append, later_blocked}
-use Rattle.robust.specs.FastPath.{free_spot, IsSame, Unanswered, EndsIn}
-use Rattle.robust.specs.FastAppend.{at_append, append_begun, HasLeft, stored_so_far}
+use Rattle.redomail.specs.Script.{Get as Asks, Put as Writes, Done}
 use Rattle.robust.proofs.FreeSteps.{seat, takes-append, unanswered_none, unanswered_then}
 use Rattle.robust.proofs.Peeks.{same_then}
 

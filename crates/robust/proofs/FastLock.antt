@@ -1,32 +1,12 @@
 -- The fast path, for a member and its plan.
 use Rattle.std.proofs.Common.{◌≡◌, ℕ, zero, suc, ◌+◌, ◌-◌, ◌^◌, ◌≤◌, ◌==◌, min, Bool, true, false, List, [], ◌∷◌, length, None, Some, IsSome, unwrap_or, refl, sym, ap, ◌∙◌, subst, arith, eq-eqb}
-use Rattle.rmecore.specs.Place.{Place, Wait, Inside, Leaving, Rest}
-use Rattle.rmecore.specs.Machine.{place_of}
-use Rattle.rmecore.specs.declared.stage.Stage.{Stage}
-use Rattle.rmecore.specs.Simulated.{one_more}
-use Rattle.redomail.specs.declared.layout.Layout.{Layout}
-use Rattle.redomail.specs.declared.task.Task.TheVariants.{Check}
-use Rattle.redomail.specs.Left.{begun}
+use Rattle.robust.proofs.Common.{Stage, place_of, Place, Inside, Wait, Leaving, Rest, one_more, Layout, Check, begun, Answer, Unlocked, Unlock, Checking, errand_of, Begins, Free, Spot, next_spot}
+use Rattle.robust.proofs.Common.{Stand, stepped, TakenStep, Setup, Going, Ran, Calm, AnsweredIn, IsPass, spot_now, Pass, Seated, began, IsRunBy, many_more, served_of, spot_begun, free_spot, IsSame}
+use Rattle.robust.proofs.Common.{Unanswered, EndsIn}
 use Rattle.plans.specs.Plans.{so_many_more}
-use Rattle.rmeworld.specs.declared.answer.Answer.{Answer}
-use Rattle.rmeworld.specs.declared.answer.Answer.TheVariants.{Unlocked}
-use Rattle.rmeworld.specs.declared.call.Call.TheVariants.{Unlock}
 use Rattle.rmeworld.specs.declared.errand.Errand.{Errand as Chore}
 use Rattle.rmeworld.specs.declared.errand.Errand.TheVariants.{Free as IsFree, Asking, Doing as Does}
-use Rattle.rmeworld.specs.declared.why.Why.TheVariants.{Checking}
-use Rattle.rmeworld.specs.Errands.{errand_of}
-use Rattle.rmeworld.specs.Refused.{start_refusal}
-use Rattle.rmeworld.specs.Spot.{Spot, Free, Begins, next_spot}
-use Rattle.rmeworld.specs.Stand.{Stand, spot_of as standing_at, stepped}
-use Rattle.runs.specs.declared.entry.TakenStep.{TakenStep}
-use Rattle.runs.specs.declared.setup.Setup.{Setup}
-use Rattle.runs.specs.Pass.{Pass, IsPass, spot_now}
-use Rattle.runs.specs.Running.{Seated, IsRunBy, many_more, began}
-use Rattle.runs.specs.Calls.{Ran, Going, Calm}
-use Rattle.runs.specs.Faults.{AnsweredIn}
-use Rattle.runs.proofs.Called.{served_of}
-use Rattle.runs.proofs.Running.{spot_begun}
-use Rattle.robust.specs.FastPath.{free_spot, IsSame, Unanswered, EndsIn}
+use Rattle.rmeworld.specs.Stand.{spot_of as standing_at}
 use Rattle.robust.proofs.FreeSteps.{seat}
 
 many_is : (k c : ℕ) → c ≤ 2 ^ 64 - 1 → many_more k c ≡ min (c + k) (2 ^ 64 - 1)
@@ -86,9 +66,6 @@ module _ (l : Layout) (limit p : ℕ) (b : Bool) where
   pub goes_there : stepped (record { layout = l; limit = limit; index = p; lock = Inside; mended = true; barred = false; errand = Does Checking (begun l p Check) }) 1 ≡ record { layout = l; limit = limit; index = p; lock = Leaving; mended = true; barred = true; errand = IsFree }
   goes_there = refl
 
-pub going_first : (x : Seated) → Going x [] x
-going_first x = record { takes = refl; answers = refl; blocked = refl; steps = refl }
-
 -- an unlock of a holder with nothing to mend
 pub free_of : (e : Chore) → errand_of e ≡ Free → e ≡ IsFree
 free_of IsFree e = refl
@@ -98,9 +75,6 @@ free_of (Does why job) e = cc
 module _ (x : Pass) (at : spot_now x ≡ free_spot Inside true) where
   pub may_unlock : IsSome (next_spot x.setup.layout x.setup.limit (spot_now x) (Begins x.by Unlock))
   may_unlock = subst (λ (q : Spot). IsSome (next_spot x.setup.layout x.setup.limit q (Begins x.by Unlock))) (sym at) refl
-
-  pub unlock_accepted : start_refusal x.setup.layout (spot_now x) Unlock ≡ None
-  unlock_accepted = ap (λ (q : Spot). start_refusal x.setup.layout q Unlock) at
 
   pub unlock_begun : x.start ≡ None → spot_now (record x { start = Some Unlock }) ≡ free_spot Leaving true
   unlock_begun none = spot_begun x Unlock none ∙ ap (λ (q : Spot). unwrap_or (next_spot x.setup.layout x.setup.limit q (Begins x.by Unlock)) q) at

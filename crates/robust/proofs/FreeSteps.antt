@@ -1,31 +1,13 @@
 -- Steps in a row, told by passes alone.
-use Rattle.std.proofs.Common.{◌≡◌, ℕ, suc, ◌+◌, Bool, true, false, if◌then◌else◌, List, [], ◌∷◌, ◌++◌, length, Option, Some, None, IsSome, IfSome, refl, sym, ap, ◌∙◌, subst, arith, length-append}
-use Rattle.rmecore.specs.Place.{Place}
-use Rattle.rmecore.specs.Machine.{access, kind_of, word_of, carried, answer, is_blocked, after_access, next_access as lock_access}
-use Rattle.rmecore.specs.Simulated.{one_more}
-use Rattle.rmecore.specs.declared.access.Access.{Access}
-use Rattle.redomail.specs.Left.{begun}
-use Rattle.redomail.specs.declared.task.Task.TheVariants.{Check}
+use Rattle.std.proofs.Common.{◌≡◌, ℕ, suc, ◌+◌, Bool, false, if◌then◌else◌, List, [], ◌∷◌, ◌++◌, length, Option, Some, None, IsSome, IfSome, refl, sym, ap, ◌∙◌, subst, arith, length-append}
+use Rattle.robust.proofs.Common.{Access, answer, kind_of, word_of, carried, access, is_blocked, after_access, next_access as lock_access, Place, one_more, Check, begun, Answer, Checking, answer_at}
+use Rattle.robust.proofs.Common.{by_lock, blocked_by, is_entry, errand_of, Spot, mended_entered, Stand, stepped, standing, IsAllowed, lock_moved, TakenStep, Setup, answers_from, Going, Turning, Takes}
+use Rattle.robust.proofs.Common.{answers_of, blocked_of, spot_now, Pass, moved_spot, Advances, Seated, IsRunBy, TakesStep, outcome_of, many_more, spelled, gone, spot_of, next_same, may_advance}
+use Rattle.robust.proofs.Common.{run_by_step, more, goes_on, ran_answered, length_snoc, takes_sizes, takes_spot, answers-append, later_blocked, free_spot, Unanswered, EndsIn}
 use Rattle.rmecore.proofs.Accesses.{all_allowed}
-use Rattle.rmeworld.specs.Answered.{answer_at, by_lock, blocked_by}
-use Rattle.rmeworld.specs.Entered.{is_entry}
-use Rattle.rmeworld.specs.Spot.{Spot, mended_entered}
-use Rattle.rmeworld.specs.Errands.{errand_of}
 use Rattle.rmeworld.specs.declared.errand.Errand.TheVariants.{Free as IsFree, Doing as Does}
-use Rattle.rmeworld.specs.declared.why.Why.TheVariants.{Checking}
-use Rattle.rmeworld.specs.Stand.{Stand, standing, spot_of as standing_at, stepped, next_access, IsAllowed, lock_moved}
+use Rattle.rmeworld.specs.Stand.{spot_of as standing_at, next_access}
 use Rattle.rmeworld.proofs.Chores.{lock_goes, lock_allowed}
-use Rattle.runs.specs.declared.entry.TakenStep.{TakenStep}
-use Rattle.runs.specs.Pass.{Pass, spot_now, moved_spot, Advances}
-use Rattle.runs.specs.Running.{Seated, IsRunBy, TakesStep, outcome_of, many_more}
-use Rattle.rmeworld.specs.declared.answer.Answer.{Answer}
-use Rattle.runs.specs.declared.setup.Setup.{Setup}
-use Rattle.runs.specs.Runs.{spelled, gone, spot_of}
-use Rattle.runs.specs.Calls.{Going, Turning, Takes, answers_of, answers_from, blocked_of}
-use Rattle.runs.proofs.Running.{next_same, may_advance, run_by_step}
-use Rattle.runs.proofs.Taken.{more, goes_on, ran_answered, ran_blocked, length_snoc, takes_sizes, takes_spot}
-use Rattle.runs.proofs.Turned.{answers-append, later_blocked}
-use Rattle.robust.specs.FastPath.{free_spot, IsClear, IsSame, Unanswered, EndsIn}
 
 abbrev pub seat : Pass → ℕ → Seated
 seat x k = record { pass = x; steps = k }
@@ -43,9 +25,6 @@ may_free x t b a e n v =
     let all : IfSome (next_access s) (IsAllowed s) = lock_allowed s (all_allowed (standing s)) in
     may_advance x s a (run_by_free x t b e) n (subst (λ (o : Option Access). IfSome o (IsAllowed s)) n all) v
 
-pub same_after : (x y : Pass) (a : Access) (v : ℕ) → Advances x (kind_of a) (word_of a) (carried a v) y → IsSame x y × IsClear y
-same_after x y a v adv = ((adv.adds.setup, adv.adds.by), (adv.fallen, adv.start))
-
 pub unanswered_none : (x : Pass) → Unanswered x 0 0 x
 unanswered_none x = record { mine = []; long = refl; takes = refl; answers = refl; blocked = refl }
 
@@ -56,9 +35,6 @@ module _ (x y z : Pass) (k : ℕ) (p : Unanswered x k 0 y) (t : Place) (b : Bool
 
   r : IsRunBy y (stand_of y t b)
   r = run_by_free y t b here
-
-  count : ℕ
-  count = many_more (length p.mine) 0
 
   step : TakesStep (seat y (many_more (length p.mine) 0)) (outcome_of y a v) (seat z (one_more (many_more (length p.mine) 0)))
   step = record { access = a; value = v; next = sym (next_same y (stand_of y t b) r) ∙ next; may = may_free y t b a here next v; advances = adv; told = refl; steps = refl }
@@ -78,11 +54,6 @@ module _ (x y z : Pass) (k : ℕ) (p : Unanswered x k 0 y) (t : Place) (b : Bool
   pub quiet : by_lock false (answer t (kind_of a) (carried a v)) ≡ None → is_blocked y.by t (kind_of a) (carried a v) ≡ false → Unanswered x (k + 1) 0 z
   quiet n f =
       let g = goes_on (seat x 0) (seat y (many_more (length p.mine) 0)) (seat z (one_more (many_more (length p.mine) 0))) p.mine (outcome_of y a v) going step (says None n) (blocks false f) in
-      record { mine = more (seat x 0) (seat y (many_more (length p.mine) 0)) (seat z (one_more (many_more (length p.mine) 0))) p.mine (outcome_of y a v) going step; long = longer; takes = g.takes; answers = g.answers; blocked = g.blocked }
-
-  pub halted : is_blocked y.by t (kind_of a) (carried a v) ≡ true → Unanswered x (k + 1) 1 z
-  halted f =
-      let g = ran_blocked (seat x 0) (seat y (many_more (length p.mine) 0)) (seat z (one_more (many_more (length p.mine) 0))) p.mine (outcome_of y a v) going step (blocks true f) in
       record { mine = more (seat x 0) (seat y (many_more (length p.mine) 0)) (seat z (one_more (many_more (length p.mine) 0))) p.mine (outcome_of y a v) going step; long = longer; takes = g.takes; answers = g.answers; blocked = g.blocked }
 
   pub ended : (said : Answer) → by_lock false (answer t (kind_of a) (carried a v)) ≡ Some said → EndsIn x (k + 1) said z

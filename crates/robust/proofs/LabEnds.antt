@@ -1,51 +1,18 @@
 -- What ended a lab early, from the one run of its members.
 use Rattle.std.proofs.Common.{◌≡◌, ℕ, ◌*◌, ◌<◌, ◌≤◌, true, List, [], ◌∷◌, ◌++◌, length, slice_index, map, Some, None, All, refl, sym, ap, ◌∙◌, subst, inl, inr, arith, append_assoc, append-nil, length-append}
-use Rattle.std.proofs.lemmas.Bool.{cases_lt}
-use Rattle.std.proofs.lemmas.List.Elements.{All-nil, All-cons, All-head, All-tail, All-contains}
-use Rattle.redomail.specs.declared.message.Message.{Message}
-use Rattle.redomail.specs.declared.reply.Reply.{Reply}
-use Rattle.redomail.specs.Layout.{Words, IsLayout, words_of}
-use Rattle.redomail.specs.Mailbox.{IsAmong}
-use Rattle.redomail.specs.Shape.{entries, count_of, IsNumbered}
-use Rattle.redomail.proofs.Changes.{length-entries}
-use Rattle.rmeworld.specs.declared.call.Call.TheVariants.{Close}
-use Rattle.rmeworld.specs.declared.image.Image.{Image}
-use Rattle.rmeworld.specs.ImageRules.{layout_of, IsLawfulImage}
-use Rattle.rmeworld.specs.Sent.{ReplyTells, EveryMessageWasSent, EveryCloseWasAsked}
-use Rattle.rmeworld.specs.Spot.{Happening, Begins, who}
-use Rattle.rmeworld.specs.World.{at_first}
-use Rattle.rmeworld.proofs.ImageStarts.{lawful_content}
-use Rattle.redomail.specs.declared.layout.Layout.{Layout}
-use Rattle.runs.specs.declared.entry.TakenStep.{TakenStep}
-use Rattle.runs.specs.declared.setup.Setup.{Setup}
+use Rattle.robust.proofs.Common.{cases_lt, All-nil, All-cons, All-head, All-tail, All-contains, Layout, Message, Reply, Words, IsLayout, words_of, IsAmong, entries, count_of, IsNumbered}
+use Rattle.robust.proofs.Common.{length-entries, Close, Image, layout_of, IsLawfulImage, EveryMessageWasSent, ReplyTells, EveryCloseWasAsked, Happening, Begins, who, at_first, lawful_content}
+use Rattle.robust.proofs.Common.{TakenStep, Setup, Gathers, IsGlance, has_member, image_at, shown_by, judged_by, cells_of, RunsShow, LoadsTell, AreInOrder, NobodyRuins, Seated, spelled, own, IsRun}
+use Rattle.robust.proofs.Common.{end_of, all_left, cells_counted, order_more, own-append, legal_front, shown_on, Keeps, Holds, all_hold, each_holds, AllSent, Fault, Refused, Member, Spec, fault_by}
+use Rattle.robust.proofs.Common.{Done, IsFirstFault, EndsSo, EndsLab, WasSpent, IsLabRun, OfStart, IsSending, AreSending, sizes_of, HasWorked}
 use Rattle.one_lock.specs.declared.lab.lab_fault.LabFault.{LabFault}
-use Rattle.one_lock.specs.declared.lab.lab_fault.LabFault.TheVariants.{Member, Reply as Replied}
-use Rattle.one_lock.specs.declared.lab.spec.Spec.{Spec}
-use Rattle.robust.specs.declared.lab.worker.Done.{Done}
+use Rattle.one_lock.specs.declared.lab.lab_fault.LabFault.TheVariants.{Reply as Replied}
 use Rattle.one_lock.specs.declared.lab.ending.Ending.{Ending}
-use Rattle.one_lock.specs.declared.lab.ending.Ending.TheVariants.{AllSent, Fault, Refused}
-use Rattle.runs.specs.Gathering.{Gathers, IsGlance, has_member, image_at}
-use Rattle.runs.specs.Headline.{judged_by, shown_by}
-use Rattle.one_lock.specs.Endings.{fault_by}
-use Rattle.robust.specs.LabRuns.{IsLabRun}
-use Rattle.robust.specs.LabFaults.{IsFirstFault, EndsSo, EndsLab, WasSpent}
-use Rattle.runs.specs.Reading.{cells_of, RunsShow, LoadsTell}
-use Rattle.runs.specs.Ruins.{AreInOrder, NobodyRuins}
 use Rattle.runs.specs.Rule.{Begins as Starts}
-use Rattle.runs.specs.Running.{Seated}
-use Rattle.runs.specs.Runs.{own, spelled, IsRun, end_of}
-use Rattle.robust.specs.Sending.{OfStart, IsSending, AreSending}
-use Rattle.robust.specs.Worked.{sizes_of, HasWorked}
 use Rattle.robust.proofs.AllSent.{OfBegins, begins_all, begins_it, content_numbered, shown_entries, gathered_layout, at_most, sending_more}
 use Rattle.robust.proofs.Appended.{all_at}
-use Rattle.runs.proofs.Gathered.{all_left}
-use Rattle.runs.proofs.LawfulEnd.{cells_counted}
 use Rattle.robust.proofs.Numbered.{senders, has_all, fewer_all}
-use Rattle.runs.proofs.Runs.{own-append, legal_front}
-use Rattle.runs.proofs.Shown.{shown_on}
-use Rattle.runs.proofs.Ordered.{order_more}
 use Rattle.robust.proofs.Unruined.{story_within, none_read}
-use Rattle.runs.proofs.Together.{Keeps, Holds, all_hold, each_holds}
 
 -- one of those that are mapped
 all_mapped : {A B : Type 0} (f : A → B) (P : B → Type 0) (xs : List A) (x : A) (ys : List A) → All P (map f (xs ++ x ∷ ys)) → P (f x)

@@ -1,3 +1,4 @@
+pub mod Common
 pub mod Errands
 pub mod Appended
 pub mod Sending

@@ -1,17 +1,9 @@
 -- Numbered entries, of which each sender's are such as it sent: how many each has, and how many there are.
 use Rattle.std.proofs.Common.{◌≡◌, ℕ, zero, suc, ◌+◌, ◌*◌, ◌<◌, ◌≤◌, ◌==◌, Bool, true, false, List, [], ◌∷◌, ◌++◌, length, filter, All, refl, sym, ap, ◌∙◌, subst, inl, inr, arith, append-nil, eqb-true, eq-eqb}
-use Rattle.std.proofs.lemmas.Bool.{cases_Bool, cases_eq, cases_lt}
-use Rattle.std.proofs.lemmas.List.Elements.{All-nil, All-head, All-tail, All-push, All-weaker, filter-append}
-use Rattle.redomail.specs.declared.layout.Layout.{Layout}
-use Rattle.redomail.specs.declared.message.Message.{Message}
-use Rattle.redomail.specs.Layout.{Words}
-use Rattle.redomail.specs.Mailbox.{message, is_by, IsAmong}
-use Rattle.redomail.specs.Shape.{entry, entries, count_of, IsNumbered}
-use Rattle.redomail.proofs.Changes.{count_of-push}
+use Rattle.robust.proofs.Common.{cases_eq, cases_Bool, cases_lt, All-nil, All-head, All-tail, All-weaker, All-push, filter-append, Layout, Message, Words, IsAmong, message, is_by, entries, count_of}
+use Rattle.robust.proofs.Common.{IsNumbered, entry, count_of-push, all_left, all_right, words_sent, messages_sent, messages_by, message_sent}
 use Rattle.judge.proofs.Counts.{one_if, count_cons}
-use Rattle.one_lock.specs.Lab.{words_sent, message_sent, messages_sent, messages_by}
 use Rattle.robust.proofs.Appended.{all_at, among_more}
-use Rattle.runs.proofs.Gathered.{all_left, all_right}
 
 -- the last of one more
 all_last : {A : Type 0} (P : A → Type 0) (xs : List A) (x : A) → All P (xs ++ x ∷ []) → P x

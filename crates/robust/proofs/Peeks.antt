@@ -1,17 +1,8 @@
 -- One step more of a scan.
-use Rattle.std.proofs.Common.{◌≡◌, ◌≢◌, ℕ, ◌+◌, ◌<◌, ◌≤◌, max, Bool, List, [], Some, IsSome, refl, sym, ap, ◌∙◌, arith}
-use Rattle.rmecore.specs.Place.{Place, Door, above}
-use Rattle.rmecore.specs.Machine.{access}
-use Rattle.rmecore.specs.declared.access.Access.{Access}
-use Rattle.rmecore.specs.declared.access.Access.TheVariants.{Load}
-use Rattle.rmecore.specs.declared.kind.Kind.TheVariants.{Peek as Peeks}
-use Rattle.rmecore.specs.declared.word.Word.TheVariants.{Number as NumberOf}
-use Rattle.rmecore.proofs.Scans.{first_here, above_first, above_skip, above_past}
-use Rattle.rmecore.proofs.MachineSteps.{door_goes}
-use Rattle.rmeworld.specs.Stand.{standing}
-use Rattle.runs.specs.Pass.{Pass, spot_now, moved_spot, Advances}
-use Rattle.robust.specs.FastPath.{free_spot, IsClear, IsSame, Unanswered}
-use Rattle.robust.proofs.FreeSteps.{stand_of, may_free, quiet, there}
+use Rattle.std.proofs.Common.{◌≡◌, ◌≢◌, ℕ, ◌+◌, ◌<◌, ◌≤◌, max, Bool, List, Some, refl, sym, ap, ◌∙◌, arith}
+use Rattle.robust.proofs.Common.{Access, Load, Peek as Peeks, Number as NumberOf, access, Place, Door, above, door_goes, first_here, above_first, above_skip, standing, spot_now, Pass, Advances}
+use Rattle.robust.proofs.Common.{free_spot, IsSame, Unanswered, IsClear}
+use Rattle.robust.proofs.FreeSteps.{stand_of, quiet, there}
 
 pub same_then : (x y z : Pass) → IsSame x y → IsSame y z → IsSame x z
 same_then x y z h k = (k.0 ∙ h.0, k.1 ∙ h.1)
@@ -36,9 +27,6 @@ module _ (x y : Pass) (j m : ℕ) (b : Bool) (same : IsSame x y) (at : spot_now 
   next : access y.setup.limit y.by (Door (above y.setup.layout.procs y.by j) m) ≡ Some (Load Peeks (NumberOf j))
   next = peek_next y.setup.limit y.setup.layout.procs y.by j m below other
 
-  pub peek_may : (v : ℕ) → IsSome (moved_spot y Peeks (NumberOf j) v)
-  peek_may v = may_free y (Door (above y.setup.layout.procs y.by j) m) b (Load Peeks (NumberOf j)) here next v
-
   pub peeked : (z : Pass) (k v : ℕ) → Unanswered x k 0 y → Advances y Peeks (NumberOf j) v z → Unanswered x (k + 1) 0 z × (spot_now z ≡ free_spot (Door (above x.setup.layout.procs x.by (j + 1)) (max m v)) b)
   peeked z k v p adv =
       let t : Place = Door (above y.setup.layout.procs y.by j) m in
@@ -52,10 +40,6 @@ module _ (x y : Pass) (j m : ℕ) (b : Bool) (same : IsSame x y) (at : spot_now 
 pub passed_over : (x : Pass) (y : Pass) (j m : ℕ) (b : Bool) → x.by < x.setup.layout.procs → j ≡ x.by → spot_now y ≡ free_spot (Door (above x.setup.layout.procs x.by j) m) b → spot_now y ≡ free_spot (Door (above x.setup.layout.procs x.by (j + 1)) m) b
 passed_over x y j m b below e at =
     at ∙ ap (λ (js : List ℕ). free_spot (Door js m) b) (ap (above x.setup.layout.procs x.by) e ∙ above_skip x.setup.layout.procs x.by below ∙ ap (λ (i : ℕ). above x.setup.layout.procs x.by (i + 1)) (sym e))
-
--- and behind the last one nobody is left
-pub all_peeked : (x y : Pass) (m : ℕ) (b : Bool) → spot_now y ≡ free_spot (Door (above x.setup.layout.procs x.by x.setup.layout.procs) m) b → spot_now y ≡ free_spot (Door [] m) b
-all_peeked x y m b at = at ∙ ap (λ (js : List ℕ). free_spot (Door js m) b) (above_past x.setup.layout.procs x.by x.setup.layout.procs (omega arith))
 
 -- what a scan of the doorway keeps: from j on nobody was read
 abbrev pub Kept : Pass → Pass → ℕ → ℕ → ℕ → Type 0

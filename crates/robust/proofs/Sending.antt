@@ -1,25 +1,10 @@
 -- A worker's appends start nothing but what it sends.
 use Rattle.std.proofs.Common.{◌≡◌, ◌⊎◌, ℕ, Bool, true, false, if◌then◌else◌, List, [], ◌∷◌, ◌++◌, Result, Ok, Err, IfOk, IfErr, All, refl, sym, ap, ◌∙◌, subst, inl, inr}
-use Rattle.std.proofs.lemmas.List.Elements.{All-nil, All-cons, All-append}
-use Rattle.redomail.specs.declared.reply.Reply.{Reply}
-use Rattle.rmeworld.specs.declared.answer.Answer.{Answer}
-use Rattle.rmeworld.specs.declared.call.Call.{Call}
-use Rattle.rmeworld.specs.declared.call.Call.TheVariants.{Lock, Unlock, Consistent, Append}
-use Rattle.rmeworld.specs.Refused.{is_idle}
-use Rattle.runs.specs.declared.entry_kind.Entry.{Entry as Entering}
+use Rattle.robust.proofs.Common.{All-nil, All-cons, All-append, Reply, Answer, Call, Append, Lock, Unlock, Consistent, is_idle, TakenStep, Entry as Entering, LockFault, starts, ready, CutBy, spot_now}
+use Rattle.robust.proofs.Common.{Calls, own_of, Seated, fell, began, own, WholeEnds, calls_inside, AppendFails, Comes, IsFront, IsWithin, all_left, own-append, OfStart, IsSending, AreSending}
+use Rattle.robust.proofs.Common.{SendsOnly}
 use Rattle.runs.specs.declared.entry_kind.Entry.TheVariants as entering
-use Rattle.runs.specs.declared.entry.TakenStep.{TakenStep}
-use Rattle.runs.specs.declared.lock_fault.LockFault.{LockFault}
-use Rattle.runs.specs.Calls.{starts}
-use Rattle.runs.specs.Faults.{ready, CutBy}
-use Rattle.runs.specs.Pass.{spot_now, own_of, Calls}
-use Rattle.runs.specs.Running.{Seated, began, fell}
-use Rattle.runs.specs.Runs.{own}
-use Rattle.runs.specs.Whole.{WholeEnds, AppendFails, Comes, IsFront, IsWithin, calls_inside}
-use Rattle.robust.specs.Sending.{OfStart, IsSending, AreSending, SendsOnly}
 use Rattle.robust.proofs.Errands.{each_start}
-use Rattle.runs.proofs.Gathered.{all_left}
-use Rattle.runs.proofs.Runs.{own-append}
 
 -- the calls of a whole mailbox call
 module _ (P : Call → Type 0) (task : Call) (lock : P Lock) (unlock : P Unlock) (mends : P Consistent) (does : P task) where

@@ -1,26 +1,8 @@
 -- A worker that ends for want of numbers was answered so at one of its own steps.
 use Rattle.std.proofs.Common.{◌≡◌, ◌⊎◌, ℕ, Bool, true, false, if◌then◌else◌, List, [], ◌∷◌, ◌++◌, Result, Ok, Err, IfErr, refl, sym, ap, ◌∙◌, subst, inl, inr}
-use Rattle.rmeworld.specs.declared.answer.Answer.{Answer}
-use Rattle.rmeworld.specs.declared.answer.Answer.TheVariants.{NumbersSpent as SpentAnswer}
-use Rattle.rmeworld.specs.declared.call.Call.{Call}
-use Rattle.rmeworld.specs.declared.call.Call.TheVariants.{Lock, Append}
-use Rattle.rmeworld.specs.Refused.{is_idle}
-use Rattle.rmeworld.specs.Spot.{at_rest}
-use Rattle.redomail.specs.declared.reply.Reply.{Reply}
-use Rattle.runs.specs.declared.entry.TakenStep.{TakenStep}
-use Rattle.runs.specs.declared.lock_fault.LockFault.{LockFault}
-use Rattle.runs.specs.declared.lock_fault.LockFault.TheVariants.{NotYet, NumbersSpent, NotRecoverable}
-use Rattle.runs.specs.declared.setup.Setup.{Setup}
-use Rattle.runs.specs.Calls.{ServedAll, answers_from}
-use Rattle.runs.specs.Faults.{ready}
-use Rattle.runs.specs.Pass.{spot_now, own_of}
-use Rattle.runs.specs.Ruins.{HasReadRuin}
-use Rattle.runs.specs.Running.{Seated, began, fell}
-use Rattle.runs.specs.Runs.{own, spelled, gone}
-use Rattle.runs.specs.Whole.{AppendFails, Comes, WholeEnds}
-use Rattle.runs.proofs.Ordered.{own_now}
-use Rattle.runs.proofs.Turned.{answers-append}
-use Rattle.robust.specs.LabFaults.{WasSpent}
+use Rattle.robust.proofs.Common.{Reply, Answer, NumbersSpent as SpentAnswer, Call, Append, Lock, is_idle, at_rest, TakenStep, LockFault, NotYet, Setup, ServedAll, answers_from, ready, spot_now}
+use Rattle.robust.proofs.Common.{own_of, HasReadRuin, Seated, fell, began, spelled, gone, WholeEnds, AppendFails, Comes, own_now, answers-append, WasSpent}
+use Rattle.runs.specs.declared.lock_fault.LockFault.TheVariants.{NumbersSpent, NotRecoverable}
 
 either_same : (b : Bool) (x : Seated) → ((if b then x else fell x).pass.setup ≡ x.pass.setup) × (own_of (if b then x else fell x).pass ≡ own_of x.pass)
 either_same true x = (refl, refl)

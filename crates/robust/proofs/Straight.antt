@@ -1,32 +1,16 @@
 -- The steps of a lock that stand between its scans, and those of an unlock.
 use Rattle.std.proofs.Common.{◌≡◌, ◌≢◌, ℕ, zero, suc, ◌+◌, ◌-◌, ◌<◌, ◌≤◌, Bool, true, false, ◌==◌, nat_lt, List, [], ◌∷◌, length, Option, Some, None, IsSome, unwrap_or, refl, sym, ap, ◌∙◌, subst, inl, inr, arith, eq-eqb}
-use Rattle.std.proofs.lemmas.Bool.{cases_Bool}
-use Rattle.std.proofs.lemmas.Bool.{lt-ltb}
-use Rattle.rmecore.specs.Place.{Place, Rest, Reread, Opening, Door, Shutting, Wait, Inside, Leaving, Unmarking, others, relocked, has}
-use Rattle.rmecore.specs.Machine.{access, first}
-use Rattle.rmecore.specs.Simulated.{one_more}
-use Rattle.rmecore.specs.declared.access.Access.TheVariants.{Load, Store}
+use Rattle.robust.proofs.Common.{cases_Bool, lt-ltb, Load, Store, Get as Gets, Reread as Rereads, Open as Opens, Take as Takes, Shut as Shuts, Mark as Marks, Drop as Drops, Data as DataAt}
+use Rattle.robust.proofs.Common.{Number as NumberOf, Choosing as ChoosingOf, access, first, Place, Inside, Wait, Leaving, Rest, Door, above, Opening, Shutting, Unmarking, others, relocked, span}
+use Rattle.robust.proofs.Common.{one_more, has-first, Unlocked, Clean, answer_at, blocked_by, is_idle, Spot, next_spot, access_by, Going, lock_left, IsFair, spot_now, Pass, moved_spot, Advances}
+use Rattle.robust.proofs.Common.{TakesStep, outcome_of, many_more, taken, Begun, under_place, spot_moves, more, goes_on, ran_answered, length_snoc, free_spot, IsSame, Unanswered, EndsIn, checked_spot}
+use Rattle.robust.proofs.Common.{IsClear, Way, waits_at, checking_spot}
+use Rattle.rmecore.specs.Place.{Reread, has}
 use Rattle.rmecore.specs.declared.core_call.CoreCall.TheVariants.{Lock, Unlock}
-use Rattle.rmecore.specs.declared.kind.Kind.TheVariants.{Reread as Rereads, Open as Opens, Take as Takes, Shut as Shuts, Mark as Marks, Drop as Drops, Get as Gets}
-use Rattle.rmecore.specs.declared.word.Word.TheVariants.{Choosing as ChoosingOf, Number as NumberOf, Inside as InsideOf, Data as DataAt}
-use Rattle.runs.specs.Pass.{Pass, spot_now, moved_spot, Advances}
-use Rattle.rmecore.specs.Place.{span, above}
-use Rattle.rmecore.proofs.Scans.{has-first}
+use Rattle.rmecore.specs.declared.word.Word.TheVariants.{Inside as InsideOf}
 use Rattle.rmeworld.specs.declared.call.Call.TheVariants as call
-use Rattle.rmeworld.specs.Refused.{is_idle}
-use Rattle.runs.specs.Lasting.{lock_left, IsFair}
-use Rattle.runs.specs.Under.{under_place, Begun}
-use Rattle.rmeworld.specs.declared.answer.Answer.TheVariants.{Clean, Unlocked}
-use Rattle.rmeworld.specs.Answered.{answer_at, blocked_by}
-use Rattle.rmeworld.specs.Spot.{Spot, next_spot}
-use Rattle.rmeworld.specs.Stand.{access_by}
-use Rattle.runs.specs.Runs.{taken}
-use Rattle.runs.specs.Running.{Seated, TakesStep, outcome_of, many_more}
-use Rattle.runs.specs.Calls.{Going}
-use Rattle.runs.proofs.Leads.{spot_moves}
-use Rattle.runs.proofs.Taken.{more, goes_on, ran_answered, length_snoc}
-use Rattle.robust.specs.FastPath.{free_spot, IsClear, IsSame, Unanswered, Comes, Way, waits_at, EndsIn, checking_spot, checked_spot}
-use Rattle.robust.proofs.FreeSteps.{seat, may_free, unanswered_none, unanswered_then, quiet, ended, there, there_by}
+use Rattle.robust.specs.FastPath.{Comes}
+use Rattle.robust.proofs.FreeSteps.{seat, unanswered_none, unanswered_then, quiet, ended, there, there_by}
 use Rattle.robust.proofs.Peeks.{same_then}
 
 -- one step from a place to another
@@ -36,24 +20,6 @@ Moves y z u b = (spot_now z ≡ free_spot u b) × Unanswered y 1 0 z
 module _ (y : Pass) (b : Bool) where
   own : (y.by == y.by) ≡ true
   own = eq-eqb y.by y.by refl
-
-  pub choosing_may : spot_now y ≡ free_spot (Reread Lock []) b → (v : ℕ) → IsSome (moved_spot y Rereads (ChoosingOf y.by) v)
-  choosing_may at v = may_free y (Reread Lock []) b (Load Rereads (ChoosingOf y.by)) at refl v
-
-  pub number_may : (c : ℕ) → spot_now y ≡ free_spot (Reread Lock (c ∷ [])) b → (v : ℕ) → IsSome (moved_spot y Rereads (NumberOf y.by) v)
-  number_may c at v = may_free y (Reread Lock (c ∷ [])) b (Load Rereads (NumberOf y.by)) at refl v
-
-  pub inside_may : (c k : ℕ) → spot_now y ≡ free_spot (Reread Lock (c ∷ k ∷ [])) b → (v : ℕ) → IsSome (moved_spot y Rereads (InsideOf y.by) v)
-  inside_may c k at v = may_free y (Reread Lock (c ∷ k ∷ [])) b (Load Rereads (InsideOf y.by)) at refl v
-
-  pub open_may : spot_now y ≡ free_spot Opening b → IsSome (moved_spot y Opens (ChoosingOf y.by) 1)
-  open_may at = may_free y Opening b (Store Opens (ChoosingOf y.by) 1) at refl 0
-
-  pub take_may : (m : ℕ) → m < y.setup.limit → spot_now y ≡ free_spot (Door [] m) b → IsSome (moved_spot y Takes (NumberOf y.by) (m + 1))
-  take_may m lt at = may_free y (Door [] m) b (Store Takes (NumberOf y.by) (m + 1)) at (let below : nat_lt m y.setup.limit ≡ true = lt-ltb m y.setup.limit lt in rw below refl) 0
-
-  pub shut_may : (k : ℕ) → spot_now y ≡ free_spot (Shutting Lock k) b → IsSome (moved_spot y Shuts (ChoosingOf y.by) 0)
-  shut_may k at = may_free y (Shutting Lock k) b (Store Shuts (ChoosingOf y.by) 0) at refl 0
 
   module _ (z : Pass) where
     pub choosing_read : (v : ℕ) → spot_now y ≡ free_spot (Reread Lock []) b → Advances y Rereads (ChoosingOf y.by) v z → Moves y z (Reread Lock (v ∷ [])) b
@@ -157,9 +123,6 @@ wait_begun x y k i l few at = subst (Begun call.Lock x.setup.layout.procs) (sym 
 
 -- the mark, and the ruin check behind it
 module _ (y z : Pass) where
-  pub mark_may : (k : ℕ) (b : Bool) → spot_now y ≡ free_spot (Wait k [] None) b → IsSome (moved_spot y Marks (InsideOf y.by) 1)
-  mark_may k b at = may_free y (Wait k [] None) b (Store Marks (InsideOf y.by) 1) at refl 0
-
   pub marked : (k : ℕ) (b : Bool) → spot_now y ≡ free_spot (Wait k [] None) b → Advances y Marks (InsideOf y.by) 1 z → (spot_now z ≡ checking_spot y) × Unanswered y 1 0 z
   marked k b at adv =
       let self : (y.by == y.by) ≡ true = eq-eqb y.by y.by refl in (
@@ -195,12 +158,6 @@ module _ (y z : Pass) where
   never_blocked v at = ap (λ (q : Spot). blocked_by y.by q.lock q.errand Gets v) at
 
   module _ (x : Pass) (k : ℕ) (p : Unanswered x k 0 y) (v : ℕ) (at : spot_now y ≡ checking_spot y) (adv : Advances y Gets (DataAt 0) v z) where
-    before : Seated
-    before = seat y (many_more (length p.mine) 0)
-
-    after : Seated
-    after = seat z (one_more (many_more (length p.mine) 0))
-
     so_far : Going (seat x 0) p.mine (seat y (many_more (length p.mine) 0))
     so_far = record { takes = p.takes; answers = p.answers; blocked = p.blocked; steps = refl }
 
@@ -231,12 +188,6 @@ module _ (y z : Pass) where
 
 -- the two steps of an unlock
 module _ (y : Pass) (b : Bool) where
-  pub drop_may : spot_now y ≡ free_spot Leaving b → IsSome (moved_spot y Drops (NumberOf y.by) 0)
-  drop_may at = may_free y Leaving b (Store Drops (NumberOf y.by) 0) at refl 0
-
-  pub unmark_may : spot_now y ≡ free_spot (Unmarking Unlock) b → IsSome (moved_spot y Marks (InsideOf y.by) 0)
-  unmark_may at = may_free y (Unmarking Unlock) b (Store Marks (InsideOf y.by) 0) at refl 0
-
   module _ (z : Pass) where
     pub dropped : spot_now y ≡ free_spot Leaving b → Advances y Drops (NumberOf y.by) 0 z → Moves y z (Unmarking Unlock) b
     dropped at adv = (

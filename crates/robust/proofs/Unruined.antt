@@ -1,25 +1,11 @@
 -- In a run whose processes all start their calls as workers do, nobody ruins the lock.
 use Rattle.std.proofs.Common.{◌≡◌, ℕ, zero, suc, ◌<◌, ◌==◌, Bool, true, false, ◌⊎◌, List, [], ◌∷◌, ◌++◌, length, Option, Some, None, IsSome, All, refl, sym, ap, ◌∙◌, subst, inl, inr, arith, append_assoc, append-nil, length-append, eq-eqb}
-use Rattle.std.proofs.lemmas.Bool.{cases_eq}
-use Rattle.std.proofs.lemmas.List.Elements.{All-nil, All-cons}
-use Rattle.rmecore.specs.declared.kind.Kind.{Kind}
-use Rattle.rmecore.specs.declared.word.Word.{Word}
-use Rattle.redomail.specs.Layout.{IsLayout}
-use Rattle.redomail.specs.declared.layout.Layout.{Layout}
-use Rattle.rmeworld.specs.declared.call.Call.{Call}
-use Rattle.rmeworld.specs.declared.call.Call.TheVariants.{Unlock}
-use Rattle.rmeworld.specs.Sent.{EveryRuinWasAsked, IsLeftUnmended}
-use Rattle.rmeworld.specs.Spot.{Spot, Happening, Begins, Falls, who, at_rest, next_spot}
-use Rattle.rmeworld.specs.World.{Scene, at_first, last_scene, Story, onward, reading}
-use Rattle.runs.specs.declared.entry.TakenStep.{TakenStep}
-use Rattle.runs.specs.declared.setup.Setup.{Setup}
-use Rattle.runs.specs.Reading.{cells_of, LoadsTell}
-use Rattle.runs.specs.Ruins.{HasReadRuin, last_call, last_of, settles, MayStart, AreInOrder, NobodyRuins}
-use Rattle.runs.specs.Runs.{crash_first, before, taken, happenings, spelled, own, Goes, spot_of, IsRun, end_of}
+use Rattle.robust.proofs.Common.{cases_eq, All-nil, All-cons, Kind, Word, Layout, IsLayout, Call, Unlock, EveryRuinWasAsked, IsLeftUnmended, Happening, Begins, Falls, Spot, at_rest, next_spot, who}
+use Rattle.robust.proofs.Common.{Scene, at_first, last_scene, Story, onward, reading, TakenStep, Setup, cells_of, LoadsTell, AreInOrder, NobodyRuins, HasReadRuin, last_call, last_of, settles}
+use Rattle.robust.proofs.Common.{MayStart, before, taken, happenings, spelled, own, IsRun, end_of, spot_of, crash_first, Goes, run_goes, goes_back, by_kind, own-append, spelled-append, legal_front}
+use Rattle.robust.proofs.Common.{spot_in_run}
 use Rattle.robust.proofs.Appended.{Own, own_split, own_taken, all_at}
-use Rattle.runs.proofs.OneStep.{run_goes, goes_back}
 use Rattle.runs.proofs.Ruins.{walk, unlocks_mended}
-use Rattle.runs.proofs.Runs.{own-append, spelled-append, spot_in_run, legal_front, by_kind}
 
 -- a story is its processes' own
 pub story_within : (l : Layout) (limit : ℕ) (w : Scene) (hs : List Happening) → Story l limit w hs → All (λ (h : Happening). who h < l.procs) hs

@@ -1,17 +1,9 @@
 -- One step more of a wait.
-use Rattle.std.proofs.Common.{◌≡◌, ◌≢◌, ℕ, ◌+◌, ◌<◌, ◌≤◌, Bool, true, false, not, ◌==◌, ◌||◌, if◌then◌else◌, List, [], Option, Some, None, IsSome, refl, sym, ap, ◌∙◌, subst, arith, eq-eqb}
-use Rattle.rmecore.specs.Place.{Place, Wait, above, is_before}
-use Rattle.rmecore.specs.Machine.{Standing, access, first, place_of, at_wait, next_access, after_access}
-use Rattle.rmecore.specs.declared.access.Access.TheVariants.{Load}
-use Rattle.rmecore.specs.declared.kind.Kind.TheVariants.{Look as Looks, Weigh as Weighs}
+use Rattle.std.proofs.Common.{◌≡◌, ◌≢◌, ℕ, ◌+◌, ◌<◌, ◌≤◌, Bool, true, false, ◌==◌, ◌||◌, List, Option, Some, None, refl, sym, ap, ◌∙◌, subst, arith, eq-eqb}
+use Rattle.robust.proofs.Common.{Load, Look as Looks, Weigh as Weighs, Number as NumberOf, Choosing as ChoosingOf, place_of, access, after_access, next_access, first, Standing, at_wait, Place, Wait}
+use Rattle.robust.proofs.Common.{above, is_before, wait_goes, first_here, above_first, above_skip, has-first, standing, spot_now, Pass, Advances, free_spot, IsSame, Unanswered, waits_at}
 use Rattle.rmecore.specs.declared.stage.Stage.TheVariants.{Wait as AtWait}
-use Rattle.rmecore.specs.declared.word.Word.TheVariants.{Number as NumberOf, Choosing as ChoosingOf}
-use Rattle.rmecore.proofs.Scans.{first_here, above_first, above_skip, above_past, has-first}
-use Rattle.rmecore.proofs.MachineSteps.{wait_goes}
-use Rattle.rmeworld.specs.Stand.{standing}
-use Rattle.runs.specs.Pass.{Pass, spot_now, moved_spot, Advances}
-use Rattle.robust.specs.FastPath.{free_spot, IsSame, Unanswered, waits_at}
-use Rattle.robust.proofs.FreeSteps.{stand_of, may_free, unanswered_none, unanswered_then, quiet, halted, there}
+use Rattle.robust.proofs.FreeSteps.{stand_of, unanswered_none, unanswered_then, there}
 use Rattle.robust.proofs.Peeks.{same_then}
 
 look_next : (limit n p k j : ℕ) → j < n → j ≢ p → access limit p (Wait k (above n p j) None) ≡ Some (Load Looks (ChoosingOf j))
@@ -46,32 +38,15 @@ module _ (y : Pass) (k j : ℕ) (lt : j < y.setup.layout.procs) (ne : j ≢ y.by
   next_weigh : access y.setup.limit y.by (place_of y.setup.layout.procs y.by (AtWait k j true)) ≡ Some (Load Weighs (NumberOf j))
   next_weigh = weigh_next y.setup.limit y.setup.layout.procs y.by k j lt ne
 
-  pub look_may : (b : Bool) → spot_now y ≡ free_spot (place_of y.setup.layout.procs y.by (AtWait k j false)) b → (v : ℕ) → IsSome (moved_spot y Looks (ChoosingOf j) v)
-  look_may b at v = may_free y before b (Load Looks (ChoosingOf j)) at next_look v
-
-  pub weigh_may : (b : Bool) → spot_now y ≡ free_spot (place_of y.setup.layout.procs y.by (AtWait k j true)) b → (v : ℕ) → IsSome (moved_spot y Weighs (NumberOf j) v)
-  weigh_may b at v = may_free y seen b (Load Weighs (NumberOf j)) at next_weigh v
-
   module _ (z : Pass) (b : Bool) (v : ℕ) where
     pub looked_at : (c : Bool) → (v == 0) ≡ c → spot_now y ≡ free_spot (place_of y.setup.layout.procs y.by (AtWait k j false)) b → Advances y Looks (ChoosingOf j) v z → spot_now z ≡ free_spot (place_of y.setup.layout.procs y.by (AtWait k j c)) b
     looked_at c e at adv = there y y z 0 (unanswered_none y) before b at (Load Looks (ChoosingOf j)) v next_look adv (place_of y.setup.layout.procs y.by (AtWait k j c)) (look_goes (standing (stand_of y before b)) k j v c first_is e) refl refl
-
-    pub look_unanswered : (c : Bool) → (v == 0) ≡ c → spot_now y ≡ free_spot (place_of y.setup.layout.procs y.by (AtWait k j false)) b → Advances y Looks (ChoosingOf j) v z → Unanswered y 1 (if c then 0 else 1) z
-    look_unanswered true e at adv = quiet y y z 0 (unanswered_none y) before b at (Load Looks (ChoosingOf j)) v next_look adv refl (ap not e)
-    look_unanswered false e at adv = halted y y z 0 (unanswered_none y) before b at (Load Looks (ChoosingOf j)) v next_look adv (ap not e)
-
-    is_seen : spot_now y ≡ free_spot (place_of y.setup.layout.procs y.by (AtWait k j true)) b → spot_now y ≡ free_spot (Wait k (above y.setup.layout.procs y.by j) (Some j)) b
-    is_seen at = at ∙ ap (λ (o : Option ℕ). free_spot (Wait k (above y.setup.layout.procs y.by j) o) b) first_is
 
     pub weighed : ((v == 0) || is_before k y.by v j) ≡ true → spot_now y ≡ free_spot (place_of y.setup.layout.procs y.by (AtWait k j true)) b → Advances y Weighs (NumberOf j) v z → spot_now z ≡ free_spot (place_of y.setup.layout.procs y.by (AtWait k (j + 1) false)) b
     weighed e at adv = there y y z 0 (unanswered_none y) seen b at (Load Weighs (NumberOf j)) v next_weigh adv (place_of y.setup.layout.procs y.by (AtWait k (j + 1) false)) (wait_goes (standing (stand_of y seen b)) k j j v true first_is refl e) refl refl
 
     pub weigh_blocked : ((v == 0) || is_before k y.by v j) ≡ false → spot_now y ≡ free_spot (place_of y.setup.layout.procs y.by (AtWait k j true)) b → Advances y Weighs (NumberOf j) v z → spot_now z ≡ free_spot (place_of y.setup.layout.procs y.by (AtWait k j true)) b
     weigh_blocked e at adv = there y y z 0 (unanswered_none y) seen b at (Load Weighs (NumberOf j)) v next_weigh adv seen (weigh_stays (standing (stand_of y seen b)) k j v first_is e) refl refl
-
-    pub weigh_unanswered : (c : Bool) → ((v == 0) || is_before k y.by v j) ≡ c → spot_now y ≡ free_spot (place_of y.setup.layout.procs y.by (AtWait k j true)) b → Advances y Weighs (NumberOf j) v z → Unanswered y 1 (if c then 0 else 1) z
-    weigh_unanswered true e at adv = quiet y y z 0 (unanswered_none y) (Wait k (above y.setup.layout.procs y.by j) (Some j)) b (is_seen at) (Load Weighs (NumberOf j)) v refl adv refl (ap not e)
-    weigh_unanswered false e at adv = halted y y z 0 (unanswered_none y) (Wait k (above y.setup.layout.procs y.by j) (Some j)) b (is_seen at) (Load Weighs (NumberOf j)) v refl adv (ap not e)
 
 -- the same place, told by another pass of the process
 pub same_waits : (x y : Pass) (k i : ℕ) (l : Bool) (t : Place) → IsSame x y → spot_now y ≡ free_spot t (spot_now x).mended → waits_at y k i l ≡ waits_at x k i l
@@ -116,7 +91,3 @@ module _ (x y : Pass) (number k j : ℕ) (h : KeptWait x y number k j) where
   wait_over below e =
       let gone : above x.setup.layout.procs x.by j ≡ above x.setup.layout.procs x.by (j + 1) = ap (above x.setup.layout.procs x.by) e ∙ above_skip x.setup.layout.procs x.by below ∙ ap (λ (i : ℕ). above x.setup.layout.procs x.by (i + 1)) (sym e) in
       (h.0 ∙ ap (λ (js : List ℕ). free_spot (Wait number js None) (spot_now x).mended) gone, h.1, h.2, (let few = h.3 in omega arith))
-
--- and behind the last one nobody is left
-pub all_passed : (x y : Pass) (number j : ℕ) → x.setup.layout.procs ≤ j → spot_now y ≡ waits_at x number j false → spot_now y ≡ free_spot (Wait number [] None) (spot_now x).mended
-all_passed x y number j past at = at ∙ ap (λ (js : List ℕ). free_spot (Wait number js None) (spot_now x).mended) (above_past x.setup.layout.procs x.by j past)

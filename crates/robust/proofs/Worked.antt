@@ -1,24 +1,7 @@
 -- What a lab has of its arena when its workers have handed their members back.
 use Rattle.std.proofs.Common.{◌≡◌, ℕ, zero, suc, ◌<◌, ◌≤◌, ◌==◌, ◌||◌, Bool, List, [], ◌∷◌, map, length, Result, Ok, Err, IfOk, All, refl, sym, ap, ◌∙◌, subst, inl, inr, arith}
-use Rattle.std.proofs.lemmas.Bool.{true≢false, cases_eq, cases_lt}
-use Rattle.std.proofs.lemmas.List.Elements.{All-nil, All-cons, All-head, All-tail}
-use Rattle.atomic_table.specs.Seated.{TableId}
-use Rattle.redomail.specs.Layout.{IsLayout}
-use Rattle.runs.specs.declared.setup.Setup.{Setup}
-use Rattle.one_lock.specs.declared.lab.spec.Spec.{Spec}
-use Rattle.robust.specs.declared.lab.worker.Done.{Done}
-use Rattle.one_lock.specs.declared.lab.ending.Ending.TheVariants.{AllSent}
-use Rattle.one_lock.specs.Lab.{IsBadSpec}
-use Rattle.robust.specs.Worked.{seat_done, sizes_of, HasWorked}
-use Rattle.runs.specs.Runs.{has}
-use Rattle.runs.specs.Rule.{count_from}
-use Rattle.runs.specs.Running.{Seated}
-use Rattle.robust.specs.Making.{fresh_member, fresh_members}
-use Rattle.runs.specs.Gathering.{OneArena, has_member, procs_of, IsMissing}
-use Rattle.robust.specs.LabFaults.{EndsSo}
-use Rattle.robust.specs.Sending.{IsNew, HasSent}
-use Rattle.robust.specs.Working.{seat_of, seats_of}
-use Rattle.runs.proofs.Keeps.{count_has}
+use Rattle.robust.proofs.Common.{cases_eq, cases_lt, true≢false, All-nil, All-cons, All-head, All-tail, TableId, IsLayout, Setup, has_member, OneArena, procs_of, IsMissing, count_from, Seated, has}
+use Rattle.robust.proofs.Common.{count_has, AllSent, Spec, IsBadSpec, Done, EndsSo, fresh_member, fresh_members, HasSent, IsNew, sizes_of, HasWorked, seat_done, seat_of, seats_of}
 
 abbrev Seat : Type 0
 Seat = TableId × Setup × ℕ

@@ -1,20 +1,7 @@
 -- A worker's calls leave its seat what it is.
 use Rattle.std.proofs.Common.{◌≡◌, ℕ, ◌+◌, ◌<◌, Bool, true, false, if◌then◌else◌, List, Result, Ok, Err, IfOk, IfErr, refl, sym, ap, ◌∙◌, subst, inl, inr, arith}
-use Rattle.atomic_table.specs.Seated.{TableId}
-use Rattle.rmeworld.specs.declared.call.Call.{Call}
-use Rattle.rmeworld.specs.declared.call.Call.TheVariants.{Lock, Append}
-use Rattle.rmeworld.specs.Refused.{is_idle}
-use Rattle.redomail.specs.declared.reply.Reply.{Reply}
-use Rattle.runs.specs.declared.entry.TakenStep.{TakenStep}
-use Rattle.runs.specs.declared.setup.Setup.{Setup}
-use Rattle.runs.specs.declared.lock_fault.LockFault.{LockFault}
-use Rattle.runs.specs.Pass.{spot_now, Calls}
-use Rattle.runs.specs.Running.{Seated, began, fell}
-use Rattle.runs.specs.Faults.{ready}
-use Rattle.runs.specs.Whole.{WholeEnds, WholeFails, AppendFails}
-use Rattle.one_lock.specs.Lab.{words_sent}
-use Rattle.robust.specs.Sending.{IsSending}
-use Rattle.robust.specs.Working.{seat_of}
+use Rattle.robust.proofs.Common.{TableId, Reply, Call, Append, Lock, is_idle, TakenStep, LockFault, Setup, ready, spot_now, Calls, Seated, fell, began, WholeEnds, AppendFails, WholeFails, words_sent}
+use Rattle.robust.proofs.Common.{IsSending, seat_of}
 
 either_seat : (b : Bool) (x : Seated) → seat_of (if b then x else fell x) ≡ seat_of x
 either_seat true x = refl

@@ -1,12 +1,5 @@
 use Rattle.std.proofs.Common.{◌≡◌, ℕ, ◌+◌, ◌*◌, List, [], ◌∷◌, ◌++◌, map, replicate, sym, ap, ◌∙◌, arith}
-use Rattle.atomic_table.specs.Seated.{TableId}
-use Rattle.runs.specs.Rule.{count_from}
-use Rattle.runs.specs.Runs.{word_count}
-use Rattle.runs.specs.Pass.{Pass}
-use Rattle.runs.specs.Running.{Seated}
-use Rattle.robust.specs.Making.{fresh_member}
-use Rattle.runs.proofs.Keeps.{opens}
-use Rattle.runs.proofs.Opens.{size_small, mapped_more}
+use Rattle.robust.proofs.Common.{TableId, Pass, count_from, Seated, word_count, opens, size_small, mapped_more, fresh_member}
 use Rattle.robust.proofs.arena.made.Goals as goal
 
 pub overflow_add-count : goal.overflow_add-count

@@ -1,9 +1,5 @@
 use Rattle.std.proofs.Common.{◌≡◌, [], map}
-use Rattle.std.specs.Arc.{arc_value}
-use Rattle.runs.specs.Rule.{count_from}
-use Rattle.runs.specs.Runs.{word_count}
-use Rattle.runs.specs.Pass.{rest_known}
-use Rattle.robust.specs.Making.{fresh_member}
+use Rattle.robust.proofs.Common.{arc_value, rest_known, count_from, word_count, fresh_member}
 use Rattle.robust.proofs.arena.made.Given as goal
 
 abbrev pub invariant-loop-p : goal.invariant-loop-p

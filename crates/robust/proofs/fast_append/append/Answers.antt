@@ -1,11 +1,5 @@
 use Rattle.std.proofs.Common.{◌≡◌, ℕ, ◌+◌, ◌*◌, length, sym, ap, ◌∙◌, subst, arith}
-use Rattle.redomail.specs.declared.reply.Reply.{Reply}
-use Rattle.redomail.specs.declared.reply.Reply.TheVariants.{Stored}
-use Rattle.redomail.specs.Script.{Script}
-use Rattle.rmeworld.specs.declared.answer.Answer.TheVariants.{Mail}
-use Rattle.runs.specs.declared.setup.Setup.{Setup}
-use Rattle.robust.specs.FastPath.{EndsIn}
-use Rattle.robust.specs.FastAppend.{at_append, HasLeft}
+use Rattle.robust.proofs.Common.{Reply, Stored, Script, Mail, Setup, at_append, HasLeft, EndsIn}
 use Rattle.robust.proofs.FastAppend.{ends_then, stored_on}
 use Rattle.robust.proofs.fast_append.append.Goals as goal
 

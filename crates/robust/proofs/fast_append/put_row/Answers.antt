@@ -1,8 +1,5 @@
 use Rattle.std.proofs.Common.{◌≡◌, ℕ, ◌+◌, ◌<◌, refl, sym, ap, ◌∙◌, subst, arith}
-use Rattle.redomail.specs.Layout.{size}
-use Rattle.redomail.specs.Tasks.{record_of}
-use Rattle.runs.specs.declared.setup.Setup.{Setup}
-use Rattle.robust.specs.FastAppend.{stored_so_far}
+use Rattle.robust.proofs.Common.{size, record_of, Setup, stored_so_far}
 use Rattle.robust.proofs.FreeSteps.{unanswered_none, unanswered_then}
 use Rattle.robust.proofs.Peeks.{same_then}
 use Rattle.robust.proofs.FastAppend.{stored_on, stored_back, row_next}

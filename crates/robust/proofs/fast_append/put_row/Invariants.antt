@@ -1,7 +1,5 @@
 use Rattle.std.proofs.Common.{◌≡◌, ◌+◌}
-use Rattle.runs.specs.Pass.{spot_now}
-use Rattle.robust.specs.FastPath.{IsClear, IsSame, Unanswered}
-use Rattle.robust.specs.FastAppend.{stored_so_far}
+use Rattle.robust.proofs.Common.{spot_now, stored_so_far, IsSame, Unanswered, IsClear}
 use Rattle.robust.proofs.fast_append.put_row.Given as goal
 
 abbrev pub invariant-loop-j : goal.invariant-loop-j

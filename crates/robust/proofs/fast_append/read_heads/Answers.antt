@@ -1,7 +1,5 @@
 use Rattle.std.proofs.Common.{◌≡◌, ◌<◌, sym, ◌∙◌, subst, arith}
-use Rattle.redomail.specs.Layout.{last_at, size}
-use Rattle.redomail.proofs.Words.{place_low}
-use Rattle.runs.specs.declared.setup.Setup.{Setup}
+use Rattle.robust.proofs.Common.{last_at, size, place_low, Setup}
 use Rattle.robust.proofs.FastAppend.{closed_may, count_may, last_may, heads_go, heads_left, count_fits}
 use Rattle.robust.proofs.fast_append.read_heads.Goals as goal
 

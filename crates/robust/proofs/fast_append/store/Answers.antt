@@ -1,9 +1,5 @@
 use Rattle.std.proofs.Common.{◌≡◌, ℕ, ◌+◌, ◌*◌, ◌<◌, ◌≤◌, ◌∷◌, length, drop, slice_index, refl, sym, ◌∙◌, subst, arith}
-use Rattle.redomail.specs.Layout.{held, last_at, place_at, size}
-use Rattle.redomail.specs.Tasks.{record_of, store_steps}
-use Rattle.redomail.proofs.Scripts.{held-small, step-commit, step-last, step-count}
-use Rattle.redomail.proofs.Words.{place_low}
-use Rattle.runs.specs.declared.setup.Setup.{Setup}
+use Rattle.robust.proofs.Common.{held, last_at, place_at, size, store_steps, record_of, held-small, step-commit, step-last, step-count, place_low, Setup}
 use Rattle.robust.proofs.FastAppend.{room_for, record_row, entry_row, stored_here, disarm_may, same_five, all_stored, all_ends}
 use Rattle.robust.proofs.Peeks.{same_then}
 use Rattle.robust.proofs.fast_append.store.Goals as goal
@@ -127,8 +123,8 @@ put-requires-2-clause-table c =
     let here : c.last.result < size x.setup.layout = omega arith in
     subst (λ (s : Setup). c.last.result < size s.layout) (sym same.0) here
 
-pub returns-clause-at : goal.returns-clause-at
-returns-clause-at c =
+pub returns : goal.returns
+returns c =
     let x = c.args.walker.now in
     let e = c.args.entry.now in
     let r1 = c.put_row.ensures in
@@ -136,24 +132,13 @@ returns-clause-at c =
     let r3 = c.put_row-2.ensures in
     let r4 = c.put-2.ensures in
     let r5 = c.put-3.ensures in
-    all_stored x c.put_row.new.walker c.put.new.walker c.put_row-2.new.walker c.put-2.new.walker c.put-3.new.walker e.at e.seq e.value r1.same r2.same r3.same r4.same r5.same r1.unanswered r2.unanswered r3.unanswered r4.unanswered r5.unanswered c.store.new.self
-    (2 * (2 + c.width-row.result) + 2 + 1) (omega arith) (stored_here c.put-2.new.walker c.put-3.new.walker e.at e.seq e.value _ _ r5.same refl r5.at) c.store.ensures
-
-pub returns-clause-ends : goal.returns-clause-ends
-returns-clause-ends c =
-    let x = c.args.walker.now in
-    let e = c.args.entry.now in
-    let r1 = c.put_row.ensures in
-    let r2 = c.put.ensures in
-    let r3 = c.put_row-2.ensures in
-    let r4 = c.put-2.ensures in
-    let r5 = c.put-3.ensures in
-    all_ends x c.put_row.new.walker c.put.new.walker c.put_row-2.new.walker c.put-2.new.walker c.put-3.new.walker e.at e.seq e.value r1.same r2.same r3.same r4.same r5.same r1.unanswered r2.unanswered r3.unanswered r4.unanswered r5.unanswered c.store.new.self
-    (2 * (2 + c.width-row.result) + 2 + 1) (omega arith) (stored_here c.put-2.new.walker c.put-3.new.walker e.at e.seq e.value _ _ r5.same refl r5.at) c.store.ensures
-
-pub returns-clause-same : goal.returns-clause-same
-returns-clause-same c =
-    let x = c.args.walker.now in
-    let e = c.args.entry.now in
-    let five = same_five x c.put_row.new.walker c.put.new.walker c.put_row-2.new.walker c.put-2.new.walker c.put-3.new.walker e.at e.seq e.value c.put_row.ensures.same c.put.ensures.same c.put_row-2.ensures.same c.put-2.ensures.same c.put-3.ensures.same in
-    let a = c.store.ensures.adds in (a.setup ∙ five.0, a.by ∙ five.1)
+    let k : ℕ = 2 * (2 + c.width-row.result) + 2 + 1 in
+    let many : k ≡ 7 + 2 * length e.value = omega arith in
+    let here = stored_here c.put-2.new.walker c.put-3.new.walker e.at e.seq e.value k k r5.same refl r5.at in
+    let five = same_five x c.put_row.new.walker c.put.new.walker c.put_row-2.new.walker c.put-2.new.walker c.put-3.new.walker e.at e.seq e.value r1.same r2.same r3.same r4.same r5.same in
+    let adds = c.store.ensures.adds in
+    record {
+      at = all_stored x c.put_row.new.walker c.put.new.walker c.put_row-2.new.walker c.put-2.new.walker c.put-3.new.walker e.at e.seq e.value r1.same r2.same r3.same r4.same r5.same r1.unanswered r2.unanswered r3.unanswered r4.unanswered r5.unanswered c.store.new.self k many here c.store.ensures;
+      ends = all_ends x c.put_row.new.walker c.put.new.walker c.put_row-2.new.walker c.put-2.new.walker c.put-3.new.walker e.at e.seq e.value r1.same r2.same r3.same r4.same r5.same r1.unanswered r2.unanswered r3.unanswered r4.unanswered r5.unanswered c.store.new.self k many here c.store.ensures;
+      same = (adds.setup ∙ five.0, adds.by ∙ five.1);
+    }

@@ -1,5 +1,5 @@
 use Rattle.std.proofs.Common.{refl, arith}
-use Rattle.runs.proofs.Running.{size_is}
+use Rattle.robust.proofs.Common.{size_is}
 use Rattle.robust.proofs.Straight.{check_goes}
 use Rattle.robust.proofs.fast_path.check.Goals as goal
 

@@ -1,11 +1,5 @@
-use Rattle.std.proofs.Common.{◌≡◌, ℕ, ◌+◌, ◌==◌, true, false, sym, ◌∙◌, subst}
-use Rattle.rmecore.specs.Place.{Inside}
-use Rattle.redomail.specs.Tasks.{script}
-use Rattle.redomail.specs.declared.task.Task.TheVariants.{Check}
-use Rattle.rmeworld.specs.declared.why.Why.TheVariants.{Checking}
-use Rattle.rmeworld.specs.Spot.{Doing}
-use Rattle.runs.specs.Pass.{Pass, spot_now}
-use Rattle.robust.specs.FastPath.{checking_spot, IsSame}
+use Rattle.std.proofs.Common.{◌≡◌, true, false, sym, ◌∙◌}
+use Rattle.robust.proofs.Common.{Inside, Check, script, Checking, Doing, spot_now, Pass, IsSame, checking_spot}
 use Rattle.robust.proofs.Straight.{comes_in, turned_away}
 use Rattle.robust.proofs.fast_path.come_in.Goals as goal
 

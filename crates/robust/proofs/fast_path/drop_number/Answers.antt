@@ -1,7 +1,5 @@
 use Rattle.std.proofs.Common.{ℕ, subst}
-use Rattle.rmecore.specs.declared.kind.Kind.TheVariants.{Drop}
-use Rattle.rmecore.specs.declared.word.Word.TheVariants.{Number}
-use Rattle.runs.specs.Pass.{Advances}
+use Rattle.robust.proofs.Common.{Drop, Number, Advances}
 use Rattle.robust.proofs.Straight.{dropped}
 use Rattle.robust.proofs.fast_path.drop_number.Goals as goal
 

@@ -1,6 +1,5 @@
 use Rattle.std.proofs.Common.{◌≡◌, false, ap}
-use Rattle.rmeworld.specs.Spot.{Spot}
-use Rattle.runs.specs.Pass.{spot_now}
+use Rattle.robust.proofs.Common.{Spot, spot_now}
 use Rattle.robust.proofs.Entering.{enters_then, enters_stands}
 use Rattle.robust.proofs.fast_path.enter.Goals as goal
 

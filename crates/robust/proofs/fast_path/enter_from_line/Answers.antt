@@ -1,10 +1,6 @@
-use Rattle.std.proofs.Common.{◌≡◌, ℕ, Bool, true, false, if◌then◌else◌, refl, sym, ap, subst}
+use Rattle.std.proofs.Common.{◌≡◌, Bool, true, false, if◌then◌else◌, refl, sym, ap, subst}
+use Rattle.robust.proofs.Common.{is_waiting, Spot, spot_now, Unanswered}
 use Rattle.rmecore.specs.declared.stage.Stage.TheVariants.{Wait as AtWait}
-use Rattle.rmeworld.specs.declared.call.Call.TheVariants.{Lock}
-use Rattle.rmeworld.specs.Refused.{is_waiting}
-use Rattle.rmeworld.specs.Spot.{Spot}
-use Rattle.runs.specs.Pass.{spot_now}
-use Rattle.robust.specs.FastPath.{Unanswered}
 use Rattle.robust.proofs.Straight.{wait_begun}
 use Rattle.robust.proofs.Entering.{enters_in, enters_blocked}
 use Rattle.robust.proofs.fast_path.enter_from_line.Goals as goal

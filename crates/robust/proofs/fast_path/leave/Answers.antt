@@ -1,6 +1,5 @@
 use Rattle.std.proofs.Common.{◌∙◌}
-use Rattle.rmecore.specs.Place.{Rest}
-use Rattle.robust.specs.FastPath.{free_spot}
+use Rattle.robust.proofs.Common.{Rest, free_spot}
 use Rattle.robust.proofs.Straight.{has_left}
 use Rattle.robust.proofs.fast_path.leave.Goals as goal
 

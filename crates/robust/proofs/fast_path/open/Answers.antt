@@ -1,7 +1,5 @@
 use Rattle.std.proofs.Common.{ℕ, subst}
-use Rattle.rmecore.specs.declared.kind.Kind.TheVariants.{Open}
-use Rattle.rmecore.specs.declared.word.Word.TheVariants.{Choosing}
-use Rattle.runs.specs.Pass.{Advances}
+use Rattle.robust.proofs.Common.{Open, Choosing, Advances}
 use Rattle.robust.proofs.Straight.{opened}
 use Rattle.robust.proofs.fast_path.open.Goals as goal
 

@@ -1,5 +1,5 @@
 use Rattle.std.proofs.Common.{◌≡◌, ◌≢◌, ℕ, ◌+◌, ◌<◌, sym, ◌∙◌, subst, arith}
-use Rattle.runs.specs.Pass.{Pass}
+use Rattle.robust.proofs.Common.{Pass}
 use Rattle.robust.proofs.Peeks.{Kept, kept_peeked, kept_over}
 use Rattle.robust.proofs.fast_path.peek_others.Goals as goal
 use Rattle.robust.proofs.fast_path.peek_others.Goals.{then-j-own, else-j-own}

@@ -1,7 +1,5 @@
 use Rattle.std.proofs.Common.{◌≡◌, ◌≤◌}
-use Rattle.rmecore.specs.Place.{Door, above}
-use Rattle.runs.specs.Pass.{spot_now}
-use Rattle.robust.specs.FastPath.{free_spot, IsClear, IsSame, Unanswered}
+use Rattle.robust.proofs.Common.{Door, above, spot_now, free_spot, IsSame, Unanswered, IsClear}
 use Rattle.robust.proofs.fast_path.peek_others.Given as goal
 
 abbrev pub invariant-loop-j : goal.invariant-loop-j

@@ -1,7 +1,5 @@
 use Rattle.std.proofs.Common.{ℕ, subst}
-use Rattle.rmecore.specs.declared.kind.Kind.TheVariants.{Reread}
-use Rattle.rmecore.specs.declared.word.Word.TheVariants.{Choosing}
-use Rattle.runs.specs.Pass.{Advances}
+use Rattle.robust.proofs.Common.{Reread, Choosing, Advances}
 use Rattle.robust.proofs.Straight.{choosing_read}
 use Rattle.robust.proofs.fast_path.read_choosing.Goals as goal
 

@@ -1,7 +1,6 @@
 use Rattle.std.proofs.Common.{ℕ, subst}
-use Rattle.rmecore.specs.declared.kind.Kind.TheVariants.{Reread}
+use Rattle.robust.proofs.Common.{Reread, Advances}
 use Rattle.rmecore.specs.declared.word.Word.TheVariants.{Inside}
-use Rattle.runs.specs.Pass.{Advances}
 use Rattle.robust.proofs.Straight.{inside_read}
 use Rattle.robust.proofs.fast_path.read_inside.Goals as goal
 

@@ -1,7 +1,5 @@
 use Rattle.std.proofs.Common.{ℕ, subst}
-use Rattle.rmecore.specs.declared.kind.Kind.TheVariants.{Reread}
-use Rattle.rmecore.specs.declared.word.Word.TheVariants.{Number}
-use Rattle.runs.specs.Pass.{Advances}
+use Rattle.robust.proofs.Common.{Reread, Number, Advances}
 use Rattle.robust.proofs.Straight.{number_read}
 use Rattle.robust.proofs.fast_path.read_number.Goals as goal
 

@@ -1,7 +1,7 @@
 use Rattle.std.proofs.Common.{[], ◌∷◌, refl}
-use Rattle.rmecore.specs.Place.{Reread, Opening, Unmarking, relocked}
+use Rattle.robust.proofs.Common.{Opening, Unmarking, relocked, Way}
+use Rattle.rmecore.specs.Place.{Reread}
 use Rattle.rmecore.specs.declared.core_call.CoreCall.TheVariants.{Lock}
-use Rattle.robust.specs.FastPath.{Way}
 use Rattle.robust.proofs.Straight.{way_first, way_on, way_to, relocked_none, relocked_some}
 use Rattle.robust.proofs.fast_path.reread_own.Goals as goal
 

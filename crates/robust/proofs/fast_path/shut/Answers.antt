@@ -1,7 +1,5 @@
 use Rattle.std.proofs.Common.{ℕ, subst}
-use Rattle.rmecore.specs.declared.kind.Kind.TheVariants.{Shut}
-use Rattle.rmecore.specs.declared.word.Word.TheVariants.{Choosing}
-use Rattle.runs.specs.Pass.{Advances}
+use Rattle.robust.proofs.Common.{Shut, Choosing, Advances}
 use Rattle.robust.proofs.Straight.{shut_again}
 use Rattle.robust.proofs.fast_path.shut.Goals as goal
 

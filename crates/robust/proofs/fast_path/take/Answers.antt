@@ -1,7 +1,5 @@
 use Rattle.std.proofs.Common.{ℕ, ◌+◌, subst}
-use Rattle.rmecore.specs.declared.kind.Kind.TheVariants.{Take}
-use Rattle.rmecore.specs.declared.word.Word.TheVariants.{Number}
-use Rattle.runs.specs.Pass.{Advances}
+use Rattle.robust.proofs.Common.{Take, Number, Advances}
 use Rattle.robust.proofs.Straight.{number_taken}
 use Rattle.robust.proofs.fast_path.take.Goals as goal
 

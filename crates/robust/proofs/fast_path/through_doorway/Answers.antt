@@ -1,9 +1,6 @@
 use Rattle.std.proofs.Common.{◌≡◌, ◌+◌, ◌≤◌, [], None, refl, sym, ap, arith}
-use Rattle.rmecore.specs.Place.{Opening, Door, Shutting, Wait, above, others}
+use Rattle.robust.proofs.Common.{Wait, Door, above, Opening, Shutting, others, above_past, none_of, Way}
 use Rattle.rmecore.specs.declared.core_call.CoreCall.TheVariants.{Lock}
-use Rattle.rmecore.proofs.Scans.{above_past}
-use Rattle.runs.proofs.Taken.{none_of}
-use Rattle.robust.specs.FastPath.{Way}
 use Rattle.robust.proofs.Straight.{way_on, way_more, way_to, way_begun, above_short}
 use Rattle.robust.proofs.fast_path.through_doorway.Goals as goal
 

@@ -1,7 +1,6 @@
 use Rattle.std.proofs.Common.{ℕ, subst}
-use Rattle.rmecore.specs.declared.kind.Kind.TheVariants.{Mark}
+use Rattle.robust.proofs.Common.{Mark, Advances}
 use Rattle.rmecore.specs.declared.word.Word.TheVariants.{Inside}
-use Rattle.runs.specs.Pass.{Advances}
 use Rattle.robust.proofs.Straight.{unmarked}
 use Rattle.robust.proofs.fast_path.unmark.Goals as goal
 

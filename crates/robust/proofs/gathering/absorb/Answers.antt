@@ -1,10 +1,5 @@
 use Rattle.std.proofs.Common.{◌≡◌, ◌<◌, ℕ, true, List, sym, ap, ◌∙◌, subst, arith}
-use Rattle.atomic_table.specs.Seated.{TableId}
-use Rattle.runs.specs.declared.entry.Known.{Known}
-use Rattle.runs.specs.Runs.{has}
-use Rattle.runs.specs.Rule.{stepper}
-use Rattle.runs.proofs.Keeps.{glues}
-use Rattle.runs.proofs.Leads.{has_one}
+use Rattle.robust.proofs.Common.{TableId, Known, stepper, has, glues, has_one}
 use Rattle.robust.proofs.gathering.absorb.Goals as goal
 
 pub take_in-requires : goal.take_in-requires

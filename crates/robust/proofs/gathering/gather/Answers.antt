@@ -1,7 +1,5 @@
 use Rattle.std.proofs.Common.{◌≡◌, ◌<◌, ◌∷◌, List, true, length, get_or, refl, ap, ◌∙◌, subst, arith}
-use Rattle.runs.specs.Running.{Seated}
-use Rattle.runs.specs.Gathering.{has_member}
-use Rattle.runs.proofs.Gathered.{first_removed}
+use Rattle.robust.proofs.Common.{has_member, Seated, first_removed}
 use Rattle.robust.proofs.gathering.gather.Goals as goal
 
 pub read_all-requires-clause-all : goal.read_all-requires-clause-all

@@ -1,5 +1,5 @@
 use Rattle.std.proofs.Common.{◌≡◌, ℕ, ◌<◌, true}
-use Rattle.runs.specs.Gathering.{has_member}
+use Rattle.robust.proofs.Common.{has_member}
 use Rattle.robust.proofs.gathering.has_all.Given as goal
 
 abbrev pub invariant-loop-p : goal.invariant-loop-p

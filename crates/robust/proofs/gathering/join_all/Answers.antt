@@ -1,10 +1,5 @@
 use Rattle.std.proofs.Common.{◌≡◌, ◌∙◌, ◌∷◌, ◌++◌, List, [], sym, ap, append-nil, append_assoc, subst}
-use Rattle.atomic_table.specs.Seated.{TableId}
-use Rattle.runs.specs.Runs.{word_count}
-use Rattle.runs.specs.Pass.{Pass, alone}
-use Rattle.runs.specs.Running.{Seated}
-use Rattle.runs.specs.Gathering.{Absorbs}
-use Rattle.runs.proofs.Gathered.{knows_some, absorbs_on, knows_first, one_table}
+use Rattle.robust.proofs.Common.{TableId, Absorbs, Pass, alone, Seated, word_count, knows_some, absorbs_on, knows_first, one_table}
 use Rattle.robust.proofs.gathering.join_all.Goals as goal
 
 pub loop-other-init : goal.loop-other-init

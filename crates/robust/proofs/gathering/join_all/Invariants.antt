@@ -1,8 +1,5 @@
 use Rattle.std.proofs.Common.{◌≡◌, List, ◌++◌, length, vec_len}
-use Rattle.std.specs.Arc.{arc_value}
-use Rattle.runs.specs.Runs.{word_count}
-use Rattle.runs.specs.Running.{Seated}
-use Rattle.runs.specs.Gathering.{Knows}
+use Rattle.robust.proofs.Common.{arc_value, Knows, Seated, word_count}
 use Rattle.robust.proofs.gathering.join_all.Given as goal
 
 abbrev pub invariant-loop-other : goal.invariant-loop-other

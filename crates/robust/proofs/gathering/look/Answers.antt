@@ -1,4 +1,4 @@
-use Rattle.runs.proofs.Gathered.{may_glance}
+use Rattle.robust.proofs.Common.{may_glance}
 use Rattle.robust.proofs.gathering.look.Goals as goal
 
 pub glance-requires-clause-may : goal.glance-requires-clause-may

@@ -1,4 +1,4 @@
-use Rattle.runs.proofs.Gathered.{all_some, looked}
+use Rattle.robust.proofs.Common.{all_some, looked}
 use Rattle.robust.proofs.gathering.read.Goals as goal
 
 pub look-requires-clause-some : goal.look-requires-clause-some

@@ -1,12 +1,5 @@
 use Rattle.std.proofs.Common.{◌∙◌, ◌≤◌, ◌^◌, sym, ap, subst}
-use Rattle.rmecore.specs.declared.word.Word.TheVariants.{Choosing as ChoosingOf}
-use Rattle.rmeworld.specs.ImageRules.{IsLawfulImage}
-use Rattle.rmeworld.specs.Stand.{IsSize}
-use Rattle.runs.specs.declared.setup.Setup.{Setup}
-use Rattle.runs.specs.Runs.{IsRun, end_of}
-use Rattle.runs.specs.Gathering.{image_at, Stays}
-use Rattle.runs.proofs.Gathered.{knows_all, still_all, looked_stays, stays_on, image_is, gathers}
-use Rattle.runs.proofs.LawfulEnd.{lawful_end}
+use Rattle.robust.proofs.Common.{Choosing as ChoosingOf, IsLawfulImage, IsSize, Setup, image_at, Stays, IsRun, end_of, stays_on, looked_stays, knows_all, still_all, image_is, gathers, lawful_end}
 use Rattle.robust.proofs.gathering.read_all.Goals as goal
 
 pub read-requires-clause-all : goal.read-requires-clause-all

@@ -1,10 +1,5 @@
 use Rattle.std.proofs.Common.{◌≡◌, ℕ, List, [], ◌∷◌, ◌++◌, length, map, sym, ap, ◌∙◌, arith}
-use Rattle.rmecore.specs.declared.word.Word.TheVariants.{Data as DataAt}
-use Rattle.runs.specs.Runs.{end_of}
-use Rattle.runs.specs.Rule.{count_from}
-use Rattle.runs.proofs.Opens.{mapped_more}
-use Rattle.runs.proofs.Gathered.{stays_on, looked_stays, found_first}
-use Rattle.runs.proofs.LawfulEnd.{length-counted}
+use Rattle.robust.proofs.Common.{Data as DataAt, count_from, end_of, stays_on, looked_stays, found_first, length-counted, mapped_more}
 use Rattle.robust.proofs.gathering.read_cells.Goals as goal
 
 pub push_reserved-requires : goal.push_reserved-requires

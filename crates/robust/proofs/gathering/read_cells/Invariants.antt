@@ -1,8 +1,5 @@
 use Rattle.std.proofs.Common.{◌≡◌, ◌≤◌, map, vec_capacity}
-use Rattle.redomail.specs.Layout.{size}
-use Rattle.runs.specs.Runs.{end_of}
-use Rattle.runs.specs.Rule.{count_from}
-use Rattle.runs.specs.Gathering.{Stays}
+use Rattle.robust.proofs.Common.{size, Stays, count_from, end_of}
 use Rattle.robust.proofs.gathering.read_cells.Given as goal
 
 abbrev pub invariant-loop-i : goal.invariant-loop-i

@@ -1,10 +1,6 @@
 use Rattle.std.proofs.Common.{◌≡◌, ℕ, List, [], ◌∷◌, ◌++◌, length, map, sym, ap, ◌∙◌, arith}
+use Rattle.robust.proofs.Common.{count_from, end_of, stays_on, length-counted, mapped_more}
 use Rattle.rmecore.specs.declared.own.Own.{Own}
-use Rattle.runs.specs.Runs.{end_of}
-use Rattle.runs.specs.Rule.{count_from}
-use Rattle.runs.proofs.Opens.{mapped_more}
-use Rattle.runs.proofs.Gathered.{stays_on}
-use Rattle.runs.proofs.LawfulEnd.{length-counted}
 use Rattle.robust.proofs.gathering.read_lock.Goals as goal
 
 pub push_reserved-requires : goal.push_reserved-requires

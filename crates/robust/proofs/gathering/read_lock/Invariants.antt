@@ -1,7 +1,5 @@
 use Rattle.std.proofs.Common.{◌≡◌, ◌≤◌, map, vec_capacity}
-use Rattle.runs.specs.Runs.{end_of}
-use Rattle.runs.specs.Rule.{count_from}
-use Rattle.runs.specs.Gathering.{Stays}
+use Rattle.robust.proofs.Common.{Stays, count_from, end_of}
 use Rattle.robust.proofs.gathering.read_lock.Given as goal
 
 abbrev pub invariant-loop-p : goal.invariant-loop-p

@@ -1,5 +1,5 @@
 use Rattle.std.proofs.Common.{false, ◌≡◌, ℕ, ◌+◌, refl, sym, ◌∙◌, subst, arith}
-use Rattle.runs.specs.Pass.{Pass}
+use Rattle.robust.proofs.Common.{Pass}
 use Rattle.robust.proofs.Waits.{KeptWait, look_counted, weigh_counted, kept_passed, wait_over}
 use Rattle.robust.proofs.in_line.pass_others.Goals as goal
 use Rattle.robust.proofs.in_line.pass_others.Goals.{then-j-own+else-not-look+else-not-weigh, else-j-own}

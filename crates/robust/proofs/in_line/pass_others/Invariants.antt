@@ -1,6 +1,5 @@
 use Rattle.std.proofs.Common.{◌≡◌, ◌+◌, ◌≤◌, false}
-use Rattle.runs.specs.Pass.{spot_now}
-use Rattle.robust.specs.FastPath.{IsSame, Unanswered, waits_at}
+use Rattle.robust.proofs.Common.{spot_now, IsSame, Unanswered, waits_at}
 use Rattle.robust.proofs.in_line.pass_others.Given as goal
 
 abbrev pub invariant-loop-j : goal.invariant-loop-j

@@ -1,5 +1,5 @@
 use Rattle.std.proofs.Common.{◌≡◌, ℕ, ◌+◌, if◌then◌else◌, subst, arith}
-use Rattle.robust.specs.FastPath.{Unanswered}
+use Rattle.robust.proofs.Common.{Unanswered}
 use Rattle.robust.proofs.FreeSteps.{unanswered_then}
 use Rattle.robust.proofs.in_line.wait_on.Goals as goal
 

@@ -1,5 +1,5 @@
 use Rattle.std.proofs.Common.{◌≡◌, ◌==◌, ◌||◌, ℕ, true, false, sym, ap, ◌∙◌}
-use Rattle.rmecore.specs.Place.{is_before}
+use Rattle.robust.proofs.Common.{is_before}
 use Rattle.robust.proofs.Waits.{weighed, weigh_blocked}
 use Rattle.robust.proofs.in_line.weigh.Goals as goal
 

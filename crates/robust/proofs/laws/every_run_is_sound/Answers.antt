@@ -1,6 +1,4 @@
-use Rattle.runs.specs.Runs.{spelled}
-use Rattle.runs.specs.Headline.{deeds_of}
-use Rattle.runs.proofs.Headline.{answered, words_sit}
+use Rattle.robust.proofs.Common.{deeds_of, spelled, answered, words_sit}
 use Rattle.robust.proofs.laws.every_run_is_sound.Goals as goal
 
 pub returns : goal.returns

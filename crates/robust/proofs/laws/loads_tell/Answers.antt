@@ -1,4 +1,4 @@
-use Rattle.runs.proofs.Runs.{last_reads}
+use Rattle.robust.proofs.Common.{last_reads}
 use Rattle.robust.proofs.laws.loads_tell.Goals as goal
 
 pub returns : goal.returns

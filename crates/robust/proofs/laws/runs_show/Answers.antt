@@ -1,4 +1,4 @@
-use Rattle.runs.proofs.Shown.{runs_show}
+use Rattle.robust.proofs.Common.{runs_show}
 use Rattle.robust.proofs.laws.runs_show.Goals as goal
 
 pub returns : goal.returns

@@ -1,4 +1,4 @@
-use Rattle.runs.proofs.Running.{size_is}
+use Rattle.robust.proofs.Common.{size_is}
 use Rattle.robust.proofs.runner.data_words.Goals as goal
 
 pub returns : goal.returns

@@ -1,7 +1,5 @@
 use Rattle.std.proofs.Common.{ℕ, IsSome, subst}
-use Rattle.rmecore.specs.Machine.{kind_of, word_of, carried}
-use Rattle.rmecore.specs.declared.access.Access.{Access}
-use Rattle.runs.specs.Pass.{moved_spot}
+use Rattle.robust.proofs.Common.{Access, kind_of, word_of, carried, moved_spot}
 use Rattle.robust.proofs.runner.perform.Goals as goal
 
 pub read-requires-clause-allowed : goal.read-requires-clause-allowed

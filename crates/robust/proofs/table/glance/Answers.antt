@@ -1,11 +1,7 @@
 use Rattle.std.proofs.Common.{◌≡◌, sym, subst}
-use Rattle.rmecore.specs.declared.kind.Kind.TheVariants.{Glance}
-use Rattle.rmecore.specs.declared.word.Word.{Word}
+use Rattle.robust.proofs.Common.{Glance, Word, glanced, MayLoad, Did, step_of, OwesNothing}
 use Rattle.runs.specs.declared.entry.Step.{Step}
-use Rattle.runs.specs.Pass.{glanced}
-use Rattle.runs.specs.Rule.{MayLoad, Did}
 use Rattle.robust.specs.declared.owed.Owed.{Owed}
-use Rattle.robust.specs.Owed.{step_of, OwesNothing}
 use Rattle.robust.proofs.table.glance.Goals as goal
 
 -- a step that owes nothing, as a glance

@@ -1,4 +1,4 @@
-use Rattle.runs.specs.Pass.{glanced}
+use Rattle.robust.proofs.Common.{glanced}
 use Rattle.robust.proofs.table.glance.Given as goal
 
 abbrev pub ghosts-load_named : goal.ghosts-load_named

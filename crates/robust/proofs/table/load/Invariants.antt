@@ -1,4 +1,4 @@
-use Rattle.robust.specs.Owed.{step_of}
+use Rattle.robust.proofs.Common.{step_of}
 use Rattle.robust.proofs.table.load.Given as goal
 
 abbrev pub ghosts-load_named : goal.ghosts-load_named

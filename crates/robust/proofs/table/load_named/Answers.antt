@@ -1,5 +1,4 @@
-use Rattle.runs.proofs.Keeps.{loads}
-use Rattle.robust.specs.Owed.{step_of}
+use Rattle.robust.proofs.Common.{loads, step_of}
 use Rattle.robust.proofs.table.load_named.Goals as goal
 
 pub load-requires : goal.load-requires

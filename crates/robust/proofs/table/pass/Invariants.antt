@@ -1,4 +1,4 @@
-use Rattle.robust.specs.Owed.{step_of}
+use Rattle.robust.proofs.Common.{step_of}
 use Rattle.robust.proofs.table.pass.Given as goal
 
 abbrev pub ghosts-pass_named : goal.ghosts-pass_named

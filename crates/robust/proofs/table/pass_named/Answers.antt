@@ -1,5 +1,4 @@
-use Rattle.runs.proofs.Keeps.{passes}
-use Rattle.robust.specs.Owed.{step_of}
+use Rattle.robust.proofs.Common.{passes, step_of}
 use Rattle.robust.proofs.table.pass_named.Goals as goal
 
 pub load-requires : goal.load-requires

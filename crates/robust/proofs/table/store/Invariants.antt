@@ -1,4 +1,4 @@
-use Rattle.robust.specs.Owed.{step_of}
+use Rattle.robust.proofs.Common.{step_of}
 use Rattle.robust.proofs.table.store.Given as goal
 
 abbrev pub ghosts-store_named : goal.ghosts-store_named

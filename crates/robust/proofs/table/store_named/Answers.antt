@@ -1,5 +1,4 @@
-use Rattle.runs.proofs.Keeps.{stores_kept}
-use Rattle.robust.specs.Owed.{step_of}
+use Rattle.robust.proofs.Common.{stores_kept, step_of}
 use Rattle.robust.proofs.table.store_named.Goals as goal
 
 pub store-requires : goal.store-requires

@@ -1,6 +1,5 @@
 use Rattle.std.proofs.Common.{subst, arith}
-use Rattle.runs.specs.Runs.{InTable}
-use Rattle.runs.proofs.Opens.{size_small}
+use Rattle.robust.proofs.Common.{InTable, size_small}
 use Rattle.robust.proofs.walker.index.Goals as goal
 
 pub overflow_add-result-in-Data : goal.overflow_add-result-in-Data

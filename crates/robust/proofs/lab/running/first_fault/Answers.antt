@@ -1,11 +1,7 @@
 use Rattle.std.proofs.Common.{◌≡◌, ◌∙◌, ℕ, suc, ◌+◌, [], ◌∷◌, ◌++◌, take, drop, Some, All, sym, ap, subst, arith}
+use Rattle.robust.proofs.Common.{take_all, All-push, AllSent, Member, fault_by, Done}
 use Rattle.std.proofs.Math.Seq.{split_at, take-suc}
-use Rattle.std.proofs.lemmas.List.{take_all}
-use Rattle.std.proofs.lemmas.List.Elements.{All-push}
-use Rattle.one_lock.specs.declared.lab.lab_fault.LabFault.TheVariants.{Member, Reply}
-use Rattle.robust.specs.declared.lab.worker.Done.{Done}
-use Rattle.one_lock.specs.declared.lab.ending.Ending.TheVariants.{AllSent}
-use Rattle.one_lock.specs.Endings.{fault_by}
+use Rattle.one_lock.specs.declared.lab.lab_fault.LabFault.TheVariants.{Reply}
 use Rattle.robust.proofs.lab.running.first_fault.Goals as goal
 
 pub returns-in-Fault-clause-first : goal.returns-in-Fault-clause-first

@@ -1,5 +1,5 @@
 use Rattle.std.proofs.Common.{◌≡◌, take, All}
-use Rattle.one_lock.specs.declared.lab.ending.Ending.TheVariants.{AllSent}
+use Rattle.robust.proofs.Common.{AllSent}
 use Rattle.robust.proofs.lab.running.first_fault.Given as goal
 
 abbrev pub invariant-loop-done : goal.invariant-loop-done

@@ -1,8 +1,5 @@
 use Rattle.std.proofs.Common.{◌≡◌, ◌∙◌, ◌++◌, map, All, sym, ap, subst}
-use Rattle.std.specs.Vec.Iter.{into_iter_items}
-use Rattle.std.proofs.lemmas.List.Elements.{All-push, All-head, All-tail}
-use Rattle.robust.specs.Worked.{seat_done, seat_promised, HasWorked}
-use Rattle.one_lock.proofs.Seats.{moved_on}
+use Rattle.robust.proofs.Common.{All-head, All-tail, All-push, into_iter_items, moved_on, HasWorked, seat_done, seat_promised}
 use Rattle.robust.proofs.lab.running.join_all.Goals as goal
 
 pub loop-thread-preserved : goal.loop-thread-preserved

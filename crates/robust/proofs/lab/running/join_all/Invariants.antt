@@ -1,7 +1,5 @@
 use Rattle.std.proofs.Common.{◌≡◌, ◌++◌, map, All}
-use Rattle.std.specs.Vec.Iter.{into_iter_items}
-use Rattle.one_lock.specs.declared.lab.spec.Spec.{Spec}
-use Rattle.robust.specs.Worked.{seat_done, seat_promised, HasWorked}
+use Rattle.robust.proofs.Common.{into_iter_items, Spec, HasWorked, seat_done, seat_promised}
 use Rattle.robust.proofs.lab.running.join_all.Given as goal
 
 abbrev pub invariant-loop-thread : goal.invariant-loop-thread

@@ -1,6 +1,5 @@
 use Rattle.std.proofs.Common.{All, sym, subst}
-use Rattle.robust.specs.Sending.{IsNew}
-use Rattle.robust.specs.Worked.{sizes_of}
+use Rattle.robust.proofs.Common.{IsNew, sizes_of}
 use Rattle.robust.proofs.Worked.{fresh_new}
 use Rattle.robust.proofs.lab.running.made.Goals as goal
 

@@ -1,5 +1,5 @@
 use Rattle.std.proofs.Common.{◌≡◌, ◌++◌, map}
-use Rattle.std.specs.Vec.Iter.{into_iter_items}
+use Rattle.robust.proofs.Common.{into_iter_items}
 use Rattle.robust.proofs.lab.running.members_of.Given as goal
 
 abbrev pub invariant-loop-done : goal.invariant-loop-done

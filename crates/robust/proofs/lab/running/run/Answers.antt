@@ -1,18 +1,5 @@
 use Rattle.std.proofs.Common.{◌≡◌, ◌∙◌, List, map, All, slice_index, sym, ap, subst}
-use Rattle.std.specs.Prelude.{vec_len}
-use Rattle.redomail.specs.Layout.{words_of}
-use Rattle.redomail.specs.Shape.{entries, IsNumbered}
-use Rattle.one_lock.specs.declared.lab.ending.Ending.TheVariants.{AllSent}
-use Rattle.robust.specs.declared.lab.worker.Done.{Done}
-use Rattle.runs.specs.Gathering.{Gathers}
-use Rattle.one_lock.specs.Lab.{AreAllSent}
-use Rattle.robust.specs.LabFaults.{IsFirstFault}
-use Rattle.robust.specs.LabRuns.{AreShownByRun}
-use Rattle.runs.specs.Running.{Seated}
-use Rattle.runs.proofs.Glanced.{both_ok}
-use Rattle.robust.specs.Worked.{sizes_of}
-use Rattle.robust.specs.Sending.{HasSent}
-use Rattle.robust.specs.Working.{seats_of}
+use Rattle.robust.proofs.Common.{vec_len, words_of, entries, IsNumbered, Gathers, Seated, both_ok, AllSent, AreAllSent, Done, IsFirstFault, AreShownByRun, HasSent, sizes_of, seats_of}
 use Rattle.robust.proofs.AllSent.{lab_sent, lab_shown, gathered_layout}
 use Rattle.robust.proofs.LabEnds.{member_of, lab_ends}
 use Rattle.robust.proofs.Worked.{one_arena, none_missing, all_setups, good_sizes, good_messages, good_layout, members_seats, members_sent}

@@ -1,10 +1,5 @@
 use Rattle.std.proofs.Common.{◌∙◌, ℕ, List, Err, slice_index, sym, ap, subst}
-use Rattle.redomail.specs.declared.layout.Layout.{Layout}
-use Rattle.redomail.specs.Content.{IsContent}
-use Rattle.redomail.specs.Layout.{words_of}
-use Rattle.redomail.specs.Shape.{IsNumbered}
-use Rattle.rmeworld.proofs.ImageStarts.{lawful_content}
-use Rattle.robust.specs.Worked.{sizes_of}
+use Rattle.robust.proofs.Common.{Layout, IsContent, words_of, IsNumbered, lawful_content, sizes_of}
 use Rattle.robust.proofs.AllSent.{content_numbered}
 use Rattle.robust.proofs.lab.running.shown.Goals as goal
 

@@ -1,11 +1,6 @@
 use Rattle.std.proofs.Common.{rules, ◌≡◌, ◌∙◌, ◌++◌, map, All, sym, ap, subst, arith}
-use Rattle.std.specs.Vec.Iter.{into_iter_items}
-use Rattle.std.proofs.lemmas.List.Elements.{All-head, All-push, All-tail}
+use Rattle.robust.proofs.Common.{All-head, All-tail, All-push, into_iter_items, moved_on, IsNew, sizes_of, seat_promised, seat_of}
 use Rattle.robust.specs.declared.lab.worker.HandsBack.{HandsBack}
-use Rattle.robust.specs.Worked.{seat_promised, sizes_of}
-use Rattle.robust.specs.Sending.{IsNew}
-use Rattle.robust.specs.Working.{seat_of}
-use Rattle.one_lock.proofs.Seats.{moved_on}
 use Rattle.robust.proofs.lab.running.start_all.Goals as goal
 
 pub loop-member-preserved : goal.loop-member-preserved

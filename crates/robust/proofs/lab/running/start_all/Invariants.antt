@@ -1,8 +1,5 @@
 use Rattle.std.proofs.Common.{◌≡◌, ◌++◌, map, All}
-use Rattle.std.specs.Vec.Iter.{into_iter_items, into_iter_len}
-use Rattle.robust.specs.Worked.{seat_promised, sizes_of}
-use Rattle.robust.specs.Sending.{IsNew}
-use Rattle.robust.specs.Working.{seats_of}
+use Rattle.robust.proofs.Common.{into_iter_items, into_iter_len, IsNew, sizes_of, seat_promised, seats_of}
 use Rattle.robust.proofs.lab.running.start_all.Given as goal
 
 abbrev pub invariant-loop-member : goal.invariant-loop-member

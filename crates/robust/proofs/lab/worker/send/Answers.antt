@@ -1,11 +1,6 @@
 use Rattle.std.proofs.Common.{◌≡◌, ℕ, true, false, ◌∙◌, sym, ap, subst}
-use Rattle.atomic_table.specs.Seated.{TableId}
-use Rattle.redomail.specs.Mailbox.{IsAmong}
-use Rattle.rmeworld.specs.declared.call.Call.TheVariants.{Append}
-use Rattle.runs.specs.declared.setup.Setup.{Setup}
-use Rattle.runs.specs.Headline.{shown_by}
+use Rattle.robust.proofs.Common.{TableId, IsAmong, Append, Setup, shown_by, orders_append}
 use Rattle.robust.proofs.Failing.{append_left, append_faults, append_grows, grown_on, told_from}
-use Rattle.runs.proofs.Ordered.{orders_append}
 use Rattle.robust.proofs.Sending.{sends_append}
 use Rattle.robust.proofs.Spent.{append_spent}
 use Rattle.runs.proofs.Told.{append_told}

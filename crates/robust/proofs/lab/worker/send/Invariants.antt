@@ -1,10 +1,5 @@
 use Rattle.std.proofs.Common.{◌≡◌, ℕ, None}
-use Rattle.rmeworld.specs.declared.call.Call.TheVariants.{Lock, Append}
-use Rattle.runs.specs.Faults.{refusal_now, ready}
-use Rattle.runs.specs.Pass.{own_of}
-use Rattle.runs.specs.Ruins.{AreInOrder}
-use Rattle.robust.specs.Sending.{IsSending, SendsOnly}
-use Rattle.robust.specs.Working.{seat_of}
+use Rattle.robust.proofs.Common.{Append, Lock, refusal_now, ready, own_of, AreInOrder, IsSending, SendsOnly, seat_of}
 use Rattle.robust.proofs.Failing.{Grown}
 use Rattle.robust.proofs.lab.worker.send.Given as goal
 

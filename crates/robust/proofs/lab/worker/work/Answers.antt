@@ -1,7 +1,5 @@
 use Rattle.std.proofs.Common.{◌≡◌, ◌∙◌, ◌≤◌, ℕ, refl, subst, arith, true, false, sym, ap}
-use Rattle.atomic_table.specs.Seated.{TableId}
-use Rattle.runs.specs.declared.setup.Setup.{Setup}
-use Rattle.robust.specs.Sending.{HasShown}
+use Rattle.robust.proofs.Common.{TableId, Setup, HasShown}
 use Rattle.robust.proofs.Failing.{refused}
 use Rattle.robust.proofs.Spent.{faulted}
 use Rattle.robust.proofs.Working.{sends_value}

@@ -1,10 +1,5 @@
 use Rattle.std.proofs.Common.{◌≡◌, ℕ, ◌+◌, ◌<◌, None}
-use Rattle.rmeworld.specs.declared.call.Call.TheVariants.{Lock}
-use Rattle.runs.specs.Faults.{refusal_now, ready}
-use Rattle.runs.specs.Pass.{own_of}
-use Rattle.runs.specs.Ruins.{AreInOrder}
-use Rattle.robust.specs.Sending.{SendsOnly, HasShown}
-use Rattle.robust.specs.Working.{seat_of}
+use Rattle.robust.proofs.Common.{Lock, refusal_now, ready, own_of, AreInOrder, HasShown, SendsOnly, seat_of}
 use Rattle.robust.proofs.lab.worker.work.Given as goal
 
 abbrev pub invariant-loop-seq : goal.invariant-loop-seq

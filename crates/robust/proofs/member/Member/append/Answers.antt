@@ -1,16 +1,6 @@
 use Rattle.std.proofs.Common.{◌≡◌, ◌⊎◌, ℕ, length, Ok, IfOk, IfErr, ap, ◌∙◌, subst, inr, arith}
-use Rattle.redomail.specs.Mailbox.{IsAmong}
-use Rattle.redomail.specs.declared.reply.Reply.TheVariants.{Stored, Already}
-use Rattle.rmeworld.specs.declared.call.Call.TheVariants.{Lock, Append}
-use Rattle.runs.specs.declared.setup.Setup.{Setup}
-use Rattle.runs.specs.Running.{Seated, began}
-use Rattle.runs.specs.Faults.{ready}
-use Rattle.runs.specs.Whole.{WholeEnds, WholeFails}
-use Rattle.runs.specs.Headline.{shown_by}
-use Rattle.runs.specs.Telling.{ToldIn}
+use Rattle.robust.proofs.Common.{Stored, Already, IsAmong, Append, Lock, Setup, ready, shown_by, Seated, began, ToldIn, WholeEnds, WholeFails, err_more, seat_of}
 use Rattle.robust.proofs.Appended.{append_shown, append_tells}
-use Rattle.runs.proofs.WholeCalls.{err_more}
-use Rattle.robust.specs.Working.{seat_of}
 use Rattle.robust.proofs.Working.{mail_seat}
 use Rattle.robust.proofs.member.Member.append.Goals as goal
 

@@ -1,13 +1,6 @@
 use Rattle.std.proofs.Common.{◌≡◌, ◌⊎◌, IfOk, ap, ◌∙◌, subst}
-use Rattle.redomail.specs.Mailbox.{IsAmong}
-use Rattle.redomail.specs.declared.reply.Reply.TheVariants.{Stored, Already}
-use Rattle.rmeworld.specs.declared.call.Call.TheVariants.{Append}
-use Rattle.runs.specs.Headline.{shown_by}
-use Rattle.runs.specs.Telling.{ToldIn}
-use Rattle.runs.specs.Running.{Seated}
-use Rattle.robust.specs.Working.{seat_of}
+use Rattle.robust.proofs.Common.{Stored, Already, IsAmong, Append, shown_by, Seated, ToldIn, ok_some, seat_of}
 use Rattle.robust.proofs.Appended.{append_shown, append_tells}
-use Rattle.runs.proofs.WholeCalls.{ok_some}
 use Rattle.robust.proofs.Working.{within_seat}
 use Rattle.robust.proofs.member.Member.append_within.Goals as goal
 

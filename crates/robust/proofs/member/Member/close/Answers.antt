@@ -1,8 +1,5 @@
 use Rattle.std.proofs.Common.{ℕ, Ok, IfOk, subst}
-use Rattle.rmeworld.specs.declared.call.Call.TheVariants.{Lock, Close}
-use Rattle.runs.specs.Running.{Seated, began}
-use Rattle.runs.specs.Faults.{ready}
-use Rattle.runs.specs.Whole.{WholeEnds}
+use Rattle.robust.proofs.Common.{Lock, Close, ready, Seated, began, WholeEnds}
 use Rattle.robust.proofs.member.Member.close.Goals as goal
 
 pub returns-clause-replied : goal.returns-clause-replied

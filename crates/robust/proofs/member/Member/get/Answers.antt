@@ -1,13 +1,8 @@
 use Rattle.std.proofs.Common.{rules, ◌≡◌, [], ◌∷◌, subst}
-use Rattle.rmeworld.specs.declared.answer.Answer.{Answer}
-use Rattle.rmeworld.specs.declared.answer.Answer.TheVariants.{Mail}
+use Rattle.robust.proofs.Common.{Answer, Mail, last_put, value_or, LastIsOwn, Served, Seated, began, got}
 use Rattle.redomail.specs.declared.reply.Reply.TheVariants.{Word}
 use Rattle.rmeworld.specs.declared.call.Call.TheVariants.{Get}
-use Rattle.runs.specs.Board.{last_put, value_or, LastIsOwn}
-use Rattle.runs.specs.Running.{Seated, began}
-use Rattle.runs.specs.Calls.{Served}
 use Rattle.runs.proofs.Board.{last_is_own_after}
-use Rattle.runs.proofs.OneStep.{got}
 use Rattle.robust.proofs.member.Member.get.Goals as goal
 
 pub returns-clause-last : goal.returns-clause-last

@@ -1,10 +1,5 @@
 use Rattle.std.proofs.Common.{◌≢◌, ◌+◌, ◌≤◌, subst}
-use Rattle.redomail.specs.declared.layout.Layout.{Layout}
-use Rattle.rmeworld.specs.OwnSteps.{most_steps}
-use Rattle.rmeworld.specs.declared.call.Call.TheVariants.{Lock}
-use Rattle.runs.specs.declared.lock_fault.LockFault.TheVariants.{AlreadyIn}
-use Rattle.runs.specs.Running.{Seated}
-use Rattle.runs.proofs.Counted.{few_out, err_any, ok_any}
+use Rattle.robust.proofs.Common.{Layout, Lock, most_steps, AlreadyIn, Seated, few_out, err_any, ok_any}
 use Rattle.robust.proofs.member.Member.lock_within.Goals as goal
 
 pub returns-in_err-answer-clause-few_out : goal.returns-in_err-answer-clause-few_out

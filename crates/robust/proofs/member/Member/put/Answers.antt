@@ -1,12 +1,6 @@
 use Rattle.std.proofs.Common.{rules, ◌≡◌, [], ◌∷◌, Some, subst}
-use Rattle.rmeworld.specs.declared.answer.Answer.{Answer}
-use Rattle.rmeworld.specs.declared.answer.Answer.TheVariants.{Mail}
+use Rattle.robust.proofs.Common.{Answer, Mail, TakenStep, last_put, Served, Seated, began, has_put}
 use Rattle.rmeworld.specs.declared.call.Call.TheVariants.{Put}
-use Rattle.runs.specs.declared.entry.TakenStep.{TakenStep}
-use Rattle.runs.specs.Board.{last_put}
-use Rattle.runs.specs.Running.{Seated, began}
-use Rattle.runs.specs.Calls.{Served}
-use Rattle.runs.proofs.OneStep.{has_put}
 use Rattle.robust.proofs.member.Member.put.Goals as goal
 
 pub returns-clause-last : goal.returns-clause-last

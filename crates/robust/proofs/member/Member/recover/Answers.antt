@@ -1,15 +1,6 @@
 use Rattle.std.proofs.Common.{rules, ◌≡◌, ◌≢◌, ◌≤◌, [], ◌∷◌, Some, Ok, subst}
-use Rattle.rmeworld.specs.declared.answer.Answer.{Answer}
-use Rattle.rmeworld.specs.declared.answer.Answer.TheVariants.{Found}
-use Rattle.rmeworld.specs.declared.call.Call.TheVariants.{Recover}
-use Rattle.runs.specs.Running.{Seated}
-use Rattle.runs.specs.Calls.{Served}
-use Rattle.runs.specs.Faults.{ready}
+use Rattle.robust.proofs.Common.{Layout, Answer, Found, Recover, most_steps, AlreadyIn, Served, ready, Seated, few_out, err_any, called_counts}
 use Rattle.runs.specs.Tabled.{table_steps}
-use Rattle.redomail.specs.declared.layout.Layout.{Layout}
-use Rattle.rmeworld.specs.OwnSteps.{most_steps}
-use Rattle.runs.specs.declared.lock_fault.LockFault.TheVariants.{AlreadyIn}
-use Rattle.runs.proofs.Counted.{called_counts, few_out, err_any}
 use Rattle.robust.proofs.member.Member.recover.Goals as goal
 
 pub returns-clause-table : goal.returns-clause-table

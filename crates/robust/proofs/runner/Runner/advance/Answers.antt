@@ -1,9 +1,6 @@
 use Rattle.std.proofs.Common.{◌≡◌, Some, sym, ◌∙◌, subst}
-use Rattle.rmecore.specs.declared.access.Access.{Access}
-use Rattle.rmecore.specs.declared.access.Access.TheVariants.{Load}
-use Rattle.rmeworld.specs.Stand.{next_access, IsAllowed}
-use Rattle.runs.specs.Running.{Seated, TakesStep, next_of}
-use Rattle.runs.proofs.Running.{run_by_step, keeps, next_same, may_advance, outcome_same}
+use Rattle.robust.proofs.Common.{Access, Load, IsAllowed, Seated, TakesStep, next_of, next_same, may_advance, run_by_step, keeps, outcome_same}
+use Rattle.rmeworld.specs.Stand.{next_access}
 use Rattle.robust.proofs.runner.Runner.advance.Goals as goal
 
 pub invariant_of-self : goal.invariant_of-self

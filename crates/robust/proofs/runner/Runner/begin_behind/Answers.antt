@@ -1,10 +1,5 @@
 use Rattle.std.proofs.Common.{◌≡◌, Option, None, IsSome, refl, sym, ◌∙◌, subst}
-use Rattle.rmeworld.specs.Spot.{Spot}
-use Rattle.runs.specs.Under.{Begun}
-use Rattle.runs.proofs.Begun.{begun_now}
-use Rattle.runs.specs.Pass.{Pass, spot_now}
-use Rattle.runs.specs.Running.{Seated, IsRunBy}
-use Rattle.runs.proofs.Running.{run_by_start, start_same, keeps_start}
+use Rattle.robust.proofs.Common.{Spot, spot_now, Pass, Seated, IsRunBy, Begun, begun_now, run_by_start, start_same, keeps_start}
 use Rattle.robust.proofs.runner.Runner.begin_behind.Goals as goal
 
 pub invariant_of-self-2 : goal.invariant_of-self-2

@@ -1,4 +1,4 @@
-use Rattle.runs.proofs.Counted.{called_counts, few_begun}
+use Rattle.robust.proofs.Common.{called_counts, few_begun}
 use Rattle.robust.proofs.runner.Runner.call.Goals as goal
 
 pub returns-in-Ok-clause-table : goal.returns-in-Ok-clause-table

@@ -1,16 +1,7 @@
 use Rattle.std.proofs.Common.{true, Some, None, Ok, List, [], ◌∷◌, refl, ap, ◌∙◌, inl}
-use Rattle.rmeworld.specs.declared.call.Call.{Call as CallOf}
-use Rattle.rmeworld.specs.declared.call.Call.TheVariants.{Lock, Unlock}
-use Rattle.rmeworld.specs.declared.answer.Answer.{Answer}
-use Rattle.rmeworld.specs.declared.answer.Answer.TheVariants.{Clean, OwnerDied, NumbersSpent, NotRecoverable, Mail, Unlocked}
+use Rattle.robust.proofs.Common.{Answer, Mail, Unlocked, Clean, NumbersSpent, OwnerDied, NotRecoverable, Call as CallOf, Lock, Unlock, spot_now, Fits, Leaves, IsFront, IsInner, on_err, cut_out}
+use Rattle.robust.proofs.Common.{whole_of, cut_of, cut_more, lock_is, spent_whole, ruined_whole, late_whole, ruined_is, fits_some, none_at_most}
 use Rattle.runs.specs.declared.entry_kind.Entry.TheVariants as entry
-use Rattle.runs.specs.Whole.{IsFront, IsInner}
-use Rattle.runs.proofs.Called.{on_err}
-use Rattle.runs.proofs.Outside.{cut_out}
-use Rattle.runs.proofs.WholeCalls.{whole_of, cut_of, cut_more, lock_is}
-use Rattle.runs.specs.Pass.{spot_now}
-use Rattle.runs.specs.Under.{Fits, Leaves}
-use Rattle.runs.proofs.WholeSteps.{spent_whole, ruined_whole, late_whole, ruined_is, fits_some, none_at_most}
 use Rattle.robust.proofs.runner.Runner.come.Goals as goal
 
 pub returns-in_ok-reply-in-Clean-clause-comes : goal.returns-in_ok-reply-in-Clean-clause-comes

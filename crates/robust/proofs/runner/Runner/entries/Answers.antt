@@ -1,11 +1,5 @@
 use Rattle.std.proofs.Common.{◌≡◌, ℕ, ◌+◌, ◌-◌, ◌<◌, ◌++◌, ◌∷◌, [], List, drop, Bool, true, is_ok, if◌then◌else◌, refl, ap, sym, ◌∙◌, subst, arith}
-use Rattle.std.specs.Prelude.{vec_len}
-use Rattle.redomail.specs.declared.message.Message.{Message}
-use Rattle.redomail.specs.Layout.{place_at}
-use Rattle.redomail.specs.Shape.{entries}
-use Rattle.runs.specs.declared.setup.Setup.{Setup}
-use Rattle.runs.specs.Reading.{cells_of, row_words, entry_words, Glances}
-use Rattle.runs.proofs.Glanced.{later_stands, setup_same, glances-append, drop_more, drop_none, words_more}
+use Rattle.robust.proofs.Common.{vec_len, Message, place_at, entries, Setup, cells_of, row_words, entry_words, Glances, later_stands, setup_same, glances-append, drop_more, drop_none, words_more}
 use Rattle.robust.proofs.runner.Runner.entries.Goals as goal
 
 pub loop-a-init : goal.loop-a-init

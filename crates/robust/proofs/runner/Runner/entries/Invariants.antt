@@ -1,7 +1,5 @@
 use Rattle.std.proofs.Common.{◌≡◌, ◌-◌, ◌≤◌, drop}
-use Rattle.std.specs.Prelude.{vec_capacity, vec_len}
-use Rattle.redomail.specs.Shape.{entries}
-use Rattle.runs.specs.Reading.{cells_of, entry_words, Glances}
+use Rattle.robust.proofs.Common.{vec_len, vec_capacity, entries, cells_of, entry_words, Glances}
 use Rattle.robust.proofs.runner.Runner.entries.Given as goal
 
 abbrev pub invariant-loop-a : goal.invariant-loop-a

@@ -1,12 +1,6 @@
 use Rattle.std.proofs.Common.{◌≡◌, ℕ, suc, ◌+◌, ◌<◌, ap, sym, ◌∙◌, subst, arith, length-set}
-use Rattle.std.specs.Prelude.{slice_index}
-use Rattle.rmecore.specs.declared.word.Word.TheVariants.{Data as DataAt}
-use Rattle.redomail.specs.Layout.{words_of, row, place_at, size}
-use Rattle.redomail.specs.Mailbox.{message}
-use Rattle.runs.specs.declared.setup.Setup.{Setup}
-use Rattle.runs.specs.Pass.{Looks}
-use Rattle.runs.specs.Reading.{cells_of, row_words, Glances}
-use Rattle.runs.proofs.Glanced.{place_is, setup_same, glances_snoc, stood, read_more, entry_read}
+use Rattle.robust.proofs.Common.{slice_index, Data as DataAt, words_of, place_at, size, row, message, Setup, Looks, cells_of, row_words, Glances, setup_same, place_is, glances_snoc, stood, read_more}
+use Rattle.robust.proofs.Common.{entry_read}
 use Rattle.robust.proofs.runner.Runner.entry.Goals as goal
 
 pub overflow_add-at : goal.overflow_add-at

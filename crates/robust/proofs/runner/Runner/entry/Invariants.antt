@@ -1,7 +1,5 @@
 use Rattle.std.proofs.Common.{◌≡◌, ℕ, ◌+◌, ◌<◌, length}
-use Rattle.std.specs.Prelude.{slice_index}
-use Rattle.redomail.specs.Layout.{place_at}
-use Rattle.runs.specs.Reading.{cells_of, row_words, Glances}
+use Rattle.robust.proofs.Common.{slice_index, place_at, cells_of, row_words, Glances}
 use Rattle.robust.proofs.runner.Runner.entry.Given as goal
 
 abbrev pub invariant-loop-k : goal.invariant-loop-k

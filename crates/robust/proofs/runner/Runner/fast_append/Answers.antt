@@ -1,15 +1,5 @@
 use Rattle.std.proofs.Common.{◌≡◌, ◌-◌, ◌^◌, ◌≤◌, true, List, length, Some, None, sym, ap, ◌∙◌, subst, arith}
-use Rattle.rmecore.specs.Place.{Inside}
-use Rattle.rmeworld.specs.Spot.{Spot}
-use Rattle.rmeworld.specs.declared.answer.Answer.TheVariants.{Mail}
-use Rattle.rmeworld.specs.declared.call.Call.TheVariants.{Append}
-use Rattle.runs.specs.declared.entry.TakenStep.{TakenStep}
-use Rattle.runs.specs.Pass.{Pass, IsPass, spot_now}
-use Rattle.runs.specs.Running.{Seated, behind}
-use Rattle.runs.specs.Calls.{Ran, Calm}
-use Rattle.runs.specs.Faults.{refusal_now}
-use Rattle.robust.specs.FastPath.{free_spot}
-use Rattle.robust.specs.FastAppend.{append_begun}
+use Rattle.robust.proofs.Common.{Inside, Mail, Append, Spot, TakenStep, Ran, Calm, refusal_now, IsPass, spot_now, Pass, Seated, behind, append_begun, free_spot}
 use Rattle.robust.proofs.FreeSteps.{seat}
 use Rattle.robust.proofs.FastLock.{fast_answered}
 use Rattle.robust.proofs.FastAppend.{may_append, append_starts, is_wide, run_by_back}

@@ -1,13 +1,5 @@
 use Rattle.std.proofs.Common.{◌≡◌, ◌-◌, ◌^◌, ◌≤◌, true, List, length, Some, None, sym, ap, ◌∙◌, subst, arith}
-use Rattle.rmecore.specs.Place.{Inside, Leaving, Rest}
-use Rattle.rmeworld.specs.Spot.{Spot}
-use Rattle.rmeworld.specs.declared.answer.Answer.TheVariants.{Unlocked}
-use Rattle.rmeworld.specs.declared.call.Call.TheVariants.{Unlock}
-use Rattle.runs.specs.declared.entry.TakenStep.{TakenStep}
-use Rattle.runs.specs.Pass.{Pass, IsPass, spot_now}
-use Rattle.runs.specs.Running.{Seated, behind}
-use Rattle.runs.specs.Calls.{Ran, Calm}
-use Rattle.robust.specs.FastPath.{free_spot}
+use Rattle.robust.proofs.Common.{Inside, Leaving, Rest, Unlocked, Unlock, Spot, TakenStep, Ran, Calm, IsPass, spot_now, Pass, Seated, behind, free_spot}
 use Rattle.robust.proofs.FreeSteps.{seat}
 use Rattle.robust.proofs.FastLock.{fast_answered, free_of, may_unlock, unlock_begun, run_by_left}
 use Rattle.robust.proofs.runner.Runner.fast_leave.Goals as goal

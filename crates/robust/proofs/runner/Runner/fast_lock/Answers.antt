@@ -1,13 +1,5 @@
 use Rattle.std.proofs.Common.{◌-◌, ◌^◌, ◌≤◌, List, true, length, Some, None, refl, sym, ap, ◌∙◌, subst, arith}
-use Rattle.rmecore.specs.Place.{Inside}
-use Rattle.rmeworld.specs.Spot.{Spot}
-use Rattle.rmeworld.specs.declared.answer.Answer.TheVariants.{Clean}
-use Rattle.runs.specs.declared.entry.TakenStep.{TakenStep}
-use Rattle.runs.specs.declared.setup.Setup.{Setup}
-use Rattle.runs.specs.Lasting.{Lasts}
-use Rattle.runs.specs.Pass.{spot_now}
-use Rattle.runs.specs.Running.{Seated}
-use Rattle.runs.specs.Calls.{Ran, Going, Calm}
+use Rattle.robust.proofs.Common.{Inside, Clean, Spot, TakenStep, Setup, Going, Ran, Calm, Lasts, spot_now, Seated}
 use Rattle.robust.proofs.FreeSteps.{seat}
 use Rattle.robust.proofs.FastLock.{fast_going, fast_blocked, fast_answered, run_by_stood, run_by_stage}
 use Rattle.robust.proofs.runner.Runner.fast_lock.Goals as goal

@@ -1,12 +1,5 @@
 use Rattle.std.proofs.Common.{◌≡◌, true, None, Ok, refl, sym, ap, ◌∙◌, subst}
-use Rattle.rmecore.specs.Place.{Inside, Leaving, Rest}
-use Rattle.rmeworld.specs.Spot.{Spot}
-use Rattle.rmeworld.specs.declared.answer.Answer.TheVariants.{Unlocked}
-use Rattle.rmeworld.specs.declared.call.Call.TheVariants.{Unlock}
-use Rattle.runs.specs.Pass.{Pass, IsPass, spot_now}
-use Rattle.runs.specs.Running.{Seated, began}
-use Rattle.runs.proofs.Counted.{called_counts}
-use Rattle.robust.specs.FastPath.{free_spot}
+use Rattle.robust.proofs.Common.{Inside, Leaving, Rest, Unlocked, Unlock, Spot, IsPass, spot_now, Pass, Seated, began, called_counts, free_spot}
 use Rattle.robust.proofs.FastLock.{free_of, may_unlock, unlock_begun, run_by_left, unlock_served}
 use Rattle.robust.proofs.runner.Runner.fast_unlock.Goals as goal
 

@@ -1,5 +1,5 @@
 use Rattle.std.proofs.Common.{ap, ◌∙◌, inl, inr, Err}
-use Rattle.runs.proofs.WholeCalls.{whole_asked, whole_cut}
+use Rattle.robust.proofs.Common.{whole_asked, whole_cut}
 use Rattle.robust.proofs.runner.Runner.finish.Goals as goal
 
 pub returns-in-Ok-clause-goes : goal.returns-in-Ok-clause-goes

@@ -1,10 +1,5 @@
 use Rattle.std.proofs.Common.{refl, ◌∙◌}
-use Rattle.runs.specs.Running.{behind}
-use Rattle.runs.proofs.Called.{on_err}
-use Rattle.runs.proofs.Chained.{none_more}
-use Rattle.runs.proofs.Counted.{few_cut, few_ran}
-use Rattle.runs.proofs.WholeCalls.{cut_from, ran_from}
-use Rattle.runs.proofs.WholeSteps.{few_behind, owes}
+use Rattle.robust.proofs.Common.{behind, on_err, none_more, few_cut, few_ran, cut_from, ran_from, few_behind, owes}
 use Rattle.robust.proofs.runner.Runner.follow.Goals as goal
 
 pub returns-in_err-answer-in-Ok-clause-cut : goal.returns-in_err-answer-in-Ok-clause-cut

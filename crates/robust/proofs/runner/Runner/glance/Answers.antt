@@ -1,4 +1,4 @@
-use Rattle.runs.proofs.Running.{run_by_look}
+use Rattle.robust.proofs.Common.{run_by_look}
 use Rattle.robust.proofs.runner.Runner.glance.Goals as goal
 
 pub invariant_of-self : goal.invariant_of-self

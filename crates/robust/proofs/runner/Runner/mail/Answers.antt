@@ -1,10 +1,5 @@
 use Rattle.std.proofs.Common.{Ok}
-use Rattle.rmeworld.specs.declared.call.Call.TheVariants.{Lock}
-use Rattle.runs.specs.Running.{began}
-use Rattle.runs.specs.Faults.{ready}
-use Rattle.runs.specs.Whole.{WholeEnds, WholeFails}
-use Rattle.runs.proofs.Outside.{cut_out}
-use Rattle.runs.proofs.WholeCalls.{whole_replied, whole_fails, cut_fails, goes_idle, ok_some, err_some}
+use Rattle.robust.proofs.Common.{Lock, ready, began, WholeEnds, WholeFails, cut_out, ok_some, whole_fails, cut_fails, whole_replied, goes_idle, err_some}
 use Rattle.robust.proofs.runner.Runner.mail.Goals as goal
 
 pub returns-in-Ok-clause-replied : goal.returns-in-Ok-clause-replied

@@ -1,13 +1,5 @@
 use Rattle.std.proofs.Common.{◌≡◌, ◌≢◌, None, sym, subst}
-use Rattle.rmeworld.specs.declared.call.Call.TheVariants.{Withdraw}
-use Rattle.runs.specs.Faults.{refusal_now}
-use Rattle.runs.specs.Running.{Seated}
-use Rattle.runs.specs.declared.lock_fault.LockFault.TheVariants.{AlreadyIn}
-use Rattle.runs.proofs.Chained.{lock_setup}
-use Rattle.runs.proofs.Counted.{err_any, ok_any}
-use Rattle.runs.proofs.Outside.{cut_out, busy_out}
-use Rattle.runs.proofs.WholeCalls.{whole_fails, cut_fails}
-use Rattle.runs.proofs.WholeSteps.{few_whole, few_lock}
+use Rattle.robust.proofs.Common.{Withdraw, AlreadyIn, refusal_now, Seated, lock_setup, err_any, ok_any, cut_out, busy_out, whole_fails, cut_fails, few_whole, few_lock}
 use Rattle.robust.proofs.runner.Runner.mail_within.Goals as goal
 
 pub returns-in-Err-clause-fails : goal.returns-in-Err-clause-fails

@@ -1,13 +1,7 @@
 use Rattle.std.proofs.Common.{◌≡◌, List, [], ◌∷◌, refl, sym, subst, inl, inr}
-use Rattle.rmeworld.specs.declared.call.Call.{Call as CallOf}
-use Rattle.rmeworld.specs.declared.call.Call.TheVariants.{Unlock, Consistent}
-use Rattle.rmeworld.specs.declared.answer.Answer.TheVariants.{Mail, Unlocked, NotRecoverable}
-use Rattle.redomail.specs.declared.reply.Reply.TheVariants.{Mended}
+use Rattle.robust.proofs.Common.{Mended, Mail, Unlocked, NotRecoverable, Call as CallOf, Unlock, Consistent, IsFront, IsInner, on_err, cut_first, cut_then, two_done, front_one, front_all, unlocked_is}
+use Rattle.robust.proofs.Common.{one_then, front_cons, mends_is, mend_counts, ruined_counts, mend_few, ruined_few}
 use Rattle.runs.specs.declared.entry_kind.Entry.TheVariants.{OwnerDied}
-use Rattle.runs.specs.Whole.{IsFront, IsInner}
-use Rattle.runs.proofs.Called.{on_err}
-use Rattle.runs.proofs.WholeCalls.{cut_first, cut_then, one_then, two_done, front_one, front_all, front_cons, unlocked_is, mends_is}
-use Rattle.runs.proofs.WholeSteps.{mend_counts, ruined_counts, mend_few, ruined_few}
 use Rattle.robust.proofs.runner.Runner.mend_and_work.Goals as goal
 
 pub returns-in_err-follow-clause-cut : goal.returns-in_err-follow-clause-cut

@@ -1,8 +1,5 @@
 use Rattle.std.proofs.Common.{◌≡◌, ℕ, ◌-◌, refl, sym, ◌∙◌, subst, arith}
-use Rattle.rmecore.specs.declared.word.Word.TheVariants.{Data as DataAt}
-use Rattle.runs.specs.Pass.{Looks}
-use Rattle.runs.specs.Reading.{cells_of, entry_words, Glances}
-use Rattle.runs.proofs.Glanced.{told, count_within, drop_none, reads_all, both_ok}
+use Rattle.robust.proofs.Common.{Data as DataAt, Looks, cells_of, entry_words, Glances, drop_none, told, count_within, reads_all, both_ok}
 use Rattle.robust.proofs.runner.Runner.read_from.Goals as goal
 
 pub glance-count-requires : goal.glance-count-requires

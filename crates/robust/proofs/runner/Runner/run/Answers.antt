@@ -1,10 +1,5 @@
 use Rattle.std.proofs.Common.{◌≡◌, ℕ, suc, ◌+◌, ◌-◌, ◌≤◌, false, None, ap, ◌∙◌, subst, arith}
-use Rattle.rmecore.specs.Simulated.{one_more}
-use Rattle.runs.specs.Running.{Seated, TakesStep}
-use Rattle.runs.specs.Pass.{spot_now}
-use Rattle.runs.specs.Lasting.{Lasts}
-use Rattle.runs.proofs.Called.{on_err, fell_more}
-use Rattle.runs.proofs.Taken.{more, ran_answered, ran_blocked, goes_on, asked_more, fits_answer, goes_with, still_blocked, none_of}
+use Rattle.robust.proofs.Common.{one_more, Lasts, spot_now, Seated, TakesStep, on_err, fell_more, more, goes_on, ran_answered, ran_blocked, none_of, asked_more, fits_answer, goes_with, still_blocked}
 use Rattle.robust.proofs.runner.Runner.run.Goals as goal
 
 left_is : (turn : ℕ) → turn + 1 ≤ 256 → 256 - turn ≡ suc (256 - (turn + 1))

@@ -1,11 +1,5 @@
 use Rattle.std.proofs.Common.{◌≡◌, ◌-◌, List, length, false}
-use Rattle.rmeworld.specs.Refused.{is_idle}
-use Rattle.runs.specs.declared.entry.TakenStep.{TakenStep}
-use Rattle.runs.specs.Pass.{spot_now}
-use Rattle.runs.specs.Running.{many_more}
-use Rattle.runs.specs.Calls.{Going}
-use Rattle.runs.specs.Lasting.{Lasts}
-use Rattle.runs.specs.Under.{IsUnder}
+use Rattle.robust.proofs.Common.{is_idle, TakenStep, Going, Lasts, spot_now, many_more, IsUnder}
 use Rattle.robust.proofs.runner.Runner.run.Given as goal
 
 abbrev pub invariant-loop-turn : goal.invariant-loop-turn

@@ -1,8 +1,5 @@
 use Rattle.std.proofs.Common.{ap, ◌∙◌}
-use Rattle.rmecore.specs.Simulated.{one_more}
-use Rattle.runs.specs.Running.{Seated}
-use Rattle.runs.proofs.Called.{on_err, fell_more, served_as, crashes_of, cut_ran}
-use Rattle.runs.proofs.Counted.{few_cut, few_ran}
+use Rattle.robust.proofs.Common.{one_more, Seated, on_err, fell_more, served_as, crashes_of, cut_ran, few_cut, few_ran}
 use Rattle.robust.proofs.runner.Runner.serve.Goals as goal
 
 pub returns-in_err-answer-clause-cut : goal.returns-in_err-answer-clause-cut
@@ -24,10 +21,7 @@ returns-clause-answered g c =
     (r.0, served_as c.args.self.now c.run.new.self c.ask.new.self c.args.call.now c.in-Some.answer r.0 c.requires.pass c.requires.start c.in-Some.is r.1 w.goes_on.0, (fell_more r.0 _ _ _ w.asked r.2.0, w.goes_on.1 ∙ r.2.1))
 
 pub returns-clause-idle : goal.returns-clause-idle
-returns-clause-idle g c =
-    let r = c.in_ok-answer.ensures.ran in
-    let w = c.in_ok-ask-in-Some.ensures in
-    (served_as c.args.self.now c.run.new.self c.ask.new.self c.args.call.now c.in-Some.answer r.0 c.requires.pass c.requires.start c.in-Some.is r.1 w.goes_on.0).idle
+returns-clause-idle g c = (returns-clause-answered g c).1.idle
 
 pub returns-in_err-answer-clause-few : goal.returns-in_err-answer-clause-few
 returns-in_err-answer-clause-few g c =

@@ -1,12 +1,5 @@
 use Rattle.std.proofs.Common.{◌+◌, ◌≤◌, [], ◌++◌, length, refl, ap, ◌∙◌, subst, arith}
-use Rattle.rmecore.specs.Simulated.{one_more}
-use Rattle.rmeworld.specs.declared.call.Call.TheVariants.{Lock}
-use Rattle.runs.specs.Running.{many_more}
-use Rattle.runs.specs.Calls.{Still}
-use Rattle.runs.proofs.Taken.{none_of}
-use Rattle.runs.proofs.Called.{on_err, crashes_of}
-use Rattle.runs.proofs.Turned.{many_append, many_fell, turned, turned_served, turned_cut, turning_first}
-use Rattle.runs.proofs.Chained.{none_more}
+use Rattle.robust.proofs.Common.{one_more, Lock, Still, many_more, on_err, crashes_of, none_more, none_of, many_append, many_fell, turned, turned_served, turned_cut, turning_first}
 use Rattle.robust.proofs.runner.Runner.take_all.Goals as goal
 
 pub loop-init : goal.loop-init

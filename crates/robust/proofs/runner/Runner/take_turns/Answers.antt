@@ -1,14 +1,6 @@
 use Rattle.std.proofs.Common.{◌≡◌, ℕ, ◌+◌, ◌≤◌, [], ◌++◌, length, refl, ap, ◌∙◌, subst, arith}
-use Rattle.rmecore.specs.Simulated.{one_more}
-use Rattle.rmeworld.specs.declared.call.Call.TheVariants.{Lock}
-use Rattle.runs.specs.Running.{many_more}
-use Rattle.runs.specs.Calls.{Served, Still}
-use Rattle.runs.proofs.Taken.{none_of}
-use Rattle.runs.proofs.Called.{on_err, crashes_of}
-use Rattle.runs.proofs.Outside.{waiting_out}
-use Rattle.runs.proofs.Turned.{many_append, many_fell, turned, turned_served, turned_cut, turned_out, turning_first}
-use Rattle.runs.proofs.Chained.{none_more}
-use Rattle.runs.proofs.Counted.{turned_few, turned_few_cut, turned_few_out}
+use Rattle.robust.proofs.Common.{one_more, Lock, Served, Still, many_more, on_err, crashes_of, none_more, turned_few, turned_few_cut, turned_few_out, waiting_out, none_of, many_append, many_fell}
+use Rattle.robust.proofs.Common.{turned, turned_served, turned_cut, turning_first, turned_out}
 use Rattle.robust.proofs.runner.Runner.take_turns.Goals as goal
 
 pub loop-answer-init : goal.loop-answer-init

@@ -1,10 +1,5 @@
 use Rattle.std.proofs.Common.{◌≡◌, ℕ, ◌+◌, List, length}
-use Rattle.rmeworld.specs.declared.call.Call.TheVariants.{Lock}
-use Rattle.runs.specs.declared.entry.TakenStep.{TakenStep}
-use Rattle.runs.specs.Pass.{spot_now}
-use Rattle.runs.specs.Running.{many_more}
-use Rattle.runs.specs.Calls.{Turning}
-use Rattle.runs.specs.Under.{Begun}
+use Rattle.robust.proofs.Common.{Lock, TakenStep, Turning, spot_now, many_more, Begun}
 use Rattle.robust.proofs.runner.Runner.take_turns.Given as goal
 
 abbrev pub invariant-loop-answer : goal.invariant-loop-answer

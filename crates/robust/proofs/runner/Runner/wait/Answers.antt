@@ -1,8 +1,5 @@
 use Rattle.std.proofs.Common.{Some, ap, ◌∙◌}
-use Rattle.runs.specs.Running.{Seated}
-use Rattle.runs.proofs.Called.{on_err}
-use Rattle.runs.proofs.Chained.{lock_asked, lock_cut, lock_idle}
-use Rattle.runs.proofs.Counted.{lock_counts}
+use Rattle.robust.proofs.Common.{Seated, on_err, lock_asked, lock_cut, lock_idle, lock_counts}
 use Rattle.robust.proofs.runner.Runner.wait.Goals as goal
 
 pub returns-in_err-ask-clause-cut : goal.returns-in_err-ask-clause-cut

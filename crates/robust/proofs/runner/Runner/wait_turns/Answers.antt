@@ -1,10 +1,5 @@
 use Rattle.std.proofs.Common.{◌≡◌, None, sym, ap, ◌∙◌, subst}
-use Rattle.rmeworld.specs.declared.call.Call.TheVariants.{Withdraw}
-use Rattle.runs.specs.Faults.{refusal_now}
-use Rattle.runs.specs.Running.{Seated}
-use Rattle.runs.proofs.Called.{on_err}
-use Rattle.runs.proofs.Chained.{lock_asked, lock_cut, lock_idle}
-use Rattle.runs.proofs.Counted.{lock_counts}
+use Rattle.robust.proofs.Common.{Withdraw, refusal_now, Seated, on_err, lock_asked, lock_cut, lock_idle, lock_counts}
 use Rattle.robust.proofs.runner.Runner.wait_turns.Goals as goal
 
 pub returns-in_err-ask-clause-cut : goal.returns-in_err-ask-clause-cut

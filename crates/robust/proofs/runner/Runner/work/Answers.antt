@@ -1,12 +1,5 @@
 use Rattle.std.proofs.Common.{◌≡◌, List, [], ◌∷◌, sym, subst}
-use Rattle.rmeworld.specs.declared.call.Call.{Call as CallOf}
-use Rattle.rmeworld.specs.declared.call.Call.TheVariants.{Unlock}
-use Rattle.rmeworld.specs.declared.answer.Answer.TheVariants.{Mail, Unlocked}
-use Rattle.rmeworld.specs.OwnSteps.{most_steps}
-use Rattle.runs.specs.Whole.{IsFront}
-use Rattle.runs.proofs.Called.{on_err}
-use Rattle.runs.proofs.WholeCalls.{cut_first, cut_then, two_done, front_one, front_all, unlocked_is}
-use Rattle.runs.proofs.WholeSteps.{work_counts, at_most_both}
+use Rattle.robust.proofs.Common.{Mail, Unlocked, Call as CallOf, Unlock, most_steps, IsFront, on_err, cut_first, cut_then, two_done, front_one, front_all, unlocked_is, work_counts, at_most_both}
 use Rattle.robust.proofs.runner.Runner.work.Goals as goal
 
 pub returns-in_err-answer-clause-cut : goal.returns-in_err-answer-clause-cut

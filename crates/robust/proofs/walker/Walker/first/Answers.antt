@@ -1,6 +1,5 @@
 use Rattle.std.proofs.Common.{◌≡◌, sym, ap, ◌∙◌, arith}
-use Rattle.atomic_table.specs.Seated.{TableId}
-use Rattle.runs.proofs.Opens.{cut_rest, rest_step}
+use Rattle.robust.proofs.Common.{TableId, cut_rest, rest_step}
 use Rattle.robust.proofs.walker.Walker.first.Goals as goal
 
 pub cut_off-own-requires : goal.cut_off-own-requires

@@ -1,8 +1,6 @@
 use Rattle.std.proofs.Common.{◌≡◌, ap, ◌∙◌}
-use Rattle.runs.specs.declared.entry.Known.{Known}
-use Rattle.runs.specs.Pass.{Pass, glanced}
-use Rattle.runs.proofs.Leads.{looks_of, stays_pass, alone_after}
-use Rattle.robust.specs.Owed.{has_crashed, started}
+use Rattle.robust.proofs.Common.{Known, Pass, glanced, looks_of, stays_pass, alone_after, has_crashed}
+use Rattle.robust.specs.Owed.{started}
 use Rattle.robust.proofs.walker.Walker.glance.Goals as goal
 
 pub invariant_of-self : goal.invariant_of-self

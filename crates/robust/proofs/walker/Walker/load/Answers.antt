@@ -1,5 +1,5 @@
 use Rattle.std.proofs.Common.{ap}
-use Rattle.runs.proofs.Leads.{load_as}
+use Rattle.robust.proofs.Common.{load_as}
 use Rattle.robust.proofs.walker.Walker.load.Goals as goal
 
 pub load-found-requires-clause-may : goal.load-found-requires-clause-may

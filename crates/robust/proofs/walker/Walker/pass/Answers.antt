@@ -1,5 +1,5 @@
 use Rattle.std.proofs.Common.{ap}
-use Rattle.runs.proofs.Leads.{pass_as}
+use Rattle.robust.proofs.Common.{pass_as}
 use Rattle.robust.proofs.walker.Walker.pass.Goals as goal
 
 pub pass-requires-clause-may : goal.pass-requires-clause-may

@@ -1,6 +1,5 @@
 use Rattle.std.proofs.Common.{◌≡◌, ◌∙◌, map, All}
-use Rattle.robust.specs.Worked.{seat_done, seat_promised, HasWorked}
-use Rattle.robust.specs.Working.{seats_of}
+use Rattle.robust.proofs.Common.{HasWorked, seat_done, seat_promised, seats_of}
 use Rattle.robust.proofs.Worked.{if_both}
 use Rattle.robust.proofs.lab.running.fn.work_all.scope.Goals as goal
 

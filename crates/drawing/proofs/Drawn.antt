@@ -1,17 +1,8 @@
 -- A run that was played, and how it ends.
 use Rattle.std.proofs.Common.{◌≡◌, ℕ, List, [], Result, Ok, Err, ◌∙◌}
-use Rattle.rmecore.specs.declared.refusal.Refusal.{Refusal}
-use Rattle.judge.specs.Table.{State}
-use Rattle.schedule.specs.declared.verdict.Verdict.{Verdict}
-use Rattle.schedule.specs.Runs.{Part, deeds_of}
-use Rattle.schedule.specs.Verdicts.{verdict_on}
-use Rattle.drawing.specs.declared.act.Row.{Row}
-use Rattle.drawing.specs.declared.drawing.End.{End}
+use Rattle.drawing.proofs.Common.{Refusal, State, Verdict, Part, deeds_of, verdict_on, Row, End, Stop, Event, events_in, PlaysOn, EndsAs, IsEndOf, IsJudged}
 use Rattle.drawing.specs.declared.drawing.End.TheVariants as ends
-use Rattle.drawing.specs.declared.stop.Stop.{Stop}
 use Rattle.drawing.specs.declared.stop.Stop.TheVariants as stops
-use Rattle.drawing.specs.Events.{Event}
-use Rattle.drawing.specs.Rows.{events_in, PlaysOn, EndsAs, IsEndOf, IsJudged}
 
 pub record Drawn {S : Type 0} (now : List Row) (events : List Event) (run : Part S (ℕ × Refusal)) (s : S) (verdict : Verdict) (end : End) : Type 0 where
   pub shows : events_in now ≡ events

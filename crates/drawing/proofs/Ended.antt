@@ -1,23 +1,10 @@
 -- A run that is told step by step, and how that ends.
-use Rattle.std.proofs.Common.{◌≡◌, ℕ, ◌+◌, ◌-◌, ◌^◌, min, List, [], ◌++◌, Option, Some, None, Result, Ok, Err, refl, sym, ap, subst, ◌∙◌, append_assoc}
-use Rattle.std.proofs.lemmas.List.{append-nil}
-use Rattle.rmecore.specs.declared.refusal.Refusal.{Refusal}
-use Rattle.judge.specs.Table.{State}
-use Rattle.rmeworld.specs.declared.image.Image.{Image}
-use Rattle.schedule.specs.declared.replay_fault.ReplayFault.{ReplayFault}
+use Rattle.std.proofs.Common.{◌≡◌, ℕ, ◌+◌, ◌-◌, List, [], ◌++◌, Option, Some, None, Result, Ok, Err, refl, sym, ap, subst, ◌∙◌, append_assoc}
+use Rattle.drawing.proofs.Common.{append-nil, Refusal, State, Image, ReplayFault, Verdict, Tape, Writes, Begins, Part, deeds_of, verdict_on, begins_further, begins_wider, End, Judged, Refused, Spells}
+use Rattle.drawing.proofs.Common.{Ending, Follows, IsAllFollowed, EndsAs, IsJudged}
 use Rattle.schedule.specs.declared.replay_fault.ReplayFault.TheVariants as faults
-use Rattle.schedule.specs.declared.verdict.Verdict.{Verdict}
-use Rattle.schedule.specs.Plays.{Tape, Writes, Begins}
 use Rattle.schedule.specs.Replays.{Closes}
 use Rattle.schedule.specs.Reports.{IsEnd}
-use Rattle.schedule.specs.Runs.{Part, deeds_of}
-use Rattle.schedule.specs.Verdicts.{verdict_on}
-use Rattle.schedule.proofs.Playing.{begins_further, begins_wider, begins_nothing}
-use Rattle.drawing.specs.declared.drawing.End.{End}
-use Rattle.drawing.specs.declared.drawing.End.TheVariants.{Judged, Refused}
-use Rattle.drawing.specs.Drawings.{Spells}
-use Rattle.drawing.specs.Followed.{Ending, Follows, IsAllFollowed}
-use Rattle.drawing.specs.Rows.{EndsAs, IsJudged}
 
 -- the end of the report is not written whole
 pub not_closed : (t u : Tape) (image : Image) (verdict : Verdict) (fault : ReplayFault) → Closes {A = Unit {0}} t u image verdict (Err fault) → Ending t u image (Judged verdict) (Err fault)

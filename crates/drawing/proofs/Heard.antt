@@ -1,20 +1,9 @@
 -- Rows whose deeds are heard one after another.
 use Rattle.std.proofs.Common.{◌≡◌, ℕ, zero, suc, List, [], ◌∷◌, ◌++◌, refl, ap, ◌∙◌}
-use Rattle.std.proofs.Math.ListN.{replicate}
-use Rattle.std.proofs.lemmas.List.{append-nil}
-use Rattle.std.proofs.lemmas.List.Concat.{flat_map-cons, flat_map-append}
-use Rattle.rmecore.specs.declared.happened.Happened.{Happened}
-use Rattle.redomail.specs.declared.deed.Deed.{Deed}
-use Rattle.schedule.specs.Hearings.{Bench, Hears}
-use Rattle.schedule.specs.Runs.{deeds_of, did, told_of}
-use Rattle.schedule.proofs.Heard.{hears_both}
-use Rattle.schedule.proofs.Playing.{deeds_append, deeds_told}
-use Rattle.drawing.specs.declared.act.Act.{Act}
+use Rattle.drawing.proofs.Common.{replicate, append-nil, flat_map-cons, flat_map-append, Happened, Deed, Bench, Hears, deeds_of, did, told_of, hears_both, deeds_append, deeds_told, Act, Row, Event}
+use Rattle.drawing.proofs.Common.{Took, told_in, events_in, events_shown, quiet, deed_of}
 use Rattle.drawing.specs.declared.act.Act.TheVariants.{Quiet, Telling, Fell}
-use Rattle.drawing.specs.declared.act.Row.{Row}
-use Rattle.drawing.specs.Events.{Event, Took, told_in}
 use Rattle.drawing.specs.Events as events
-use Rattle.drawing.specs.Rows.{events_shown, events_in, quiet, deed_of}
 use Rattle.drawing.proofs.Telling.{told_cons, told_append}
 
 quiet_tells : (p : ℕ) (happened : Happened) (times : ℕ) → told_in (replicate times (Took p (quiet happened))) ≡ []

@@ -1,6 +1,6 @@
 -- Texts that are joined from parts.
 use Rattle.std.proofs.Common.{◌≡◌, ℕ, List, [], ◌++◌, Result, Ok, Err, OnOk, sym, ap, ◌∙◌, append_assoc}
-use Rattle.drawing.specs.Pictures.{around}
+use Rattle.drawing.proofs.Common.{around}
 use Rattle.std.specs.Fmt.{decimal}
 
 pub on_ok : {A E : Type 0} (r : Result A E) (P Q : Type 0) → (P → Q) → OnOk r P → OnOk r Q

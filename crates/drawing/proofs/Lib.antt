@@ -1,3 +1,4 @@
+pub mod Common
 pub mod Telling
 pub mod Shown
 pub mod Heard

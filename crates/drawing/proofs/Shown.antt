@@ -1,24 +1,14 @@
 -- Parts of a run that are shown one after another.
 use Rattle.std.proofs.Common.{◌≡◌, ℕ, suc, ◌+◌, true, false, is_some, List, [], ◌∷◌, ◌++◌, Option, Some, None, Result, Ok, Err, refl, sym, ap, ◌∙◌, append_assoc, ◌⊎◌, inl, inr, length, take, get_or, set, arith}
-use Rattle.std.proofs.Math.ListN.{replicate, length-set}
+use Rattle.drawing.proofs.Common.{replicate, length-set, append-nil, take_more, take_more_set, take_all, Happened, Refusal, Deed, Line, Start, Step, Crash, Part, Told, Behaviour, unless, steps}
+use Rattle.drawing.proofs.Common.{line_on, run_on, Row, Stop, Event, Took, Fell, steps_of, events_of, events_on, events_in, PlaysOn, events_shown, quiet, stopped, Adds, Plays}
 use Rattle.std.proofs.lemmas.Grind.{replicate_next}
-use Rattle.std.proofs.lemmas.List.{append-nil, take_more, take_more_set, take_all}
-use Rattle.rmecore.specs.declared.happened.Happened.{Happened}
-use Rattle.rmecore.specs.declared.refusal.Refusal.{Refusal}
 use Rattle.rmecore.specs.declared.refusal.Refusal.TheVariants as refusals
 use Rattle.rmecore.specs.Refused.{number_of}
-use Rattle.redomail.specs.declared.deed.Deed.{Deed}
 use Rattle.rmeworld.specs.declared.call.Call.{Call}
 use Rattle.rmeworld.specs.declared.stepped.Stepped.{Stepped}
-use Rattle.schedule.specs.declared.line.Line.{Line}
-use Rattle.schedule.specs.declared.line.Line.TheVariants.{Start, Step, Crash}
-use Rattle.schedule.specs.Runs.{Told, Behaviour, Part, steps, unless, line_on, run_on}
 use Rattle.drawing.specs.declared.act.Act.TheVariants as acts
-use Rattle.drawing.specs.declared.act.Row.{Row}
-use Rattle.drawing.specs.declared.stop.Stop.{Stop}
 use Rattle.drawing.specs.declared.stop.Stop.TheVariants.{Refused, OutOfMemory}
-use Rattle.drawing.specs.Events.{Event, Took, Fell, steps_of, events_of, events_on}
-use Rattle.drawing.specs.Rows.{events_in, events_shown, quiet, stopped, Adds, Plays, PlaysOn}
 use Rattle.drawing.proofs.Heard.{events_last}
 
 -- what was still to be shown is shown

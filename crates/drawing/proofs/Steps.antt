@@ -1,15 +1,8 @@
 -- Rows that are told one after another.
 use Rattle.std.proofs.Common.{◌≡◌, ℕ, zero, suc, List, [], ◌∷◌, ◌++◌, map, refl, sym, ap, ◌∙◌, append_assoc}
-use Rattle.std.proofs.Math.ListN.{replicate}
-use Rattle.std.proofs.lemmas.List.Concat.{flat_map-cons}
-use Rattle.rmecore.specs.declared.happened.Happened.{Happened}
+use Rattle.drawing.proofs.Common.{replicate, flat_map-cons, Happened, Row, Phase, Event, Took, row_of, row_told, phases_with, phases_behind, rows_told, followed, events_in, events_shown, quiet}
 use Rattle.redomail.specs.declared.layout.Layout.{Layout}
 use Rattle.drawing.specs.declared.act.Act.TheVariants as acts
-use Rattle.drawing.specs.declared.act.Row.{Row}
-use Rattle.drawing.specs.declared.phase.Phase.{Phase}
-use Rattle.drawing.specs.Events.{Event, Took}
-use Rattle.drawing.specs.Rows.{events_in, events_shown, quiet}
-use Rattle.drawing.specs.Followed.{row_of, row_told, phases_with, phases_behind, rows_told, followed}
 
 pub told_both : (l : Layout) (phases : List Phase) (rows more : List Row)
     → rows_told l phases (rows ++ more) ≡ rows_told l phases rows ++ rows_told l (phases_behind phases rows) more

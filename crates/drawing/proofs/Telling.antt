@@ -1,13 +1,8 @@
 -- Events tell what the run of a schedule tells.
 use Rattle.std.proofs.Common.{◌≡◌, ℕ, zero, suc, ◌+◌, Bool, true, false, is_some, if◌then◌else◌, List, [], ◌∷◌, ◌++◌, Option, Some, None, refl, ap, ◌∙◌}
-use Rattle.std.proofs.lemmas.List.{append-nil}
-use Rattle.std.proofs.lemmas.List.Concat.{flat_map-cons, flat_map-append}
-use Rattle.rmecore.specs.declared.refusal.Refusal.{Refusal}
-use Rattle.redomail.specs.declared.deed.Deed.{Deed}
-use Rattle.schedule.specs.declared.line.Line.{Line}
-use Rattle.schedule.specs.declared.line.Line.TheVariants.{Start, Step, Crash}
-use Rattle.schedule.specs.Runs.{Told, Did, told_of, Behaviour, Part, steps, unless, followed, line_on, run_on}
-use Rattle.drawing.specs.Events.{Event, Took, Fell, told_by, told_in, steps_of, events_of, events_on}
+use Rattle.drawing.proofs.Common.{append-nil, flat_map-cons, flat_map-append, Refusal, Deed, Line, Start, Step, Crash, Part, told_of, Told, Behaviour, unless, Did, steps, line_on, run_on, Event, Took}
+use Rattle.drawing.proofs.Common.{told_in, Fell, told_by, steps_of, events_of, events_on}
+use Rattle.schedule.specs.Runs.{followed}
 
 pub told_cons : (e : Event) (es : List Event) → told_in (e ∷ es) ≡ told_by e ++ told_in es
 told_cons e es = flat_map-cons told_by e es

@@ -1,5 +1,5 @@
 use Rattle.std.proofs.Common.{◌≡◌, ◌++◌, drop}
-use Rattle.drawing.specs.Columns.{bars}
+use Rattle.drawing.proofs.Common.{bars}
 use Rattle.drawing.proofs.bars.put_bars.Given as goal
 
 abbrev pub invariant-loop-phase : goal.invariant-loop-phase

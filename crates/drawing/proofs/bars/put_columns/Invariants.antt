@@ -1,5 +1,5 @@
 use Rattle.std.proofs.Common.{◌≡◌, ◌++◌, drop}
-use Rattle.drawing.specs.Columns.{columns}
+use Rattle.drawing.proofs.Common.{columns}
 use Rattle.drawing.proofs.bars.put_columns.Given as goal
 
 abbrev pub invariant-loop-phase : goal.invariant-loop-phase

@@ -1,8 +1,5 @@
 use Rattle.std.proofs.Common.{◌+◌, ◌++◌, drop, sym, ap, ◌∙◌, append_assoc, List}
-use Rattle.std.proofs.lemmas.List.{drop_more}
-use Rattle.drawing.specs.Columns.{head, heads}
-use Rattle.drawing.specs.declared.phase.Phase.{Phase}
-use Rattle.drawing.specs.declared.phase.Phase.TheVariants.{Rest}
+use Rattle.drawing.proofs.Common.{drop_more, Phase, Rest, head, heads}
 use Rattle.drawing.proofs.bars.put_heads.Goals as goal
 
 pub loop-p-preserved : goal.loop-p-preserved

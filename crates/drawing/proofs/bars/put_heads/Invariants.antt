@@ -1,5 +1,5 @@
 use Rattle.std.proofs.Common.{◌≡◌, ◌++◌, drop}
-use Rattle.drawing.specs.Columns.{heads}
+use Rattle.drawing.proofs.Common.{heads}
 use Rattle.drawing.proofs.bars.put_heads.Given as goal
 
 abbrev pub invariant-loop-p : goal.invariant-loop-p

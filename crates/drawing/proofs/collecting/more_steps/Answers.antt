@@ -1,8 +1,5 @@
 use Rattle.std.proofs.Common.{◌≡◌, suc, ◌+◌, ◌-◌, [], ◌∷◌, refl, sym, ap, ◌∙◌, arith}
-use Rattle.schedule.specs.Plays.{halted}
-use Rattle.schedule.specs.Runs.{steps, behaviour}
-use Rattle.schedule.proofs.Playing.{is_refused}
-use Rattle.drawing.specs.Events.{Took, steps_of}
+use Rattle.drawing.proofs.Common.{halted, behaviour, steps, is_refused, Took, steps_of}
 use Rattle.drawing.proofs.Shown.{shown_all, shown_none, shown_some, steps_none, steps_refused, steps_ended, steps_go_on}
 use Rattle.drawing.proofs.collecting.more_steps.Goals as goal
 

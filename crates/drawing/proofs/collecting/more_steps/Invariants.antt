@@ -1,7 +1,5 @@
 use Rattle.std.proofs.Common.{◌≡◌, ◌-◌, ◌++◌}
-use Rattle.schedule.specs.Runs.{behaviour, steps}
-use Rattle.drawing.specs.Events.{steps_of}
-use Rattle.drawing.specs.Rows.{events_in}
+use Rattle.drawing.proofs.Common.{behaviour, steps, steps_of, events_in}
 use Rattle.drawing.proofs.collecting.more_steps.Given as goal
 
 abbrev pub invariant-loop : goal.invariant-loop

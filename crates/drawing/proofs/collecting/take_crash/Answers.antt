@@ -1,8 +1,5 @@
 use Rattle.std.proofs.Common.{refl}
-use Rattle.std.proofs.lemmas.Result.{err_from_is_err_and}
-use Rattle.schedule.specs.declared.line.Line.TheVariants.{Crash}
-use Rattle.schedule.specs.Runs.{behaviour}
-use Rattle.drawing.specs.Events.{events_of}
+use Rattle.drawing.proofs.Common.{err_from_is_err_and, Crash, behaviour, events_of}
 use Rattle.drawing.proofs.Shown.{refused_plays, crash_shows, crash_refused, plays_noted}
 use Rattle.drawing.proofs.collecting.take_crash.Goals as goal
 

@@ -1,11 +1,5 @@
 use Rattle.std.proofs.Common.{◌++◌, [], ◌∷◌, refl, sym, ap, ◌∙◌, inr}
-use Rattle.std.proofs.lemmas.List.{append-nil}
-use Rattle.std.proofs.lemmas.Result.{err_from_is_err_and}
-use Rattle.schedule.specs.declared.line.Line.TheVariants.{Crash}
-use Rattle.schedule.specs.Runs.{Did, behaviour, steps, line_on}
-use Rattle.schedule.proofs.Playing.{start_part, step_part, crash_part}
-use Rattle.drawing.specs.Events.{events_of, steps_of}
-use Rattle.drawing.specs.Rows.{events_in}
+use Rattle.drawing.proofs.Common.{append-nil, err_from_is_err_and, Crash, Did, behaviour, steps, line_on, start_part, step_part, crash_part, steps_of, events_of, events_in}
 use Rattle.drawing.proofs.Shown.{refused_plays, refused_of, left_of, start_shows, step_shows, plays_line}
 use Rattle.drawing.proofs.collecting.take_line.Goals as goal
 

@@ -1,7 +1,5 @@
 use Rattle.std.proofs.Common.{◌≡◌, ◌+◌, ◌∷◌, drop, [], refl, sym, ap, ◌∙◌, arith}
-use Rattle.std.proofs.lemmas.List.{drop_more, length-drop, nil_from_length}
-use Rattle.schedule.specs.Runs.{behaviour, run_on}
-use Rattle.drawing.specs.Events.{events_on}
+use Rattle.drawing.proofs.Common.{drop_more, length-drop, nil_from_length, behaviour, run_on, events_on}
 use Rattle.drawing.proofs.Shown.{shown_none, shown_some, lines_none, line_goes_on, stops}
 use Rattle.drawing.proofs.collecting.take_lines.Goals as goal
 

@@ -1,7 +1,5 @@
 use Rattle.std.proofs.Common.{◌≡◌, ◌+◌, ◌++◌, drop}
-use Rattle.schedule.specs.Runs.{behaviour, run_on}
-use Rattle.drawing.specs.Events.{events_on}
-use Rattle.drawing.specs.Rows.{events_in}
+use Rattle.drawing.proofs.Common.{behaviour, run_on, events_on, events_in}
 use Rattle.drawing.proofs.collecting.take_lines.Given as goal
 
 abbrev pub invariant-loop-line : goal.invariant-loop-line

@@ -1,7 +1,5 @@
 use Rattle.std.proofs.Common.{◌≡◌, suc, ◌-◌, refl, sym, arith}
-use Rattle.std.proofs.lemmas.Result.{err_from_is_err_and}
-use Rattle.schedule.specs.Runs.{behaviour, steps}
-use Rattle.drawing.specs.Events.{steps_of}
+use Rattle.drawing.proofs.Common.{err_from_is_err_and, behaviour, steps, steps_of}
 use Rattle.drawing.proofs.Shown.{refused_plays, plays_then, steps_refused, steps_ended, steps_go_on}
 use Rattle.drawing.proofs.collecting.take_steps.Goals as goal
 

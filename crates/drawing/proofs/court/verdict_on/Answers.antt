@@ -1,12 +1,6 @@
 use Rattle.std.proofs.Common.{◌≡◌, ◌+◌, ◌++◌, ◌∷◌, [], take, refl, sym, ap, ◌∙◌, arith}
-use Rattle.std.proofs.lemmas.List.{take_more, take_all}
-use Rattle.schedule.specs.Hearings.{opened}
-use Rattle.schedule.specs.Runs.{deeds_of}
-use Rattle.schedule.specs.Verdicts.{verdict_on}
+use Rattle.drawing.proofs.Common.{take_more, take_all, opened, deeds_of, verdict_on, hears_none, told_in, events_in}
 use Rattle.schedule.proofs.Closing.{ruled_on}
-use Rattle.schedule.proofs.Heard.{hears_none}
-use Rattle.drawing.specs.Events.{told_in}
-use Rattle.drawing.specs.Rows.{events_in}
 use Rattle.drawing.proofs.Heard.{hears_row}
 use Rattle.drawing.proofs.court.verdict_on.Goals as goal
 

@@ -1,8 +1,5 @@
 use Rattle.std.proofs.Common.{take}
-use Rattle.schedule.specs.Hearings.{bench, opened, Hears}
-use Rattle.schedule.specs.Runs.{deeds_of}
-use Rattle.drawing.specs.Events.{told_in}
-use Rattle.drawing.specs.Rows.{events_in}
+use Rattle.drawing.proofs.Common.{Hears, opened, bench, deeds_of, told_in, events_in}
 use Rattle.drawing.proofs.court.verdict_on.Given as goal
 
 abbrev pub invariant-loop-row : goal.invariant-loop-row

@@ -1,16 +1,11 @@
-use Rattle.std.proofs.Common.{List, ap, subst, ◌∙◌}
-use Rattle.schedule.specs.declared.line.Line.{Line}
-use Rattle.schedule.specs.Runs.{behaviour, run_on, deeds_of}
-use Rattle.schedule.specs.Verdicts.{verdict_on}
-use Rattle.drawing.specs.declared.act.Row.{Row}
-use Rattle.drawing.specs.Events.{events_on, told_in}
-use Rattle.drawing.specs.Rows.{events_in, PlaysOn}
+use Rattle.std.proofs.Common.{List, ap, subst, ◌∙◌, rules}
+use Rattle.drawing.proofs.Common.{Line, deeds_of, behaviour, run_on, verdict_on, Row, told_in, events_on, events_in, PlaysOn}
 use Rattle.drawing.proofs.Telling.{run_tells}
 use Rattle.drawing.proofs.Drawn.{drawn}
 use Rattle.drawing.proofs.drawing.draw.Goals as goal
 
-pub returns-clause-events : goal.returns-clause-events
-returns-clause-events g c =
+pub returns : goal.returns
+returns g c =
     let b = behaviour g.M.Machine.start_refusal g.M.Machine.started g.M.Machine.advance_refusal g.M.Machine.stepped g.M.Machine.advanced g.M.Machine.crash_refusal g.M.Machine.crash_deed g.M.Machine.crashed in
     let m = c.args.machine.now in
     let lines = c.args.schedule.now.lines in
@@ -21,47 +16,11 @@ returns-clause-events g c =
     let played = subst (λ (before : List Row). PlaysOn before now (events_on b m lines) run s r) c.new-rows.ensures.items
     (subst (λ (ls : List Line). PlaysOn c.new-rows.result.items now (events_on b m ls) (run_on b 2 m ls) s r) c.lines.ensures c.take_lines-played.ensures) in
     let all = drawn now (events_on b m lines) run s c.verdict_on-verdict.result r c.in_ok-end.end played c.in_ok-end.ensures in
-    all.shows
-
-pub returns-clause-told : goal.returns-clause-told
-returns-clause-told g c =
-    let b = behaviour g.M.Machine.start_refusal g.M.Machine.started g.M.Machine.advance_refusal g.M.Machine.stepped g.M.Machine.advanced g.M.Machine.crash_refusal g.M.Machine.crash_deed g.M.Machine.crashed in
-    let m = c.args.machine.now in
-    let lines = c.args.schedule.now.lines in
-    let now = c.take_lines-played.new.rows.items in
-    let r = c.take_lines-played.result in
-    let run = run_on b 2 m lines in
-    let s = c.take_lines-played.new.machine in
-    let played = subst (λ (before : List Row). PlaysOn before now (events_on b m lines) run s r) c.new-rows.ensures.items
-    (subst (λ (ls : List Line). PlaysOn c.new-rows.result.items now (events_on b m ls) (run_on b 2 m ls) s r) c.lines.ensures c.take_lines-played.ensures) in
-    let all = drawn now (events_on b m lines) run s c.verdict_on-verdict.result r c.in_ok-end.end played c.in_ok-end.ensures in
-    ap told_in all.shows ∙ run_tells b 2 m lines
-
-pub returns-clause-end : goal.returns-clause-end
-returns-clause-end g c start keeps =
-    let b = behaviour g.M.Machine.start_refusal g.M.Machine.started g.M.Machine.advance_refusal g.M.Machine.stepped g.M.Machine.advanced g.M.Machine.crash_refusal g.M.Machine.crash_deed g.M.Machine.crashed in
-    let m = c.args.machine.now in
-    let lines = c.args.schedule.now.lines in
-    let now = c.take_lines-played.new.rows.items in
-    let r = c.take_lines-played.result in
-    let run = run_on b 2 m lines in
-    let s = c.take_lines-played.new.machine in
-    let played = subst (λ (before : List Row). PlaysOn before now (events_on b m lines) run s r) c.new-rows.ensures.items
-    (subst (λ (ls : List Line). PlaysOn c.new-rows.result.items now (events_on b m ls) (run_on b 2 m ls) s r) c.lines.ensures c.take_lines-played.ensures) in
-    let all = drawn now (events_on b m lines) run s c.verdict_on-verdict.result r c.in_ok-end.end played c.in_ok-end.ensures in
-    all.ends_so start (c.verdict_on-verdict.ensures start keeps ∙ ap (λ rows. verdict_on start (deeds_of (told_in (events_in rows)))) c.deref.ensures.value
-    ∙ ap (λ told. verdict_on start (deeds_of told)) (ap told_in all.shows ∙ run_tells b 2 m lines))
-
-pub returns-clause-left : goal.returns-clause-left
-returns-clause-left g c =
-    let b = behaviour g.M.Machine.start_refusal g.M.Machine.started g.M.Machine.advance_refusal g.M.Machine.stepped g.M.Machine.advanced g.M.Machine.crash_refusal g.M.Machine.crash_deed g.M.Machine.crashed in
-    let m = c.args.machine.now in
-    let lines = c.args.schedule.now.lines in
-    let now = c.take_lines-played.new.rows.items in
-    let r = c.take_lines-played.result in
-    let run = run_on b 2 m lines in
-    let s = c.take_lines-played.new.machine in
-    let played = subst (λ (before : List Row). PlaysOn before now (events_on b m lines) run s r) c.new-rows.ensures.items
-    (subst (λ (ls : List Line). PlaysOn c.new-rows.result.items now (events_on b m ls) (run_on b 2 m ls) s r) c.lines.ensures c.take_lines-played.ensures) in
-    let all = drawn now (events_on b m lines) run s c.verdict_on-verdict.result r c.in_ok-end.end played c.in_ok-end.ensures in
-    all.stands
+    let told = ap told_in all.shows ∙ run_tells b 2 m lines in
+    record {
+      events = all.shows;
+      told = told;
+      end = λ start keeps. all.ends_so start (c.verdict_on-verdict.ensures start keeps ∙ ap (λ rows. verdict_on start (deeds_of (told_in (events_in rows)))) c.deref.ensures.value ∙ ap (λ says. verdict_on start (deeds_of says)) told);
+      left = all.stands;
+      sizes = search rules;
+    }

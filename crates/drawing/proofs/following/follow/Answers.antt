@@ -1,17 +1,7 @@
-use Rattle.std.proofs.Common.{◌≡◌, List, Err, refl, sym, ap, subst, ◌∙◌, ℕ}
-use Rattle.std.proofs.Math.ListN.{replicate}
-use Rattle.std.proofs.lemmas.Result.{err_from_is_err_and}
+use Rattle.std.proofs.Common.{◌≡◌, List, Err, refl, ap, subst, ◌∙◌, ℕ}
+use Rattle.drawing.proofs.Common.{replicate, err_from_is_err_and, Writes, tape, behaviour, run_on, begins_nothing, Phase, Spells, Event, events_on, followed, events_in, layout_of}
 use Rattle.schedule.specs.declared.head.Head.{Head}
-use Rattle.schedule.specs.Plays.{tape, Writes}
-use Rattle.schedule.specs.Runs.{behaviour, run_on}
 use Rattle.schedule.specs.Schedules.{head_of}
-use Rattle.schedule.proofs.Playing.{begins_nothing}
-use Rattle.drawing.specs.declared.phase.Phase.{Phase}
-use Rattle.drawing.specs.Drawings.{Spells}
-use Rattle.drawing.specs.Events.{Event, events_on}
-use Rattle.drawing.specs.Followed.{followed}
-use Rattle.drawing.specs.Rows.{events_in}
-use Rattle.drawing.specs.Sheets.{layout_of}
 use Rattle.drawing.proofs.Ended.{steps_end, steps_fail}
 use Rattle.drawing.proofs.following.follow.Goals as goal
 

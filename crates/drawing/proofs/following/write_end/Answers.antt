@@ -1,10 +1,5 @@
 use Rattle.std.proofs.Common.{refl, subst, Err}
-use Rattle.std.proofs.lemmas.Result.{err_from_is_err_and}
-use Rattle.rmeworld.specs.declared.image.Image.{Image}
-use Rattle.schedule.specs.Plays.{tape}
-use Rattle.schedule.proofs.Playing.{begins_nothing}
-use Rattle.drawing.specs.declared.drawing.End.TheVariants.{Judged}
-use Rattle.drawing.specs.Followed.{Ending}
+use Rattle.drawing.proofs.Common.{err_from_is_err_and, Image, tape, begins_nothing, Judged, Ending}
 use Rattle.drawing.proofs.Ended.{not_closed}
 use Rattle.drawing.proofs.following.write_end.Goals as goal
 

@@ -1,13 +1,5 @@
-use Rattle.std.proofs.Common.{◌≡◌, ℕ, ◌+◌, ◌∷◌, ◌++◌, List, drop, [], map, Err, refl, sym, ap, subst, ◌∙◌, arith}
-use Rattle.std.proofs.lemmas.List.{drop_more, length-drop, nil_from_length}
-use Rattle.std.proofs.lemmas.Result.{err_from_is_err_and}
-use Rattle.schedule.specs.Pieces.{WritesFront}
-use Rattle.schedule.specs.Plays.{tape, Writes}
-use Rattle.drawing.specs.declared.act.Row.{Row}
-use Rattle.drawing.specs.declared.phase.Phase.{Phase}
-use Rattle.drawing.specs.Drawings.{Spells}
-use Rattle.drawing.specs.Followed.{followed, phases_behind, row_of, rows_told}
-use Rattle.drawing.specs.Rows.{events_in, events_shown}
+use Rattle.std.proofs.Common.{◌≡◌, ℕ, ◌+◌, ◌∷◌, List, drop, [], map, refl, sym, ap, subst, ◌∙◌, arith}
+use Rattle.drawing.proofs.Common.{drop_more, length-drop, nil_from_length, err_from_is_err_and, WritesFront, tape, Row, Phase, row_of, phases_behind, rows_told, followed, events_in, events_shown}
 use Rattle.drawing.proofs.Steps.{followed_more}
 use Rattle.drawing.proofs.Written.{nothing_yet, one_more_part, all_parts, stops_within}
 use Rattle.drawing.proofs.following.write_rows.Goals as goal

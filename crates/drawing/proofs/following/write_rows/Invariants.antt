@@ -1,7 +1,5 @@
 use Rattle.std.proofs.Common.{◌≡◌, drop}
-use Rattle.schedule.specs.Pieces.{WritesFront}
-use Rattle.drawing.specs.Followed.{followed}
-use Rattle.drawing.specs.Rows.{events_in}
+use Rattle.drawing.proofs.Common.{WritesFront, followed, events_in}
 use Rattle.drawing.proofs.following.write_rows.Given as goal
 
 abbrev pub invariant-loop-row : goal.invariant-loop-row

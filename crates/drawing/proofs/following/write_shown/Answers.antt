@@ -1,9 +1,5 @@
-use Rattle.std.proofs.Common.{◌≡◌, ◌∷◌, [], List, map, refl, sym, ap, subst}
-use Rattle.schedule.specs.Plays.{tape}
-use Rattle.drawing.specs.declared.act.Act.{Act}
-use Rattle.drawing.specs.declared.act.Row.{Row}
-use Rattle.drawing.specs.Followed.{row_of, Tells}
-use Rattle.drawing.specs.Rows.{events_shown}
+use Rattle.std.proofs.Common.{◌∷◌, [], List, map, sym, subst}
+use Rattle.drawing.proofs.Common.{tape, Act, Row, row_of, Tells, events_shown}
 use Rattle.drawing.proofs.Steps.{again_and_again}
 use Rattle.drawing.proofs.following.write_shown.Goals as goal
 

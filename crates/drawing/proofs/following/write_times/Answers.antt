@@ -1,12 +1,5 @@
-use Rattle.std.proofs.Common.{◌≡◌, ℕ, suc, ◌+◌, ◌-◌, List, Err, refl, sym, ap, subst, ◌∙◌, arith}
-use Rattle.std.proofs.Math.ListN.{replicate}
-use Rattle.std.proofs.lemmas.Result.{err_from_is_err_and}
-use Rattle.schedule.specs.Pieces.{WritesFront}
-use Rattle.schedule.specs.Plays.{tape, Writes}
-use Rattle.drawing.specs.declared.phase.Phase.{Phase}
-use Rattle.drawing.specs.Drawings.{Spells}
-use Rattle.drawing.specs.Followed.{phases_behind, phases_with, row_told, rows_told}
-use Rattle.drawing.specs.Sheets.{PenState}
+use Rattle.std.proofs.Common.{◌≡◌, ℕ, suc, ◌+◌, ◌-◌, Err, refl, sym, subst, ◌∙◌, arith}
+use Rattle.drawing.proofs.Common.{replicate, err_from_is_err_and, WritesFront, Writes, tape, Spells, row_told, phases_with, phases_behind, rows_told, PenState}
 use Rattle.drawing.proofs.Written.{nothing_yet, one_more_part, all_parts, stops_within}
 use Rattle.drawing.proofs.following.write_times.Goals as goal
 

@@ -1,7 +1,5 @@
 use Rattle.std.proofs.Common.{◌≡◌, ◌-◌}
-use Rattle.std.proofs.Math.ListN.{replicate}
-use Rattle.schedule.specs.Pieces.{WritesFront}
-use Rattle.drawing.specs.Followed.{phases_behind, rows_told}
+use Rattle.drawing.proofs.Common.{replicate, WritesFront, phases_behind, rows_told}
 use Rattle.drawing.proofs.following.write_times.Given as goal
 
 abbrev pub invariant-loop : goal.invariant-loop

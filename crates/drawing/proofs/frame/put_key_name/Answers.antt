@@ -1,6 +1,5 @@
 use Rattle.std.proofs.Common.{◌++◌, ap, ◌∙◌}
-use Rattle.std.specs.Prelude.{codes}
-use Rattle.drawing.specs.Pictures.{key_name, class_of}
+use Rattle.drawing.proofs.Common.{codes, class_of, key_name}
 use Rattle.drawing.proofs.Joined.{joined_three}
 use Rattle.drawing.proofs.frame.put_key_name.Goals as goal
 

@@ -1,7 +1,5 @@
 use Rattle.std.proofs.Common.{◌++◌}
-use Rattle.std.specs.Prelude.{codes}
-use Rattle.drawing.specs.declared.phase.Phase.TheVariants.{Rest, Doorway, Waiting, Section, Dead}
-use Rattle.drawing.specs.Pictures.{key, keys}
+use Rattle.drawing.proofs.Common.{codes, Rest, Doorway, Waiting, Section, Dead, key, keys}
 use Rattle.drawing.proofs.Joined.{joined, two_parts}
 use Rattle.drawing.proofs.frame.put_keys.Goals as goal
 

@@ -1,4 +1,4 @@
-use Rattle.drawing.specs.Pictures.{line_looks}
+use Rattle.drawing.proofs.Common.{line_looks}
 use Rattle.drawing.proofs.Joined.{joined}
 use Rattle.drawing.proofs.frame.put_line_looks.Goals as goal
 

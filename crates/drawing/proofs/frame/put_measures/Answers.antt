@@ -1,5 +1,4 @@
-use Rattle.std.specs.Prelude.{codes}
-use Rattle.drawing.specs.Pictures.{measured}
+use Rattle.drawing.proofs.Common.{codes, measured}
 use Rattle.drawing.proofs.Joined.{joined_around}
 use Rattle.drawing.proofs.frame.put_measures.Goals as goal
 

@@ -1,4 +1,4 @@
-use Rattle.drawing.specs.Pictures.{text_looks}
+use Rattle.drawing.proofs.Common.{text_looks}
 use Rattle.drawing.proofs.Joined.{joined}
 use Rattle.drawing.proofs.frame.put_text_looks.Goals as goal
 

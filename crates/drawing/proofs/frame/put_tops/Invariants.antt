@@ -1,5 +1,5 @@
 use Rattle.std.proofs.Common.{◌≡◌, ◌++◌, drop}
-use Rattle.drawing.specs.Pictures.{lifeline_tops}
+use Rattle.drawing.proofs.Common.{lifeline_tops}
 use Rattle.drawing.proofs.frame.put_tops.Given as goal
 
 abbrev pub invariant-loop-phase : goal.invariant-loop-phase

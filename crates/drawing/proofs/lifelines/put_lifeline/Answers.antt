@@ -1,6 +1,5 @@
 use Rattle.std.proofs.Common.{◌++◌, ap, ◌∙◌}
-use Rattle.std.specs.Prelude.{codes}
-use Rattle.drawing.specs.Pictures.{lifeline, class_of}
+use Rattle.drawing.proofs.Common.{codes, class_of, lifeline}
 use Rattle.drawing.proofs.Joined.{joined_three}
 use Rattle.drawing.proofs.lifelines.put_lifeline.Goals as goal
 

@@ -1,5 +1,5 @@
 use Rattle.std.proofs.Common.{◌≡◌, ◌++◌}
-use Rattle.drawing.specs.Columns.{spaces}
+use Rattle.drawing.proofs.Common.{spaces}
 use Rattle.drawing.proofs.paging.put_spaces.Given as goal
 
 abbrev pub invariant-loop : goal.invariant-loop

@@ -1,5 +1,4 @@
-use Rattle.std.specs.Prelude.{codes}
-use Rattle.drawing.specs.Pictures.{step_mark}
+use Rattle.drawing.proofs.Common.{codes, step_mark}
 use Rattle.drawing.proofs.Joined.{joined_three}
 use Rattle.drawing.proofs.picture.put_step.Goals as goal
 

@@ -1,5 +1,4 @@
-use Rattle.std.proofs.lemmas.Result.{err_from_is_err_and}
-use Rattle.schedule.specs.Plays.{tape}
+use Rattle.drawing.proofs.Common.{err_from_is_err_and, tape}
 use Rattle.drawing.proofs.Written.{wants_memory}
 use Rattle.drawing.proofs.writing.write_drawing.Goals as goal
 

@@ -1,6 +1,4 @@
-use Rattle.std.proofs.lemmas.Result.{err_from_is_err_and}
-use Rattle.schedule.specs.Plays.{tape}
-use Rattle.drawing.specs.Drawings.{end_in}
+use Rattle.drawing.proofs.Common.{err_from_is_err_and, tape, end_in}
 use Rattle.drawing.proofs.Written.{fails_behind}
 use Rattle.drawing.proofs.writing.write_end.Goals as goal
 

@@ -1,8 +1,6 @@
 use Rattle.std.proofs.Common.{◌++◌, List, Err, refl, subst, ◌∙◌}
-use Rattle.std.proofs.lemmas.Result.{err_from_is_err_and}
-use Rattle.schedule.specs.Plays.{tape, Writes}
-use Rattle.drawing.specs.declared.phase.Phase.{Phase}
-use Rattle.drawing.specs.Drawings.{spelled_from, rows_spelled, top_in, end_in, Spells}
+use Rattle.drawing.proofs.Common.{err_from_is_err_and, Writes, tape, Phase, Spells, rows_spelled, top_in, end_in}
+use Rattle.drawing.specs.Drawings.{spelled_from}
 use Rattle.drawing.proofs.Written.{nothing_yet, one_more_part, stops_within, spells_rest}
 use Rattle.drawing.proofs.writing.write_parts.Goals as goal
 

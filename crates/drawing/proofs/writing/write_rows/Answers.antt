@@ -1,11 +1,5 @@
 use Rattle.std.proofs.Common.{◌≡◌, ◌+◌, ◌∷◌, List, drop, [], Err, refl, sym, ap, subst, ◌∙◌, arith}
-use Rattle.std.proofs.lemmas.List.{drop_more, length-drop, nil_from_length}
-use Rattle.std.proofs.lemmas.Result.{err_from_is_err_and}
-use Rattle.schedule.specs.Pieces.{WritesFront}
-use Rattle.schedule.specs.Plays.{tape, Writes}
-use Rattle.drawing.specs.declared.act.Row.{Row}
-use Rattle.drawing.specs.Drawings.{row_spelled, rows_spelled, Spells}
-use Rattle.drawing.specs.Sheets.{PenState, pen_with}
+use Rattle.drawing.proofs.Common.{drop_more, length-drop, nil_from_length, err_from_is_err_and, WritesFront, Writes, tape, Row, Spells, row_spelled, rows_spelled, PenState, pen_with}
 use Rattle.drawing.proofs.Written.{nothing_yet, one_more_part, all_parts, stops_within}
 use Rattle.drawing.proofs.writing.write_rows.Goals as goal
 

@@ -1,6 +1,5 @@
 use Rattle.std.proofs.Common.{◌≡◌, drop}
-use Rattle.schedule.specs.Pieces.{WritesFront}
-use Rattle.drawing.specs.Drawings.{rows_spelled}
+use Rattle.drawing.proofs.Common.{WritesFront, rows_spelled}
 use Rattle.drawing.proofs.writing.write_rows.Given as goal
 
 abbrev pub invariant-loop-row : goal.invariant-loop-row

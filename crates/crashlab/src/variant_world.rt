@@ -15,10 +15,9 @@ use crate::variant_memory::VariantMemory;
 use crate::variant_process::VariantProcess;
 use judge::Judge;
 use redomail::{Deed, Layout};
-use rmecore::simulated::{MOST_LIMIT, MOST_PROCS};
 use rmecore::{Access, Happened, Outer, Own, Refusal, Scan};
-use rmeworld::images::rules::{MOST_CAP, MOST_WIDTH};
 use rmeworld::memory::{deed_of, load, puts_quietly, store};
+use rmeworld::size::size_refusal;
 use rmeworld::{Answer, Call, Cells, Image, Machine, Owns, Stepped};
 use std::alloc::Global;
 use std::marker::Model;
@@ -86,19 +85,10 @@ impl VariantWorld {
         ensures ok { IfOk result (λ world. world ≡ new_world variant (record { procs = procs; cap = cap; width = width }) limit) }
         ensures lock { IfOk result (λ world. variant ≡ Variant.Right → IsLockWorld world []) }
     {
-        if procs == 0 || procs > MOST_PROCS {
-            return Err(Refusal::BadProcs);
-        }
-        if limit == 0 || limit > MOST_LIMIT {
-            return Err(Refusal::BadLimit);
-        }
-        if cap == 0 || cap > MOST_CAP {
-            return Err(Refusal::BadCap);
-        }
-        if width == 0 || width > MOST_WIDTH {
-            return Err(Refusal::BadWidth);
-        }
         let layout = Layout { procs, cap, width };
+        if let Some(refusal) = size_refusal(layout, limit) {
+            return Err(refusal);
+        }
         let words = vec![in alloc; ZEROS; procs as usize]?;
         let cells = vec![in alloc; 0; layout.words() as usize]?;
         let processes = all_at_rest(alloc, variant, layout, limit)?;

@@ -16,6 +16,7 @@ pub mod outcome;
 pub mod owns;
 pub mod private_memory;
 pub mod process;
+pub mod size;
 pub mod stepped;
 pub mod why;
 pub mod world;

@@ -15,14 +15,14 @@ use crate::call::Call;
 use crate::cells::Cells;
 use crate::history::{make_room, note};
 use crate::image::Image;
-use crate::images::rules::{MOST_CAP, MOST_WIDTH, first_rule, layout};
+use crate::images::rules::{first_rule, layout};
 use crate::machine::Machine;
 use crate::memory::{deed_of, load, store};
 use crate::owns::Owns;
 use crate::process::Process;
+use crate::size::size_refusal;
 use crate::stepped::{Prospect, Stepped};
 use redomail::{Deed, Layout};
-use rmecore::simulated::{MOST_LIMIT, MOST_PROCS};
 use rmecore::{Access, Outer, Own, Refusal, Scan, Tally};
 use std::alloc::Global;
 use std::fmt;
@@ -139,19 +139,10 @@ impl World {
         ensures refused { IfErr result (λ e. new_refusal (record { procs = procs; cap = cap; width = width }) limit ≡ cause e) }
         ensures ok { IfOk result (λ world. world ≡ new_world (record { procs = procs; cap = cap; width = width }) limit) }
     {
-        if procs == 0 || procs > MOST_PROCS {
-            return Err(Refusal::BadProcs);
-        }
-        if limit == 0 || limit > MOST_LIMIT {
-            return Err(Refusal::BadLimit);
-        }
-        if cap == 0 || cap > MOST_CAP {
-            return Err(Refusal::BadCap);
-        }
-        if width == 0 || width > MOST_WIDTH {
-            return Err(Refusal::BadWidth);
-        }
         let layout = Layout { procs, cap, width };
+        if let Some(refusal) = size_refusal(layout, limit) {
+            return Err(refusal);
+        }
         let words = vec![in alloc; ZEROS; procs as usize]?;
         let cells = vec![in alloc; 0; layout.words() as usize]?;
         let tallies = vec![in alloc; UNSTARTED; procs as usize]?;

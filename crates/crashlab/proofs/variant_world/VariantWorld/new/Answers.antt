@@ -14,7 +14,7 @@ abbrev layout : goal.In_ok-processes → Layout
 layout c = record { procs = c.args.procs; cap = c.args.cap; width = c.args.width }
 
 sized : (c : goal.In_ok-processes) → IsSize (layout c)
-sized c = record { layout = record { few = c.if-procs-gt-MOST_PROCS.false; small = c.if-cap-gt-MOST_CAP.false; least = omega arith; most = c.if-width-gt-MOST_WIDTH.false }; procs = omega arith; cap = omega arith }
+sized c = search rules
 
 is :
     (c : goal.In_ok-processes)

@@ -1,4 +1,4 @@
-use Rattle.std.proofs.Common.{◌≡◌, ◌+◌, replicate, sym, ap, ◌∙◌, subst, rules, arith}
+use Rattle.std.proofs.Common.{◌≡◌, ◌+◌, ◌<◌, ◌≤◌, ◌^◌, replicate, sym, ap, ◌∙◌, subst, rules, arith}
 use Rattle.std.proofs.lemmas.Grind.{common_steps}
 use Rattle.rmecore.specs.Simulated.{zeros, fresh}
 use Rattle.redomail.specs.declared.layout.Layout.{Layout}
@@ -13,7 +13,10 @@ abbrev layout : goal.After-new → Layout
 layout c = record { procs = c.args.procs; cap = c.args.cap; width = c.args.width }
 
 sized : (c : goal.After-new) → IsSize (layout c)
-sized c = record { layout = record { few = c.if-procs-gt-MOST_PROCS.false; small = c.if-cap-gt-MOST_CAP.false; least = omega arith; most = c.if-width-gt-MOST_WIDTH.false }; procs = omega arith; cap = omega arith }
+sized c = search rules
+
+limited : (c : goal.After-new) → (0 < c.args.limit) × (c.args.limit ≤ 2 ^ 62)
+limited c = search rules
 
 is : (c : goal.After-new) → record { layout = layout c; limit = c.args.limit; words = c.in_ok-words.words.items; cells = c.in_ok-cells.cells.items; processes = c.in_ok-processes.processes.items; tallies = c.in_ok-tallies.tallies.items; history = c.new.result.items } ≡ new_world (layout c) c.args.limit
 is c =
@@ -26,7 +29,7 @@ is c =
     λ i. record { layout = layout c; limit = c.args.limit; words = words i; cells = cells i; processes = processes i; tallies = tallies i; history = c.new.ensures.items i }
 
 pub invariant_of-result : goal.invariant_of-result
-invariant_of-result c = subst IsWorld (sym (is c)) (world_new (layout c) c.args.limit (sized c) (omega arith, c.if-limit-gt-MOST_LIMIT.false))
+invariant_of-result c = subst IsWorld (sym (is c)) (world_new (layout c) c.args.limit (sized c) (limited c))
 
 pub returns-clause-ok : goal.returns-clause-ok
 returns-clause-ok c = is c

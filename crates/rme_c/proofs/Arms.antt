@@ -1,31 +1,15 @@
 -- The steps of chores, one by one.
 use Rattle.std.proofs.Common.{◌≡◌, ℕ, zero, suc, ◌+◌, ◌-◌, ◌*◌, ◌<◌, ◌≤◌, true, false, nat_lt, is_none, List, [], ◌∷◌, ◌++◌, length, take, replicate, slice_set, Some, None, refl, sym, ap, ◌∙◌, subst, arith, length-take, length-set, length-append}
-use Rattle.std.proofs.lemmas.Bool.{lt-ltb, le-ltb}
+use Rattle.rme_c.proofs.Common.{lt-ltb, le-ltb, Inside, Layout, Reply, left_at, FitsStage, IsLayout, Pending, record_of, Mending, next_access, Told, Chore, Position, Lock, Within, RmeProcess, padded}
+use Rattle.rme_c.proofs.Common.{job_of, why_of, layout_of, stand_at, Fits, IsStep}
 use Rattle.std.proofs.lemmas.List.{length-replicate}
-use Rattle.redomail.specs.declared.layout.Layout.{Layout}
-use Rattle.redomail.specs.declared.reply.Reply.{Reply}
 use Rattle.redomail.specs.declared.reply.Reply.TheVariants.{Stored, Mended}
 use Rattle.redomail.specs.declared.stage.Stage.TheVariants as stage
-use Rattle.redomail.specs.Jobs.{left_at, FitsStage}
-use Rattle.redomail.specs.Layout.{IsLayout}
-use Rattle.redomail.specs.Left.{Pending}
 use Rattle.redomail.specs.Stages.{stage_after}
-use Rattle.redomail.specs.Tasks.{record_of}
 use Rattle.redomail.proofs.Feeding.{left_after}
-use Rattle.rmecore.specs.declared.stage.Stage.TheVariants.{Inside}
 use Rattle.rmecore.specs.Place as Place
-use Rattle.rmeworld.specs.Stand.{next_access}
 use Rattle.rmeworld.specs.declared.answer.Answer.TheVariants.{Mail}
-use Rattle.rmeworld.specs.declared.why.Why.TheVariants.{Mending}
-use Rattle.rme_c.specs.declared.answers.Told.{Told}
-use Rattle.rme_c.specs.declared.chore.Chore.{Chore}
 use Rattle.rme_c.specs.declared.chore.Chore.TheVariants as chore
-use Rattle.rme_c.specs.declared.position.Position.{Position}
-use Rattle.rme_c.specs.declared.position.Position.TheVariants.{Lock, Within}
-use Rattle.rme_c.specs.declared.process.RmeProcess.{RmeProcess}
-use Rattle.rme_c.specs.Chores.{padded, job_of, why_of}
-use Rattle.rme_c.specs.Positions.{layout_of, stand_at, Fits}
-use Rattle.rme_c.specs.Steps.{IsStep}
 use Rattle.rme_c.proofs.Jobs.{storing, reading, wants}
 use Rattle.rme_c.proofs.Chores.{goes, ends}
 

@@ -1,24 +1,7 @@
 -- A step of a chore, in the numbers of C.
 use Rattle.std.proofs.Common.{◌≡◌, ℕ, ◌==◌, false, not, None, sym, ap, ◌∙◌, subst}
-use Rattle.rmecore.specs.Machine.{place_of}
-use Rattle.rmecore.specs.declared.stage.Stage.{Stage}
-use Rattle.redomail.specs.declared.reply.Reply.{Reply}
-use Rattle.redomail.specs.Left.{Pending, left, fed}
-use Rattle.redomail.specs.Script.{Done, tail}
-use Rattle.rmeworld.specs.declared.errand.Errand.TheVariants.{Free as IsFree, Doing as Does}
-use Rattle.rmeworld.specs.declared.why.Why.{Why}
-use Rattle.rmeworld.specs.Answered.{by_script, by_reply}
-use Rattle.rmeworld.specs.Errands.{HasStep}
-use Rattle.rmeworld.specs.Spot.{end_place, end_mended, end_barred}
-use Rattle.rmeworld.specs.Stand.{Stand, stepped_by, job_left}
-use Rattle.rme_c.specs.declared.answers.Told.{Told}
-use Rattle.rme_c.specs.declared.chore.Chore.{Chore}
-use Rattle.rme_c.specs.declared.position.Position.{Position}
-use Rattle.rme_c.specs.declared.position.Position.TheVariants.{Lock, Within}
-use Rattle.rme_c.specs.declared.process.RmeProcess.{RmeProcess}
-use Rattle.rme_c.specs.Chores.{errand_of}
-use Rattle.rme_c.specs.Positions.{layout_of, stand_at, Fits}
-use Rattle.rme_c.specs.Steps.{IsStep}
+use Rattle.rme_c.proofs.Common.{Stage, place_of, Reply, Pending, left, fed, Done, tail, Free as IsFree, Doing as Does, Why, by_script, by_reply, HasStep, end_place, end_mended, end_barred, Stand}
+use Rattle.rme_c.proofs.Common.{stepped_by, job_left, Told, Chore, Position, Lock, Within, RmeProcess, errand_of, layout_of, stand_at, Fits, IsStep}
 use Rattle.rme_c.proofs.Jobs.{stays, no_answer, is_told, Told as IsTold}
 
 module _ (p q : RmeProcess) (c : Chore) (w : Why) (job next : Pending) (v : ℕ)

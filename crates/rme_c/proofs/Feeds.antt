@@ -1,35 +1,16 @@
 -- A step where no call is under way, and what a step tells.
 use Rattle.std.proofs.Common.{◌≡◌, ℕ, ◌+◌, ◌<◌, ◌≤◌, ◌==◌, not, Bool, true, false, if◌then◌else◌, is_none, length, Option, Some, None, refl, sym, ap, ◌∙◌, subst, arith}
-use Rattle.rmecore.specs.Machine.{place_of, next_access as lock_access, after_access, progress}
-use Rattle.rmecore.specs.Place.{Place}
+use Rattle.rme_c.proofs.Common.{Access, Stage, place_of, after_access, progress, Place, all_allowed, Check, held, begun, Answer, Free as IsFree, Doing as Does, Checking, by_lock, is_entry}
+use Rattle.rme_c.proofs.Common.{mended_done, checks_done, mended_entered, next_access, Stand, standing, stepped, lock_moved, outcome, lock_outcome, Told, Position, Lock, Within, Lost, RmeProcess}
+use Rattle.rme_c.proofs.Common.{layout_of, stand_at, Fits, stand_of, position_of, landing, IsStep, answered, is_blocked, IsLanding, IsFed}
+use Rattle.rmecore.specs.Machine.{next_access as lock_access}
 use Rattle.rmecore.specs.declared.core_done.CoreDone.{CoreDone}
-use Rattle.rmecore.specs.declared.stage.Stage.{Stage}
-use Rattle.rmecore.proofs.Accesses.{all_allowed}
-use Rattle.redomail.specs.Layout.{held}
-use Rattle.rmeworld.specs.Answered.{by_lock}
-use Rattle.rmeworld.specs.Entered.{is_entry, mended_done, checks_done}
-use Rattle.rmeworld.specs.Spot.{mended_entered}
-use Rattle.rmeworld.proofs.Chores.{lock_outcome}
-use Rattle.rmecore.specs.declared.access.Access.{Access}
-use Rattle.redomail.specs.Left.{begun}
-use Rattle.redomail.specs.declared.task.Task.TheVariants.{Check}
-use Rattle.rmeworld.specs.declared.answer.Answer.{Answer}
-use Rattle.rmeworld.specs.declared.errand.Errand.TheVariants.{Free as IsFree, Doing as Does}
 use Rattle.rmeworld.specs.declared.outcome.Outcome.{Outcome}
-use Rattle.rmeworld.specs.declared.why.Why.TheVariants.{Checking}
-use Rattle.rmeworld.specs.Stand.{Stand, standing, stepped, lock_moved, next_access, outcome}
 use Rattle.rmeworld.proofs.Entries.{stays, all_entered}
-use Rattle.rme_c.specs.declared.position.Position.{Position}
-use Rattle.rme_c.specs.declared.position.Position.TheVariants.{Lost, Lock, Within}
-use Rattle.rme_c.specs.declared.process.RmeProcess.{RmeProcess}
-use Rattle.rme_c.specs.declared.answers.Told.{Told}
 use Rattle.rme_c.specs.declared.lock_part.Landing.{Landing}
 use Rattle.rme_c.specs.declared.process.RmeAccess.{RmeAccess}
 use Rattle.rme_c.specs.declared.process.RmePosition.{RmePosition}
 use Rattle.rme_c.specs.Codes.{told, told_by, told_as, shown}
-use Rattle.rme_c.specs.declared.chore.Chore.{Chore}
-use Rattle.rme_c.specs.Positions.{stand_at, stand_of, position_of, stage_now, stage_of, chore_of, by_parts, is_placed, layout_of, landing, Fits}
-use Rattle.rme_c.specs.Steps.{answered, is_blocked, IsStep, IsLanding, IsFed}
 use Rattle.rme_c.proofs.Arms.{has_chore}
 use Rattle.rme_c.proofs.Locks.{lands, has_errand}
 use Rattle.rme_c.proofs.Numbers.{stands}
@@ -168,16 +149,3 @@ step_fed p x v m q y t b a code n o here busy step there same shows kept few pro
           ∙ ap (λ (z : Position). shown p.procs (outcome (stand_of p) (next_access (stand_of p)) v).answer (next_access (stand_at q z))) (sym there);
       steps = rw (busy_at p x here busy) steps;
     }
-
-lost : (c : Option Chore) (t : Stage) → by_parts None c ≡ Lock t → ⊥
-lost None t e = cc
-lost (Some c) t e = cc
-
--- numbers that are no stage's are not in the lock's part
-pub no_lock : (p : RmeProcess) (t : Stage) → stage_now p ≡ None → position_of p ≡ Lock t → ⊥
-no_lock p t none at = by (is_placed p) (stage_of p.position) (chore_of (layout_of p) p.position) none at
-  where
-    by : (b : Bool) (s : Option Stage) (c : Option Chore) → (if b then s else None) ≡ None → (if b then by_parts s c else Lost) ≡ Lock t → ⊥
-    by false s c e at = cc
-    by true None c e at = lost c t at
-    by true (Some s) c e at = cc

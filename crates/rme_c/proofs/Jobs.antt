@@ -1,25 +1,10 @@
 -- A step of a job, as the process sees it: the job goes on, or ends with its reply.
 use Rattle.std.proofs.Common.{◌≡◌, ℕ, zero, suc, ◌+◌, ◌-◌, ◌*◌, ◌<◌, Bool, false, is_none, List, [], ◌∷◌, length, take, drop, Option, Some, None, IsSome, IfSome, refl, arith}
-use Rattle.rmecore.specs.Place.{Place}
-use Rattle.rmecore.specs.Machine.{kind_of, carried}
-use Rattle.rmecore.specs.declared.access.Access.{Access}
-use Rattle.redomail.specs.declared.layout.Layout.{Layout}
+use Rattle.rme_c.proofs.Common.{Access, kind_of, carried, Place, Layout, Reply, left_at, Pending, left, Done, tail, Script, Get as Asks, Put as Writes, puts, gets, store_steps, redo}
+use Rattle.rme_c.proofs.Common.{length-store_steps, Answer, Doing as Does, Why, by_script, answer_by, blocked_by, HasStep, next_access, Stand, job_left, outcome, access_by, with}
 use Rattle.redomail.specs.declared.record.Record.{Record}
-use Rattle.redomail.specs.declared.reply.Reply.{Reply}
 use Rattle.redomail.specs.declared.stage.Stage.TheVariants as stage
-use Rattle.redomail.specs.Jobs.{left_at}
-use Rattle.redomail.specs.Left.{Pending, left}
-use Rattle.redomail.specs.Script.{Script, Get as Asks, Put as Writes, Done, tail, puts, gets}
-use Rattle.redomail.specs.Tasks.{store_steps, redo}
-use Rattle.redomail.proofs.Scripts.{length-store_steps}
-use Rattle.rmeworld.specs.declared.answer.Answer.{Answer}
-use Rattle.rmeworld.specs.declared.errand.Errand.TheVariants.{Doing as Does}
-use Rattle.rmeworld.specs.declared.why.Why.{Why}
-use Rattle.rmeworld.specs.Answered.{answer_by, blocked_by, by_script}
-use Rattle.rmeworld.specs.Errands.{HasStep}
 use Rattle.rmeworld.specs.Spot.{Doing}
-use Rattle.rmeworld.specs.Stand.{Stand, access_by, next_access, outcome, job_left}
-use Rattle.rmeworld.proofs.Chores.{with}
 
 -- what a script's step answers, and that it is never blocked
 told : (limit p : ℕ) (s : Place) (b c : Bool) (why : Why) (e : Script Reply) (v : ℕ) → HasStep e

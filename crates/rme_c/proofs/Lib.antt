@@ -1,3 +1,4 @@
+pub mod Common
 pub mod Jobs
 pub mod Locks
 pub mod Chores

@@ -1,23 +1,12 @@
 -- A step of the lock's part, in the numbers of C.
 use Rattle.std.proofs.Common.{◌≡◌, ◌≢◌, ℕ, ◌+◌, ◌<◌, Bool, true, false, nat_lt, if◌then◌else◌, List, [], ◌∷◌, Option, Some, None, IfSome, is_none, refl, sym, ap, ◌∙◌, inl, inr, arith}
-use Rattle.std.proofs.lemmas.Bool.{cases_Bool, cases_eq}
-use Rattle.rmecore.proofs.Scans.{above_skip, above_past}
-use Rattle.rmecore.specs.Place.{Place, Rest, Dead, Reread, Opening, Door, Shutting, Wait, Inside, Leaving, Withdrawing, Unmarking, above}
-use Rattle.rmecore.specs.Machine.{first, place_of, access, word_of, InLock}
+use Rattle.rme_c.proofs.Common.{cases_Bool, cases_eq, Access, Stage, Inside as AtInside, Rest as AtRest, Dead as AtDead, ReadingChoosing, ReadingNumber, ReadingInside, Opening as AtOpening}
+use Rattle.rme_c.proofs.Common.{Door as AtDoor, Shutting as AtShutting, Wait as AtWait, Leaving as AtLeaving, Withdrawing as AtWithdrawing, Unmarking as AtUnmarking, place_of, first, access, word_of}
+use Rattle.rme_c.proofs.Common.{InLock, Place, Reread, above, above_skip, above_past, Layout, Check, begun, Free as IsFree, Doing as Does, Checking, is_entry, InWords, landing, lock_at, errand_at}
+use Rattle.rmecore.specs.Place.{Rest, Dead, Opening, Door, Shutting, Wait, Inside, Leaving, Withdrawing, Unmarking}
 use Rattle.rmecore.specs.Refused.{is_idle}
-use Rattle.rmecore.specs.declared.access.Access.{Access}
-use Rattle.rmecore.specs.declared.stage.Stage.{Stage}
-use Rattle.rmecore.specs.declared.stage.Stage.TheVariants.{Rest as AtRest, Dead as AtDead, ReadingChoosing, ReadingNumber, ReadingInside, Opening as AtOpening, Door as AtDoor, Shutting as AtShutting, Wait as AtWait, Inside as AtInside, Leaving as AtLeaving, Withdrawing as AtWithdrawing, Unmarking as AtUnmarking}
 use Rattle.rmecore.specs.declared.word.Word.{Word}
 use Rattle.rmecore.specs.declared.word.Word.TheVariants.{Choosing, Number, Inside as InsideOf, Data}
-use Rattle.redomail.specs.declared.layout.Layout.{Layout}
-use Rattle.redomail.specs.declared.task.Task.TheVariants.{Check}
-use Rattle.redomail.specs.Left.{begun}
-use Rattle.rmeworld.specs.declared.errand.Errand.TheVariants.{Free as IsFree, Doing as Does}
-use Rattle.rmeworld.specs.declared.why.Why.TheVariants.{Checking}
-use Rattle.rmeworld.specs.Entered.{is_entry}
-use Rattle.rmeworld.specs.Stand.{InWords}
-use Rattle.rme_c.specs.Positions.{landing, lock_at, errand_at}
 
 entered_inside : (s t : Place) → is_entry s t ≡ true → t ≡ Inside
 entered_inside s Inside e = refl

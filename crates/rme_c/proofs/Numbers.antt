@@ -1,16 +1,6 @@
 -- Tests of the sizes.
 use Rattle.std.proofs.Common.{◌≡◌, ◌<◌, ◌≤◌, true, false, nat_lt, refl, inl, inr}
-use Rattle.std.proofs.lemmas.Bool.{cases_Bool, lt-ltb, le-ltb, le-leb}
-use Rattle.redomail.specs.declared.layout.Layout.{Layout}
-use Rattle.redomail.specs.Layout.{IsLayout}
-use Rattle.rme_c.specs.declared.process.RmeProcess.{RmeProcess}
-use Rattle.rme_c.specs.declared.position.Position.{Position}
-use Rattle.rme_c.specs.declared.position.Position.TheVariants.{Lost, Lock, Within}
-use Rattle.rme_c.specs.Positions.{is_layout, is_placed, stage_of, chore_of, by_parts, layout_of, position_of, Fits, FitsAt}
-
-pub layout_holds : (l : Layout) → IsLayout l → is_layout l ≡ true
-layout_holds l h =
-    rw (le-leb l.procs 64 h.few, le-leb l.cap 65536 h.small, le-leb 1 l.width h.least, le-leb l.width 8 h.most) refl
+use Rattle.rme_c.proofs.Common.{lt-ltb, le-ltb, cases_Bool, le-leb, Layout, Position, Lock, Within, Lost, RmeProcess, layout_of, Fits, position_of, stage_of, chore_of, by_parts, is_placed, FitsAt}
 
 pub unplaced : (p : RmeProcess) → p.procs ≤ p.index → position_of p ≡ Lost
 unplaced p beyond = let no : nat_lt p.index p.procs ≡ false = le-ltb p.index p.procs beyond in rw no refl

@@ -1,5 +1,5 @@
 use Rattle.std.proofs.Common.{◌≡◌, ◌≢◌, ◌+◌, sym}
-use Rattle.rmecore.proofs.Scans.{first_none, first_some}
+use Rattle.rme_c.proofs.Common.{first_none, first_some}
 use Rattle.rme_c.proofs.Locks.{above_again, above_none}
 use Rattle.rme_c.proofs.accesses.first.Goals as goal
 use Rattle.rme_c.proofs.accesses.first.Goals.{then-from-p, else-from-p}

@@ -1,5 +1,4 @@
-use Rattle.rmecore.specs.Machine.{place_of}
-use Rattle.rmecore.proofs.Accesses.{orderly, within}
+use Rattle.rme_c.proofs.Common.{place_of, orderly, within}
 use Rattle.rme_c.proofs.Locks.{words_of}
 use Rattle.rme_c.proofs.accesses.lock_next.Goals as goal
 

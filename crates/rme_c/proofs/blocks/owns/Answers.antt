@@ -1,8 +1,7 @@
 use Rattle.std.proofs.Common.{rules, ◌≡◌, ℕ, List, [], ◌∷◌, ◌++◌, map, sym, ap, ◌∙◌, arith}
-use Rattle.std.specs.List.{range_with_len}
+use Rattle.rme_c.proofs.Common.{range_with_len, own_in}
 use Rattle.std.proofs.lemmas.List.FromFn.{map-range_with_len_more}
 use Rattle.rmecore.specs.declared.own.Own.{Own}
-use Rattle.rme_c.specs.Blocks.{own_in}
 use Rattle.rme_c.proofs.blocks.owns.Goals as goal
 
 pub loop-p-preserved : goal.loop-p-preserved

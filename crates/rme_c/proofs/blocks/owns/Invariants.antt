@@ -1,6 +1,5 @@
 use Rattle.std.proofs.Common.{◌≡◌, map}
-use Rattle.std.specs.List.{range_with_len}
-use Rattle.rme_c.specs.Blocks.{own_in}
+use Rattle.rme_c.proofs.Common.{range_with_len, own_in}
 use Rattle.rme_c.proofs.blocks.owns.Given as goal
 
 abbrev pub invariant-loop-p : goal.invariant-loop-p

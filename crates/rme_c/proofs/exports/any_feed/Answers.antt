@@ -1,5 +1,5 @@
 use Rattle.std.proofs.Common.{refl, sym, ◌∙◌}
-use Rattle.rme_c.specs.declared.position.Position.TheVariants.{Lost}
+use Rattle.rme_c.proofs.Common.{Lost}
 use Rattle.rme_c.proofs.Feeds.{idle_fed}
 use Rattle.rme_c.proofs.exports.any_feed.Goals as goal
 

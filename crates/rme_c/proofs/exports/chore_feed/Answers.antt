@@ -1,8 +1,5 @@
 use Rattle.std.proofs.Common.{◌≡◌, ◌+◌, ap, ◌∙◌, arith}
-use Rattle.redomail.specs.Layout.{held}
-use Rattle.rme_c.specs.Positions.{stand_at}
-use Rattle.rme_c.specs.declared.position.Position.TheVariants.{Within}
-use Rattle.rme_c.specs.declared.process.RmeProcess.{RmeProcess}
+use Rattle.rme_c.proofs.Common.{held, Within, RmeProcess, stand_at}
 use Rattle.rme_c.proofs.Arms.{has_chore}
 use Rattle.rme_c.proofs.Feeds.{step_fed}
 use Rattle.rme_c.proofs.exports.chore_feed.Goals as goal

@@ -1,5 +1,5 @@
 use Rattle.std.proofs.Common.{sym, ◌∙◌}
-use Rattle.rme_c.specs.declared.position.Position.TheVariants.{Lock}
+use Rattle.rme_c.proofs.Common.{Lock}
 use Rattle.rme_c.proofs.Feeds.{idle_fed}
 use Rattle.rme_c.proofs.exports.whole_feed.Goals as goal
 

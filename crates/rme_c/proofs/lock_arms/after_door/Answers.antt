@@ -1,9 +1,6 @@
 use Rattle.std.proofs.Common.{◌≡◌, ◌+◌, max, sym, ap, ◌∙◌, arith}
-use Rattle.rmecore.specs.Place.{above}
+use Rattle.rme_c.proofs.Common.{Door, above, door_goes, standing_at}
 use Rattle.rmecore.specs.Place as PlaceOf
-use Rattle.rmecore.specs.declared.stage.Stage.TheVariants.{Door}
-use Rattle.rmecore.proofs.MachineSteps.{door_goes}
-use Rattle.rme_c.specs.Positions.{standing_at}
 use Rattle.rme_c.proofs.lock_arms.after_door.Goals as goal
 
 pub returns-in-Some-clause-place : goal.returns-in-Some-clause-place

@@ -1,8 +1,5 @@
 use Rattle.std.proofs.Common.{◌≡◌, ◌==◌, ◌||◌, true, refl, sym, ◌∙◌}
-use Rattle.rmecore.specs.Place.{is_before}
-use Rattle.rmecore.specs.declared.stage.Stage.TheVariants.{Wait}
-use Rattle.rmecore.proofs.MachineSteps.{wait_goes}
-use Rattle.rme_c.specs.Positions.{standing_at}
+use Rattle.rme_c.proofs.Common.{Wait, is_before, wait_goes, standing_at}
 use Rattle.rme_c.proofs.lock_arms.after_weigh.Goals as goal
 
 pub returns-then-value-eq0-clause-place : goal.returns-then-value-eq0-clause-place

@@ -1,7 +1,5 @@
 use Rattle.std.proofs.Common.{rules, ◌≡◌, ℕ, ◌+◌, ◌-◌, List, length, take, arith, length-take}
-use Rattle.redomail.specs.declared.layout.Layout.{Layout}
-use Rattle.redomail.specs.Layout.{IsLayout, held}
-use Rattle.redomail.proofs.Scripts.{step-record, step-commit, step-entry, step-last, step-count, step-disarm}
+use Rattle.rme_c.proofs.Common.{Layout, IsLayout, held, step-record, step-commit, step-entry, step-last, step-count, step-disarm}
 use Rattle.rme_c.proofs.record.put.Goals as goal
 
 wide : (l : Layout) (words : List ℕ) → IsLayout l → length words ≡ 8 → length (take l.width words) ≡ l.width

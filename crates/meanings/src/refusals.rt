@@ -71,6 +71,7 @@ fn of_call(name: &'static str, text: &'static str) -> Meaning
 }
 
 /// Why a call was refused.
+#[tactic(auto, unfolding(crate::proofs::Common::digits))]
 pub fn of_refusal(refusal: Refusal) -> Meaning
     ensures { result.name.now ≡ name_of (OfRefused refusal) }
 {

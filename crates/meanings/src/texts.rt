@@ -124,6 +124,7 @@ fn of_judge(name: &'static str, text: &'static str) -> Meaning
 }
 
 /// What is wrong with a line of a schedule or a trace.
+#[tactic(auto, unfolding(crate::proofs::Common::digits))]
 pub fn of_line_fault(fault: LineFault) -> Meaning
     ensures { result.name.now ≡ name_of (OfFault fault) }
 {
@@ -138,6 +139,7 @@ pub fn of_line_fault(fault: LineFault) -> Meaning
 }
 
 /// What a rule asks of an image.
+#[tactic(auto, unfolding(crate::proofs::Common::digits))]
 pub fn of_rule(rule: Rule) -> Meaning
     ensures { result.name.now ≡ name_of (OfRule rule) }
 {
@@ -155,6 +157,7 @@ pub fn of_rule(rule: Rule) -> Meaning
 }
 
 /// Why a judge refuses a deed.
+#[tactic(auto, unfolding(crate::proofs::Common::digits))]
 pub fn of_judge_fault(fault: Fault) -> Meaning
     ensures { result.name.now ≡ name_of (OfAgainst fault) }
 {

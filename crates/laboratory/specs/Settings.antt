@@ -1,10 +1,11 @@
 -- Why a schedule is not played: its text, its header, or the image that it begins with.
-use Rattle.std.specs.Prelude.{◌≡◌, ◌⊎◌, ◌≤◌, ℕ, List, length, Err}
+use Rattle.std.specs.Prelude.{◌≡◌, ◌⊎◌, ◌≤◌, ℕ, Bool, List, length, Option, Some, None, Err}
 use Rattle.rmecore.specs.declared.refusal.Refusal.{Refusal}
 use Rattle.rmecore.specs.Refused.{number_of}
 use Rattle.rmecore.specs.Simulated.{cause}
 use Rattle.rmeworld.specs.declared.image.Image.{Image}
-use Rattle.rmeworld.specs.ImageWiden.{IsUnwidened}
+use Rattle.rmeworld.specs.ImageText.{Spells, version_of}
+use Rattle.rmeworld.specs.ImageWiden.{IsUnwidened, IsWider}
 use Rattle.rmeworld.specs.WorldState.{new_refusal}
 use Rattle.schedule.specs.declared.fault.LineFault.{LineFault}
 use Rattle.schedule.specs.Numbers.{number_of as number_of_line}
@@ -18,6 +19,16 @@ use Rattle.laboratory.specs.Statuses.{fault_of_header}
 unfoldable pub IsWrongText : Reading → Reading → Fault → Type 0
 IsWrongText old new fault =
     (text : List ℕ) × WasRead old new text × (line : ℕ) × (why : LineFault) × (schedule_at text ≡ Err (line, why)) × (fault ≡ Text line (number_of_line why))
+
+-- the image that a text spells. A text spells no two images
+abbrev pub IsImageOf : List ℕ → Image → Type 0
+IsImageOf text image = (wide : Bool) × Spells text wide image × (image.version ≡ version_of wide)
+
+-- the image of the text that is given, or none where none is
+abbrev pub IsPicture : Option (List ℕ) → Option Image → Type 0
+IsPicture None None = Unit {0}
+IsPicture (Some text) (Some image) = IsImageOf text image
+IsPicture _ _ = ⊥
 
 -- no world has the header's sizes, or there was no memory for it
 abbrev pub IsUnmade : Scheduled → Fault → Type 0
@@ -33,6 +44,10 @@ CanFit image schedule =
 abbrev pub IsFitting : Image → Scheduled → Type 0
 IsFitting image schedule =
     (length image.lock ≡ schedule.procs) × (image.limit ≡ schedule.limit) × (image.cap ≡ schedule.cap) × (image.width ≡ schedule.width)
+
+-- the image itself where its values have this many words, or else with values of so many
+abbrev pub IsMadeFit : ℕ → Image → Image → Type 0
+IsMadeFit width image fitted = ((image.width ≡ width) × (fitted ≡ image)) ⊎ IsWider width image fitted
 
 -- the header names other sizes than the image's, or the image can't be widened
 abbrev pub IsMisfit : Image → Scheduled → Fault → Type 0

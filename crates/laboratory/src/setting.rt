@@ -1,6 +1,6 @@
 //! What a schedule is played on, and the judge that hears it.
 
-ghost use Rattle.std.specs.Prelude.{◌≡◌, ◌⊎◌, ◌≤◌, ℕ, List, [], Ok, Err, None, IfErr, IfOk, IfSome, OnOk, is_some, true};
+ghost use Rattle.std.specs.Prelude.{◌≡◌, ◌⊎◌, ◌≤◌, ℕ, List, [], Ok, Err, None, IfErr, IfOk, IfSome, OnOk, is_some, option_copied, true};
 ghost use Rattle.judge.specs.Stands.{StandsAfter};
 ghost use Rattle.judge.specs.Starts.{IsStart, state_of};
 ghost use Rattle.judge.specs.Table.{empty};
@@ -12,7 +12,7 @@ ghost use Rattle.rmeworld.specs.WorldState.{image_world as world_of_image, new_r
 ghost use Rattle.crashlab.specs.VariantWorlds.{new_world as world_of_variant};
 ghost use Rattle.schedule.specs.Schedules.{schedule_at};
 ghost use Rattle.schedule.specs.Wholes.{layout_of, reading, WasRead};
-ghost use Rattle.laboratory.specs.Settings.{CanFit, IsFitting, IsMisfit, IsUnmade, IsWrongText};
+ghost use Rattle.laboratory.specs.Settings.{CanFit, IsFitting, IsMadeFit, IsMisfit, IsPicture, IsUnmade, IsWrongText};
 ghost use Rattle.laboratory.specs.Statuses.{fault_of_header, fault_of_image, status_of};
 
 use crate::fault::Fault;
@@ -50,6 +50,7 @@ fn refused_image(refusal: Refusal) -> Fault
 pub fn image_read(alloc: Global, text: Option<&[u8]>) -> Result<Option<Image>, Fault>
     ensures lawful { IfOk result (λ image. IfSome image IsLawfulImage) }
     ensures given { IfOk result (λ image. is_some image ≡ is_some text.entry) }
+    ensures pictured { IfOk result (IsPicture (option_copied text.entry)) }
     ensures wrong { IfErr result (λ fault. (fault ≡ Fault.OutOfMemory) ⊎ ((is_some text.entry ≡ true) × ((rule : ℕ) × (fault ≡ Fault.Image rule)))) }
 {
     match text {
@@ -90,6 +91,7 @@ pub fn fitting(alloc: Global, image: Image, schedule: &Schedule) -> Result<Image
     requires lawful { IsLawfulImage image }
     ensures lawful { IfOk result IsLawfulImage }
     ensures fits { IfOk result (λ fitted. IsFitting fitted schedule.now) }
+    ensures made { IfOk result (IsMadeFit schedule.now.width image) }
     ensures misfit { (CanFit image schedule.now → ⊥) → result ≡ Err (Fault.Refused 1 9) }
     ensures unfit { IfErr result (IsMisfit image schedule.now) }
 {

@@ -90,10 +90,7 @@ Legal-agree n a b (d ∷ ds) h legal =
 
 pub after-agree : (n : ℕ) (a b : Abstract) (d : Deed) → doer d < n → Agree n a b → Agree n (lock_after a d) (lock_after b d)
 after-agree n a b (deed.Outer d) l h = done-agree n a b d l h
-after-agree n a b (deed.Commit p seq v) l h = h
-after-agree n a b (deed.Show p at seq v) l h = h
-after-agree n a b (deed.Close p) l h = h
-after-agree n a b (deed.Ruin p) l h = h
+after-agree n a b _ l h = h
 
 pub MailAllows-agree : (n cap : ℕ) (a b : Abstract) (m : Mailbox) (ds : List Deed) → Agree n a b → MailAllows n cap a m ds → MailAllows n cap b m ds
 MailAllows-agree n cap a b m [] h allowed = tt

@@ -6,7 +6,7 @@ use Rattle.rmecore.specs.Needs.{AllHold, first_fault}
 use Rattle.rmecore.specs.AbstractLock.{Abstract, Legal, doer as lock_doer, is_inside, done, nobody}
 use Rattle.rmecore.specs.declared.fault.Fault.{Fault}
 use Rattle.rmecore.specs.declared.outer.Outer.{Outer}
-use Rattle.rmecore.specs.declared.outer.Outer.TheVariants.{Begin, Ready, Enter, Crash, Reenter, Leave, Quit}
+use Rattle.rmecore.specs.declared.outer.Outer.TheVariants.{Leave}
 use Rattle.redomail.specs.Mailbox.{Mailbox, nothing_shown, row}
 use Rattle.redomail.specs.declared.deed.Deed.{Deed}
 use Rattle.redomail.specs.declared.deed.Deed.TheVariants as deed
@@ -63,13 +63,8 @@ mail_half s (d ∷ ds) ok = (ok.0.0, AllHold-right (lock_needs s d) (mail_needs 
 
 -- where nothing is pending, the mailbox allows each deed of the lock
 mail_of_outer : (cap : ℕ) (inside : Bool) (m : Mailbox) (d : Outer) → is_none m.pending ≡ true → AllHold (row cap inside m (deed.Outer d))
-mail_of_outer cap inside m (Begin p) e = tt
-mail_of_outer cap inside m (Ready p) e = tt
-mail_of_outer cap inside m (Enter p) e = tt
-mail_of_outer cap inside m (Crash p) e = tt
-mail_of_outer cap inside m (Reenter p) e = tt
 mail_of_outer cap inside m (Leave p) e = (rw e refl, tt)
-mail_of_outer cap inside m (Quit p) e = tt
+mail_of_outer cap inside m _ e = tt
 
 pub MailAllows-outers : (n cap : ℕ) (a : Abstract) (m : Mailbox) (ds : List Outer) → is_none m.pending ≡ true → Legal n a ds → MailAllows n cap a m (map deed.Outer ds)
 MailAllows-outers n cap a m [] e legal = tt

@@ -28,11 +28,8 @@ held f q x back p =
     put_cases f q p x (λ y. Holds y → Holds (f p)) (λ same h. subst (λ k. Holds (f k)) (sym same) (back h)) (λ _ h. h)
 
 holds_after_crash : (x : Phase) → Holds (crashed x) → Holds x
-holds_after_crash phase.Out h = h
-holds_after_crash phase.Door h = h
-holds_after_crash phase.Ready h = h
 holds_after_crash phase.Inside h = inl refl
-holds_after_crash phase.DeadIn h = h
+holds_after_crash _ h = h
 
 none_holds : (x : Phase) → is_inside x ≡ false → is_dead_in x ≡ false → Holds x → ⊥
 none_holds x i d (inl e) = true≢false (sym e ∙ i)
@@ -65,10 +62,7 @@ Sole-after s (deed.Outer (Leave r)) h sole =
     kept s _ (held s.lock.phase r phase.Out (λ k. absurd (none_holds phase.Out refl refl k))) sole
 Sole-after s (deed.Outer (Quit r)) h sole =
     kept s _ (held s.lock.phase r phase.Out (λ k. absurd (none_holds phase.Out refl refl k))) sole
-Sole-after s (deed.Commit r seq v) h sole = sole
-Sole-after s (deed.Show r at seq v) h sole = sole
-Sole-after s (deed.Close r) h sole = sole
-Sole-after s (deed.Ruin r) h sole = sole
+Sole-after s _ h sole = sole
 
 pub Sole-empty : (procs cap : ℕ) → Sole (empty procs cap)
 Sole-empty procs cap p q lp lq hp hq = absurd (none_holds phase.Out refl refl hp)

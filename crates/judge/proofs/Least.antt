@@ -9,12 +9,6 @@ use Rattle.rmecore.proofs.Allowing.{none_below-from}
 use Rattle.judge.specs.Kept.{Lists}
 use Rattle.judge.proofs.Steps.{none_below-at}
 
-pub least-none : (n : ℕ) (test : ℕ → Bool) → ((k : ℕ) → k < n → test k ≡ false) → least n test ≡ n
-least-none zero test none = refl
-least-none (suc n) test none =
-    let ih = least-none n (λ k. test (suc k)) (λ k h. none (suc k) (omega arith)) in
-    rw (none zero (omega arith), ih) refl
-
 pub least-at : (n : ℕ) (test : ℕ → Bool) (q : ℕ) → q < n → test q ≡ true → ((k : ℕ) → k < q → test k ≡ false) → least n test ≡ q
 least-at zero test q h e below = absurd (omega arith)
 least-at (suc n) test zero h e below = rw e refl

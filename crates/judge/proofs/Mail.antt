@@ -3,7 +3,7 @@ use Rattle.std.specs.Prelude.{◌≡◌, ℕ, zero, suc, ◌+◌, ◌<◌, true,
 use Rattle.std.proofs.Common.{sym, ◌∙◌, subst, inl, inr, arith, length-append}
 use Rattle.std.proofs.lemmas.Bool.{true≢false, false≢true, and_parts, eqb-true, not-true}
 use Rattle.std.proofs.lemmas.Slice.Eq.{bytes_eq-Decides}
-use Rattle.rmecore.specs.declared.outer.Outer.TheVariants.{Begin, Ready, Enter, Crash, Reenter, Leave, Quit}
+use Rattle.rmecore.specs.declared.outer.Outer.TheVariants.{Begin}
 use Rattle.redomail.specs.declared.deed.Deed.{Deed}
 use Rattle.redomail.specs.declared.deed.Deed.TheVariants as deed
 use Rattle.redomail.specs.declared.message.Message.{Message}
@@ -40,47 +40,24 @@ commit_numbered : (s : State) (p seq : ℕ) (v : List ℕ) → AllHold (needs s 
 commit_numbered s p seq v h = eqb-true seq (shown_of s p + 1) h.1.1.1.1.1.0
 
 MailSound-after : (s : State) (d : Deed) → AllHold (needs s d) → MailSound s → MailSound (after s d)
-MailSound-after s (deed.Outer (Begin q)) h sound = sound
-MailSound-after s (deed.Outer (Ready q)) h sound = sound
-MailSound-after s (deed.Outer (Enter q)) h sound = sound
-MailSound-after s (deed.Outer (Crash q)) h sound = sound
-MailSound-after s (deed.Outer (Reenter q)) h sound = sound
-MailSound-after s (deed.Outer (Leave q)) h sound = sound
-MailSound-after s (deed.Outer (Quit q)) h sound = sound
 MailSound-after s (deed.Commit q n w) h sound = λ p seq v e.
     let parts = message_parts q n w p seq v e in
     let P : ℕ → Type 0 = λ k. n ≡ shown_of s k + 1 in
     sym parts.1 ∙ subst P parts.0 (commit_numbered s q n w h)
 MailSound-after s (deed.Show q at n w) h sound = λ p seq v e. absurd (false≢true e)
-MailSound-after s (deed.Close q) h sound = sound
-MailSound-after s (deed.Ruin q) h sound = sound
+MailSound-after s (deed.Outer (Begin q)) h sound = sound
+MailSound-after s _ h sound = sound
 
 -- only a Show adds to what is shown
 shown_of-after : (s : State) (d : Deed) (p : ℕ) → shown_of (after s d) p ≡ shown_of s p + one_if (is_show_of p d)
-shown_of-after s (deed.Outer (Begin q)) p = omega arith
-shown_of-after s (deed.Outer (Ready q)) p = omega arith
-shown_of-after s (deed.Outer (Enter q)) p = omega arith
-shown_of-after s (deed.Outer (Crash q)) p = omega arith
-shown_of-after s (deed.Outer (Reenter q)) p = omega arith
-shown_of-after s (deed.Outer (Leave q)) p = omega arith
-shown_of-after s (deed.Outer (Quit q)) p = omega arith
-shown_of-after s (deed.Commit q n w) p = omega arith
 shown_of-after s (deed.Show q at n w) p = count_push (is_by p) s.mail.shown (message q n w)
-shown_of-after s (deed.Close q) p = omega arith
-shown_of-after s (deed.Ruin q) p = omega arith
+shown_of-after s (deed.Outer (Begin q)) p = omega arith
+shown_of-after s _ p = omega arith
 
 length-after : (s : State) (d : Deed) → length (after s d).mail.shown ≡ length s.mail.shown + one_if (is_show d)
-length-after s (deed.Outer (Begin q)) = omega arith
-length-after s (deed.Outer (Ready q)) = omega arith
-length-after s (deed.Outer (Enter q)) = omega arith
-length-after s (deed.Outer (Crash q)) = omega arith
-length-after s (deed.Outer (Reenter q)) = omega arith
-length-after s (deed.Outer (Leave q)) = omega arith
-length-after s (deed.Outer (Quit q)) = omega arith
-length-after s (deed.Commit q n w) = omega arith
 length-after s (deed.Show q at n w) = omega (arith, length-append s.mail.shown (message q n w ∷ []))
-length-after s (deed.Close q) = omega arith
-length-after s (deed.Ruin q) = omega arith
+length-after s (deed.Outer (Begin q)) = omega arith
+length-after s _ = omega arith
 
 -- what a Show needed
 shows : (s : State) (d : Deed) (p at seq : ℕ) (v : List ℕ) → AllHold (needs s d) → d ≡ deed.Show p at seq v → AllHold (needs s (deed.Show p at seq v))
@@ -105,20 +82,13 @@ placed s (d ∷ ds) ok p (suc i) at seq v here =
 
 -- what is pending after a deed was pending before it, or is what it commits
 pending_since : (s : State) (d : Deed) (p seq : ℕ) (v : List ℕ) → is_pending (after s d).mail.pending p seq v ≡ true → (is_pending s.mail.pending p seq v ≡ true) ⊎ (d ≡ deed.Commit p seq v)
-pending_since s (deed.Outer (Begin q)) p seq v e = inl e
-pending_since s (deed.Outer (Ready q)) p seq v e = inl e
-pending_since s (deed.Outer (Enter q)) p seq v e = inl e
-pending_since s (deed.Outer (Crash q)) p seq v e = inl e
-pending_since s (deed.Outer (Reenter q)) p seq v e = inl e
-pending_since s (deed.Outer (Leave q)) p seq v e = inl e
-pending_since s (deed.Outer (Quit q)) p seq v e = inl e
 pending_since s (deed.Commit q n w) p seq v e =
     let parts = message_parts q n w p seq v e in
     let a = parts.0 in let b = parts.1 in let c = parts.2 in
     inr cc
 pending_since s (deed.Show q at n w) p seq v e = absurd (false≢true e)
-pending_since s (deed.Close q) p seq v e = inl e
-pending_since s (deed.Ruin q) p seq v e = inl e
+pending_since s (deed.Outer (Begin q)) p seq v e = inl e
+pending_since s _ p seq v e = inl e
 
 -- Seen from a state, what is shown was pending there or is committed since.
 pub committed : (s : State) (ds : List Deed) → Allowed s ds → (p i at seq : ℕ) (v : List ℕ) → Stands ds i (deed.Show p at seq v) → (is_pending s.mail.pending p seq v ≡ true) ⊎ StandsBefore ds i (deed.Commit p seq v)
@@ -152,17 +122,11 @@ closes s d q h e =
     subst P (sym e) (λ g. (refl, g.1.1.0)) h
 
 Quiet-after : (s : State) (d : Deed) → AllHold (needs s d) → Quiet s → Quiet (after s d)
-Quiet-after s (deed.Outer (Begin q)) h quiet = quiet
-Quiet-after s (deed.Outer (Ready q)) h quiet = quiet
-Quiet-after s (deed.Outer (Enter q)) h quiet = quiet
-Quiet-after s (deed.Outer (Crash q)) h quiet = quiet
-Quiet-after s (deed.Outer (Reenter q)) h quiet = quiet
-Quiet-after s (deed.Outer (Leave q)) h quiet = quiet
-Quiet-after s (deed.Outer (Quit q)) h quiet = quiet
 Quiet-after s (deed.Commit q n w) h quiet = absurd (no_commit_now s q n w h quiet)
 Quiet-after s (deed.Show q at n w) h quiet = (quiet.0, refl)
 Quiet-after s (deed.Close q) h quiet = (refl, quiet.1)
-Quiet-after s (deed.Ruin q) h quiet = quiet
+Quiet-after s (deed.Outer (Begin q)) h quiet = quiet
+Quiet-after s _ h quiet = quiet
 
 -- neither stands later than a Close
 pub none_after : (s : State) (ds : List Deed) → Quiet s → Allowed s ds → (p j at seq : ℕ) (v : List ℕ) → (Stands ds j (deed.Commit p seq v) → ⊥) × (Stands ds j (deed.Show p at seq v) → ⊥)

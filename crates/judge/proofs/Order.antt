@@ -1,7 +1,7 @@
 -- First come, first served: who is ready when another begins enters or quits before that one enters.
 use Rattle.std.specs.Prelude.{◌≡◌, ℕ, zero, suc, ◌<◌, true, false, List, [], ◌∷◌}
 use Rattle.std.proofs.Common.{sym, ◌∙◌, ap, subst, inl, inr, arith}
-use Rattle.rmecore.specs.declared.outer.Outer.TheVariants.{Begin, Ready, Enter, Crash, Reenter, Leave, Quit}
+use Rattle.rmecore.specs.declared.outer.Outer.TheVariants.{Begin, Enter, Quit}
 use Rattle.redomail.specs.declared.deed.Deed.{Deed}
 use Rattle.redomail.specs.declared.deed.Deed.TheVariants as deed
 use Rattle.rmecore.specs.declared.phase.Phase.TheVariants as phase
@@ -32,18 +32,11 @@ first d ds p e here = record { place = 0; before = omega arith; gone = here; sam
 ahead_stays : (s : State) (d : Deed) (p q : ℕ) → s.lock.phase p ≡ phase.Ready → s.lock.ahead q p ≡ true → (IsGoneOf p d → ⊥) → (after s d).lock.ahead q p ≡ true
 ahead_stays s (deed.Outer (Begin r)) p q e a other =
     put_cases s.lock.ahead r q (λ k. is_ready (s.lock.phase k)) (λ f. f p ≡ true) (λ _. ap is_ready e) (λ _. a)
-ahead_stays s (deed.Outer (Ready r)) p q e a other = a
 ahead_stays s (deed.Outer (Enter r)) p q e a other =
     put_cases (s.lock.ahead q) r p false (λ b. b ≡ true) (λ same. absurd (other (inl (ap (λ k. deed.Outer (Enter k)) (sym same))))) (λ _. a)
-ahead_stays s (deed.Outer (Crash r)) p q e a other = a
-ahead_stays s (deed.Outer (Reenter r)) p q e a other = a
-ahead_stays s (deed.Outer (Leave r)) p q e a other = a
 ahead_stays s (deed.Outer (Quit r)) p q e a other =
     put_cases (s.lock.ahead q) r p false (λ b. b ≡ true) (λ same. absurd (other (inr (ap (λ k. deed.Outer (Quit k)) (sym same))))) (λ _. a)
-ahead_stays s (deed.Commit r seq v) p q e a other = a
-ahead_stays s (deed.Show r at seq v) p q e a other = a
-ahead_stays s (deed.Close r) p q e a other = a
-ahead_stays s (deed.Ruin r) p q e a other = a
+ahead_stays s _ p q e a other = a
 
 -- p is ready and q waits for it: p is gone before q enters
 pub gone_ahead : (s : State) (p q : ℕ) (ds : List Deed) (e : ℕ) → p < s.procs → s.lock.phase p ≡ phase.Ready → s.lock.ahead q p ≡ true → Allowed s ds → Stands ds e (deed.Outer (Enter q)) → GoneBefore ds p e

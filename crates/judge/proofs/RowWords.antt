@@ -23,10 +23,6 @@ mod-row_word row (suc n) f h =
     ap-sum : {a b c d : ℕ} → a ≡ b → c ≡ d → a * 2 ^ n + c ≡ b * 2 ^ n + d
     ap-sum x y = λ i. x i * 2 ^ n + y i
 
-pub bit-lt : (b : Bool) → (if b then 1 else 0) < 2
-bit-lt true = omega arith
-bit-lt false = omega arith
-
 pub bit-mod : (b : Bool) → (if b then 1 else 0) % 2 ≡ (if b then 1 else 0)
 bit-mod true = omega arith
 bit-mod false = omega arith

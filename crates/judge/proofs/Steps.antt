@@ -1,5 +1,5 @@
 -- One step of the judge: what an allowed deed needed, and which places it keeps.
-use Rattle.std.specs.Prelude.{◌≡◌, ℕ, zero, suc, ◌<◌, ◌≤◌, Bool, true, false, ◌||◌, ◌==◌, cond, List, [], ◌∷◌, Option, Some, None, Result, Ok, refl, ◌⊎◌}
+use Rattle.std.specs.Prelude.{◌≡◌, ℕ, ◌<◌, Bool, true, false, ◌||◌, ◌==◌, cond, List, [], ◌∷◌, Option, Some, None, Result, Ok, refl, ◌⊎◌}
 use Rattle.std.proofs.Common.{sym, ◌∙◌, ap, subst, inl, inr, arith}
 use Rattle.std.proofs.lemmas.Bool.{cases_eq, true≢false, eqb-true, eqb-false, cond_both, ltb-true}
 use Rattle.rmecore.specs.declared.outer.Outer.TheVariants.{Begin, Ready, Enter, Crash, Reenter, Leave, Quit}
@@ -14,6 +14,7 @@ use Rattle.rmecore.specs.Needs.{put, least, none_below, first_fault, AllHold}
 use Rattle.redomail.specs.Mailbox.{doer}
 use Rattle.judge.specs.Legal.{and_then, judged_all, Leads}
 use Rattle.judge.specs.Plain.{IsEntryOf, IsExitOf, IsEndOf, IsGoneOf}
+use Rattle.rmecore.proofs.Allowing.{least-le}
 
 -- each of these deeds is allowed
 abbrev pub Allowed : State → List Deed → Type 0
@@ -44,14 +45,6 @@ pub put_cases : {A : Type 0} (f : ℕ → A) (p q : ℕ) (x : A) (P : A → Type
 put_cases f p q x P here other =
     cond_both (q == p) x (f q) P (λ e. here (eqb-true q p e)) (λ e. other (eqb-false q p e))
 
--- the least number is no more than any that has the test
-pub least-le : (n : ℕ) (test : ℕ → Bool) (k : ℕ) → k < n → test k ≡ true → least n test ≤ k
-least-le zero test k h e = absurd (omega arith)
-least-le (suc n) test zero h e = rw e (omega arith)
-least-le (suc n) test (suc k) h e =
-    let ih = least-le n (λ j. test (suc j)) k (omega arith) e in
-    cond_both (test zero) 0 (suc (least n (λ j. test (suc j)))) (λ x. x ≤ suc k) (λ _. omega arith) (λ _. omega arith)
-
 pub none_below-at : (n : ℕ) (test : ℕ → Bool) (k : ℕ) → none_below n test ≡ true → k < n → test k ≡ true → ⊥
 none_below-at n test k none h e =
     let below = least-le n test k h e in
@@ -60,16 +53,7 @@ none_below-at n test k none h e =
 
 pub procs-after : (s : State) (d : Deed) → (after s d).procs ≡ s.procs
 procs-after s (deed.Outer (Begin p)) = refl
-procs-after s (deed.Outer (Ready p)) = refl
-procs-after s (deed.Outer (Enter p)) = refl
-procs-after s (deed.Outer (Crash p)) = refl
-procs-after s (deed.Outer (Reenter p)) = refl
-procs-after s (deed.Outer (Leave p)) = refl
-procs-after s (deed.Outer (Quit p)) = refl
-procs-after s (deed.Commit p seq v) = refl
-procs-after s (deed.Show p at seq v) = refl
-procs-after s (deed.Close p) = refl
-procs-after s (deed.Ruin p) = refl
+procs-after s _ = refl
 
 pub doer_below : (s : State) (d : Deed) → AllHold (needs s d) → doer d < s.procs
 doer_below s d h = ltb-true (doer d) s.procs h.0
@@ -102,10 +86,7 @@ inside_stays s (deed.Outer (Reenter q)) p h e not_it = stays s.lock.phase q p _ 
 inside_stays s (deed.Outer (Leave q)) p h e not_it =
     stays_at s.lock.phase q p _ _ e (λ same. absurd (not_it (inl (ap (λ k. deed.Outer (Leave k)) (sym same)))))
 inside_stays s (deed.Outer (Quit q)) p h e not_it = stays s.lock.phase q p _ _ is_trying e h.1.0 refl
-inside_stays s (deed.Commit q seq v) p h e not_it = e
-inside_stays s (deed.Show q at seq v) p h e not_it = e
-inside_stays s (deed.Close q) p h e not_it = e
-inside_stays s (deed.Ruin q) p h e not_it = e
+inside_stays s _ p h e not_it = e
 
 -- Who died inside stays dead there until it enters again.
 pub dead_stays : (s : State) (d : Deed) (p : ℕ) → AllHold (needs s d) → s.lock.phase p ≡ phase.DeadIn → (IsEntryOf p d → ⊥) → (after s d).lock.phase p ≡ phase.DeadIn
@@ -118,10 +99,7 @@ dead_stays s (deed.Outer (Reenter q)) p h e not_it =
     stays_at s.lock.phase q p _ _ e (λ same. absurd (not_it (inr (ap (λ k. deed.Outer (Reenter k)) (sym same)))))
 dead_stays s (deed.Outer (Leave q)) p h e not_it = stays s.lock.phase q p _ _ is_inside e h.1.0 refl
 dead_stays s (deed.Outer (Quit q)) p h e not_it = stays s.lock.phase q p _ _ is_trying e h.1.0 refl
-dead_stays s (deed.Commit q seq v) p h e not_it = e
-dead_stays s (deed.Show q at seq v) p h e not_it = e
-dead_stays s (deed.Close q) p h e not_it = e
-dead_stays s (deed.Ruin q) p h e not_it = e
+dead_stays s _ p h e not_it = e
 
 -- Who is ready stays so until it enters or quits.
 pub ready_stays : (s : State) (d : Deed) (p : ℕ) → AllHold (needs s d) → s.lock.phase p ≡ phase.Ready → (IsGoneOf p d → ⊥) → (after s d).lock.phase p ≡ phase.Ready
@@ -135,10 +113,7 @@ ready_stays s (deed.Outer (Reenter q)) p h e not_it = stays s.lock.phase q p _ _
 ready_stays s (deed.Outer (Leave q)) p h e not_it = stays s.lock.phase q p _ _ is_inside e h.1.0 refl
 ready_stays s (deed.Outer (Quit q)) p h e not_it =
     stays_at s.lock.phase q p _ _ e (λ same. absurd (not_it (inr (ap (λ k. deed.Outer (Quit k)) (sym same)))))
-ready_stays s (deed.Commit q seq v) p h e not_it = e
-ready_stays s (deed.Show q at seq v) p h e not_it = e
-ready_stays s (deed.Close q) p h e not_it = e
-ready_stays s (deed.Ruin q) p h e not_it = e
+ready_stays s _ p h e not_it = e
 
 -- which process it is decides which deed it is
 same_or_not : (make : ℕ → Deed) → ((p q : ℕ) → make q ≡ make p → q ≡ p) → (p q : ℕ) → (make q ≡ make p) ⊎ (make q ≡ make p → ⊥)
@@ -170,15 +145,7 @@ is_gone p (deed.Outer (Quit q)) =
       | inl same ↦ inl (inr same)
       | inr other ↦ inr (neither _ _ _ (λ e. cc) other)
     ]
-is_gone p (deed.Outer (Begin q)) = inr (neither _ _ _ (λ e. cc) (λ e. cc))
-is_gone p (deed.Outer (Ready q)) = inr (neither _ _ _ (λ e. cc) (λ e. cc))
-is_gone p (deed.Outer (Crash q)) = inr (neither _ _ _ (λ e. cc) (λ e. cc))
-is_gone p (deed.Outer (Reenter q)) = inr (neither _ _ _ (λ e. cc) (λ e. cc))
-is_gone p (deed.Outer (Leave q)) = inr (neither _ _ _ (λ e. cc) (λ e. cc))
-is_gone p (deed.Commit q seq v) = inr (neither _ _ _ (λ e. cc) (λ e. cc))
-is_gone p (deed.Show q at seq v) = inr (neither _ _ _ (λ e. cc) (λ e. cc))
-is_gone p (deed.Close q) = inr (neither _ _ _ (λ e. cc) (λ e. cc))
-is_gone p (deed.Ruin q) = inr (neither _ _ _ (λ e. cc) (λ e. cc))
+is_gone p _ = inr (neither _ _ _ (λ e. cc) (λ e. cc))
 
 -- who is ready can't leave, and its quit is its end
 pub is_end_while_ready : (s : State) (d : Deed) (p : ℕ) → AllHold (needs s d) → s.lock.phase p ≡ phase.Ready → (IsGoneOf p d → ⊥) → IsEndOf p d → ⊥

@@ -6,6 +6,3 @@ use Rattle.plans.specs.Plans.{so_many_more}
 pub so_many_is : (k c : ℕ) → c ≤ 2 ^ 64 - 1 → so_many_more k c ≡ min (c + k) (2 ^ 64 - 1)
 so_many_is zero c h = omega arith
 so_many_is (suc k) c h = ap one_more (so_many_is k c h) ∙ (let e : one_more (min (c + k) (2 ^ 64 - 1)) ≡ min (c + suc k) (2 ^ 64 - 1) = omega arith in e)
-
-pub so_many_next : (k c : ℕ) → so_many_more (k + 1) c ≡ one_more (so_many_more k c)
-so_many_next k c = ap (λ (n : ℕ). so_many_more n c) (let e : k + 1 ≡ suc k = omega arith in e)

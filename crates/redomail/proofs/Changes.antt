@@ -14,6 +14,7 @@ use Rattle.redomail.specs.Shape.{entry, entries, count_of}
 use Rattle.std.proofs.lemmas.Slice.Eq.{bytes_eq-Decides}
 use Rattle.redomail.proofs.Words.{put-other, put-same, place_low, row-alike, entry-alike, entries-alike, IsNumbered-alike, ListRule-alike}
 use Rattle.redomail.proofs.Modes.{Base, Idle, Armed, Half, Whole}
+use Rattle.redomail.specs.Shape.{bit}
 
 pub length-entries : (l : Layout) (w : Words) (k : ℕ) → length (entries l w k) ≡ k
 length-entries l w zero = refl
@@ -26,13 +27,13 @@ entries-more l w k = rw (add-one k) refl
 pub count_of-push : (q : ℕ) (ms : List Message) (m : Message) → count_of q (ms ++ m ∷ []) ≡ count_of q ms + cond (m.sender == q) 1 0
 count_of-push q ms m = let e = sum_by-append (λ y. cond (is_by q y) 1 0) ms (m ∷ []) in omega (arith, e)
 
-Base-put : (l : Layout) (p : ℕ) (w : Words) (s : Mailbox) (i v : ℕ) → 1 < i → Base l p w s → Base l p (put w i v) s
-Base-put l p w s i v h b = record {
+Base-put : (l : Layout) (p : ℕ) (w : Words) (s t : Mailbox) (i v : ℕ) → 1 < i → t.ruined ≡ s.ruined → t.closed ≡ s.closed → Base l p w s → Base l p (put w i v) t
+Base-put l p w s t i v h ruined closed b = record {
   layout = b.layout;
   process = b.process;
-  unruined = b.unruined;
+  unruined = ruined ∙ b.unruined;
   sound = put-other w i v 0 (λ e. omega arith) ∙ b.sound;
-  closed = put-other w i v 1 (λ e. omega arith) ∙ b.closed;
+  closed = put-other w i v 1 (λ e. omega arith) ∙ b.closed ∙ ap bit (sym closed);
 }
 
 -- Idle, and a put of a record word
@@ -41,7 +42,7 @@ Idle-put l p w s i v a b h =
     let alike : (j : ℕ) → 10 + l.width ≤ j → j < place_at l (w 2) → put w i v j ≡ w j = λ j x y. put-other w i v j (λ e. omega arith) in
     let two = put-other w i v 2 (λ e. omega arith) in
     record {
-      base = Base-put l p w s i v (omega arith) h.base;
+      base = Base-put l p w s s i v (omega arith) refl refl h.base;
       disarmed = put-other w i v 3 (λ e. omega arith) ∙ h.disarmed;
       room = omega (arith, two, h.room);
       shown = rw (two, entries-alike l (put w i v) w (w 2) (λ j x y. alike j (omega arith) y)) h.shown;
@@ -51,7 +52,7 @@ Idle-put l p w s i v a b h =
 
 Armed-put : (l : Layout) (p : ℕ) (w : Words) (s : Mailbox) (r : Record) (i v : ℕ) → 9 + l.width < i → Armed l p w s r → Armed l p (put w i v) s r
 Armed-put l p w s r i v a h = record {
-  base = Base-put l p w s i v (omega arith) h.base;
+  base = Base-put l p w s s i v (omega arith) refl refl h.base;
   open_yet = h.open_yet;
   wide = h.wide;
   room = h.room;
@@ -127,13 +128,7 @@ Whole-from_half l p w s r whole last h =
     let number : r.seq ≡ v (place_at l r.at + 1) = sym (ap (λ x. x.seq) en) in
     record {
       armed = record {
-        base = record {
-          layout = b.layout;
-          process = b.process;
-          unruined = b.unruined;
-          sound = b.sound;
-          closed = b.closed;
-        };
+        base = Base-put l p w s (done s (deed.Show p r.at r.seq r.value)) 2 (r.at + 1) (omega arith) refl refl b;
         open_yet = h.armed.open_yet;
         armed = h.armed.armed;
         at = h.armed.at;
@@ -168,7 +163,7 @@ Idle-from_whole l p w s r h =
     let two : v 2 ≡ r.at + 1 = h.count in
     let alike : (j : ℕ) → 10 + l.width ≤ j → v j ≡ w j = λ j x. put-other w 3 0 j (λ e. omega arith) in
     record {
-      base = Base-put l p w s 3 0 (omega arith) b;
+      base = Base-put l p w s s 3 0 (omega arith) refl refl b;
       disarmed = refl;
       room = omega (arith, two, h.armed.room);
       shown = rw (h.count, entries-alike l v w (r.at + 1) (λ j x y. alike j (omega arith))) h.shown;
@@ -217,13 +212,7 @@ Half-from_ready l p w s r at seq value h =
     let number : r.seq ≡ count_of p (entries l w (w 2)) + 1 = h.next ∙ ap (λ x. x + 1) (h.idle.listed.counted p b.process) in
     record {
       armed = record {
-        base = record {
-          layout = b.layout;
-          process = b.process;
-          unruined = b.unruined;
-          sound = b.sound;
-          closed = b.closed;
-        };
+        base = Base-put l p w s (done s (deed.Commit p r.seq r.value)) 3 1 (omega arith) refl refl b;
         open_yet = h.open_yet;
         armed = refl;
         at = at;

@@ -112,19 +112,11 @@ module _ (l : Layout) (lawful : IsLayout l) where
         | inr e ↦ rw e (fits_ended a)
       ]
   fits_after stage.AskOpen word h = fits_if (word == 1) _ _ (fits_ended _) (fits stage.PutClosed refl refl refl refl refl)
-  fits_after stage.PutClosed word h = fits_ended _
-  fits_after (stage.GetBoard i) word h = fits_ended _
-  fits_after (stage.PutBoard i v) word h = fits_ended _
-  fits_after stage.PutRuined word h = fits_ended _
-  fits_after stage.AskRuined word h = fits_ended _
-  fits_after (stage.Ended a) word h = fits_ended a
+  fits_after _ word h = fits_ended _
 
   pub left_after : (p : ℕ) (x : Stage) (word : ℕ) → FitsStage l x → left_at l p (stage_after l x word) ≡ tail (left_at l p x) word
-  left_after p (stage.AskClosed seq value) word h = refl
-  left_after p (stage.AskCount seq value closed) word h = refl
   left_after p (stage.AskLast seq value closed count) word h = left_decided p seq value closed count word
   left_after p stage.AskArmed word h = elim (cases_Bool (word == 0)) [ inl e ↦ rw e refl | inr e ↦ rw e refl ]
-  left_after p stage.AskAt word h = refl
   left_after p (stage.AskSeq at) word h = let whole : l.width - 0 ≡ l.width = omega arith in rw whole refl
   left_after p (stage.AskValue at seq words read) word h = left_read p at seq words read word h.buffer h.read
   left_after p (stage.Write r step a) word h =
@@ -135,9 +127,4 @@ module _ (l : Layout) (lawful : IsLayout l) where
         | inr e ↦ let past : 8 + 2 * l.width ≤ step + 1 = ltb-false _ _ e in rw e (sym (store-end l p r (Done a) word step (omega (arith, wide, within, past))))
       ]
   left_after p stage.AskOpen word h = elim (cases_Bool (word == 1)) [ inl e ↦ rw e refl | inr e ↦ rw e refl ]
-  left_after p stage.PutClosed word h = refl
-  left_after p (stage.GetBoard i) word h = refl
-  left_after p (stage.PutBoard i v) word h = refl
-  left_after p stage.PutRuined word h = refl
-  left_after p stage.AskRuined word h = refl
-  left_after p (stage.Ended a) word h = refl
+  left_after p _ word h = refl

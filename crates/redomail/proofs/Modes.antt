@@ -7,6 +7,7 @@ use Rattle.redomail.specs.declared.layout.Layout.{Layout}
 use Rattle.redomail.specs.declared.record.Record.{Record}
 use Rattle.redomail.specs.Layout.{Words, row, last_at, IsLayout}
 use Rattle.redomail.specs.Shape.{entry, entries, count_of, IsNumbered, ListRule, recorded, Unshown, Shown, RecordRule, bit, Shape}
+use Rattle.redomail.specs.Shape.{pending_in}
 
 -- what every mode has
 pub record Base (l : Layout) (p : ℕ) (w : Words) (s : Mailbox) : Type 0 where
@@ -77,62 +78,44 @@ Shape-from_idle l p w s h = record {
   pending = λ _. rw h.disarmed h.pending;
 }
 
+-- an armed record with its rule, and what is shown
+Shape-from_armed : (l : Layout) (p : ℕ) (w : Words) (s : Mailbox) (r : Record) → Armed l p w s r → w 2 ≤ l.cap → s.shown ≡ entries l w (w 2) → Unshown l p w ⊎ Shown l p w → s.pending ≡ pending_in l p w → Shape l p w s
+Shape-from_armed l p w s r h room shown rule pending = record {
+  ruined = h.base.sound ∙ sym (bit_of_unruined s h.base.unruined);
+  closed = h.base.closed;
+  armed = inr h.armed;
+  apart = λ a b. let c : w 1 ≡ 0 = h.base.closed ∙ (rw h.open_yet refl) in absurd (omega arith);
+  room = room;
+  shown = shown;
+  listed = λ a. absurd (omega (arith, h.armed));
+  record_rule = λ _. (p, h.base.process, record { room = omega (arith, h.at, h.room); rule = rule }, λ _. refl);
+  pending = λ _. pending;
+}
+
 pub Shape-from_half : (l : Layout) (p : ℕ) (w : Words) (s : Mailbox) (r : Record) → Half l p w s r → Shape l p w s
 Shape-from_half l p w s r h =
     let same : w 2 ≡ w 4 = h.count ∙ sym h.armed.at in
     let message_same : message p r.seq r.value ≡ recorded l p w = rw (h.armed.seq, h.armed.value) refl in
-    record {
-      ruined = h.armed.base.sound ∙ sym (bit_of_unruined s h.armed.base.unruined);
-      closed = h.armed.base.closed;
-      armed = inr h.armed.armed;
-      apart = λ a b. let c : w 1 ≡ 0 = h.armed.base.closed ∙ (rw h.armed.open_yet refl) in absurd (omega arith);
-      room = omega (arith, h.count, h.armed.room);
-      shown = rw h.count h.shown;
-      listed = λ a. absurd (omega (arith, h.armed.armed));
-      record_rule = λ _. (
-        p,
-        h.armed.base.process,
-        record {
-          room = omega (arith, h.armed.at, h.armed.room);
-          rule = inl record {
-            count = same;
-            numbered = rw h.count h.numbered;
-            others = rw h.count h.others;
-            next = rw (h.count, h.armed.seq) h.next;
-            last = rw (h.armed.at, h.armed.seq, h.armed.value) h.last;
-          };
-        },
-        λ _. refl,
-      );
-      pending = λ _. h.pending ∙ (rw (h.armed.armed, eq-eqb (w 2) (w 4) same) (ap Some message_same));
-    }
+    Shape-from_armed l p w s r h.armed (omega (arith, h.count, h.armed.room)) (rw h.count h.shown)
+    (inl record {
+      count = same;
+      numbered = rw h.count h.numbered;
+      others = rw h.count h.others;
+      next = rw (h.count, h.armed.seq) h.next;
+      last = rw (h.armed.at, h.armed.seq, h.armed.value) h.last;
+    })
+    (h.pending ∙ (rw (h.armed.armed, eq-eqb (w 2) (w 4) same) (ap Some message_same)))
 
 pub Shape-from_whole : (l : Layout) (p : ℕ) (w : Words) (s : Mailbox) (r : Record) → Whole l p w s r → Shape l p w s
 Shape-from_whole l p w s r h =
     let same : w 2 ≡ w 4 + 1 = h.count ∙ ap (λ x. x + 1) (sym h.armed.at) in
-    record {
-      ruined = h.armed.base.sound ∙ sym (bit_of_unruined s h.armed.base.unruined);
-      closed = h.armed.base.closed;
-      armed = inr h.armed.armed;
-      apart = λ a b. let c : w 1 ≡ 0 = h.armed.base.closed ∙ (rw h.armed.open_yet refl) in absurd (omega arith);
-      room = omega (arith, h.count, h.armed.room);
-      shown = rw h.count h.shown;
-      listed = λ a. absurd (omega (arith, h.armed.armed));
-      record_rule = λ _. (
-        p,
-        h.armed.base.process,
-        record {
-          room = omega (arith, h.armed.at, h.armed.room);
-          rule = inr record {
-            count = same;
-            listed = rw h.count h.listed;
-            entry = rw (h.armed.at, h.armed.seq, h.armed.value) h.entry;
-          };
-        },
-        λ _. refl,
-      );
-      pending = λ _. h.pending ∙ (rw (h.armed.armed, ne_eqb (w 2) (w 4) (λ e. omega arith)) refl);
-    }
+    Shape-from_armed l p w s r h.armed (omega (arith, h.count, h.armed.room)) (rw h.count h.shown)
+    (inr record {
+      count = same;
+      listed = rw h.count h.listed;
+      entry = rw (h.armed.at, h.armed.seq, h.armed.value) h.entry;
+    })
+    (h.pending ∙ (rw (h.armed.armed, ne_eqb (w 2) (w 4) (λ e. omega arith)) refl))
 
 -- From the shape to the modes, for a process that is inside a lock that isn't ruined.
 

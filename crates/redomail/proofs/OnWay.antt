@@ -30,8 +30,7 @@ pub record IsReached (e : Script Reply) (xs : List ℕ) (f : Script Reply) (ys :
 
 outcome-step : (f : Script Reply) (ys : List ℕ) → outcome (step_over f ys).0 (step_over f ys).1 ≡ outcome f ys
 outcome-step (Get i next) ys = refl
-outcome-step (Put i v rest) ys = refl
-outcome-step (Done a) ys = refl
+outcome-step _ ys = refl
 
 reached_step : (e : Script Reply) (xs : List ℕ) (f : Script Reply) (ys : List ℕ) → IsReached e xs f ys → IsReached e xs (step_over f ys).0 (step_over f ys).1
 reached_step e xs f ys h = record {

@@ -7,20 +7,19 @@ use Rattle.rmecore.specs.Needs.{put}
 use Rattle.redomail.specs.declared.reply.Reply.{Reply}
 use Rattle.redomail.specs.declared.layout.Layout.{Layout}
 use Rattle.redomail.specs.Layout.{Words, row, held, size, IsLayout}
-use Rattle.redomail.specs.Script.{Script, Get, Put, Done, puts, in_row}
+use Rattle.redomail.specs.Script.{Script, Get, Put, puts, in_row}
 use Rattle.redomail.specs.Safe.{Seen, Safe}
 use Rattle.redomail.proofs.Leading.{no_deed}
 use Rattle.redomail.proofs.Scripts.{held-small}
 use Rattle.redomail.proofs.Words.{put-other, put-same, put-nothing, place_small, deeds_of_put-none}
 
-size_small : (l : Layout) → IsLayout l → size l ≤ 900000
+pub size_small : (l : Layout) → IsLayout l → size l ≤ 900000
 size_small l h = place_small l l.cap h h.small
 
 module _ (l : Layout) (p : ℕ) (m : Message) (s0 : Mailbox) where
   pub seen : (e : Script Reply) (w : Words) (s : Mailbox) → Safe l p m s0 e w s → Seen l p m s0 w s
   seen (Get i next) w s h = h.0
-  seen (Put i v rest) w s h = h.0
-  seen (Done a) w s h = h.0
+  seen _ w s h = h.0
 
   -- a put that is no deed
   pub quiet : (i v : ℕ) (e : Script Reply) (w : Words) (s : Mailbox) → 3 < i → i < size l → Seen l p m s0 w s → Safe l p m s0 e (put w i v) s → Safe l p m s0 (Put i v e) w s

@@ -6,7 +6,7 @@ use Rattle.std.proofs.Math.Seq.{get_or-append_seam}
 use Rattle.std.proofs.lemmas.Bool.{cases_eq}
 use Rattle.std.proofs.lemmas.List.{append-nil}
 use Rattle.redomail.specs.declared.deed.Deed.{Deed}
-use Rattle.redomail.specs.declared.deed.Deed.TheVariants.{Outer, Commit, Show, Close, Ruin}
+use Rattle.redomail.specs.declared.deed.Deed.TheVariants.{Show}
 use Rattle.redomail.specs.declared.layout.Layout.{Layout}
 use Rattle.redomail.specs.declared.message.Message.{Message}
 use Rattle.redomail.specs.Mailbox.{Mailbox, message, done}
@@ -19,11 +19,8 @@ abbrev Grown : Mailbox → Mailbox → Type 0
 Grown s t = (more : List Message) × (t.shown ≡ s.shown ++ more)
 
 one_grows : (s : Mailbox) (d : Deed) → Grown s (done s d)
-one_grows s (Outer d) = ([], sym (append-nil s.shown))
-one_grows s (Commit p seq v) = ([], sym (append-nil s.shown))
 one_grows s (Show p at seq v) = (message p seq v ∷ [], refl)
-one_grows s (Close p) = ([], sym (append-nil s.shown))
-one_grows s (Ruin p) = ([], sym (append-nil s.shown))
+one_grows s _ = ([], sym (append-nil s.shown))
 
 pub shown_grows : ShownGrows
 shown_grows cap s t [] h = ([], sym (append-nil s.shown ∙ ap (λ x. x.shown) h))

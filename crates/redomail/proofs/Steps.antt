@@ -82,10 +82,7 @@ steps_told l p task.Repair w fits =
     let a = answer-gets 6 l.width [] (redo l p (w 4) (w 5)) w (reply.Mended true) (λ xs. answer-puts (apply_steps l p (record_of (w 4) (w 5) xs)) (reply.Mended true) w) in
     let e : suc (suc (suc (steps (gets 6 l.width [] (redo l p (w 4) (w 5))) w))) ≡ 8 + 2 * l.width = omega arith in
     e ∙ ap (steps_of l task.Repair) (sym a))
-steps_told l p (task.BoardGet i) w fits = refl
-steps_told l p (task.BoardPut i v) w fits = refl
-steps_told l p task.Ruin w fits = refl
-steps_told l p task.Check w fits = refl
+steps_told l p _ w fits = refl
 
 -- a repair's steps and its reply
 repair_told : (l : Layout) (p : ℕ) (w : Words) → (suc (steps (repair l p) w) ≡ consistent_steps l (answer (repair l p) w)) × (answer (repair l p) w ≡ reply.Mended (not (w 3 == 0)))

@@ -8,7 +8,7 @@ use Rattle.rmecore.proofs.Scans.{Lined, lined_above, has-first}
 use Rattle.rmecore.specs.declared.access.Access.TheVariants.{Store}
 use Rattle.rmecore.specs.declared.kind.Kind.TheVariants.{Take as Takes, Shut as Shuts}
 use Rattle.rmecore.specs.declared.stage.Stage.{Stage}
-use Rattle.rmecore.specs.declared.stage.Stage.TheVariants.{Rest as AtRest, Dead as AtDead, ReadingChoosing, ReadingNumber, ReadingInside, Opening as AtOpening, Door as AtDoor, Shutting as AtShutting, Wait as AtWait, Inside as AtInside, Leaving as AtLeaving, Withdrawing as AtWithdrawing, Unmarking as AtUnmarking}
+use Rattle.rmecore.specs.declared.stage.Stage.TheVariants.{Door as AtDoor, Wait as AtWait}
 use Rattle.rmecore.specs.declared.word.Word.{Word}
 use Rattle.rmecore.specs.declared.word.Word.TheVariants.{Choosing as ChoosingOf, Number as NumberOf, Inside as InsideOf}
 
@@ -31,17 +31,7 @@ pub orderly : (n p : ℕ) (s : Stage) → Orderly n (place_of n p s)
 orderly n p (AtDoor i m) = lined_above n p i
 orderly n p (AtWait k i false) = lined_above n p i
 orderly n p (AtWait k i true) = orderly_wait n p k i (first (above n p i)) refl
-orderly n p AtRest = tt
-orderly n p AtDead = tt
-orderly n p (ReadingChoosing call) = tt
-orderly n p (ReadingNumber call c) = tt
-orderly n p (ReadingInside call c k) = tt
-orderly n p AtOpening = tt
-orderly n p (AtShutting call k) = tt
-orderly n p AtInside = tt
-orderly n p AtLeaving = tt
-orderly n p AtWithdrawing = tt
-orderly n p (AtUnmarking call) = tt
+orderly n p _ = tt
 
 passes : (b : Bool) (t : Place) → b ≡ true → IsSome (only b t)
 passes true t e = refl
@@ -51,27 +41,19 @@ not_below : (m limit : ℕ) → nat_lt m limit ≡ false → nat_le limit m ≡ 
 not_below m limit e = le-leb limit m (ltb-false m limit e)
 
 pub allowed : (n limit p : ℕ) (place : Place) (v : ℕ) → IfSome (access limit p place) (λ a. IsSome (next n limit p place (kind_of a) (word_of a) (carried a v)))
-allowed n limit p (Reread call []) v = passes _ _ (eqb_self p)
-allowed n limit p (Reread call (c ∷ [])) v = passes _ _ (eqb_self p)
-allowed n limit p (Reread call (c ∷ k ∷ [])) v = passes _ _ (eqb_self p)
-allowed n limit p (Reread call (c ∷ k ∷ i ∷ seen)) v = tt
-allowed n limit p Opening v = passes _ _ (rw (eqb_self p))
 allowed n limit p (Door (j ∷ js) m) v = passes _ _ (has-first j js)
 allowed n limit p (Door [] m) v =
     elim (cases_Bool (nat_lt m limit)) [
       | inl e ↦ let taken : (m + 1 == m + 1) ≡ true = eqb_self (m + 1) in rw e (passes _ _ (rw (eqb_self p, e, taken)))
       | inr e ↦ let past : nat_le limit m ≡ true = not_below m limit e in rw e (passes _ _ (rw (eqb_self p, past)))
     ]
-allowed n limit p (Shutting call k) v = passes _ _ (rw (eqb_self p))
 allowed n limit p (Wait k unpassed (Some j)) v = passes _ _ (eqb_self j)
 allowed n limit p (Wait k (j ∷ js) None) v = passes _ _ (has-first j js)
-allowed n limit p (Wait k [] None) v = passes _ _ (rw (eqb_self p))
-allowed n limit p Leaving v = passes _ _ (rw (eqb_self p))
-allowed n limit p Withdrawing v = passes _ _ (rw (eqb_self p))
-allowed n limit p (Unmarking call) v = passes _ _ (rw (eqb_self p))
+allowed n limit p (Reread call (c ∷ k ∷ i ∷ seen)) v = tt
 allowed n limit p Rest v = tt
 allowed n limit p Dead v = tt
 allowed n limit p Inside v = tt
+allowed n limit p _ v = passes _ _ (rw (eqb_self p))
 
 pub passed : (b : Bool) (t : Place) → IsSome (only b t) → b ≡ true
 passed true t some = refl
@@ -116,23 +98,12 @@ least n limit p (Reread call (c ∷ k ∷ i ∷ seen)) word v h = tt
 least _ _ _ _ _ _ h = λ some. cc
 
 pub within : (n limit p : ℕ) (place : Place) → p < n → Orderly n place → IfSome (access limit p place) (λ a. InLock n (word_of a))
-within n limit p (Reread call []) below h = below
-within n limit p (Reread call (c ∷ [])) below h = below
-within n limit p (Reread call (c ∷ k ∷ [])) below h = below
-within n limit p (Reread call (c ∷ k ∷ i ∷ seen)) below h = tt
-within n limit p Opening below h = below
 within n limit p (Door (j ∷ js) m) below h = h.below j (has-first j js)
 within n limit p (Door [] m) below h = elim (cases_Bool (nat_lt m limit)) [ inl e ↦ rw e below | inr e ↦ rw e below ]
-within n limit p (Shutting call k) below h = below
 within n limit p (Wait k unpassed (Some j)) below h = h
 within n limit p (Wait k (j ∷ js) None) below h = h.below j (has-first j js)
-within n limit p (Wait k [] None) below h = below
-within n limit p Leaving below h = below
-within n limit p Withdrawing below h = below
-within n limit p (Unmarking call) below h = below
-within n limit p Rest below h = tt
-within n limit p Dead below h = tt
-within n limit p Inside below h = tt
+within n limit p (Reread call (c ∷ k ∷ i ∷ seen)) below h = tt
+within n limit p _ below h = assumption
 
 -- a fact of each value, under the option
 gathered : {A : Type 0} (o : Option A) (P : ℕ → A → Type 0) → ((v : ℕ) → IfSome o (P v)) → IfSome o (λ a. (v : ℕ) → P v a)
@@ -151,19 +122,7 @@ all_least s h = of_words (next_access s) _ (λ word v. least s.procs s.limit s.i
 
 pub stores_own : (limit p : ℕ) (place : Place) → IfSome (access limit p place) (StoresOwn p)
 stores_own limit p (Door [] m) = elim (cases_Bool (nat_lt m limit)) [ inl e ↦ rw e (refl, refl) | inr e ↦ rw e (refl, refl) ]
-stores_own limit p (Door (j ∷ js) m) = refl
-stores_own limit p (Reread call []) = refl
-stores_own limit p (Reread call (c ∷ [])) = refl
-stores_own limit p (Reread call (c ∷ k ∷ [])) = refl
 stores_own limit p (Reread call (c ∷ k ∷ i ∷ seen)) = tt
-stores_own limit p Opening = (refl, refl)
-stores_own limit p (Shutting call k) = (refl, refl)
 stores_own limit p (Wait k unpassed (Some j)) = refl
 stores_own limit p (Wait k (j ∷ js) None) = refl
-stores_own limit p (Wait k [] None) = (refl, refl)
-stores_own limit p Leaving = (refl, refl)
-stores_own limit p Withdrawing = (refl, refl)
-stores_own limit p (Unmarking call) = (refl, refl)
-stores_own limit p Rest = tt
-stores_own limit p Dead = tt
-stores_own limit p Inside = tt
+stores_own limit p _ = assumption

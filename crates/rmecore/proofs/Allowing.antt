@@ -1,12 +1,14 @@
 -- What the needs of a deed say, as facts of the abstract lock, and back.
 use Rattle.std.proofs.Common.{◌≡◌, ◌≢◌, ℕ, zero, suc, ◌<◌, Bool, true, false, if◌then◌else◌, ◌==◌, ◌⊎◌, refl, ap, inl, inr, arith, eq-eqb, eqb-true, lt-ltb, ltb-true}
-use Rattle.std.proofs.lemmas.Bool.{cases_Bool, or_cases}
+use Rattle.std.proofs.lemmas.Bool.{or_cases}
 use Rattle.rmecore.specs.Needs.{AllHold, least, none_below, put}
 use Rattle.rmecore.specs.AbstractLock.{Abstract, is_out, is_door, is_ready, is_inside, is_dead_in, needs}
 use Rattle.rmecore.specs.declared.outer.Outer.{Outer}
 use Rattle.rmecore.specs.declared.outer.Outer.TheVariants.{Begin, Ready as IsReady, Enter, Crash, Reenter, Leave, Quit}
 use Rattle.rmecore.specs.declared.phase.Phase.{Phase}
 use Rattle.rmecore.specs.declared.phase.Phase.TheVariants.{Out, Door, Ready, Inside, DeadIn}
+use Rattle.std.proofs.Common.{◌≤◌}
+use Rattle.std.proofs.lemmas.Bool.{false_from_ne_true, cond_both}
 
 -- what a deed needs, as facts
 abbrev pub Allows : ℕ → Abstract → Outer → Type 0
@@ -19,7 +21,7 @@ Allows n a (Reenter p) = (p < n) × (a.phase p ≡ DeadIn)
 Allows n a (Leave p) = (p < n) × (a.phase p ≡ Inside)
 Allows n a (Quit p) = (p < n) × ((a.phase p ≡ Door) ⊎ (a.phase p ≡ Ready))
 
-least-none : (n : ℕ) (test : ℕ → Bool) → ((q : ℕ) → q < n → test q ≡ false) → least n test ≡ n
+pub least-none : (n : ℕ) (test : ℕ → Bool) → ((q : ℕ) → q < n → test q ≡ false) → least n test ≡ n
 least-none zero test none = refl
 least-none (suc n) test none = rw (none 0 (omega arith)) (ap suc (least-none n (λ k. test (suc k)) (λ q h. none (suc q) (omega arith))))
 
@@ -27,18 +29,12 @@ pub none_below-from : (n : ℕ) (test : ℕ → Bool) → ((q : ℕ) → q < n �
 none_below-from n test none = eq-eqb _ _ (least-none n test none)
 
 not_inside : (phase : Phase) → phase ≢ Inside → is_inside phase ≡ false
-not_inside Out ne = refl
-not_inside Door ne = refl
-not_inside Ready ne = refl
 not_inside Inside ne = absurd (ne refl)
-not_inside DeadIn ne = refl
+not_inside _ ne = refl
 
 not_dead : (phase : Phase) → phase ≢ DeadIn → is_dead_in phase ≡ false
-not_dead Out ne = refl
-not_dead Door ne = refl
-not_dead Ready ne = refl
-not_dead Inside ne = refl
 not_dead DeadIn ne = absurd (ne refl)
+not_dead _ ne = refl
 
 pub needs_hold : (n : ℕ) (a : Abstract) (d : Outer) → Allows n a d → AllHold (needs n a d)
 needs_hold n a (Begin p) h = (lt-ltb p n h.0, (ap is_out h.1, tt))
@@ -52,24 +48,16 @@ needs_hold n a (Quit p) h = (lt-ltb p n h.0, (elim h.1 [ inl e ↦ rw e refl | i
 
 -- and back
 
-least-none_at : (n : ℕ) (test : ℕ → Bool) → (least n test == n) ≡ true → (q : ℕ) → q < n → test q ≡ false
-least-none_at zero test e q h = absurd (omega arith)
-least-none_at (suc n) test e zero h =
-    elim (cases_Bool (test 0)) [
-      | inl e1 ↦ let f : (0 == suc n) ≡ true = rw e1 at e in let g : 0 ≡ suc n = eqb-true 0 (suc n) f in absurd (omega arith)
-      | inr e1 ↦ e1
-    ]
-least-none_at (suc n) test e (suc q) h =
-    elim (cases_Bool (test 0)) [
-      | inl e1 ↦ let f : (0 == suc n) ≡ true = rw e1 at e in let g : 0 ≡ suc n = eqb-true 0 (suc n) f in absurd (omega arith)
-      | inr e1 ↦ let later : (suc (least n (λ k. test (suc k))) == suc n) ≡ true = rw e1 at e in least-none_at n (λ k. test (suc k)) (eq-eqb _ _ (suc-eq _ _ (eqb-true _ _ later))) q (omega arith)
-    ]
-  where
-    suc-eq : (x y : ℕ) → suc x ≡ suc y → x ≡ y
-    suc-eq x y e = omega arith
+-- the least number is no more than any that has the test
+pub least-le : (n : ℕ) (test : ℕ → Bool) (k : ℕ) → k < n → test k ≡ true → least n test ≤ k
+least-le zero test k h e = absurd (omega arith)
+least-le (suc n) test zero h e = rw e (omega arith)
+least-le (suc n) test (suc k) h e =
+    let ih = least-le n (λ j. test (suc j)) k (omega arith) e in
+    cond_both (test zero) 0 (suc (least n (λ j. test (suc j)))) (λ x. x ≤ suc k) (λ _. omega arith) (λ _. omega arith)
 
 pub none_below-at : (n : ℕ) (test : ℕ → Bool) → none_below n test ≡ true → (q : ℕ) → q < n → test q ≡ false
-none_below-at n test e = least-none_at n test e
+none_below-at n test e q h = false_from_ne_true _ (λ on. let low = least-le n test q h on in let all = eqb-true (least n test) n e in omega arith)
 
 is_out-from : (phase : Phase) → is_out phase ≡ true → phase ≡ Out
 is_out-from Out e = refl

@@ -10,7 +10,7 @@ use Rattle.rmecore.proofs.Invariant.{Before, Stands, Tied, put_same, put_other, 
 use Rattle.rmecore.proofs.Runs.{guard, kept}
 use Rattle.rmecore.proofs.Accesses.{passed}
 use Rattle.rmecore.specs.declared.core_call.CoreCall.{CoreCall}
-use Rattle.rmecore.specs.declared.core_call.CoreCall.TheVariants.{Lock, Recover, Unlock, Withdraw}
+use Rattle.rmecore.specs.declared.core_call.CoreCall.TheVariants.{Lock, Unlock, Withdraw}
 use Rattle.rmecore.specs.declared.kind.Kind.{Kind}
 use Rattle.rmecore.specs.declared.kind.Kind.TheVariants.{Reread as Rereads, Open as Opens, Peek as Peeks, Take as Takes, Shut as Shuts, Look as Looks, Weigh as Weighs, Mark as Marks, Drop as Drops, Glance as Glances}
 use Rattle.rmecore.specs.declared.own.Own.{Own}
@@ -55,17 +55,10 @@ module _ (limit : ℕ) where
 
   within_restart : (n p : ℕ) (call : CoreCall) (c k i : ℕ) → Within (restart n p call c k i)
   within_restart n p Lock (suc c) zero i = omega arith
-  within_restart n p Lock (suc c) (suc k) i = tt
-  within_restart n p Lock zero zero zero = tt
-  within_restart n p Lock zero zero (suc i) = tt
-  within_restart n p Lock zero (suc k) zero = tt
-  within_restart n p Lock zero (suc k) (suc i) = tt
   within_restart n p _ (suc c) zero i = tt
-  within_restart n p _ (suc c) (suc k) i = tt
-  within_restart n p _ zero zero zero = tt
   within_restart n p _ zero zero (suc i) = tt
-  within_restart n p _ zero (suc k) zero = tt
   within_restart n p _ zero (suc k) (suc i) = tt
+  within_restart n p _ _ _ _ = tt
 
   guarded : (b : Bool) (t s : Place) → IsSome (only b t) → (b ≡ true → Within t) → Within (unwrap_or (only b t) s)
   guarded b t s some h = guard b t s Within some h
@@ -94,19 +87,13 @@ module _ (limit : ℕ) where
       let is : v ≡ 0 = eqb-true v 0 (and_parts (nat_le limit m) (v == 0) (last (q == p) (nat_le limit m && (v == 0)) Rest some)).1 in
       omega arith
   fitting n p (Shutting call k) Shuts (ChoosingOf q) v some e = let is : v ≡ 0 = eqb-true v 0 (last (q == p) (v == 0) (shut n p call k) some) in omega arith
+  fitting n p (Wait k unpassed (Some i)) Weighs (NumberOf j) v some e = absurd (cc)
   fitting n p (Wait k [] None) Marks (InsideOf q) v some e = let is : v ≡ 1 = eqb-true v 1 (last (q == p) (v == 1) Inside some) in omega arith
   fitting n p Leaving Drops (NumberOf q) v some e = let is : v ≡ 0 = eqb-true v 0 (last (q == p) (v == 0) (Unmarking Unlock) some) in omega arith
   fitting n p Withdrawing Drops (NumberOf q) v some e = let is : v ≡ 0 = eqb-true v 0 (last (q == p) (v == 0) Rest some) in omega arith
   fitting n p (Unmarking call) Marks (InsideOf q) v some e = let is : v ≡ 0 = eqb-true v 0 (last (q == p) (v == 0) (unmarked call) some) in omega arith
-  fitting n p (Reread call []) Rereads (ChoosingOf q) v some e = absurd (cc)
-  fitting n p (Reread call (c ∷ [])) Rereads (NumberOf q) v some e = absurd (cc)
   fitting n p (Reread call (c ∷ k ∷ [])) Rereads (InsideOf q) v some e = absurd (cc)
-  fitting n p (Door unread m) Peeks (NumberOf j) v some e = absurd (cc)
-  fitting n p (Wait k unpassed None) Looks (ChoosingOf j) v some e = absurd (cc)
-  fitting n p (Wait k unpassed (Some i)) Weighs (NumberOf j) v some e = absurd (cc)
-  fitting n p s Glances (ChoosingOf q) v some e = absurd (cc)
-  fitting n p s Glances (NumberOf q) v some e = absurd (cc)
-  fitting n p s Glances (InsideOf q) v some e = absurd (cc)
+  fitting n p s Glances word v some e = absurd (cc)
   fitting _ _ _ _ _ _ some e = absurd (cc)
 
   within_next : (n p : ℕ) (words : ℕ → Own) (s : Place) (kind : Kind) (word : Word) (v : ℕ) → IsSome (next n limit p s kind word v) → ((q : ℕ) → Small (words q)) → Within s → (is_store kind ≡ false → read words word ≡ v) → Within (unwrap_or (next n limit p s kind word v) s)
@@ -142,12 +129,8 @@ module _ (limit : ℕ) where
       ]
 
   within_started : (s : Place) (call : CoreCall) → Within s → Within (unwrap_or (started s call) s)
-  within_started Rest Lock h = tt
-  within_started Rest Recover h = tt
-  within_started Dead Lock h = tt
-  within_started Dead Recover h = tt
-  within_started Inside Unlock h = tt
-  within_started (Wait k unpassed looked) Withdraw h = tt
+  within_started Rest Withdraw h = h
+  within_started s Withdraw h = h
   within_started _ _ h = h
 
   small_stored : (words : ℕ → Own) (kind : Kind) (word : Word) (v : ℕ) (b : Bool) → ((q : ℕ) → Small (words q)) → (b ≡ true → Fitting word v) → (q : ℕ) → Small ((if b then write words word v else words) q)

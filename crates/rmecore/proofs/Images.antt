@@ -1,5 +1,5 @@
 -- Runs from an image and to an image; a process's place is that of its own events.
-use Rattle.std.proofs.Common.{◌≡◌, ◌≢◌, ℕ, zero, suc, ◌<◌, true, false, ◌==◌, ◌⊎◌, List, [], ◌∷◌, ◌++◌, Option, Some, None, unwrap_or, refl, sym, ap, ◌∙◌, subst, inl, inr, arith, eq-eqb, ne_eqb}
+use Rattle.std.proofs.Common.{◌≡◌, ◌≢◌, ℕ, ◌<◌, true, false, ◌==◌, ◌⊎◌, List, [], ◌∷◌, ◌++◌, Option, Some, None, unwrap_or, refl, sym, ap, ◌∙◌, subst, inl, inr, arith, eq-eqb, ne_eqb}
 use Rattle.std.proofs.lemmas.Bool.{cases_eq, and_parts, and_right}
 use Rattle.rmecore.specs.Place.{Event, Dead, is_before, moved, process}
 use Rattle.rmecore.specs.AbstractLock.{is_ready}
@@ -13,22 +13,13 @@ use Rattle.rmecore.specs.declared.outer.Outer.{Outer}
 use Rattle.rmecore.specs.declared.own.Own.{Own}
 
 same_phase : (c k i : ℕ) → dead_phase c k i ≡ phase_at c k i true
-same_phase zero zero i = refl
-same_phase (suc c) zero i = refl
-same_phase zero (suc k) zero = refl
-same_phase (suc c) (suc k) zero = refl
-same_phase zero (suc k) (suc i) = refl
-same_phase (suc c) (suc k) (suc i) = refl
+same_phase c k i = grind arith
 
 never_before_itself : (k p : ℕ) → is_before k p k p ≡ false
 never_before_itself k p = grind arith
 
 door_means : (c k i : ℕ) → dead_phase c k i ≡ AtDoor → k ≡ 0
-door_means c zero i e = refl
-door_means zero (suc k) zero e = cc
-door_means (suc c) (suc k) zero e = cc
-door_means zero (suc k) (suc i) e = cc
-door_means (suc c) (suc k) (suc i) e = cc
+door_means c k i e = grind arith
 
 not_ahead : (h : Phase) (p : ℕ) (x : Own) → phase_by x ≡ h → is_ahead h p x p x ≡ false
 not_ahead AtDoor p x e = ap is_ready e

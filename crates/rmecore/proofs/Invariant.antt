@@ -127,77 +127,37 @@ pub record Tied (n : ℕ) (w : World) (a : Abstract) : Type 0 where
 -- the phases by the words
 
 pub phase_out : (c k i : ℕ) (b : Bool) → c ≡ 0 → k ≡ 0 → phase_at c k i b ≡ Out
-phase_out zero zero i b e f = refl
-phase_out zero (suc k) i b e f = cc
-phase_out (suc c) zero i b e f = cc
-phase_out (suc c) (suc k) i b e f = cc
+phase_out c k i b e f = grind arith
 
 pub phase_door : (c k i : ℕ) (b : Bool) → 0 < c → k ≡ 0 → phase_at c k i b ≡ AtDoor
-phase_door zero zero i b e f = absurd (omega arith)
-phase_door zero (suc k) i b e f = cc
-phase_door (suc c) zero i b e f = refl
-phase_door (suc c) (suc k) i b e f = cc
+phase_door c k i b e f = grind arith
 
 pub phase_waiting : (c k i : ℕ) (b : Bool) → 0 < k → i ≡ 0 → phase_at c k i b ≡ Waiting
-phase_waiting c zero i b e f = absurd (omega arith)
-phase_waiting zero (suc k) zero b e f = refl
-phase_waiting (suc c) (suc k) zero b e f = refl
-phase_waiting c (suc k) (suc i) b e f = cc
+phase_waiting c k i b e f = grind arith
 
 pub phase_within : (c k i : ℕ) → 0 < k → 0 < i → phase_at c k i false ≡ Within
-phase_within c zero i e f = absurd (omega arith)
-phase_within c (suc k) zero e f = absurd (omega arith)
-phase_within zero (suc k) (suc i) e f = refl
-phase_within (suc c) (suc k) (suc i) e f = refl
+phase_within c k i e f = grind arith
 
 pub phase_dead : (c k i : ℕ) → 0 < k → 0 < i → phase_at c k i true ≡ DeadWithin
-phase_dead c zero i e f = absurd (omega arith)
-phase_dead c (suc k) zero e f = absurd (omega arith)
-phase_dead zero (suc k) (suc i) e f = refl
-phase_dead (suc c) (suc k) (suc i) e f = refl
+phase_dead c k i e f = grind arith
 
 -- and back
 
 pub within_means : (c k i : ℕ) (b : Bool) → phase_at c k i b ≡ Within → (0 < k) × (0 < i)
-within_means zero zero i b e = cc
-within_means (suc c) zero i b e = cc
-within_means zero (suc k) zero b e = cc
-within_means (suc c) (suc k) zero b e = cc
-within_means c (suc k) (suc i) b e = omega arith
+within_means c k i b e = grind arith
 
 pub dead_means : (c k i : ℕ) (b : Bool) → phase_at c k i b ≡ DeadWithin → (0 < k) × (0 < i)
-dead_means zero zero i b e = cc
-dead_means (suc c) zero i b e = cc
-dead_means zero (suc k) zero b e = cc
-dead_means (suc c) (suc k) zero b e = cc
-dead_means c (suc k) (suc i) b e = omega arith
+dead_means c k i b e = grind arith
 
 pub waiting_means : (c k i : ℕ) (b : Bool) → is_ready (phase_at c k i b) ≡ true → (0 < k) × (i ≡ 0)
-waiting_means zero zero i b e = cc
-waiting_means (suc c) zero i b e = cc
-waiting_means c (suc k) zero b e = omega arith
-waiting_means zero (suc k) (suc i) true e = cc
-waiting_means zero (suc k) (suc i) false e = cc
-waiting_means (suc c) (suc k) (suc i) true e = cc
-waiting_means (suc c) (suc k) (suc i) false e = cc
+waiting_means c k i b e = grind arith
 
 -- lost memory tells on the phase only inside
 pub phase_any : (c k i : ℕ) (b b' : Bool) → (k ≡ 0) ⊎ (i ≡ 0) → phase_at c k i b ≡ phase_at c k i b'
-phase_any zero zero i b b' e = refl
-phase_any (suc c) zero i b b' e = refl
-phase_any zero (suc k) zero b b' e = refl
-phase_any (suc c) (suc k) zero b b' e = refl
-phase_any c (suc k) (suc i) b b' e = absurd (omega arith)
+phase_any c k i b b' e = grind arith
 
 pub phase_crashed : (c k i : ℕ) (b : Bool) → crashed (phase_at c k i b) ≡ phase_at c k i true
-phase_crashed zero zero i b = refl
-phase_crashed (suc c) zero i b = refl
-phase_crashed zero (suc k) zero b = refl
-phase_crashed (suc c) (suc k) zero b = refl
-phase_crashed zero (suc k) (suc i) true = refl
-phase_crashed zero (suc k) (suc i) false = refl
-phase_crashed (suc c) (suc k) (suc i) true = refl
-phase_crashed (suc c) (suc k) (suc i) false = refl
+phase_crashed c k i b = grind arith
 
 -- words of every place are among those of the restart table
 pub row_of : (x : Own) (s : Place) → Fits x s → Row x

@@ -1,8 +1,8 @@
 -- Each step of a call that isn't blocked counts one, up to the answer, and then the number is that of the table.
 use Rattle.std.proofs.Common.{◌≡◌, ℕ, zero, suc, ◌+◌, ◌-◌, ◌*◌, ◌<◌, ◌≤◌, max, true, false, ◌||◌, ◌==◌, if◌then◌else◌, List, [], ◌∷◌, length, Option, Some, None, IsSome, IfSome, unwrap_or, refl, sym, ap, ◌∙◌, subst, inl, inr, arith, eqb-true, eq-eqb, ne_eqb}
 use Rattle.std.proofs.lemmas.Bool.{cases_Bool, cases_eq, false_from_ne_true}
-use Rattle.rmecore.specs.Place.{Place, Rest, Dead, Reread, Opening, Door, Shutting, Wait, Inside, Leaving, Withdrawing, Unmarking, has, without, span, others, is_before, relocked, recovered, restart, shut, unmarked, next}
-use Rattle.rmecore.specs.Machine.{is_blocked, answer, again, found, reread_answer, shut_answer, unmark_answer}
+use Rattle.rmecore.specs.Place.{Place, Rest, Reread, Opening, Door, Shutting, Wait, Inside, Leaving, Withdrawing, Unmarking, has, without, span, others, is_before, restart, shut, unmarked, next}
+use Rattle.rmecore.specs.Machine.{is_blocked, answer, reread_answer, shut_answer, unmark_answer}
 use Rattle.rmecore.specs.OwnSteps.{own_steps, most_steps}
 use Rattle.rmecore.specs.Refused.{is_idle}
 use Rattle.rmecore.specs.Paid.{Distinct, Pays, ReadsBegun, is_glance}
@@ -11,10 +11,10 @@ use Rattle.rmecore.proofs.Accesses.{passed}
 use Rattle.rmecore.proofs.Runs.{guard}
 use Rattle.rmecore.proofs.Scans.{has-span-low}
 use Rattle.rmecore.specs.declared.core_done.CoreDone.{CoreDone}
-use Rattle.rmecore.specs.declared.core_done.CoreDone.TheVariants.{In, InAgain, Spent, Out, Found as Finds, Withdrawn}
-use Rattle.rmecore.specs.declared.found.Found.TheVariants.{Idle, Left, Doorway, Waiting, Inside as Found-Inside}
+use Rattle.rmecore.specs.declared.core_done.CoreDone.TheVariants.{In, Spent, Out, Found as Finds, Withdrawn}
+use Rattle.rmecore.specs.declared.found.Found.TheVariants.{Left, Waiting}
 use Rattle.rmecore.specs.declared.core_call.CoreCall.{CoreCall}
-use Rattle.rmecore.specs.declared.core_call.CoreCall.TheVariants.{Lock, Recover, Unlock, Withdraw}
+use Rattle.rmecore.specs.declared.core_call.CoreCall.TheVariants.{Lock, Unlock}
 use Rattle.rmecore.specs.declared.kind.Kind.{Kind}
 use Rattle.rmecore.specs.declared.kind.Kind.TheVariants.{Reread as Rereads, Open as Opens, Peek as Peeks, Take as Takes, Shut as Shuts, Look as Looks, Weigh as Weighs, Mark as Marks, Drop as Drops, Glance as Glances}
 use Rattle.rmecore.specs.declared.word.Word.{Word}
@@ -94,27 +94,17 @@ module _ (n p : ℕ) (below : p < n) where
   each : length (others n p) + 1 ≡ n
   each = length-others n p below
 
-  relocks : (c k i : ℕ) → Comes n c k i (again c k i) (relocked n p c k i) 3
-  relocks (suc c) zero i = let l = each in ((all, ap Some (omega arith), ap Some (omega arith)), tt)
-  relocks (suc c) (suc k) i = (ap Some (omega arith), tt)
-  relocks zero zero zero = ((ap Some (omega arith), ap Some (omega arith)), tt)
-  relocks zero zero (suc i) = ((ap Some (omega arith), ap Some (omega arith)), tt)
-  relocks zero (suc k) zero = let l = each in ((all, ap Some (omega arith)), tt)
-  relocks zero (suc k) (suc i) = (tt, refl)
-
-  recovers : (c k i : ℕ) → Comes n c k i (found c k i) (recovered c k i) 3
-  recovers (suc c) zero i = (tt, refl)
-  recovers (suc c) (suc k) i = (refl, tt)
-  recovers zero zero zero = (tt, refl)
-  recovers zero zero (suc i) = (refl, tt)
-  recovers zero (suc k) zero = (tt, refl)
-  recovers zero (suc k) (suc i) = (tt, refl)
-
   restarts : (call : CoreCall) (c k i : ℕ) → Comes n c k i (reread_answer call c k i) (restart n p call c k i) 3
-  restarts Lock c k i = relocks c k i
-  restarts Recover c k i = recovers c k i
-  restarts Unlock c k i = recovers c k i
-  restarts Withdraw c k i = recovers c k i
+  restarts Lock (suc c) zero i = let l = each in ((all, ap Some (omega arith), ap Some (omega arith)), tt)
+  restarts Lock (suc c) (suc k) i = (ap Some (omega arith), tt)
+  restarts Lock zero zero zero = ((ap Some (omega arith), ap Some (omega arith)), tt)
+  restarts Lock zero zero (suc i) = ((ap Some (omega arith), ap Some (omega arith)), tt)
+  restarts Lock zero (suc k) zero = let l = each in ((all, ap Some (omega arith)), tt)
+  restarts Lock zero (suc k) (suc i) = (tt, refl)
+  restarts _ (suc c) (suc k) i = (refl, tt)
+  restarts _ zero zero (suc i) = (refl, tt)
+  restarts _ zero (suc k) (suc i) = (tt, refl)
+  restarts _ _ _ _ = (tt, refl)
 
   restarts_as : (call : CoreCall) (c k i x y v : ℕ) → x ≡ c → y ≡ k → v ≡ i → (steps : ℕ) → steps ≡ 2 → Comes n c k i (reread_answer call x y v) (restart n p call x y v) (steps + 1)
   restarts_as call c k i x y v e f g steps h =
@@ -127,15 +117,11 @@ module _ (n p : ℕ) (below : p < n) where
 
   shuts : (call : CoreCall) (c k i x steps : ℕ) → Pays n c k i (Shutting call x) steps → Goes c k i (shut_answer call) steps (shut n p call x)
   shuts Lock c k i x steps h = let l = each in ((all, same _ h (omega arith)), tt)
-  shuts Recover c k i x steps h = (tt, h)
-  shuts Unlock c k i x steps h = (tt, h)
-  shuts Withdraw c k i x steps h = (tt, h)
+  shuts _ c k i x steps h = (tt, h)
 
   unmarks : (call : CoreCall) (c k i steps : ℕ) → Pays n c k i (Unmarking call) steps → Goes c k i (unmark_answer call) steps (unmarked call)
   unmarks Lock c k i steps h = ((same _ h.0 (omega arith), same _ h.1 (omega arith)), tt)
-  unmarks Recover c k i steps h = (tt, h)
-  unmarks Unlock c k i steps h = (tt, h)
-  unmarks Withdraw c k i steps h = (tt, h)
+  unmarks _ c k i steps h = (tt, h)
 
   pub pays : (limit c k i : ℕ) (s : Place) (kind : Kind) (word : Word) (v steps : ℕ) → IsSome (next n limit p s kind word v) → is_glance kind ≡ false → ReadsBegun c k i s v → Pays n c k i s steps
       → Comes n c k i (answer s kind v) (unwrap_or (next n limit p s kind word v) s) (if is_blocked p s kind v then steps else steps + 1)
@@ -176,34 +162,13 @@ module _ (n p : ℕ) (below : p < n) where
 -- no number of the table is above the most
 
 at_most : (n c k i : ℕ) (done : CoreDone) (x : ℕ) → 0 < n → own_steps n c k i done ≡ Some x → x ≤ most_steps n
-at_most n zero zero zero In x h e = let f : 3 * n + 4 ≡ x = cc in omega arith
-at_most n zero zero (suc i) In x h e = let f : 3 * n + 5 ≡ x = cc in omega arith
-at_most n zero (suc k) zero In x h e = let f : 2 * n + 2 ≡ x = cc in omega arith
-at_most n zero (suc k) (suc i) In x h e = absurd (cc)
-at_most n (suc c) zero i In x h e = let f : 3 * n + 3 ≡ x = cc in omega arith
-at_most n (suc c) (suc k) i In x h e = let f : 2 * n + 3 ≡ x = cc in omega arith
-at_most n zero (suc k) (suc i) InAgain x h e = let f : 3 ≡ x = cc in omega arith
-at_most n zero zero zero Spent x h e = let f : n + 4 ≡ x = cc in omega arith
-at_most n (suc c) zero i Spent x h e = let f : n + 3 ≡ x = cc in omega arith
-at_most n zero zero (suc i) Spent x h e = let f : n + 5 ≡ x = cc in omega arith
-at_most n c k i Out x h e = let f : 2 ≡ x = cc in omega arith
-at_most n c k i Withdrawn x h e = let f : 1 ≡ x = cc in omega arith
-at_most n zero zero zero (Finds Idle) x h e = let f : 3 ≡ x = cc in omega arith
-at_most n zero zero (suc i) (Finds Left) x h e = let f : 4 ≡ x = cc in omega arith
-at_most n (suc c) zero i (Finds Doorway) x h e = let f : 3 ≡ x = cc in omega arith
-at_most n (suc c) (suc k) i (Finds Waiting) x h e = let f : 4 ≡ x = cc in omega arith
-at_most n zero (suc k) zero (Finds Waiting) x h e = let f : 3 ≡ x = cc in omega arith
-at_most n zero (suc k) (suc i) (Finds Found-Inside) x h e = let f : 3 ≡ x = cc in omega arith
-at_most n _ _ _ _ x h e = absurd (cc)
+at_most n c k i done x h e = grind arith
 
 more_to_come : (n c k i : ℕ) (done : CoreDone) (x left : ℕ) → 0 < n → 0 < left → own_steps n c k i done ≡ Some (x + left) → x < most_steps n
 more_to_come n c k i done x left h some e = let most = at_most n c k i done (x + left) h e in omega arith
 
 -- a call under way has taken fewer
 pub fewer : (n c k i : ℕ) (s : Place) (x : ℕ) → 0 < n → is_idle s ≡ false → Pays n c k i s x → x < most_steps n
-fewer n c k i Rest x h busy pays = absurd (cc)
-fewer n c k i Dead x h busy pays = absurd (cc)
-fewer n c k i Inside x h busy pays = absurd (cc)
 fewer n c k i (Reread call []) x h busy pays = omega arith
 fewer n c k i (Reread call (a ∷ [])) x h busy pays = let f = pays.0 in omega arith
 fewer n c k i (Reread call (a ∷ b ∷ [])) x h busy pays = let f = pays.0 in omega arith
@@ -211,18 +176,15 @@ fewer n c k i (Reread call (a ∷ b ∷ d ∷ seen)) x h busy pays = absurd pays
 fewer n c k i Opening x h busy pays = more_to_come n c k i In x _ h (omega arith) pays.1
 fewer n c k i (Door unread m) x h busy pays = more_to_come n c k i In x _ h (omega arith) pays.2
 fewer n c k i (Shutting Lock y) x h busy pays = more_to_come n c k i In x _ h (omega arith) pays
-fewer n c k i (Shutting Recover y) x h busy pays = more_to_come n c k i (Finds Waiting) x _ h (omega arith) pays
-fewer n c k i (Shutting Unlock y) x h busy pays = more_to_come n c k i (Finds Waiting) x _ h (omega arith) pays
-fewer n c k i (Shutting Withdraw y) x h busy pays = more_to_come n c k i (Finds Waiting) x _ h (omega arith) pays
+fewer n c k i (Shutting _ y) x h busy pays = more_to_come n c k i (Finds Waiting) x _ h (omega arith) pays
 fewer n c k i (Wait y unpassed None) x h busy pays = more_to_come n c k i In x _ h (omega arith) pays.1
-fewer n c k i (Wait y [] (Some j)) x h busy pays = absurd (cc)
 fewer n c k i (Wait y (u ∷ us) (Some j)) x h busy pays = more_to_come n c k i In x _ h (omega arith) pays.2
 fewer n c k i Leaving x h busy pays = more_to_come n c k i Out x _ h (omega arith) pays
 fewer n c k i Withdrawing x h busy pays = more_to_come n c k i Withdrawn x _ h (omega arith) pays
 fewer n c k i (Unmarking Lock) x h busy pays = more_to_come n c k i In x _ h (omega arith) pays.1
-fewer n c k i (Unmarking Recover) x h busy pays = more_to_come n c k i (Finds Left) x _ h (omega arith) pays
 fewer n c k i (Unmarking Unlock) x h busy pays = more_to_come n c k i Out x _ h (omega arith) pays
-fewer n c k i (Unmarking Withdraw) x h busy pays = more_to_come n c k i (Finds Left) x _ h (omega arith) pays
+fewer n c k i (Unmarking _) x h busy pays = more_to_come n c k i (Finds Left) x _ h (omega arith) pays
+fewer n c k i _ x h busy pays = absurd (cc)
 
 -- a fresh start, up to and with the shut
 pub fresh_start : (n p k steps : ℕ) → p < n → Pays n 0 0 0 (Wait k (others n p) None) steps → steps ≡ n + 5

@@ -13,10 +13,7 @@ use Rattle.rmecore.specs.declared.phase.Phase.TheVariants.{Out, Door, Ready, Ins
 
 in_crashed : (phase : Phase) → IsIn (crashed phase) → IsIn phase
 in_crashed Out h = h
-in_crashed Door h = h
-in_crashed Ready h = h
-in_crashed Inside h = tt
-in_crashed DeadIn h = tt
+in_crashed _ h = h
 
 -- who is in after p's phase was put was in before, if p was
 less_put : (f : ℕ → Phase) (p : ℕ) (x : Phase) (q : ℕ) → (IsIn x → IsIn (f p)) → IsIn (put f p x q) → IsIn (f q)
@@ -26,12 +23,10 @@ less_put f p x q go h =
       | inr ne ↦ subst IsIn (put_other f p x q ne) h
     ]
 
-neither : (phase : Phase) → phase ≢ Inside → phase ≢ DeadIn → IsIn phase → ⊥
-neither Out x y i = i
-neither Door x y i = i
-neither Ready x y i = i
+pub neither : (phase : Phase) → phase ≢ Inside → phase ≢ DeadIn → IsIn phase → ⊥
 neither Inside x y i = x refl
 neither DeadIn x y i = y refl
+neither _ x y i = i
 
 module _ (n : ℕ) (a : Abstract) (sole : Sole n a) where
   -- a deed after which nobody new is in
@@ -58,19 +53,11 @@ module _ (n : ℕ) (a : Abstract) (sole : Sole n a) where
 -- a deed changes the phase of its doer alone
 pub phase_other : (a : Abstract) (d : Outer) (q : ℕ) → q ≢ doer d → (done a d).phase q ≡ a.phase q
 phase_other a (Begin p) q ne = put_other a.phase p Door q ne
-phase_other a (IsReady p) q ne = put_other a.phase p Ready q ne
-phase_other a (Enter p) q ne = put_other a.phase p Inside q ne
-phase_other a (Crash p) q ne = put_other a.phase p (crashed (a.phase p)) q ne
-phase_other a (Reenter p) q ne = put_other a.phase p Inside q ne
-phase_other a (Leave p) q ne = put_other a.phase p Out q ne
-phase_other a (Quit p) q ne = put_other a.phase p Out q ne
+phase_other a d q ne = put_other a.phase (doer d) _ q ne
 
 crashed_in : (phase : Phase) → IsIn phase → IsIn (crashed phase)
 crashed_in Out h = h
-crashed_in Door h = h
-crashed_in Ready h = h
-crashed_in Inside h = tt
-crashed_in DeadIn h = tt
+crashed_in _ h = h
 
 -- who was in is in after p's phase was put, if p is
 more_put : (f : ℕ → Phase) (p : ℕ) (x : Phase) (q : ℕ) → (IsIn (f p) → IsIn x) → IsIn (f q) → IsIn (put f p x q)

@@ -1,7 +1,7 @@
 -- The tallies of a simulated core count the steps of the table.
-use Rattle.std.proofs.Common.{◌≡◌, ℕ, zero, suc, ◌+◌, ◌-◌, ◌<◌, Bool, true, false, ◌==◌, nat_lt, if◌then◌else◌, List, [], ◌∷◌, Option, Some, None, IsSome, IfSome, unwrap_or, refl, sym, ap, ◌∙◌, inl, inr, arith, eqb-true}
+use Rattle.std.proofs.Common.{◌≡◌, ℕ, ◌+◌, ◌<◌, Bool, true, false, ◌==◌, nat_lt, if◌then◌else◌, List, [], ◌∷◌, Option, Some, None, IsSome, IfSome, unwrap_or, refl, sym, ap, ◌∙◌, inl, inr, arith, eqb-true}
 use Rattle.std.proofs.lemmas.Bool.{cases_Bool}
-use Rattle.rmecore.specs.Place.{Steps, Place, Rest, Dead, Reread, Opening, Door, Shutting, Wait, Inside, Leaving, Withdrawing, Unmarking, only, relocked, recovered, restart, shut, unmarked, next}
+use Rattle.rmecore.specs.Place.{Steps, Place, Reread, Opening, Door, Shutting, Wait, Leaving, Withdrawing, Unmarking, only, shut, unmarked, next}
 use Rattle.rmecore.specs.World.{World, Reads, stored, is_store, write}
 use Rattle.rmecore.specs.Machine.{access, kind_of, is_blocked, answer}
 use Rattle.rmecore.specs.Paid.{ReadsBegun, is_glance}
@@ -11,7 +11,7 @@ use Rattle.rmecore.proofs.Accesses.{passed}
 use Rattle.rmecore.proofs.Payments.{Comes, pays}
 use Rattle.rmecore.proofs.Runs.{guard}
 use Rattle.rmecore.specs.declared.core_call.CoreCall.{CoreCall}
-use Rattle.rmecore.specs.declared.core_call.CoreCall.TheVariants.{Lock, Recover, Unlock, Withdraw}
+use Rattle.rmecore.specs.declared.core_call.CoreCall.TheVariants.{Lock}
 use Rattle.rmecore.specs.declared.core_done.CoreDone.{CoreDone}
 use Rattle.rmecore.specs.declared.kind.Kind.{Kind}
 use Rattle.rmecore.specs.declared.kind.Kind.TheVariants.{Reread as Rereads, Open as Opens, Peek as Peeks, Take as Takes-number, Shut as Shuts, Look as Looks, Weigh as Weighs, Mark as Marks, Drop as Drops, Glance as Glances}
@@ -23,22 +23,10 @@ use Rattle.rmecore.specs.declared.word.Word.TheVariants.{Choosing as ChoosingOf,
 -- the machine never glances
 pub never_glances : (limit p : ℕ) (place : Place) → IfSome (access limit p place) (λ a. is_glance (kind_of a) ≡ false)
 never_glances limit p (Door [] m) = elim (cases_Bool (nat_lt m limit)) [ inl e ↦ rw e refl | inr e ↦ rw e refl ]
-never_glances limit p (Door (j ∷ js) m) = refl
-never_glances limit p (Reread call []) = refl
-never_glances limit p (Reread call (c ∷ [])) = refl
-never_glances limit p (Reread call (c ∷ k ∷ [])) = refl
 never_glances limit p (Reread call (c ∷ k ∷ i ∷ seen)) = tt
-never_glances limit p Opening = refl
-never_glances limit p (Shutting call k) = refl
 never_glances limit p (Wait k unpassed (Some j)) = refl
 never_glances limit p (Wait k (j ∷ js) None) = refl
-never_glances limit p (Wait k [] None) = refl
-never_glances limit p Leaving = refl
-never_glances limit p Withdrawing = refl
-never_glances limit p (Unmarking call) = refl
-never_glances limit p Rest = tt
-never_glances limit p Dead = tt
-never_glances limit p Inside = tt
+never_glances limit p _ = assumption
 
 -- counting
 
@@ -51,43 +39,17 @@ sums t false x e h = omega arith
 
 -- a process that rereads after a step has read an own word in it
 
-no_reread : (n p : ℕ) (c k i : ℕ) → IsRereading (relocked n p c k i) → ⊥
-no_reread n p (suc c) zero i h = h
-no_reread n p (suc c) (suc k) i h = h
-no_reread n p zero zero zero h = h
-no_reread n p zero zero (suc i) h = h
-no_reread n p zero (suc k) zero h = h
-no_reread n p zero (suc k) (suc i) h = h
-
-no_reread_found : (c k i : ℕ) → IsRereading (recovered c k i) → ⊥
-no_reread_found (suc c) zero i h = h
-no_reread_found (suc c) (suc k) i h = h
-no_reread_found zero zero zero h = h
-no_reread_found zero zero (suc i) h = h
-no_reread_found zero (suc k) zero h = h
-no_reread_found zero (suc k) (suc i) h = h
-
 -- what a step to a place tells of the one before
 abbrev pub Was : Place → Kind → Place → Type 0
 Was s kind s' = IsRereading s' → IsRereading s × (is_store kind ≡ false)
 
-restarted : (n p : ℕ) (call : CoreCall) (c k i : ℕ) → IsRereading (restart n p call c k i) → ⊥
-restarted n p Lock c k i h = no_reread n p c k i h
-restarted n p Recover c k i h = no_reread_found c k i h
-restarted n p Unlock c k i h = no_reread_found c k i h
-restarted n p Withdraw c k i h = no_reread_found c k i h
-
 shut_not : (n p : ℕ) (call : CoreCall) (k : ℕ) → IsRereading (shut n p call k) → ⊥
 shut_not n p Lock k h = h
-shut_not n p Recover k h = h
-shut_not n p Unlock k h = h
-shut_not n p Withdraw k h = h
+shut_not n p _ k h = h
 
 unmarked_not : (call : CoreCall) → IsRereading (unmarked call) → ⊥
 unmarked_not Lock h = h
-unmarked_not Recover h = h
-unmarked_not Unlock h = h
-unmarked_not Withdraw h = h
+unmarked_not _ h = h
 
 pub rereads_on : (n limit p : ℕ) (s : Place) (kind : Kind) (word : Word) (v : ℕ) → IsSome (next n limit p s kind word v) → is_glance kind ≡ false → Was s kind (unwrap_or (next n limit p s kind word v) s)
 rereads_on n limit p (Reread call []) Rereads word v some not_glance = λ h. (tt, refl)
@@ -123,18 +85,9 @@ reads_begun n limit w p began (Reread call (x ∷ [])) Rereads (NumberOf q) v so
     let mine : q ≡ p = eqb-true q p (passed _ _ some) in sym (reads refl) ∙ ap (λ r. (w.words r).number) mine ∙ ap (λ x. x.number) (sym (h tt))
 reads_begun n limit w p began (Reread call (x ∷ y ∷ [])) Rereads (InsideOf q) v some not_glance reads h =
     let mine : q ≡ p = eqb-true q p (passed _ _ some) in sym (reads refl) ∙ ap (λ r. (w.words r).inside) mine ∙ ap (λ x. x.inside) (sym (h tt))
-reads_begun n limit w p began Rest kind word v some not_glance reads h = tt
-reads_begun n limit w p began Dead kind word v some not_glance reads h = tt
-reads_begun n limit w p began Opening kind word v some not_glance reads h = tt
-reads_begun n limit w p began (Door unread m) kind word v some not_glance reads h = tt
-reads_begun n limit w p began (Shutting call k) kind word v some not_glance reads h = tt
-reads_begun n limit w p began (Wait k unpassed looked) kind word v some not_glance reads h = tt
-reads_begun n limit w p began Inside kind word v some not_glance reads h = tt
-reads_begun n limit w p began Leaving kind word v some not_glance reads h = tt
-reads_begun n limit w p began Withdrawing kind word v some not_glance reads h = tt
-reads_begun n limit w p began (Unmarking call) kind word v some not_glance reads h = tt
-reads_begun n limit w p began s Glances word v some not_glance reads h = absurd (cc)
-reads_begun n limit w p began _ _ _ v some not_glance reads h = absurd (cc)
+reads_begun n limit w p began (Reread call seen) Glances word v some not_glance reads h = absurd (cc)
+reads_begun n limit w p began (Reread call seen) kind word v some not_glance reads h = absurd (cc)
+reads_begun n limit w p began _ kind word v some not_glance reads h = tt
 
 -- the count after one step of a process at place s, begun with the words in its tally
 module _ (n limit : ℕ) (w : World) (p : ℕ) (kind : Kind) (word : Word) (v : ℕ) (t : Tally) (below : p < n) (some : IsSome (next n limit p (w.places p) kind word v)) (not_glance : is_glance kind ≡ false) (told : Reads w.words (Steps p kind word v))

@@ -1,12 +1,12 @@
 -- Every step of the lock is an entry, a re-entry, an exit, or nothing for who is in; and none is at a data word.
 use Rattle.std.proofs.Common.{◌≡◌, ℕ, zero, suc, Bool, true, false, ◌==◌, ◌||◌, [], ◌∷◌, Option, Some, None, IsSome, refl, sym, subst}
 use Rattle.std.proofs.lemmas.Bool.{cond_both}
-use Rattle.rmecore.specs.Place.{Place, Rest, Dead, Reread, Opening, Door, Shutting, Wait, Inside, Leaving, Withdrawing, Unmarking, only, has, without, is_before, next, restart, shut, unmarked}
+use Rattle.rmecore.specs.Place.{Place, Reread, Opening, Door, Shutting, Wait, Inside, Leaving, Withdrawing, Unmarking, only, has, without, is_before, next, restart, shut, unmarked}
 use Rattle.rmecore.specs.World.{step_deed}
 use Rattle.rmecore.specs.Turn.{Elsewhere, Plain, Turn, Enters, Reenters, Exits, Same, Else}
 use Rattle.rmecore.specs.declared.outer.Outer.{Outer}
 use Rattle.rmecore.specs.declared.core_call.CoreCall.{CoreCall}
-use Rattle.rmecore.specs.declared.core_call.CoreCall.TheVariants.{Lock, Recover, Unlock, Withdraw}
+use Rattle.rmecore.specs.declared.core_call.CoreCall.TheVariants.{Lock, Unlock}
 use Rattle.rmecore.specs.declared.kind.Kind.{Kind}
 use Rattle.rmecore.specs.declared.kind.Kind.TheVariants.{Reread as Rereads, Open as Opens, Peek as Peeks, Take as Takes, Shut as Shuts, Look as Looks, Weigh as Weighs, Mark as Marks, Drop as Drops, Glance as Glances}
 use Rattle.rmecore.specs.declared.word.Word.{Word}
@@ -22,45 +22,14 @@ module _ (n limit p : ℕ) where
 
   restarts : (call : CoreCall) (c k v : ℕ) (t : Place) → restart n p call c k v ≡ t → Turn p (Reread call (c ∷ k ∷ [])) t (step_deed p (Reread call (c ∷ k ∷ [])) Rereads v)
   restarts Lock (suc c) zero v t e = Else (subst Elsewhere e tt) tt
-  restarts Lock (suc c) (suc k) v t e = Else (subst Elsewhere e tt) tt
-  restarts Lock zero zero zero t e = Else (subst Elsewhere e tt) tt
-  restarts Lock zero zero (suc v) t e = Else (subst Elsewhere e tt) tt
-  restarts Lock zero (suc k) zero t e = Else (subst Elsewhere e tt) tt
-  restarts Lock zero (suc k) (suc v) t e = Reenters Lock (zero ∷ suc k ∷ []) refl (sym e) refl
-  restarts Recover (suc c) zero v t e = Else (subst Elsewhere e tt) tt
-  restarts Recover (suc c) (suc k) v t e = Else (subst Elsewhere e tt) tt
-  restarts Recover zero zero zero t e = Else (subst Elsewhere e tt) tt
-  restarts Recover zero zero (suc v) t e = Else (subst Elsewhere e tt) tt
-  restarts Recover zero (suc k) zero t e = Else (subst Elsewhere e tt) tt
-  restarts Recover zero (suc k) (suc v) t e = Reenters Recover (zero ∷ suc k ∷ []) refl (sym e) refl
-  restarts Unlock (suc c) zero v t e = Else (subst Elsewhere e tt) tt
-  restarts Unlock (suc c) (suc k) v t e = Else (subst Elsewhere e tt) tt
-  restarts Unlock zero zero zero t e = Else (subst Elsewhere e tt) tt
-  restarts Unlock zero zero (suc v) t e = Else (subst Elsewhere e tt) tt
-  restarts Unlock zero (suc k) zero t e = Else (subst Elsewhere e tt) tt
-  restarts Unlock zero (suc k) (suc v) t e = Reenters Unlock (zero ∷ suc k ∷ []) refl (sym e) refl
-  restarts Withdraw (suc c) zero v t e = Else (subst Elsewhere e tt) tt
-  restarts Withdraw (suc c) (suc k) v t e = Else (subst Elsewhere e tt) tt
-  restarts Withdraw zero zero zero t e = Else (subst Elsewhere e tt) tt
-  restarts Withdraw zero zero (suc v) t e = Else (subst Elsewhere e tt) tt
-  restarts Withdraw zero (suc k) zero t e = Else (subst Elsewhere e tt) tt
-  restarts Withdraw zero (suc k) (suc v) t e = Reenters Withdraw (zero ∷ suc k ∷ []) refl (sym e) refl
+  restarts call (suc c) zero v t e = Else (subst Elsewhere e tt) tt
+  restarts call zero zero (suc v) t e = Else (subst Elsewhere e tt) tt
+  restarts call zero (suc k) (suc v) t e = Reenters call (zero ∷ suc k ∷ []) refl (sym e) refl
+  restarts _ _ _ _ t e = Else (subst Elsewhere e tt) tt
 
   glanced : (s : Place) (v : ℕ) → step_deed p s Glances v ≡ None
-  glanced Rest v = refl
-  glanced Dead v = refl
-  glanced (Reread call []) v = refl
-  glanced (Reread call (c ∷ [])) v = refl
   glanced (Reread call (c ∷ k ∷ [])) v = refl
-  glanced (Reread call (c ∷ k ∷ i ∷ is)) v = refl
-  glanced Opening v = refl
-  glanced (Door unread m) v = refl
-  glanced (Shutting call k) v = refl
-  glanced (Wait k unpassed looked) v = refl
-  glanced Inside v = refl
-  glanced Leaving v = refl
-  glanced Withdrawing v = refl
-  glanced (Unmarking call) v = refl
+  glanced _ v = refl
 
   glance : (s t : Place) (v : ℕ) → Some s ≡ Some t → Turn p s t (step_deed p s Glances v)
   glance s t v e =
@@ -68,15 +37,11 @@ module _ (n limit p : ℕ) where
 
   shut_else : (call : CoreCall) (k : ℕ) → Elsewhere (shut n p call k)
   shut_else Lock k = tt
-  shut_else Recover k = tt
-  shut_else Unlock k = tt
-  shut_else Withdraw k = tt
+  shut_else _ k = tt
 
   unmarked_else : (call : CoreCall) → Elsewhere (unmarked call)
   unmarked_else Lock = tt
-  unmarked_else Recover = tt
-  unmarked_else Unlock = tt
-  unmarked_else Withdraw = tt
+  unmarked_else _ = tt
 
   pub turn : (s : Place) (kind : Kind) (word : Word) (v : ℕ) (t : Place) → next n limit p s kind word v ≡ Some t → Turn p s t (step_deed p s kind v)
   turn (Reread call []) Rereads (ChoosingOf q) v t e = else_by (q == p) _ _ t _ e tt tt
@@ -101,21 +66,9 @@ module _ (n limit p : ℕ) where
   turn _ _ _ v t e = absurd (cc)
 
 pub not_data : (n limit p : ℕ) (s : Place) (kind : Kind) (i v : ℕ) → IsSome (next n limit p s kind (DataAt i) v) → ⊥
-not_data n limit p (Reread call []) Rereads i v some = cc
-not_data n limit p (Reread call (c ∷ [])) Rereads i v some = cc
 not_data n limit p (Reread call (c ∷ k ∷ [])) Rereads i v some = cc
-not_data n limit p Opening Opens i v some = cc
-not_data n limit p (Door [] m) Peeks i v some = cc
-not_data n limit p (Door (j ∷ js) m) Peeks i v some = cc
 not_data n limit p (Door [] m) Takes i v some = cc
-not_data n limit p (Door [] m) Shuts i v some = cc
-not_data n limit p (Shutting call k) Shuts i v some = cc
-not_data n limit p (Wait k [] None) Looks i v some = cc
-not_data n limit p (Wait k (j ∷ js) None) Looks i v some = cc
 not_data n limit p (Wait k unpassed (Some j)) Weighs i v some = cc
 not_data n limit p (Wait k [] None) Marks i v some = cc
-not_data n limit p Leaving Drops i v some = cc
-not_data n limit p Withdrawing Drops i v some = cc
-not_data n limit p (Unmarking call) Marks i v some = cc
 not_data n limit p s Glances i v some = cc
 not_data _ _ _ _ _ _ _ some = cc

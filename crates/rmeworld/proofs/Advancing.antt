@@ -1,11 +1,10 @@
 -- A step that the code has made is the world's.
 use Rattle.std.proofs.Common.{◌≡◌, ℕ, false, if◌then◌else◌, List, [], Option, Some, None, IfSome, refl, sym, ap, ◌∙◌, subst}
-use Rattle.std.proofs.lemmas.Bool.{true≢false}
 use Rattle.rmecore.specs.Machine.{Standing, first, at_scan, kind_of, word_of, answer}
 use Rattle.rmecore.specs.Place.{Place, above, Door, Wait}
 use Rattle.rmecore.specs.World.{is_store, step_deed}
 use Rattle.rmecore.specs.declared.kind.Kind.{Kind}
-use Rattle.rmecore.specs.declared.kind.Kind.TheVariants.{Open as Opens, Peek as Peeks, Take as TakesNumber, Shut as Shuts, Look as Looks, Weigh as Weighs, Mark as Marks, Drop as Drops, Reread as Rereads, Get as Gets, Put as Puts, Glance as Glances}
+use Rattle.rmecore.specs.declared.kind.Kind.TheVariants.{Open as Opens}
 use Rattle.rmecore.specs.declared.own.Own.{Own}
 use Rattle.rmecore.specs.declared.scan.Scan.{Scan}
 use Rattle.rmecore.specs.declared.scan.Scan.TheVariants.{Peeking, Waiting}
@@ -54,32 +53,12 @@ IsQuiet p s kind x = (step_deed p s kind x ≡ None) × (answer s kind x ≡ Non
 
 -- so it is in the doorway and in the line
 door_is_quiet : (p : ℕ) (unread : List ℕ) (m : ℕ) (kind : Kind) (x : ℕ) → is_store kind ≡ false → IsQuiet p (Door unread m) kind x
-door_is_quiet p unread m Opens x h = absurd (true≢false h)
-door_is_quiet p unread m Peeks x h = (refl, refl)
-door_is_quiet p unread m TakesNumber x h = absurd (true≢false h)
-door_is_quiet p unread m Shuts x h = absurd (true≢false h)
-door_is_quiet p unread m Looks x h = (refl, refl)
-door_is_quiet p unread m Weighs x h = (refl, refl)
-door_is_quiet p unread m Marks x h = absurd (true≢false h)
-door_is_quiet p unread m Drops x h = absurd (true≢false h)
-door_is_quiet p unread m Rereads x h = (refl, refl)
-door_is_quiet p unread m Gets x h = (refl, refl)
-door_is_quiet p unread m Puts x h = absurd (true≢false h)
-door_is_quiet p unread m Glances x h = (refl, refl)
+door_is_quiet p unread m Opens x h = (cc, cc)
+door_is_quiet p unread m _ x h = (cc, cc)
 
 line_is_quiet : (p k : ℕ) (unpassed : List ℕ) (looked : Option ℕ) (kind : Kind) (x : ℕ) → is_store kind ≡ false → IsQuiet p (Wait k unpassed looked) kind x
-line_is_quiet p k unpassed looked Opens x h = absurd (true≢false h)
-line_is_quiet p k unpassed looked Peeks x h = (refl, refl)
-line_is_quiet p k unpassed looked TakesNumber x h = absurd (true≢false h)
-line_is_quiet p k unpassed looked Shuts x h = absurd (true≢false h)
-line_is_quiet p k unpassed looked Looks x h = (refl, refl)
-line_is_quiet p k unpassed looked Weighs x h = (refl, refl)
-line_is_quiet p k unpassed looked Marks x h = absurd (true≢false h)
-line_is_quiet p k unpassed looked Drops x h = absurd (true≢false h)
-line_is_quiet p k unpassed looked Rereads x h = (refl, refl)
-line_is_quiet p k unpassed looked Gets x h = (refl, refl)
-line_is_quiet p k unpassed looked Puts x h = absurd (true≢false h)
-line_is_quiet p k unpassed looked Glances x h = (refl, refl)
+line_is_quiet p k unpassed looked Opens x h = (cc, cc)
+line_is_quiet p k unpassed looked _ x h = (cc, cc)
 
 place_is_quiet : (st : Stand) (scan : Scan) (kind : Kind) (x : ℕ) → at_scan (standing st) scan ≡ standing st → is_store kind ≡ false → IsQuiet st.index st.lock kind x
 place_is_quiet st (Peeking i m) kind x at h = subst (λ (t : Standing). IsQuiet st.index t.place kind x) at (door_is_quiet st.index (above st.layout.procs st.index i) m kind x h)

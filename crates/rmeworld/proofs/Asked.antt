@@ -15,7 +15,7 @@ use Rattle.rmecore.specs.declared.outer.Outer.{Outer}
 use Rattle.rmecore.specs.declared.phase.Phase.{Phase}
 use Rattle.rmecore.specs.declared.phase.Phase.TheVariants.{Inside as Within}
 use Rattle.rmecore.specs.declared.word.Word.{Word}
-use Rattle.rmecore.specs.declared.word.Word.TheVariants.{Choosing as ChoosingOf, Number as NumberOf, Inside as InsideOf, Data as DataAt}
+use Rattle.rmecore.specs.declared.word.Word.TheVariants.{Data as DataAt}
 use Rattle.rmecore.proofs.Invariant.{put_same, put_other}
 use Rattle.redomail.specs.Deeds.{deeds_of_put}
 use Rattle.redomail.specs.Layout.{Words, IsLayout, size}
@@ -37,7 +37,6 @@ use Rattle.rmeworld.specs.declared.call.Call.{Call}
 use Rattle.rmeworld.specs.declared.call.Call.TheVariants.{Lock, Unlock, Consistent, Recover, Append, Close, Get, Put, Withdraw}
 use Rattle.rmeworld.specs.declared.why.Why.{Why}
 use Rattle.rmeworld.specs.declared.why.Why.TheVariants.{Ruining, Mending, Working}
-use Rattle.rmeworld.proofs.Happenings.{done_by}
 use Rattle.rmeworld.proofs.Holders.{At, one, putter_in, story_comes}
 use Rattle.rmeworld.proofs.Knowing.{Post, PostAt}
 use Rattle.rmeworld.proofs.Projection.{outers, at_lock_some, only_some, inside_some, some_of}
@@ -45,16 +44,13 @@ use Rattle.rmeworld.proofs.Reaching.{origin}
 use Rattle.rmeworld.proofs.Sends.{Sends, append_sends, close_sends, ruin_sends, board_sends, consistent_sends}
 use Rattle.rmeworld.proofs.Stories.{if_same, deeds_none, head}
 use Rattle.rmeworld.proofs.StoryGrows.{last_more}
+use Rattle.rmecore.proofs.Rows.{after_deed as done_by}
 
 -- only a put of a data word changes them
 cells_kept : (l : Layout) (cells : Words) (e : Happening) → puts_data e ≡ false → cells_after l cells e ≡ cells
-cells_kept l cells (Begins p call) f = refl
-cells_kept l cells (Falls p) f = refl
-cells_kept l cells (Glances p word v) f = refl
-cells_kept l cells (Moves p kind (ChoosingOf q) v) f = if_same (is_store kind) cells
-cells_kept l cells (Moves p kind (NumberOf q) v) f = if_same (is_store kind) cells
-cells_kept l cells (Moves p kind (InsideOf q) v) f = if_same (is_store kind) cells
 cells_kept l cells (Moves p kind (DataAt i) v) f = rw f refl
+cells_kept l cells (Moves p kind _ v) f = if_same (is_store kind) cells
+cells_kept l cells _ f = refl
 
 module _ (l : Layout) (limit : ℕ) (layout : IsLayout l) (D : Deed → Type 0) (shows : (p at seq : ℕ) (v : List ℕ) → D (deed.Show p at seq v)) (locks : (o : Outer) → D (deed.Outer o)) where
   -- each deed of what is left of p's script has D

@@ -1,13 +1,13 @@
 -- No call takes more steps than its most, and one under way has taken fewer.
 use Rattle.std.proofs.Common.{◌≡◌, ℕ, zero, suc, ◌+◌, ◌*◌, ◌<◌, ◌≤◌, Bool, true, false, [], ◌∷◌, List, Option, Some, None, IsSome, refl, sym, ap, ◌∙◌, arith}
-use Rattle.rmecore.specs.Place.{Place, Rest, Dead, Reread, Shutting, Wait, Inside, Leaving, Withdrawing, Unmarking}
+use Rattle.rmecore.specs.Place.{Place, Rest, Reread, Shutting, Wait, Leaving, Withdrawing, Unmarking}
 use Rattle.rmecore.specs.OwnSteps.{reentry_steps, spent_steps, found_steps}
 use Rattle.rmecore.specs.Refused.{is_idle}
 use Rattle.rmecore.specs.declared.core_call.CoreCall.{CoreCall}
 use Rattle.rmecore.specs.declared.core_call.CoreCall.TheVariants as core
 use Rattle.rmecore.specs.declared.core_done.CoreDone.TheVariants.{In, InAgain}
 use Rattle.rmecore.specs.declared.found.Found.{Found}
-use Rattle.rmecore.specs.declared.found.Found.TheVariants.{Idle, Left, Doorway, Waiting, Inside as Found-Inside}
+use Rattle.rmecore.specs.declared.found.Found.TheVariants.{Left, Waiting}
 use Rattle.rmecore.specs.declared.own.Own.{Own}
 use Rattle.rmecore.proofs.Payments.{fewer}
 use Rattle.redomail.specs.Script.{Script, Get as Asks, Put as Writes, Done}
@@ -33,36 +33,21 @@ summed k None x h = absurd (cc)
 summed k (Some y) x h = (y, refl, (let e : y + k ≡ x = cc in sym e))
 
 again_most : (c k i x : ℕ) → reentry_steps c k i ≡ Some x → x ≤ 3
-again_most zero (suc k) (suc i) x e = let f : 3 ≡ x = cc in omega arith
-again_most zero (suc k) zero x e = absurd (cc)
-again_most zero zero i x e = absurd (cc)
-again_most (suc c) k i x e = absurd (cc)
+again_most c k i x e = grind arith
 
 spent_most : (n c k i x : ℕ) → spent_steps n c k i ≡ Some x → x ≤ n + 5
-spent_most n zero zero zero x e = let f : n + 4 ≡ x = cc in omega arith
-spent_most n (suc c) zero i x e = let f : n + 3 ≡ x = cc in omega arith
-spent_most n zero zero (suc i) x e = let f : n + 5 ≡ x = cc in omega arith
-spent_most n zero (suc k) i x e = absurd (cc)
-spent_most n (suc c) (suc k) i x e = absurd (cc)
+spent_most n c k i x e = grind arith
 
 found_most : (found : Found) (c k i x : ℕ) → found_steps found c k i ≡ Some x → x ≤ 4
-found_most Idle zero zero zero x e = let f : 3 ≡ x = cc in omega arith
-found_most Left zero zero (suc i) x e = let f : 4 ≡ x = cc in omega arith
-found_most Doorway (suc c) zero i x e = let f : 3 ≡ x = cc in omega arith
-found_most Waiting (suc c) (suc k) i x e = let f : 4 ≡ x = cc in omega arith
-found_most Waiting zero (suc k) zero x e = let f : 3 ≡ x = cc in omega arith
-found_most Found-Inside zero (suc k) (suc i) x e = let f : 3 ≡ x = cc in omega arith
-found_most _ _ _ _ x e = absurd (cc)
+found_most found c k i x e = grind arith
 
 either_most : (o o' : Option ℕ) (most x : ℕ) → ((y : ℕ) → o ≡ Some y → y ≤ most) → ((y : ℕ) → o' ≡ Some y → y ≤ most) → either o o' ≡ Some x → x ≤ most
 either_most None o' most x h h' e = h' x e
 either_most (Some y) o' most x h h' e = h x e
 
 busy : (s : Place) → IsSome (lock_part s) → is_idle s ≡ false
-busy Rest some = absurd (cc)
-busy Dead some = absurd (cc)
-busy Inside some = absurd (cc)
-busy _ some = refl
+busy Rest some = cc
+busy _ some = cc
 
 module _ (l : Layout) (w : Own) (some : 0 < l.procs) where
   entry_most : (x : ℕ) → core_steps l w In ≡ Some x → x ≤ 3 * l.procs + 5
@@ -100,7 +85,6 @@ module _ (l : Layout) (w : Own) (some : 0 < l.procs) where
   exit_fewer : (s : Place) (x : ℕ) → lock_part s ≡ Some core.Unlock → PaysCore l w s x → x < 2
   exit_fewer Leaving x is h = let f : 2 ≡ x + 2 = cc in omega arith
   exit_fewer (Unmarking core.Unlock) x is h = let f : 2 ≡ x + 1 = cc in omega arith
-  exit_fewer (Unmarking core.Lock) x is h = absurd (cc)
   exit_fewer (Reread core.Lock seen) x is h = absurd (cc)
   exit_fewer (Shutting core.Lock k) x is h = absurd (cc)
   exit_fewer _ x is h = absurd (cc)
@@ -108,7 +92,6 @@ module _ (l : Layout) (w : Own) (some : 0 < l.procs) where
   withdraw_fewer : (s : Place) (x : ℕ) → lock_part s ≡ Some core.Withdraw → PaysCore l w s x → x < 1
   withdraw_fewer Withdrawing x is h = let f : 1 ≡ x + 1 = cc in omega arith
   withdraw_fewer (Unmarking core.Lock) x is h = absurd (cc)
-  withdraw_fewer (Unmarking core.Unlock) x is h = absurd (cc)
   withdraw_fewer (Reread core.Lock seen) x is h = absurd (cc)
   withdraw_fewer (Shutting core.Lock k) x is h = absurd (cc)
   withdraw_fewer _ x is h = absurd (cc)
@@ -137,33 +120,21 @@ module _ (l : Layout) (w : Own) (some : 0 < l.procs) where
   part_fewer (Some _) s m c _ x is e h = absurd (cc)
 
   append_most : (seq : ℕ) (value : List ℕ) (a : Reply) (x : ℕ) → task_steps l (task.Append seq value) a ≡ Some x → x ≤ 11 + 2 * l.width
-  append_most seq value reply.Stored x e = let f : 11 + 2 * l.width ≡ x = cc in omega arith
-  append_most seq value reply.Already x e = let f : 3 ≡ x = cc in omega arith
-  append_most seq value reply.OutOfOrder x e = let f : 3 ≡ x = cc in omega arith
-  append_most seq value reply.Full x e = let f : 3 ≡ x = cc in omega arith
-  append_most seq value reply.Closed x e = let f : 3 ≡ x = cc in omega arith
-  append_most seq value _ x e = absurd (cc)
+  append_most seq value a x e = grind arith
 
   close_most : (a : Reply) (x : ℕ) → task_steps l task.Close a ≡ Some x → x ≤ 2
-  close_most reply.ClosedNow x e = let f : 2 ≡ x = cc in omega arith
-  close_most reply.AlreadyClosed x e = let f : 1 ≡ x = cc in omega arith
-  close_most _ x e = absurd (cc)
+  close_most a x e = grind arith
 
   script_most : (why : Why) (m : Bool) (a : Reply) (call : Call) (x : ℕ) → why_call why ≡ Some call → script_steps l w m why a ≡ Some x → x ≤ most_steps l call
   script_most Checking m a Lock x is e = let most = checked_most m x e in omega arith
-  script_most Ruining true a Unlock x is e = absurd (cc)
-  script_most Ruining false a Unlock x is e = let f : 1 ≡ x = cc in omega arith
-  script_most Mending m (reply.Mended true) Consistent x is e = let f : 9 + 2 * l.width ≡ x = cc in omega arith
-  script_most Mending m (reply.Mended false) Consistent x is e = let f : 2 ≡ x = cc in omega arith
-  script_most Mending m (reply.Ruined true) Consistent x is e = let f : 1 ≡ x = cc in omega arith
-  script_most Mending m _ Consistent x is e = absurd (cc)
   script_most (Working (task.Append seq value)) m a (Append seq' value') x is e = append_most seq value a x e
   script_most (Working task.Close) m a Close x is e = close_most a x e
-  script_most (Working (task.BoardGet i)) m (reply.Word v) (Get j) x is e = let f : 1 ≡ x = cc in omega arith
-  script_most (Working (task.BoardGet i)) m _ (Get j) x is e = absurd (cc)
-  script_most (Working (task.BoardPut i v)) m reply.Done (Put j u) x is e = let f : 1 ≡ x = cc in omega arith
-  script_most (Working (task.BoardPut i v)) m _ (Put j u) x is e = absurd (cc)
-  script_most _ m a _ x is e = absurd (cc)
+  script_most Ruining true a Unlock x is e = grind arith
+  script_most Mending m (reply.Mended true) Consistent x is e = grind arith
+  script_most Mending m (reply.Ruined true) Consistent x is e = grind arith
+  script_most (Working (task.BoardGet i)) m (reply.Word v) (Get j) x is e = grind arith
+  script_most (Working (task.BoardPut i v)) m reply.Done (Put j u) x is e = grind arith
+  script_most _ m a _ x is e = grind arith
 
   doing_fewer : (why : Why) (left : Script Reply) (m : Bool) (call : Call) (x : ℕ) → why_call why ≡ Some call → HasStep left → Costs (script_steps l w m why) left x → x < most_steps l call
   doing_fewer why (Asks i rest) m call x is has h =

@@ -86,9 +86,7 @@ module _ (l : Layout) (p : ℕ) (w : Own) where
     where
       again : (c k i : ℕ) → reentry_steps c k i ≡ Some x → and_more 3 (either (entry_steps l.procs c k i) (reentry_steps c k i)) ≡ Some (x + 3)
       again zero (suc k) (suc i) h = ap (and_more 3) h
-      again zero (suc k) zero h = absurd (cc)
-      again zero zero i h = absurd (cc)
-      again (suc c) k i h = absurd (cc)
+      again _ _ _ h = absurd (cc)
 
   -- a step of the lock's part
   part_to : (part : Option CoreCall) (done : Option CoreDone) (s t : Place) (m c b : Bool) (steps : ℕ) → IsSome part → Follows part done t
@@ -97,11 +95,7 @@ module _ (l : Layout) (p : ℕ) (w : Own) where
   part_to None done s t m c b steps some follows pays h = absurd (cc)
   part_to (Some core.Unlock) None s t m c b steps some follows pays h =
       (placed _ _ t m c _ follows (exits_on _ s t steps b h (λ x now. (pays x now).0)), ap (λ o. part_call o c) follows, λ e. refl)
-  part_to (Some core.Lock) None s t m c b steps some follows pays h =
-      (placed _ _ t m c _ follows (h.0, (pays steps h.1).0), ap (λ o. part_call o c) follows, λ e. refl)
-  part_to (Some core.Recover) None s t m c b steps some follows pays h =
-      (placed _ _ t m c _ follows (h.0, (pays steps h.1).0), ap (λ o. part_call o c) follows, λ e. refl)
-  part_to (Some core.Withdraw) None s t m c b steps some follows pays h =
+  part_to (Some _) None s t m c b steps some follows pays h =
       (placed _ _ t m c _ follows (h.0, (pays steps h.1).0), ap (λ o. part_call o c) follows, λ e. refl)
   part_to (Some core.Lock) (Some In) s t m c b steps some follows pays h =
       let n = (pays steps h.1).1 in

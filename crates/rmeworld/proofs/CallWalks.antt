@@ -8,7 +8,7 @@ use Rattle.redomail.specs.declared.reply.Reply.TheVariants.{Mended}
 use Rattle.rmeworld.specs.Answered.{answer_at, blocked_by}
 use Rattle.rmeworld.specs.CallWalk.{next_or_same, Walks, blocked_in, and_answer, answers_in, last_spot, Tells, CallsTakeTheirSteps}
 use Rattle.rmeworld.specs.OwnSteps.{own_steps}
-use Rattle.rmeworld.specs.Spot.{Spot, Happening, Begins, Falls, Moves, Glances, next_spot}
+use Rattle.rmeworld.specs.Spot.{Spot, Happening, Begins, Moves, next_spot}
 use Rattle.rmeworld.specs.UnderWay.{part_call, call_by, call_at}
 use Rattle.rmeworld.specs.declared.answer.Answer.{Answer}
 use Rattle.rmeworld.specs.declared.answer.Answer.TheVariants.{Mail}
@@ -45,9 +45,7 @@ module _ (l : Layout) (limit p : ℕ) (w : Own) (below : p < l.procs) where
       (over_is_none t to.1, (x, sym (same_table l w call a spot.mended m same) ∙ ap (λ c. own_steps l w spot.mended c a) (sym it) ∙ own.2, (let f : k + 0 ≡ x + (b + 0) = omega arith in f)))
   behind (Some a) (Moves q kind word v ∷ es) spot t m call x k b to is same sum walks rest =
       absurd (over_rests l p w limit below t kind word v to.1 (subst (λ r. IsSome (next_spot l limit t (Moves r kind word v))) walks.0.0 walks.1) walks.0.1)
-  behind (Some a) (Begins q c ∷ es) spot t m call x k b to is same sum walks rest = absurd walks.0
-  behind (Some a) (Falls q ∷ es) spot t m call x k b to is same sum walks rest = absurd walks.0
-  behind (Some a) (Glances q word v ∷ es) spot t m call x k b to is same sum walks rest = absurd walks.0
+  behind (Some a) (_ ∷ es) spot t m call x k b to is same sum walks rest = absurd walks.0
 
   abbrev Telling : List Happening → Type 0
   Telling es =
@@ -70,9 +68,7 @@ module _ (l : Layout) (limit p : ℕ) (w : Own) (below : p < l.procs) where
   tells [] spot m call x k b to sum walks = (to.1, (x, to.0, (let f : k + 0 ≡ x + (b + 0) = omega arith in f), fewer_at l w (omega arith) spot call x to.1 to.0))
   tells (Moves q kind word v ∷ es) spot m call x k b to sum walks =
       subst (λ r. Telling (Moves r kind word v ∷ es)) (sym walks.0.0) (one_more kind word v es (tells es)) spot m call x k b to sum walks
-  tells (Begins q c ∷ es) spot m call x k b to sum walks = absurd walks.0
-  tells (Falls q ∷ es) spot m call x k b to sum walks = absurd walks.0
-  tells (Glances q word v ∷ es) spot m call x k b to sum walks = absurd walks.0
+  tells (_ ∷ es) spot m call x k b to sum walks = absurd walks.0
 
 pub calls_take_their_steps : CallsTakeTheirSteps
 calls_take_their_steps l limit p began spot call es below some walks =

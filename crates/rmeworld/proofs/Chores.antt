@@ -1,9 +1,9 @@
 -- What a process's machine does is what the definition says, at whatever spot it stands.
 use Rattle.std.proofs.Common.{◌≡◌, ℕ, Bool, true, false, ◌&&◌, ◌==◌, if◌then◌else◌, [], ◌∷◌, Result, Ok, Err, OnErr, Option, Some, None, IsSome, IfSome, unwrap_or, refl, sym, ap, ◌∙◌, eq-eqb}
-use Rattle.rmecore.specs.Place.{Place, Rest, Dead, Wait, Inside, next}
+use Rattle.rmecore.specs.Place.{Place, Inside, next}
 use Rattle.rmecore.specs.declared.refusal.Refusal.{Refusal}
 use Rattle.rmeworld.specs.declared.call.Call.{Call}
-use Rattle.rmeworld.specs.declared.call.Call.TheVariants.{Lock, Unlock, Consistent, Recover, Append, Close, Get, Put, Withdraw}
+use Rattle.rmeworld.specs.declared.call.Call.TheVariants.{Lock, Unlock, Consistent, Append, Close, Get, Put}
 use Rattle.rmeworld.specs.Refused.{first_cause, start_refusal}
 use Rattle.rmecore.specs.Machine.{Standing, progress, after_access, next_access as lock_access, kind_of, word_of, carried, IsAllowed as IsLockAllowed}
 use Rattle.rmecore.specs.declared.access.Access.{Access}
@@ -11,8 +11,7 @@ use Rattle.redomail.specs.declared.layout.Layout.{Layout}
 use Rattle.redomail.specs.declared.reply.Reply.{Reply}
 use Rattle.redomail.specs.declared.reply.Reply.TheVariants.{Ruined}
 use Rattle.redomail.specs.declared.task.Task.TheVariants as task
-use Rattle.redomail.specs.Script.{Script, Get as Asks, Put as Writes, Done, head, tail}
-use Rattle.redomail.specs.declared.next.Next.TheVariants as want
+use Rattle.redomail.specs.Script.{Script, Get as Asks, Put as Writes, Done, tail}
 use Rattle.redomail.specs.Tasks.{script}
 use Rattle.redomail.specs.Left.{Pending, left, begun}
 use Rattle.rmeworld.specs.declared.errand.Errand.{Errand as Chore}
@@ -25,6 +24,9 @@ use Rattle.rmeworld.specs.Errands.{errand_of, HasStep, Held}
 use Rattle.rmeworld.specs.Spot.{Errand, Free, Doing, Spot, only_spot, begun_from, moved_by, mended_entered, errand_entered, at_lock, settled}
 use Rattle.rmeworld.specs.Stand.{Stand, outcome, IsAllowed, spot_of, standing, lock_moved, job_left, stepped_by, access_by, next_access, after_at, spot_after}
 use Rattle.rmeworld.proofs.Entries.{stays}
+use Rattle.std.proofs.Common.{subst}
+use Rattle.rmecore.specs.declared.progress.Progress.{Progress}
+use Rattle.rmeworld.specs.Stand.{stepped}
 
 -- the process with this to do
 abbrev pub with : Stand → Chore → Stand
@@ -124,6 +126,35 @@ lock_outcome s v = by (lock_access (standing s))
 pub standing_is : (s : Stand) (t : Standing) → t.procs ≡ s.layout.procs → t.limit ≡ s.limit → t.index ≡ s.index → t.place ≡ s.lock → standing s ≡ t
 standing_is s t a b c d = λ i. record { procs = sym a i; limit = sym b i; index = sym c i; place = sym d i }
 
+-- a step of the lock's part as a process takes it, which is seen as now and whose lock's part stands as t
+module _ {seen now : Stand} (view : seen ≡ now) (t : Standing) (procs : t.procs ≡ seen.layout.procs) (limited : t.limit ≡ seen.limit) (index : t.index ≡ seen.index) (place : t.place ≡ seen.lock) (free : now.errand ≡ IsFree) (v : ℕ) where
+  is : standing now ≡ t
+  is = standing_is now t (procs ∙ ap (λ (s : Stand). s.layout.procs) view) (limited ∙ ap (λ (s : Stand). s.limit) view) (index ∙ ap (λ (s : Stand). s.index) view) (place ∙ ap (λ (s : Stand). s.lock) view)
+
+  may : IfSome (lock_access t) (IsLockAllowed t) → IfSome (lock_access (standing now)) (IsLockAllowed (standing now))
+  may h = subst (λ (x : Standing). IfSome (lock_access x) (IsLockAllowed x)) (sym is) h
+
+  pub part_allowed : IfSome (lock_access t) (IsLockAllowed t) → IfSome (next_access now) (IsAllowed now)
+  part_allowed h = subst (λ e. IfSome (next_access (with now e)) (IsAllowed (with now e))) (sym free) (lock_allowed now (may h))
+
+  pub part_progress : (p : Progress) → p ≡ progress t (lock_access t) v → p ≡ progress (standing now) (lock_access (standing now)) v
+  part_progress p e = e ∙ ap (λ (x : Standing). progress x (lock_access x) v) (sym is)
+
+  pub part_moved : (lock : Standing) (mended checked : Bool) (errand : Chore) → lock ≡ record t { place = after_access t (lock_access t) v } → mended ≡ mended_entered seen.mended seen.lock lock.place → checked ≡ is_entry seen.lock lock.place
+      → errand ≡ (if checked then Does Checking (begun seen.layout seen.index task.Check) else IsFree)
+      → record { layout = seen.layout; limit = lock.limit; index = seen.index; lock = lock.place; mended = mended; barred = seen.barred; errand = errand } ≡ stepped now v
+  part_moved lock mended checked errand moved m c e =
+      let to : Place = after_access (standing now) (lock_access (standing now)) v in
+      let there : lock.place ≡ to = ap (λ (x : Standing). x.place) moved ∙ ap (λ (x : Standing). after_access x (lock_access x) v) (sym is) in
+      let limits : lock.limit ≡ now.limit = ap (λ (x : Standing). x.limit) moved ∙ ap (λ (x : Standing). x.limit) (sym is) in
+      let mends : mended ≡ mended_entered now.mended now.lock to = m ∙ (λ i. mended_entered (view i).mended (view i).lock (there i)) in
+      let checks_now : checked ≡ is_entry now.lock to = c ∙ (λ i. is_entry (view i).lock (there i)) in
+      let does : errand ≡ (if is_entry now.lock to then Does Checking (begun now.layout now.index task.Check) else IsFree) = e ∙ (λ i. if checks_now i then Does Checking (begun (view i).layout (view i).index task.Check) else IsFree) in
+      (λ i. record { layout = (view i).layout; limit = limits i; index = (view i).index; lock = there i; mended = mends i; barred = (view i).barred; errand = does i }) ∙ ap (λ x. stepped_by now x v) (sym free)
+
+  pub part_goes : IfSome (lock_access t) (IsLockAllowed t) → spot_of (stepped now v) ≡ spot_after now (next_access now) v
+  part_goes h = subst (λ e. spot_of (stepped_by now e v) ≡ spot_after (with now e) (next_access (with now e)) v) (sym free) (lock_goes now v (may h))
+
 failing : (test : Bool) (r e : Refusal) (spot : Spot) → first_cause ((test, r) ∷ []) ≡ Some e → only_spot test spot ≡ None
 failing true r e spot h = cc
 failing false r e spot h = refl
@@ -141,37 +172,11 @@ refuses l p Inside b c Free (Append seq value) r h = failing_both b _ _ _ _ _ h
 refuses l p Inside b c Free Close r h = failing b _ _ _ h
 refuses l p Inside b c Free (Get i) r h = failing _ _ _ _ h
 refuses l p Inside b c Free (Put i v) r h = failing _ _ _ _ h
-refuses l p Inside true c Free Unlock r h = cc
 refuses l p Inside false c Free Unlock r h = cc
 refuses l p Inside false c Free Consistent r h = cc
-refuses l p Rest b c Free Lock r h = cc
-refuses l p Dead b c Free Lock r h = cc
-refuses l p Rest b c Free Recover r h = cc
-refuses l p Dead b c Free Recover r h = cc
-refuses l p (Wait k unpassed looked) b c Free Withdraw r h = cc
-refuses l p s true c Free Lock r h = refl
-refuses l p s false c Free Lock r h = refl
-refuses l p s true c Free Recover r h = refl
-refuses l p s false c Free Recover r h = refl
-refuses l p s true c Free Withdraw r h = refl
-refuses l p s false c Free Withdraw r h = refl
-refuses l p s true c Free Unlock r h = refl
-refuses l p s false c Free Unlock r h = refl
-refuses l p s true c Free Consistent r h = refl
-refuses l p s false c Free Consistent r h = refl
-refuses l p s true c Free (Append seq value) r h = refl
-refuses l p s false c Free (Append seq value) r h = refl
-refuses l p s true c Free Close r h = refl
-refuses l p s false c Free Close r h = refl
-refuses l p s true c Free (Get i) r h = refl
-refuses l p s false c Free (Get i) r h = refl
-refuses l p s true c Free (Put i v) r h = refl
-refuses l p s false c Free (Put i v) r h = refl
-
-pub is_done : (e : Script Reply) (reply : Reply) → head e ≡ want.Done reply → e ≡ Done reply
-is_done (Done a) reply h = cc
-is_done (Asks i rest) reply h = cc
-is_done (Writes i v rest) reply h = cc
+refuses l p s true c Free Lock r h = cc
+refuses l p s false c Free Lock r h = cc
+refuses l p _ _ c _ _ r h = cc
 
 pub always_err : {T E : Type 0} (r : Result T E) (P : Type 0) → P → OnErr r P
 always_err (Ok x) P h = tt

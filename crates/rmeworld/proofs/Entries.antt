@@ -1,14 +1,14 @@
 -- The lock's machine answers In, InAgain or Found(Inside) just where it comes to be inside.
 use Rattle.std.proofs.Common.{◌≡◌, ℕ, zero, suc, Bool, true, false, nat_lt, if◌then◌else◌, [], ◌∷◌, Option, Some, None, IsSome, IfSome, unwrap_or, refl, inl, inr}
 use Rattle.std.proofs.lemmas.Bool.{cases_Bool}
-use Rattle.rmecore.specs.Place.{Place, Rest, Dead, Reread, Opening, Door, Shutting, Wait, Inside, Leaving, Withdrawing, Unmarking, without, only, restart, shut, unmarked, next}
+use Rattle.rmecore.specs.Place.{Place, Reread, Opening, Door, Shutting, Wait, Inside, Leaving, Withdrawing, Unmarking, without, only, restart, shut, unmarked, next}
 use Rattle.rmecore.specs.Machine.{Standing, access, next_access, after_access, kind_of, word_of, carried, answer, progress, IsAllowed}
 use Rattle.rmecore.specs.declared.access.Access.{Access}
 use Rattle.rmecore.specs.declared.core_done.CoreDone.{CoreDone}
 use Rattle.rmecore.specs.declared.core_done.CoreDone.TheVariants.{In, Spent, Withdrawn}
 use Rattle.rmecore.specs.declared.kind.Kind.TheVariants.{Reread as Rereads, Shut as Shuts, Mark as Marks}
 use Rattle.rmecore.specs.declared.core_call.CoreCall.{CoreCall as Call}
-use Rattle.rmecore.specs.declared.core_call.CoreCall.TheVariants.{Lock, Unlock}
+use Rattle.rmecore.specs.declared.core_call.CoreCall.TheVariants.{Lock}
 use Rattle.rmeworld.specs.Spot.{mended_entered}
 use Rattle.rmeworld.specs.Entered.{is_entry, checks_done, mended_done}
 
@@ -26,17 +26,10 @@ either false s t u h k = k
 
 rereads : (n limit p : ℕ) (call : Call) (c k i : ℕ) → Enters (answer (Reread call (c ∷ k ∷ [])) Rereads i) (Reread call (c ∷ k ∷ [])) (restart n p call c k i)
 rereads n limit p Lock (suc c) zero i = (refl, λ b. refl)
-rereads n limit p Lock (suc c) (suc k) i = (refl, λ b. refl)
-rereads n limit p Lock zero zero zero = (refl, λ b. refl)
-rereads n limit p Lock zero zero (suc i) = (refl, λ b. refl)
-rereads n limit p Lock zero (suc k) zero = (refl, λ b. refl)
-rereads n limit p Lock zero (suc k) (suc i) = (refl, λ b. refl)
 rereads n limit p _ (suc c) zero i = (refl, λ b. refl)
-rereads n limit p _ (suc c) (suc k) i = (refl, λ b. refl)
-rereads n limit p _ zero zero zero = (refl, λ b. refl)
 rereads n limit p _ zero zero (suc i) = (refl, λ b. refl)
-rereads n limit p _ zero (suc k) zero = (refl, λ b. refl)
 rereads n limit p _ zero (suc k) (suc i) = (refl, λ b. refl)
+rereads n limit p _ _ _ _ = (refl, λ b. refl)
 
 shuts : (n p : ℕ) (call : Call) (k v : ℕ) → Enters (answer (Shutting call k) Shuts v) (Shutting call k) (shut n p call k)
 shuts n p Lock k v = (refl, λ b. refl)
@@ -44,14 +37,12 @@ shuts n p _ k v = (refl, λ b. refl)
 
 unmarks : (call : Call) (v : ℕ) → Enters (answer (Unmarking call) Marks v) (Unmarking call) (unmarked call)
 unmarks Lock v = (refl, λ b. refl)
-unmarks Unlock v = (refl, λ b. refl)
 unmarks _ v = (refl, λ b. refl)
 
 entered : (n limit p : ℕ) (s : Place) (v : ℕ) → IfSome (access limit p s) (λ a. IsSome (next n limit p s (kind_of a) (word_of a) (carried a v)) → Enters (answer s (kind_of a) (carried a v)) s (unwrap_or (next n limit p s (kind_of a) (word_of a) (carried a v)) s))
 entered n limit p (Reread call []) v = λ some. allowed_to _ None (Reread call []) _ some (refl, λ b. refl)
 entered n limit p (Reread call (c ∷ [])) v = λ some. allowed_to _ None (Reread call (c ∷ [])) _ some (refl, λ b. refl)
 entered n limit p (Reread call (c ∷ k ∷ [])) v = λ some. allowed_to _ (answer (Reread call (c ∷ k ∷ [])) Rereads v) (Reread call (c ∷ k ∷ [])) _ some (rereads n limit p call c k v)
-entered n limit p (Reread call (c ∷ k ∷ i ∷ seen)) v = tt
 entered n limit p Opening v = λ some. allowed_to _ None Opening _ some (refl, λ b. refl)
 entered n limit p (Door (j ∷ js) m) v = λ some. allowed_to _ None (Door (j ∷ js) m) _ some (refl, λ b. refl)
 entered n limit p (Door [] m) v =
@@ -66,13 +57,7 @@ entered n limit p (Wait k [] None) v = λ some. allowed_to _ (Some In) (Wait k [
 entered n limit p Leaving v = λ some. allowed_to _ None Leaving _ some (refl, λ b. refl)
 entered n limit p Withdrawing v = λ some. allowed_to _ (Some Withdrawn) Withdrawing _ some (refl, λ b. refl)
 entered n limit p (Unmarking call) v = λ some. allowed_to _ (answer (Unmarking call) Marks 0) (Unmarking call) _ some (unmarks call 0)
-entered n limit p Rest v = tt
-entered n limit p Dead v = tt
-entered n limit p Inside v = tt
-
-together : {A : Type 0} (o : Option A) (P Q : A → Type 0) → IfSome o P → IfSome o (λ a. P a → Q a) → IfSome o Q
-together None P Q h k = tt
-together (Some a) P Q h k = k h
+entered n limit p _ v = tt
 
 -- what the lock's machine answers tells whether it has entered
 of_step : (s : Standing) (v : ℕ) (o : Option Access) → IfSome o (IsAllowed s) → IfSome o (λ a. IsSome (next s.procs s.limit s.index s.place (kind_of a) (word_of a) (carried a v)) → Enters (answer s.place (kind_of a) (carried a v)) s.place (after_access s (Some a) v))
@@ -81,17 +66,8 @@ of_step s v None h k same = same
 of_step s v (Some a) h k same = k (h v)
 
 pub stays : (s : Place) → Enters None s s
-stays Rest = (refl, λ b. refl)
-stays Dead = (refl, λ b. refl)
-stays (Reread call seen) = (refl, λ b. refl)
-stays Opening = (refl, λ b. refl)
-stays (Door unread m) = (refl, λ b. refl)
-stays (Shutting call k) = (refl, λ b. refl)
-stays (Wait k unpassed looked) = (refl, λ b. refl)
 stays Inside = (refl, λ b. refl)
-stays Leaving = (refl, λ b. refl)
-stays Withdrawing = (refl, λ b. refl)
-stays (Unmarking call) = (refl, λ b. refl)
+stays _ = (refl, λ b. refl)
 
 pub all_entered : (s : Standing) (v : ℕ) → IfSome (next_access s) (IsAllowed s) → Enters (progress s (next_access s) v).done s.place (after_access s (next_access s) v)
 all_entered s v h = of_step s v (next_access s) h (entered s.procs s.limit s.index s.place v) (stays s.place)

@@ -9,7 +9,7 @@ use Rattle.rmecore.specs.declared.outer.Outer.{Outer}
 use Rattle.rmecore.specs.declared.refusal.Refusal.{Refusal}
 use Rattle.rmecore.specs.declared.refusal.Refusal.TheVariants.{NoSuchProcess, NothingToDo}
 use Rattle.rmecore.specs.declared.word.Word.{Word}
-use Rattle.rmecore.specs.declared.word.Word.TheVariants.{Choosing as ChoosingOf, Number as NumberOf, Inside as InsideOf, Data as DataAt}
+use Rattle.rmecore.specs.declared.word.Word.TheVariants.{Data as DataAt}
 use Rattle.redomail.specs.declared.deed.Deed.{Deed}
 use Rattle.redomail.specs.declared.layout.Layout.{Layout}
 use Rattle.redomail.specs.Layout.{IsLayout, Words, words_of}
@@ -102,9 +102,7 @@ single_put l p w i v =
 
 single_word : (l : Layout) (p : ℕ) (w : Words) (word : Word) (v : ℕ) → Single (put_deeds l p w word v)
 single_word l p w (DataAt i) v = single_put l p w i v
-single_word l p w (ChoosingOf q) v = refl
-single_word l p w (NumberOf q) v = refl
-single_word l p w (InsideOf q) v = refl
+single_word l p w _ v = refl
 
 single_mail : (l : Layout) (p : ℕ) (w : Words) (a : Access) → Single (mail_by l p w a)
 single_mail l p w (Load kind word) = refl

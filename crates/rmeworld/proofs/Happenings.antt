@@ -2,8 +2,8 @@
 use Rattle.std.proofs.Common.{◌≡◌, ◌≢◌, ℕ, ◌<◌, Bool, true, false, ◌&&◌, ◌==◌, nat_lt, length, List, [], ◌∷◌, ◌++◌, Option, Some, None, Ok, refl, sym, ap, ◌∙◌, subst, inl, inr, ◌⊎◌}
 use Rattle.std.proofs.lemmas.Bool.{cases_Bool, true≢false, ltb-true, lt-ltb}
 use Rattle.rmecore.specs.Needs.{AllHold, put}
-use Rattle.rmecore.specs.AbstractLock.{Abstract, is_inside, crashed, needs, done}
-use Rattle.rmecore.specs.Place.{Place, Rest, Dead, Reread, Opening, Door, Shutting, Wait, Inside, Leaving, Withdrawing, Unmarking, next, started}
+use Rattle.rmecore.specs.AbstractLock.{Abstract, is_inside, needs, done}
+use Rattle.rmecore.specs.Place.{Place, Rest, Dead, Reread, Wait, Inside, Leaving, Withdrawing, next, started}
 use Rattle.rmecore.specs.Sole.{IsIn, Sole, IsLeave}
 use Rattle.rmecore.specs.Turn.{Elsewhere, Plain, Turn, Enters, Reenters, Exits, Same, Else}
 use Rattle.rmecore.specs.World.{step_deed}
@@ -16,7 +16,7 @@ use Rattle.rmecore.specs.declared.phase.Phase.{Phase}
 use Rattle.rmecore.specs.declared.phase.Phase.TheVariants as phase
 use Rattle.rmecore.specs.declared.word.Word.{Word}
 use Rattle.rmecore.proofs.Allowing.{Allows, allows_from}
-use Rattle.rmecore.proofs.Invariant.{put_same, put_other}
+use Rattle.rmecore.proofs.Invariant.{put_same}
 use Rattle.rmecore.proofs.Soles.{sole_done, in_after}
 use Rattle.rmecore.proofs.Turns.{turn}
 use Rattle.redomail.specs.declared.deed.Deed.{Deed}
@@ -46,10 +46,9 @@ use Rattle.rmeworld.specs.World.{outer_deeds}
 use Rattle.rmeworld.specs.Law.{ErrandTells}
 use Rattle.rmeworld.proofs.Projection.{at_lock_some, begun, inside_some}
 use Rattle.rmeworld.proofs.Knowing.{Clean, Work, Post, PostAt, settled_post, Post-out, checking, ruining, mending, appending, closing, getting, putting, work_tells}
-
-abbrev pub done_by : Abstract → Option Outer → Abstract
-done_by a None = a
-done_by a (Some d) = done a d
+use Rattle.rmecore.specs.AbstractLock.{doer}
+use Rattle.rmecore.proofs.Rows.{after_deed as done_by}
+use Rattle.rmecore.proofs.Soles.{neither, phase_other}
 
 abbrev pub AllowsBy : ℕ → Abstract → Option Outer → Type 0
 AllowsBy n a None = Unit {0}
@@ -58,24 +57,6 @@ AllowsBy n a (Some d) = AllHold (needs n a d)
 -- the judge's state over this lock and this mailbox
 abbrev pub judge_of : Layout → Abstract → Mailbox → State
 judge_of l a m = record { procs = l.procs; cap = l.cap; lock = a; mail = m }
-
-abbrev pub by : Outer → ℕ
-by (Begin p) = p
-by (Ready p) = p
-by (Enter p) = p
-by (Crash p) = p
-by (Reenter p) = p
-by (Leave p) = p
-by (Quit p) = p
-
-phase_other : (a : Abstract) (d : Outer) (q : ℕ) → q ≢ by d → (done a d).phase q ≡ a.phase q
-phase_other a (Begin p) q ne = put_other a.phase p phase.Door q ne
-phase_other a (Ready p) q ne = put_other a.phase p phase.Ready q ne
-phase_other a (Enter p) q ne = put_other a.phase p phase.Inside q ne
-phase_other a (Crash p) q ne = put_other a.phase p (crashed (a.phase p)) q ne
-phase_other a (Reenter p) q ne = put_other a.phase p phase.Inside q ne
-phase_other a (Leave p) q ne = put_other a.phase p phase.Out q ne
-phase_other a (Quit p) q ne = put_other a.phase p phase.Out q ne
 
 -- What stands of the mailbox at any point, beside what each process knows: one process at most is in, alive or dead, the
 -- words have the shape for it, and where nobody is in they are clean or ruined.
@@ -112,23 +93,15 @@ module _ (l : Layout) (a : Abstract) (w : Words) (m : Mailbox) (p : ℕ) (layout
 
   -- what the mailbox needs for a deed of the lock
   mail_allows : (d : Outer) (inside : Bool) → Allows l.procs a d → LeavesClean d → AllHold (mail_row l.cap inside m (deed.Outer d))
-  mail_allows (Begin q) inside h c = tt
-  mail_allows (Ready q) inside h c = tt
-  mail_allows (Enter q) inside h c = tt
-  mail_allows (Crash q) inside h c = tt
-  mail_allows (Reenter q) inside h c = tt
   mail_allows (Leave q) inside h c =
       let here = shape_in l a w m q k h.0 (subst IsIn (sym h.1) tt) in
       may_leave l q q l.cap w m (clean_by l q w m here c) here
-  mail_allows (Quit q) inside h c = tt
+  mail_allows _ inside h c = tt
 
   leads_to : (d : Outer) → AllHold (needs l.procs a d) → LeavesClean d → Leads (judge_of l a m) (deed.Outer d ∷ []) (judge_of l (done a d) m)
   leads_to d may c =
       ap (λ r. and_then r (λ t. Ok t))
-      (judged-allowed (judge_of l a m) (deed.Outer d) (may.0, AllHold-append _ _ may.1 (mail_allows d (is_inside (a.phase (by_doer d))) (allows_from l.procs a d may) c)))
-    where
-      by_doer : Outer → ℕ
-      by_doer d = by d
+      (judged-allowed (judge_of l a m) (deed.Outer d) (may.0, AllHold-append _ _ may.1 (mail_allows d (is_inside (a.phase (doer d))) (allows_from l.procs a d may) c)))
 
   -- any deed but Leave: who is in stays in
   stays : (d : Outer) → AllHold (needs l.procs a d) → (IsLeave d → ⊥) → Kept l (done a d) w m
@@ -151,16 +124,11 @@ module _ (l : Layout) (a : Abstract) (w : Words) (m : Mailbox) (p : ℕ) (layout
       }
 
   after_outer : (d : Outer) → AllHold (needs l.procs a d) → LeavesClean d → Kept l (done a d) w m
-  after_outer (Begin q) h c = stays (Begin q) h (λ z. z)
-  after_outer (Ready q) h c = stays (Ready q) h (λ z. z)
-  after_outer (Enter q) h c = stays (Enter q) h (λ z. z)
-  after_outer (Crash q) h c = stays (Crash q) h (λ z. z)
-  after_outer (Reenter q) h c = stays (Reenter q) h (λ z. z)
   after_outer (Leave q) h c = leaves q h c
-  after_outer (Quit q) h c = stays (Quit q) h (λ z. z)
+  after_outer d h c = stays d h (λ z. z)
 
   -- a deed of the lock
-  by_deed : (d : Outer) (spot : Spot) → by d ≡ p → AllHold (needs l.procs a d) → LeavesClean d → (Kept l (done a d) w m → PostAt l p ((done a d).phase p) w m spot) → Goes (Some d) spot
+  by_deed : (d : Outer) (spot : Spot) → doer d ≡ p → AllHold (needs l.procs a d) → LeavesClean d → (Kept l (done a d) w m → PostAt l p ((done a d).phase p) w m spot) → Goes (Some d) spot
   by_deed d spot own may clean here =
       let kept = after_outer d may clean in
       record {
@@ -219,30 +187,13 @@ module _ (l : Layout) (a : Abstract) (w : Words) (m : Mailbox) (p : ℕ) (layout
   entry b c from to = record { lock = to; mended = mended_entered b from to; barred = c; errand = errand_entered l p from to }
 
   away : (ph : Phase) (u : Words) (x : Mailbox) (b c : Bool) (from to : Place) → Elsewhere to → PostAt l p ph u x (entry b c from to)
-  away ph u x b c from Rest h = tt
-  away ph u x b c from Dead h = tt
-  away ph u x b c from (Reread call seen) h = tt
-  away ph u x b c from Opening h = tt
-  away ph u x b c from (Door unread y) h = tt
-  away ph u x b c from (Shutting call y) h = tt
-  away ph u x b c from (Wait y unpassed looked) h = tt
   away ph u x b c from Inside h = absurd (h)
   away ph u x b c from Leaving h = absurd (h)
-  away ph u x b c from Withdrawing h = tt
-  away ph u x b c from (Unmarking call) h = tt
+  away ph u x b c from _ h = tt
 
   stay : (b c : Bool) (lock : Place) → Post l p (a.phase p) w m b Free lock → PostAt l p (a.phase p) w m (entry b c lock lock)
-  stay b c Rest h = tt
-  stay b c Dead h = tt
-  stay b c (Reread call seen) h = tt
-  stay b c Opening h = tt
-  stay b c (Door unread y) h = tt
-  stay b c (Shutting call y) h = tt
-  stay b c (Wait y unpassed looked) h = tt
   stay b c Inside h = h
-  stay b c Leaving h = h
-  stay b c Withdrawing h = tt
-  stay b c (Unmarking call) h = tt
+  stay b c _ h = h
 
   -- at an entry: the ruin check is begun on words of this shape
   check : (b : Bool) (d : Outer) → Kept l (done a d) w m → (done a d).phase p ≡ phase.Inside → (b ≡ true → w 0 ≡ 0 → w 3 ≡ 0) → Work l p w m b Checking (script l p task.Check)
@@ -254,32 +205,20 @@ module _ (l : Layout) (a : Abstract) (w : Words) (m : Mailbox) (p : ℕ) (layout
       by_deed (Enter p) (entry b c (Wait y unpassed looked) Inside) refl may tt
       (λ kept.
       let is : (done a (Enter p)).phase p ≡ phase.Inside = put_same a.phase p phase.Inside in
-      (refl, is, check true (Enter p) kept is (λ _. k.rest (λ r lt i. nobody (a.phase r) (h.2 r lt) (h.3 r lt) i))))
-    where
-      nobody : (ph : Phase) → ph ≢ phase.Inside → ph ≢ phase.DeadIn → IsIn ph → ⊥
-      nobody phase.Inside x z i = x refl
-      nobody phase.DeadIn x z i = z refl
-      nobody phase.Out x z i = i
-      nobody phase.Door x z i = i
-      nobody phase.Ready x z i = i
+      (refl, is, check true (Enter p) kept is (λ _. k.rest (λ r lt i. neither (a.phase r) (h.2 r lt) (h.3 r lt) i))))
 
   back_in : (b c : Bool) (call : CoreCall) (seen : List ℕ) → Kept l (done a (Reenter p)) w m → PostAt l p ((done a (Reenter p)).phase p) w m (entry b c (Reread call seen) Inside)
   back_in b c core.Lock seen kept =
       let is : (done a (Reenter p)).phase p ≡ phase.Inside = put_same a.phase p phase.Inside in
       (refl, is, check false (Reenter p) kept is (λ h. absurd (true≢false (sym h))))
-  back_in b c core.Recover seen kept = (put_same a.phase p phase.Inside, λ h. absurd (true≢false (sym h)))
-  back_in b c core.Unlock seen kept = (put_same a.phase p phase.Inside, λ h. absurd (true≢false (sym h)))
-  back_in b c core.Withdraw seen kept = (put_same a.phase p phase.Inside, λ h. absurd (true≢false (sym h)))
+  back_in b c _ seen kept = (put_same a.phase p phase.Inside, λ h. absurd (true≢false (sym h)))
 
   plain : (b c : Bool) (from to : Place) (d : Option Outer) → Elsewhere to → Plain p d → AllowsBy l.procs a d → Goes d (entry b c from to)
   plain b c from to None h own may = nothing (entry b c from to) (away (a.phase p) w m b c from to h)
   plain b c from to (Some (Begin q)) h own may = by_deed (Begin q) (entry b c from to) own may tt (λ kept. away _ w m b c from to h)
   plain b c from to (Some (Ready q)) h own may = by_deed (Ready q) (entry b c from to) own may tt (λ kept. away _ w m b c from to h)
   plain b c from to (Some (Quit q)) h own may = by_deed (Quit q) (entry b c from to) own may tt (λ kept. away _ w m b c from to h)
-  plain b c from to (Some (Enter q)) h own may = absurd (own)
-  plain b c from to (Some (Crash q)) h own may = absurd (own)
-  plain b c from to (Some (Reenter q)) h own may = absurd (own)
-  plain b c from to (Some (Leave q)) h own may = absurd (own)
+  plain b c from to (Some _) h own may = absurd (own)
 
   turned : (b c : Bool) (from to : Place) (d : Option Outer) → Turn p from to d → AllowsBy l.procs a d → Post l p (a.phase p) w m b Free from → Goes d (entry b c from to)
   turned b c from to d (Enters y unpassed looked e f g) may h =

@@ -28,30 +28,27 @@ use Rattle.judge.specs.Legal.{Leads}
 use Rattle.judge.specs.Plain.{IsEndOf}
 use Rattle.judge.specs.Table.{empty}
 use Rattle.rmeworld.specs.Holders.{puts_data, AllPutBy, NoEndOf, OnlyHoldersPut}
-use Rattle.rmeworld.specs.Spot.{Errand, Free, Doing, Happening, Moves, who, moved_by, next_spot, at_lock, outer}
+use Rattle.rmeworld.specs.Spot.{Errand, Free, Doing, Happening, Moves, who, moved_by, next_spot, outer}
 use Rattle.rmeworld.specs.World.{Scene, at_first, Story, onward, last_scene, outer_deeds, mail_deeds, event_deeds, deeds}
 use Rattle.rmeworld.proofs.Projection.{outers, projected, core_of, some_of}
-use Rattle.rmeworld.proofs.Happenings.{done_by, judge_of, AllowsBy, Kept}
+use Rattle.rmeworld.proofs.Happenings.{judge_of, AllowsBy, Kept}
 use Rattle.rmeworld.proofs.Knowing.{Post, PostAt}
-use Rattle.rmeworld.proofs.Stories.{AllPosts, goes_on, happens, head, posts}
+use Rattle.rmeworld.proofs.Stories.{AllPosts, happens, head, posts}
 use Rattle.rmeworld.proofs.Reaching.{mail_own, done-and_then, origin}
+use Rattle.rmeworld.proofs.WorldTallies.{at_lock_some}
+use Rattle.rmecore.proofs.Rows.{after_deed as done_by}
+use Rattle.judge.proofs.Histories.{judged_all-append}
 
 -- the lock's deeds among those of a story
 own_none : (p : ℕ) (ds : List Deed) → AreOwn p ds → lock_deeds ds ≡ []
 own_none p [] h = refl
 own_none p (deed.Outer d ∷ ds) h = absurd h.0
-own_none p (deed.Commit q seq v ∷ ds) h = own_none p ds h.1
-own_none p (deed.Show q at seq v ∷ ds) h = own_none p ds h.1
-own_none p (deed.Close q ∷ ds) h = own_none p ds h.1
-own_none p (deed.Ruin q ∷ ds) h = own_none p ds h.1
+own_none p (_ ∷ ds) h = own_none p ds h.1
 
 lock_deeds-append : (ds es : List Deed) → lock_deeds (ds ++ es) ≡ lock_deeds ds ++ lock_deeds es
 lock_deeds-append [] es = refl
 lock_deeds-append (deed.Outer d ∷ ds) es = ap (λ (xs : List Outer). d ∷ xs) (lock_deeds-append ds es)
-lock_deeds-append (deed.Commit q seq v ∷ ds) es = lock_deeds-append ds es
-lock_deeds-append (deed.Show q at seq v ∷ ds) es = lock_deeds-append ds es
-lock_deeds-append (deed.Close q ∷ ds) es = lock_deeds-append ds es
-lock_deeds-append (deed.Ruin q ∷ ds) es = lock_deeds-append ds es
+lock_deeds-append (_ ∷ ds) es = lock_deeds-append ds es
 
 one_lock_deed : (o : Option Outer) (ms : List Deed) (xs : List Outer) → lock_deeds ms ≡ [] → lock_deeds (outer_deeds o ++ ms) ++ xs ≡ and_then o xs
 one_lock_deed None ms xs none = ap (λ (ds : List Outer). ds ++ xs) none
@@ -117,11 +114,7 @@ module _ (l : Layout) (limit : ℕ) where
 
   -- who stores in a data word is inside
   putter : (cells : Words) (a : Abstract) (m : Mailbox) (p : ℕ) (lock : Place) (b c : Bool) (errand : Errand) (kind : Kind) (i v : ℕ) → IsSome (moved_by l limit p lock b c errand kind (DataAt i) v) → Post l p (a.phase p) cells m b errand lock → is_store kind ≡ true → a.phase p ≡ Within
-  putter cells a m p lock b c Free kind i v some post stores = absurd (not_data l.procs limit p lock kind i v (some_place (next l.procs limit p lock kind (DataAt i) v) some))
-    where
-      some_place : (o : Option Place) → IsSome (at_lock l p lock b c o) → IsSome o
-      some_place None h = absurd (cc)
-      some_place (Some t) h = refl
+  putter cells a m p lock b c Free kind i v some post stores = absurd (not_data l.procs limit p lock kind i v (at_lock_some l p lock b c (next l.procs limit p lock kind (DataAt i) v) some))
   putter cells a m p lock b c (Doing why left) kind i v some post stores = post.1
 
   pub putter_in : (w : Scene) (a : Abstract) (m : Mailbox) (e : Happening) → IsSome (next_spot l limit (w.spots (who e)) e) → PostAt l (who e) (a.phase (who e)) w.cells m (w.spots (who e)) → puts_data e ≡ true → a.phase (who e) ≡ Within
@@ -162,7 +155,7 @@ module _ (l : Layout) (limit : ℕ) where
         let rest = comes_to (onward l limit w e) (done_by a o) es now.0 story.1 r.1 in
         let Comes : Abstract → Type 0 = λ b. (there : At (last_scene l limit w (e ∷ es)) b) × Leads (judge_of l a at.mail) (deeds l limit w (e ∷ es)) (judge_of l b there.mail) in
         subst Comes (sym (done-and_then a o (outers l limit (onward l limit w e) es)))
-        (rest.0, goes_on (judge_of l a at.mail) (judge_of l (done_by a o) now.0.mail) (event_deeds l w e) (deeds l limit (onward l limit w e) es) now.1 ∙ rest.1)
+        (rest.0, judged_all-append (judge_of l a at.mail) (judge_of l (done_by a o) now.0.mail) (event_deeds l w e) (deeds l limit (onward l limit w e) es) now.1 ∙ rest.1)
 
     only_puts : (w : Scene) (a : Abstract) (es : List Happening) (p : ℕ) → p < l.procs → At w a → Story l limit w es → Legal l.procs a (outers l limit w es) → IsIn (a.phase p) → Stays p (outers l limit w es) → AllPutBy p es
     only_puts w a [] p below at story legal i stays = tt

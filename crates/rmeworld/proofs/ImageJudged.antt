@@ -12,7 +12,7 @@ use Rattle.rmecore.specs.Lawful.{phase_by, dead_phase, is_ahead as is_ahead_by}
 use Rattle.rmecore.specs.Simulated.{own_at, zeros}
 use Rattle.rmecore.specs.declared.own.Own.{Own}
 use Rattle.rmecore.specs.declared.phase.Phase.{Phase}
-use Rattle.rmecore.specs.declared.phase.Phase.TheVariants.{Out, Door, Ready, Inside, DeadIn}
+use Rattle.rmecore.specs.declared.phase.Phase.TheVariants.{Out, Door, Ready}
 use Rattle.redomail.specs.declared.layout.Layout.{Layout}
 use Rattle.redomail.specs.Layout.{Words, words_of}
 use Rattle.redomail.specs.Shape.{entry, entries, recorded, IsNumbered, RecordRule, mailbox_of}
@@ -53,23 +53,15 @@ count_one f (x ∷ xs) alone =
 -- Phases.
 
 never_inside : (c k i : ℕ) → is_inside (dead_phase c k i) ≡ false
-never_inside zero zero i = refl
-never_inside (suc c) zero i = refl
-never_inside c (suc k) zero = refl
-never_inside c (suc k) (suc i) = refl
+never_inside c k i = grind arith
 
 dead_is_in : (c k i : ℕ) → is_dead_in (dead_phase c k i) ≡ true → (0 < k) × (0 < i)
-dead_is_in zero zero i e = absurd (false≢true e)
-dead_is_in (suc c) zero i e = absurd (false≢true e)
-dead_is_in c (suc k) zero e = absurd (false≢true e)
-dead_is_in c (suc k) (suc i) e = (omega arith, omega arith)
+dead_is_in c k i e = grind arith
 
 ahead_is_ready : (f : Phase) (p : ℕ) (x : Own) (q : ℕ) (y : Own) → is_ahead_by f p x q y ≡ true → is_ready (phase_by y) ≡ true
-ahead_is_ready Out p x q y e = absurd (false≢true e)
 ahead_is_ready Door p x q y e = e
 ahead_is_ready Ready p x q y e = elim (cases_Bool (is_ready (phase_by y))) [ inl holds ↦ holds | inr fails ↦ absurd (false≢true (rw fails at e)) ]
-ahead_is_ready Inside p x q y e = absurd (false≢true e)
-ahead_is_ready DeadIn p x q y e = absurd (false≢true e)
+ahead_is_ready _ p x q y e = absurd (false≢true e)
 
 phase_of : (lock : List Own) (q : ℕ) (d : Phase) → q < length lock → get_or (map phase_by lock) q d ≡ phase_by (own_at lock q)
 phase_of lock q d h = get_or-map phase_by lock q zeros d h

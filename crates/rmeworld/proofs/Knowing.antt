@@ -2,7 +2,7 @@
 -- and how it ends; the one inside and mended, that they are clean; the one at its exit, that they are clean or ruined.
 use Rattle.std.proofs.Common.{◌≡◌, ℕ, ◌<◌, Bool, true, false, ◌&&◌, ◌==◌, length, if◌then◌else◌, List, refl, sym, ap, ◌∙◌, subst, inl, inr, arith, eqb-true}
 use Rattle.std.proofs.lemmas.Bool.{cases_Bool, and_parts, eqb-false, true≢false}
-use Rattle.rmecore.specs.Place.{Place, Rest, Dead, Reread, Opening, Door, Shutting, Wait, Inside, Leaving, Withdrawing, Unmarking}
+use Rattle.rmecore.specs.Place.{Place, Inside, Leaving}
 use Rattle.rmecore.specs.declared.phase.Phase.{Phase}
 use Rattle.rmecore.specs.declared.phase.Phase.TheVariants.{Inside as Within}
 use Rattle.redomail.specs.declared.layout.Layout.{Layout}
@@ -84,15 +84,7 @@ module _ (l : Layout) (p : ℕ) where
   Post-out ph w w' s s' b (Doing why left) lock out k = absurd (out k.1)
   Post-out ph w w' s s' b Free Inside out k = absurd (out k.0)
   Post-out ph w w' s s' b Free Leaving out k = absurd (out k.0)
-  Post-out ph w w' s s' b Free Rest out k = tt
-  Post-out ph w w' s s' b Free Dead out k = tt
-  Post-out ph w w' s s' b Free (Reread call seen) out k = tt
-  Post-out ph w w' s s' b Free Opening out k = tt
-  Post-out ph w w' s s' b Free (Door unread m) out k = tt
-  Post-out ph w w' s s' b Free (Shutting call x) out k = tt
-  Post-out ph w w' s s' b Free (Wait x unpassed looked) out k = tt
-  Post-out ph w w' s s' b Free Withdrawing out k = tt
-  Post-out ph w w' s s' b Free (Unmarking call) out k = tt
+  Post-out ph w w' s s' b Free _ out k = tt
 
 -- the scripts at their start, for a process that is inside words of this shape
 module _ (l : Layout) (p : ℕ) (w : Words) (s : Mailbox) (layout : IsLayout l) (below : p < l.procs) (shape : Shape l p w s) where

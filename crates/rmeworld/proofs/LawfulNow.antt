@@ -4,7 +4,7 @@ use Rattle.std.proofs.lemmas.Bool.{cases_eq}
 use Rattle.rmecore.specs.Simulated.{own_at}
 use Rattle.rmecore.specs.Sole.{IsIn}
 use Rattle.rmecore.specs.declared.phase.Phase.{Phase}
-use Rattle.rmecore.specs.declared.phase.Phase.TheVariants.{Out, Door, Ready, Inside, DeadIn}
+use Rattle.rmecore.specs.declared.phase.Phase.TheVariants.{Inside, DeadIn}
 use Rattle.redomail.specs.Content.{HeadsHold}
 use Rattle.redomail.specs.Layout.{Words, words_of, size}
 use Rattle.redomail.specs.Shape.{Shape, RecordRule, bit}
@@ -24,11 +24,9 @@ use Rattle.rmeworld.proofs.Stories.{before_is}
 
 -- somebody is in, or nobody
 decides : (phase : Phase) → IsIn phase ⊎ (IsIn phase → ⊥)
-decides Out = inr (λ h. h)
-decides Door = inr (λ h. h)
-decides Ready = inr (λ h. h)
 decides Inside = inl tt
 decides DeadIn = inl tt
+decides _ = inr (λ h. h)
 
 abbrev pub Someone : ℕ → (ℕ → Phase) → Type 0
 Someone n phases = (p : ℕ) × (p < n) × IsIn (phases p)

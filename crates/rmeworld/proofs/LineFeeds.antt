@@ -19,15 +19,7 @@ ended : (f : List ℕ) → ends_word f ≡ true → (ts : List Token) → ends_w
 unfolding print_from
 ended f e [] = e
 ended f e (begin_object ∷ ts) = refl
-ended f e (end_object ∷ ts) = refl
-ended f e (begin_array ∷ ts) = refl
-ended f e (end_array ∷ ts) = refl
-ended f e (key s ∷ ts) = refl
-ended f e (string s ∷ ts) = refl
-ended f e (number s ∷ ts) = refl
-ended f e (boolean b ∷ ts) = refl
-ended f e (null ∷ ts) = refl
-ended f e (bad ∷ ts) = refl
+ended f e (_ ∷ ts) = refl
 
 lex-quoted : (s r : List ℕ) → lex between (quoted s ++ r) ≡ token (string s) ∷ lex between r
 unfolding lex

@@ -1,11 +1,11 @@
 -- What each process of a world keeps in its private memory, so that whatever its machine does is the definition's step.
-use Rattle.std.proofs.Common.{◌≡◌, ℕ, Bool, true, false, ◌&&◌, ◌==◌, nat_lt, if◌then◌else◌, [], ◌∷◌, length, Option, Some, None, IsSome, IfSome, refl, sym, ◌∙◌, subst, inl, inr, arith, eqb-true, ltb-true}
+use Rattle.std.proofs.Common.{◌≡◌, ℕ, Bool, true, false, ◌&&◌, ◌==◌, nat_lt, if◌then◌else◌, [], ◌∷◌, length, Option, Some, None, IfSome, refl, sym, ◌∙◌, subst, inl, inr, arith, eqb-true, ltb-true}
 use Rattle.std.proofs.lemmas.Bool.{cases_Bool, true≢false}
 use Rattle.rmecore.specs.Place.{Place, Rest, Dead, Wait, Inside}
 use Rattle.rmecore.specs.Machine.{after_access, next_access as lock_access, StoresOwn as IsLockOwn, IsLeast as IsLeastOfLock}
 use Rattle.rmecore.specs.declared.access.Access.{Access}
-use Rattle.rmecore.specs.declared.access.Access.TheVariants.{Load, Store}
-use Rattle.rmecore.specs.declared.word.Word.TheVariants.{Choosing as ChoosingOf, Number as NumberOf, Inside as InsideOf, Data as DataAt}
+use Rattle.rmecore.specs.declared.access.Access.TheVariants.{Store}
+use Rattle.rmecore.specs.declared.word.Word.TheVariants.{Data as DataAt}
 use Rattle.rmecore.proofs.Accesses.{all_allowed, stores_own}
 use Rattle.rmecore.specs.declared.refusal.Refusal.{Refusal}
 use Rattle.rmecore.specs.declared.refusal.Refusal.TheVariants.{Unmended, BadIndex, BadWidth}
@@ -24,14 +24,16 @@ use Rattle.rmeworld.specs.declared.call.Call.TheVariants.{Lock, Unlock, Consiste
 use Rattle.rmeworld.specs.declared.errand.Errand.{Errand as Chore}
 use Rattle.rmeworld.specs.declared.errand.Errand.TheVariants.{Free as IsFree, Asking, Doing as Does}
 use Rattle.rmeworld.specs.declared.why.Why.{Why}
-use Rattle.rmeworld.specs.declared.why.Why.TheVariants.{Checking, Ruining, Mending, Working}
+use Rattle.rmeworld.specs.declared.why.Why.TheVariants.{Checking, Mending}
 use Rattle.rmeworld.specs.Entered.{is_entry}
 use Rattle.rmeworld.specs.Errands.{errand_of, HasStep, Held}
 use Rattle.rmeworld.specs.Refused.{is_idle, is_idle_by, first_cause, start_refusal}
-use Rattle.rmeworld.specs.Spot.{Spot, Doing, Begins, next_spot, at_lock, begun_from, only_spot, end_place}
+use Rattle.rmeworld.specs.Spot.{Spot, Doing, Begins, next_spot, begun_from, only_spot, end_place}
 use Rattle.rmeworld.specs.Stand.{Stand, spot_of, standing, resting, crashed, job_left, lock_moved, access_by, next_access, spot_after, IsAllowed, IsLeast, StoresOwn, started, stepped, stepped_by}
 use Rattle.rmeworld.proofs.Scanned.{IsScanned, least_of_lock, scanned_after, no_step_is_idle}
 use Rattle.rmeworld.proofs.Chores.{with, lock_goes, ask_goes, job_goes, Goes, lock_allowed, doing_allowed, script_allowed}
+use Rattle.rmeworld.proofs.Projection.{entry_inside}
+use Rattle.rmeworld.proofs.WorldTallies.{at_lock_some}
 
 -- a job of this layout
 abbrev pub FitsChore : Layout → Chore → Type 0
@@ -73,11 +75,8 @@ allowed s = by s.errand
 
 -- a store of the lock's is one of the process
 lock_owns : (p : ℕ) (a : Access) → IsLockOwn p a → StoresOwn p a
-lock_owns p (Load kind word) own = own
-lock_owns p (Store kind (ChoosingOf q) x) own = own
-lock_owns p (Store kind (NumberOf q) x) own = own
-lock_owns p (Store kind (InsideOf q) x) own = own
 lock_owns p (Store kind (DataAt i) x) own = (own.0, tt)
+lock_owns p _ own = own
 
 pub owns : (s : Stand) → IfSome (next_access s) (StoresOwn s.index)
 owns s = by s.errand
@@ -96,24 +95,17 @@ owns s = by s.errand
     by (Asking job) = refl
     by (Does why job) = doing why (left job)
 
-entry_inside : (t s : Place) → is_entry s t ≡ true → t ≡ Inside
-entry_inside Inside s e = refl
-entry_inside _ s e = cc
-
 -- where a script ends
 end_scanned : (n p : ℕ) (why : Why) (reply : Reply) → IsScanned n p (end_place why reply)
 end_scanned n p Checking (Ruined true) = tt
-end_scanned n p Checking _ = tt
-end_scanned n p Ruining reply = tt
-end_scanned n p Mending reply = tt
-end_scanned n p (Working t) reply = tt
+end_scanned n p _ _ = tt
 
 pub ordered_stepped : (s : Stand) (v : ℕ) → IsLayout s.layout → IsOrdered s → IsOrdered (stepped s v)
 ordered_stepped s v lawful h = by s.errand h.held h.fits
   where
     moved : (t : Place) → IsScanned s.layout.procs s.index t → IsOrdered (lock_moved s t)
     moved t scanned = elim (cases_Bool (is_entry s.lock t)) [
-      | inl e ↦ rw e (record { held = (entry_inside t s.lock e, tt); fits = (refl, fits_first s.layout lawful task.Check tt); scanned = scanned })
+      | inl e ↦ rw e (record { held = (entry_inside s.lock t e, tt); fits = (refl, fits_first s.layout lawful task.Check tt); scanned = scanned })
       | inr e ↦ rw e (record { held = tt; fits = tt; scanned = scanned })
     ]
 
@@ -133,17 +125,13 @@ ordered_stepped s v lawful h = by s.errand h.held h.fits
         let next : FitsChore s.layout (Does why (fed job v)) = (fits.0, subst (λ l. FitsStage s.layout (stage_after l job.stage v)) (sym fits.0) stage) in
         on why (fed job v) held.0 next (left (fed job v)) refl
 
-some_place : (l : Layout) (p : ℕ) (s : Place) (b c : Bool) (o : Option Place) → IsSome (at_lock l p s b c o) → IsSome o
-some_place l p s b c None some = cc
-some_place l p s b c (Some t) some = refl
-
 -- the next step is one of the least process
 pub least : (s : Stand) → IsOrdered s → IfSome (next_access s) (IsLeast s)
 least s h = by s.errand
   where
     lifted : (o : Option Access) → IfSome o (IsLeastOfLock (standing s)) → IfSome o (IsLeast (with s IsFree))
     lifted None h = tt
-    lifted (Some a) h = λ word v some. h word v (some_place s.layout s.index s.lock s.mended s.barred _ some)
+    lifted (Some a) h = λ word v some. h word v (at_lock_some s.layout s.index s.lock s.mended s.barred _ some)
 
     doing : (e : Chore) (why : Why) (x : Script Reply) → IfSome (access_by s.limit s.index s.lock (Doing why x)) (IsLeast (with s e))
     doing e why (Asks i rest) = λ word v some. omega arith
@@ -224,14 +212,7 @@ module _ (l : Layout) (limit p : ℕ) (lawful : IsLayout l) (barred : Bool) wher
 -- a process with a script is inside, and starts nothing
 busy : (l : Layout) (lock : Place) (b c : Bool) (why : Why) (e : Script Reply) (call : Call) → lock ≡ Inside → start_refusal l (record { lock = lock; mended = b; barred = c; errand = Doing why e }) call ≡ None → ⊥
 busy l lock b c why e Withdraw inside h = let no : start_refusal l (record { lock = Inside; mended = b; barred = c; errand = Doing why e }) Withdraw ≡ None = subst (λ x. start_refusal l (record { lock = x; mended = b; barred = c; errand = Doing why e }) Withdraw ≡ None) inside h in cc
-busy l lock b c why e Lock inside h = refused h
-busy l lock b c why e Recover inside h = refused h
-busy l lock b c why e Unlock inside h = refused h
-busy l lock b c why e Consistent inside h = refused h
-busy l lock b c why e (Append seq value) inside h = refused h
-busy l lock b c why e Close inside h = refused h
-busy l lock b c why e (Get i) inside h = refused h
-busy l lock b c why e (Put i v) inside h = refused h
+busy l lock b c why e _ inside h = refused h
 
 pub begins :
     (s : Stand) (call : Call) → IsLayout s.layout → IsOrdered s → start_refusal s.layout (spot_of s) call ≡ None

@@ -2,7 +2,7 @@
 use Rattle.std.proofs.Common.{◌≡◌, ℕ, ◌<◌, Bool, true, false, ◌&&◌, ◌==◌, nat_lt, length, List, [], ◌∷◌, Option, Some, None, IsSome, unwrap_or, refl, sym, ap, ◌∙◌, subst, inl, inr, ◌⊎◌, eqb-true}
 use Rattle.std.proofs.lemmas.Bool.{cases_Bool}
 use Rattle.rmecore.specs.Needs.{put}
-use Rattle.rmecore.specs.Place.{Place, Rest, Dead, Reread, Opening, Door, Shutting, Wait, Inside, Leaving, Withdrawing, Unmarking, Event, Starts, Crashes, Steps, next, started, process, moved}
+use Rattle.rmecore.specs.Place.{Place, Dead, Inside, Leaving, Event, Starts, Crashes, Steps, next, started, process, moved}
 use Rattle.rmecore.specs.World.{World, Reads, is_store, read, stored, after, Run, deed, deeds, and_then, final}
 use Rattle.rmecore.specs.declared.outer.Outer.{Outer}
 use Rattle.rmecore.specs.declared.core_call.CoreCall.{CoreCall}
@@ -11,7 +11,7 @@ use Rattle.rmecore.specs.declared.kind.Kind.{Kind}
 use Rattle.rmecore.specs.declared.kind.Kind.TheVariants.{Get as Gets, Put as Puts}
 use Rattle.rmecore.specs.declared.own.Own.{Own}
 use Rattle.rmecore.specs.declared.word.Word.{Word}
-use Rattle.rmecore.specs.declared.word.Word.TheVariants.{Choosing as ChoosingOf, Number as NumberOf, Inside as InsideOf, Data as DataAt}
+use Rattle.rmecore.specs.declared.word.Word.TheVariants.{Data as DataAt}
 use Rattle.rmecore.proofs.Turns.{not_data}
 use Rattle.redomail.specs.declared.layout.Layout.{Layout}
 use Rattle.redomail.specs.declared.reply.Reply.{Reply}
@@ -45,16 +45,7 @@ AllHeld w = (p : ℕ) → Held (w.spots p).errand (w.spots p).lock
 
 pub entry_inside : (s t : Place) → is_entry s t ≡ true → t ≡ Inside
 entry_inside s Inside e = refl
-entry_inside s Rest e = absurd (cc)
-entry_inside s Dead e = absurd (cc)
-entry_inside s (Reread call seen) e = absurd (cc)
-entry_inside s Opening e = absurd (cc)
-entry_inside s (Door unread m) e = absurd (cc)
-entry_inside s (Shutting call k) e = absurd (cc)
-entry_inside s (Wait k unpassed looked) e = absurd (cc)
-entry_inside s Leaving e = absurd (cc)
-entry_inside s Withdrawing e = absurd (cc)
-entry_inside s (Unmarking call) e = absurd (cc)
+entry_inside s _ e = absurd (cc)
 
 held_at : (l : Layout) (p : ℕ) (s t : Place) → Held (errand_entered l p s t) t
 held_at l p s t = elim (cases_Bool (is_entry s t)) [ inl e ↦ rw e (entry_inside s t e) | inr f ↦ rw f tt ]
@@ -78,16 +69,7 @@ begun b why left = record { lock = Inside; mended = b; barred = false; errand = 
 
 pub inside_some : (lock : Place) (b fits : Bool) (why : Why) (left : Script Reply) (s' : Spot) → inside_only lock b fits why left ≡ Some s' → (lock ≡ Inside) × (fits ≡ true) × (begun b why left ≡ s')
 inside_some Inside b fits why left s' e = let r = only_some fits (begun b why left) s' e in (refl, r.0, r.1)
-inside_some Rest b fits why left s' e = absurd (cc)
-inside_some Dead b fits why left s' e = absurd (cc)
-inside_some (Reread call seen) b fits why left s' e = absurd (cc)
-inside_some Opening b fits why left s' e = absurd (cc)
-inside_some (Door unread m) b fits why left s' e = absurd (cc)
-inside_some (Shutting call k) b fits why left s' e = absurd (cc)
-inside_some (Wait k unpassed looked) b fits why left s' e = absurd (cc)
-inside_some Leaving b fits why left s' e = absurd (cc)
-inside_some Withdrawing b fits why left s' e = absurd (cc)
-inside_some (Unmarking call) b fits why left s' e = absurd (cc)
+inside_some _ b fits why left s' e = absurd (cc)
 
 end_places : (why : Why) (a : Reply) → (end_place why a ≡ Inside) ⊎ (end_place why a ≡ Leaving)
 end_places Checking (Ruined true) = inr refl
@@ -153,10 +135,8 @@ module _ (l : Layout) (limit : ℕ) (w : Scene) (p : ℕ) where
 
   -- what the lock's words show
   shows : (s : Place) (kind : Kind) (word : Word) (v : ℕ) → IsSome (next l.procs limit p s kind word v) → reading w word ≡ v → read w.words word ≡ v
-  shows s kind (ChoosingOf q) v some e = e
-  shows s kind (NumberOf q) v some e = e
-  shows s kind (InsideOf q) v some e = e
   shows s kind (DataAt i) v some e = absurd (not_data l.procs limit p s kind i v some)
+  shows s kind _ v some e = e
 
   moves : (lock : Place) (b c : Bool) (errand : Errand) (kind : Kind) (word : Word) (v : ℕ) (s' : Spot) → moved_by l limit p lock b c errand kind word v ≡ Some s' → Held errand lock
       → (is_store kind ≡ false → reading w word ≡ v) → Meets lock s' (words_after w.words (Moves p kind word v)) (outer_by p lock errand kind v)

@@ -26,15 +26,17 @@ use Rattle.judge.specs.Table.{State, empty, after}
 use Rattle.judge.proofs.Halves.{state_led}
 use Rattle.rmecore.specs.World.{is_store}
 use Rattle.rmecore.specs.declared.word.Word.{Word}
-use Rattle.rmecore.specs.declared.word.Word.TheVariants.{Choosing as ChoosingOf, Number as NumberOf, Inside as InsideOf, Data as DataAt}
+use Rattle.rmecore.specs.declared.word.Word.TheVariants.{Data as DataAt}
 use Rattle.rmeworld.specs.Law.{Sits, IsLater, Sound}
 use Rattle.rmeworld.specs.Reached.{crashed_scene, IsOrigin, IsReached}
-use Rattle.rmeworld.specs.Spot.{Spot, Happening, Begins, Falls, Moves, Glances, who, at_rest, dead, outer}
+use Rattle.rmeworld.specs.Spot.{Spot, Happening, Moves, who, at_rest, dead, outer}
 use Rattle.rmeworld.specs.World.{Scene, at_first, Story, onward, last_scene, outer_deeds, put_deeds, mail_deeds, event_deeds, deeds}
 use Rattle.rmeworld.proofs.Projection.{Held, core_of, outers, projected}
-use Rattle.rmeworld.proofs.Happenings.{done_by, judge_of, Kept}
+use Rattle.rmeworld.proofs.Happenings.{judge_of, Kept}
 use Rattle.rmeworld.proofs.Knowing.{PostAt}
-use Rattle.rmeworld.proofs.Stories.{goes_on, sound, first, later}
+use Rattle.rmeworld.proofs.Stories.{sound, first, later}
+use Rattle.rmecore.proofs.Rows.{after_deed as done_by}
+use Rattle.judge.proofs.Histories.{judged_all-append}
 
 -- the judge's lock after a story's deeds
 
@@ -52,16 +54,12 @@ mails_keep p s (Ruin q ∷ ds) h = mails_keep p (after s (Ruin q)) ds h.1
 
 put_own : (l : Layout) (p : ℕ) (cells : Words) (word : Word) (v : ℕ) → AreOwn p (put_deeds l p cells word v)
 put_own l p cells (DataAt i) v = puts_are_own l p cells i v
-put_own l p cells (ChoosingOf q) v = tt
-put_own l p cells (NumberOf q) v = tt
-put_own l p cells (InsideOf q) v = tt
+put_own l p cells _ v = tt
 
 pub mail_own : (l : Layout) (cells : Words) (e : Happening) → AreOwn (who e) (mail_deeds l cells e)
-mail_own l cells (Begins p call) = tt
-mail_own l cells (Falls p) = tt
-mail_own l cells (Glances p word v) = tt
 mail_own l cells (Moves p kind word v) =
     elim (cases_Bool (is_store kind)) [ inl e ↦ rw e (put_own l p cells word v) | inr e ↦ rw e tt ]
+mail_own l cells _ = tt
 
 outer_led : (s : State) (o : Option Outer) → (all_after s (outer_deeds o)).lock ≡ done_by s.lock o
 outer_led s None = refl
@@ -87,15 +85,13 @@ sound_ends l limit w s [] h = (s, refl, h)
 sound_ends l limit w s (e ∷ es) h =
     let g = h.1 in
     let rest = sound_ends l limit (onward l limit w e) g.0 es g.3 in
-    (rest.0, goes_on s g.0 (event_deeds l w e) (deeds l limit (onward l limit w e) es) g.1 ∙ rest.1, rest.2)
+    (rest.0, judged_all-append s g.0 (event_deeds l w e) (deeds l limit (onward l limit w e) es) g.1 ∙ rest.1, rest.2)
 
 -- who is in has a number and is marked
 in_numbers : (c k i : ℕ) (b : Bool) → IsIn (phase_at c k i b) → (0 < k) × (0 < i)
-in_numbers zero zero i b h = absurd h
-in_numbers (suc c) zero i b h = absurd h
-in_numbers zero (suc k) zero b h = absurd h
-in_numbers (suc c) (suc k) zero b h = absurd h
 in_numbers c (suc k) (suc i) b h = (omega arith, omega arith)
+in_numbers zero _ _ b h = absurd h
+in_numbers _ _ _ b h = absurd h
 
 -- what is known where a history begins
 pub record Origin (l : Layout) (limit : ℕ) (w : Scene) (s : State) : Type 0 where

@@ -2,12 +2,12 @@
 use Rattle.std.proofs.Common.{◌≡◌, ℕ, zero, suc, ◌+◌, ◌<◌, max, Bool, true, false, ◌||◌, ◌&&◌, ◌==◌, nat_lt, nat_le, if◌then◌else◌, List, [], ◌∷◌, Option, Some, None, IfSome, unwrap_or, refl, sym, ap, ◌∙◌, subst}
 use Rattle.std.proofs.lemmas.Bool.{cond_both}
 use Rattle.rmecore.specs.Machine.{Standing, first, access, next_access, after_access, IsLeast as IsLeastOfLock}
-use Rattle.rmecore.specs.Place.{Place, Rest, Dead, Reread, Opening, Door, Shutting, Wait, Inside, Leaving, Withdrawing, Unmarking, has, without, above, others, only, is_before, restart, relocked, recovered, shut, unmarked}
+use Rattle.rmecore.specs.Place.{Place, Rest, Reread, Opening, Door, Shutting, Wait, Inside, Leaving, Withdrawing, Unmarking, has, without, above, others, only, is_before, restart, shut, unmarked}
 use Rattle.rmecore.specs.Refused.{is_idle}
 use Rattle.rmecore.specs.declared.access.Access.{Access}
 use Rattle.rmecore.specs.declared.access.Access.TheVariants.{Store}
 use Rattle.rmecore.specs.declared.core_call.CoreCall.{CoreCall}
-use Rattle.rmecore.specs.declared.core_call.CoreCall.TheVariants.{Lock, Recover, Unlock, Withdraw}
+use Rattle.rmecore.specs.declared.core_call.CoreCall.TheVariants.{Lock, Unlock}
 use Rattle.rmecore.specs.declared.kind.Kind.TheVariants.{Take as Takes, Shut as Shuts}
 use Rattle.rmecore.specs.declared.word.Word.TheVariants.{Choosing as ChoosingOf, Number as NumberOf}
 use Rattle.rmecore.proofs.Accesses.{Orderly, all_least}
@@ -25,15 +25,7 @@ orderly : (n p : ℕ) (place : Place) → IsScanned n p place → Orderly n plac
 orderly n p (Door unread m) h = subst (Lined n) (sym h.1) (lined_above n p h.0)
 orderly n p (Wait k unpassed None) h = subst (Lined n) (sym h.1) (lined_above n p h.0)
 orderly n p (Wait k unpassed (Some j)) h = h.0
-orderly n p (Reread call seen) h = tt
-orderly n p Rest h = tt
-orderly n p Dead h = tt
-orderly n p Opening h = tt
-orderly n p (Shutting call k) h = tt
-orderly n p Inside h = tt
-orderly n p Leaving h = tt
-orderly n p Withdrawing h = tt
-orderly n p (Unmarking call) h = tt
+orderly n p _ h = tt
 
 pub least_of_lock : (s : Standing) → IsScanned s.procs s.index s.place → IfSome (next_access s) (IsLeastOfLock s)
 least_of_lock s h = all_least s (orderly s.procs s.index s.place h)
@@ -47,39 +39,21 @@ module _ (n limit p : ℕ) where
   if_may true t s h k = h
   if_may false t s h k = k
 
-  relocked_is : (c k i : ℕ) → IsScanned n p (relocked n p c k i)
-  relocked_is (suc c) zero i = (0, refl)
-  relocked_is (suc c) (suc k) i = tt
-  relocked_is zero zero zero = tt
-  relocked_is zero zero (suc i) = tt
-  relocked_is zero (suc k) zero = (0, refl)
-  relocked_is zero (suc k) (suc i) = tt
-
-  recovered_is : (c k i : ℕ) → IsScanned n p (recovered c k i)
-  recovered_is (suc c) zero i = tt
-  recovered_is (suc c) (suc k) i = tt
-  recovered_is zero zero zero = tt
-  recovered_is zero zero (suc i) = tt
-  recovered_is zero (suc k) zero = tt
-  recovered_is zero (suc k) (suc i) = tt
-
   restart_is : (call : CoreCall) (c k i : ℕ) → IsScanned n p (restart n p call c k i)
-  restart_is Lock c k i = relocked_is c k i
-  restart_is Recover c k i = recovered_is c k i
-  restart_is Unlock c k i = recovered_is c k i
-  restart_is Withdraw c k i = recovered_is c k i
+  restart_is Lock (suc c) zero i = (0, refl)
+  restart_is Lock zero (suc k) zero = (0, refl)
+  restart_is _ (suc c) zero i = tt
+  restart_is _ zero zero (suc i) = tt
+  restart_is _ zero (suc k) (suc i) = tt
+  restart_is _ _ _ _ = tt
 
   shut_is : (call : CoreCall) (k : ℕ) → IsScanned n p (shut n p call k)
   shut_is Lock k = (0, refl)
-  shut_is Recover k = tt
-  shut_is Unlock k = tt
-  shut_is Withdraw k = tt
+  shut_is _ k = tt
 
   unmarked_is : (call : CoreCall) → IsScanned n p (unmarked call)
   unmarked_is Lock = tt
-  unmarked_is Recover = tt
-  unmarked_is Unlock = tt
-  unmarked_is Withdraw = tt
+  unmarked_is _ = tt
 
   -- those behind the first of a list
   behind : (j i : ℕ) (js : List ℕ) → j ∷ js ≡ above n p i → j ∷ js ≡ j ∷ above n p (j + 1)
@@ -112,26 +86,12 @@ module _ (n limit p : ℕ) where
   scanned_after Leaving v h = if_may ((p == p) && (0 == 0)) (Unmarking Unlock) Leaving tt tt
   scanned_after Withdrawing v h = if_may ((p == p) && (0 == 0)) Rest Withdrawing tt tt
   scanned_after (Unmarking call) v h = if_may ((p == p) && (0 == 0)) (unmarked call) (Unmarking call) (unmarked_is call) tt
-  scanned_after Rest v h = tt
-  scanned_after Dead v h = tt
-  scanned_after Inside v h = tt
+  scanned_after _ v h = tt
 
   -- where there is no step, no call is under way
   pub no_step_is_idle : (place : Place) → IsScanned n p place → access limit p place ≡ None → is_idle place ≡ true
-  no_step_is_idle (Reread call []) h e = cc
-  no_step_is_idle (Reread call (c ∷ [])) h e = cc
-  no_step_is_idle (Reread call (c ∷ k ∷ [])) h e = cc
-  no_step_is_idle (Reread call (c ∷ k ∷ i ∷ seen)) h e = absurd h
-  no_step_is_idle Opening h e = cc
-  no_step_is_idle (Door (j ∷ js) m) h e = cc
   no_step_is_idle (Door [] m) h e = absurd (cond_both (nat_lt m limit) _ _ (λ (o : Option Access). o ≡ None → ⊥) (λ _ x. cc) (λ _ x. cc) e)
-  no_step_is_idle (Shutting call k) h e = cc
+  no_step_is_idle (Reread call (c ∷ k ∷ i ∷ seen)) h e = absurd h
   no_step_is_idle (Wait k unpassed (Some j)) h e = cc
   no_step_is_idle (Wait k (j ∷ js) None) h e = cc
-  no_step_is_idle (Wait k [] None) h e = cc
-  no_step_is_idle Leaving h e = cc
-  no_step_is_idle Withdrawing h e = cc
-  no_step_is_idle (Unmarking call) h e = cc
-  no_step_is_idle Rest h e = refl
-  no_step_is_idle Dead h e = refl
-  no_step_is_idle Inside h e = refl
+  no_step_is_idle _ h e = cc

@@ -1,5 +1,5 @@
 -- Every happening keeps everything, so every story is sound.
-use Rattle.std.proofs.Common.{◌≡◌, ℕ, zero, suc, nat_lt, ◌<◌, Bool, true, false, ◌&&◌, ◌==◌, if◌then◌else◌, List, [], ◌∷◌, ◌++◌, Option, Some, None, IsSome, Result, Ok, Err, refl, sym, ap, ◌∙◌, subst, inl, inr, ◌⊎◌, arith, eqb-true}
+use Rattle.std.proofs.Common.{◌≡◌, ℕ, zero, suc, nat_lt, ◌<◌, Bool, true, false, ◌&&◌, ◌==◌, if◌then◌else◌, List, [], ◌∷◌, Option, Some, None, IsSome, refl, sym, ap, ◌∙◌, subst, inl, inr, ◌⊎◌, arith, eqb-true}
 use Rattle.std.proofs.lemmas.Bool.{cases_eq, cases_Bool, and_parts, ltb-true, lt-ltb}
 use Rattle.rmecore.specs.AbstractLock.{Abstract, nobody, Legal}
 use Rattle.rmecore.specs.Lawful.{dead_phase, start_of}
@@ -7,14 +7,13 @@ use Rattle.rmecore.specs.Needs.{put}
 use Rattle.rmecore.specs.Place.{Place, next, is_before}
 use Rattle.rmecore.specs.Sole.{IsIn}
 use Rattle.rmecore.specs.World.{is_store, and_then, step_deed}
-use Rattle.rmecore.specs.declared.fault.Fault.{Fault}
 use Rattle.rmecore.specs.declared.kind.Kind.{Kind}
 use Rattle.rmecore.specs.declared.kind.Kind.TheVariants.{Get as Gets, Put as Puts}
 use Rattle.rmecore.specs.declared.outer.Outer.{Outer}
 use Rattle.rmecore.specs.declared.outer.Outer.TheVariants.{Crash}
 use Rattle.rmecore.specs.declared.own.Own.{Own}
 use Rattle.rmecore.specs.declared.word.Word.{Word}
-use Rattle.rmecore.specs.declared.word.Word.TheVariants.{Choosing as ChoosingOf, Number as NumberOf, Inside as InsideOf, Data as DataAt}
+use Rattle.rmecore.specs.declared.word.Word.TheVariants.{Data as DataAt}
 use Rattle.rmecore.proofs.Invariant.{put_same, put_other}
 use Rattle.rmecore.proofs.Soles.{sole_nobody}
 use Rattle.rmecore.proofs.Turns.{not_data}
@@ -23,16 +22,17 @@ use Rattle.redomail.specs.Laws.{NewWords}
 use Rattle.redomail.specs.Layout.{Words, IsLayout, size}
 use Rattle.redomail.specs.Mailbox.{Mailbox, nothing_shown}
 use Rattle.redomail.specs.Script.{Get, Put}
-use Rattle.redomail.specs.declared.deed.Deed.{Deed}
 use Rattle.redomail.specs.declared.layout.Layout.{Layout}
-use Rattle.judge.specs.Legal.{Leads, judged_all, and_then as before_next}
-use Rattle.judge.specs.Table.{State, judged}
+use Rattle.judge.specs.Legal.{Leads}
+use Rattle.judge.specs.Table.{State}
 use Rattle.rmeworld.specs.Law.{Sits, IsLater, ErrandTells, Tells, Sound}
 use Rattle.rmeworld.specs.Spot.{Errand, Free, Doing, Spot, dead, Happening, Begins, Falls, Moves, Glances, who, moved_by, next_spot, settled, outer_by, outer}
 use Rattle.rmeworld.specs.World.{Scene, at_first, all_dead, Reads as Scene-Reads, reading, put_cell, cells_after, Story, onward, mail_deeds, event_deeds, deeds}
 use Rattle.rmeworld.proofs.Projection.{at_lock_some, only_some, some_of, outers}
 use Rattle.rmeworld.proofs.Knowing.{Post, PostAt}
-use Rattle.rmeworld.proofs.Happenings.{done_by, AllowsBy, judge_of, Kept, Outcome, nothing, begins, falls, gets, puts, locks}
+use Rattle.rmeworld.proofs.Happenings.{AllowsBy, judge_of, Kept, Outcome, nothing, begins, falls, gets, puts, locks}
+use Rattle.rmecore.proofs.Rows.{after_deed as done_by}
+use Rattle.judge.proofs.Histories.{judged_all-append}
 
 some_by : (o : Option Place) (t : Place) → o ≡ Some t → IsSome o
 some_by o t e = rw e refl
@@ -43,16 +43,12 @@ if_same false x = refl
 
 -- a word of the lock is no data word
 cells_same : (l : Layout) (n limit p : ℕ) (s t : Place) (kind : Kind) (word : Word) (v : ℕ) (cells : Words) → next n limit p s kind word v ≡ Some t → cells_after l cells (Moves p kind word v) ≡ cells
-cells_same l n limit p s t kind (ChoosingOf q) v cells e = if_same (is_store kind) cells
-cells_same l n limit p s t kind (NumberOf q) v cells e = if_same (is_store kind) cells
-cells_same l n limit p s t kind (InsideOf q) v cells e = if_same (is_store kind) cells
 cells_same l n limit p s t kind (DataAt i) v cells e = absurd (not_data n limit p s kind i v (some_by _ t e))
+cells_same l n limit p s t kind _ v cells e = if_same (is_store kind) cells
 
 pub deeds_none : (l : Layout) (n limit p : ℕ) (s t : Place) (kind : Kind) (word : Word) (v : ℕ) (cells : Words) → next n limit p s kind word v ≡ Some t → mail_deeds l cells (Moves p kind word v) ≡ []
-deeds_none l n limit p s t kind (ChoosingOf q) v cells e = if_same (is_store kind) []
-deeds_none l n limit p s t kind (NumberOf q) v cells e = if_same (is_store kind) []
-deeds_none l n limit p s t kind (InsideOf q) v cells e = if_same (is_store kind) []
 deeds_none l n limit p s t kind (DataAt i) v cells e = absurd (not_data n limit p s kind i v (some_by _ t e))
+deeds_none l n limit p s t kind _ v cells e = if_same (is_store kind) []
 
 pub before_is : (x p y q : ℕ) → is_before x p y q ≡ true → (x < y) ⊎ ((x ≡ y) × (p < q))
 before_is x p y q e =
@@ -61,23 +57,11 @@ before_is x p y q e =
       | inr f ↦ (let g : ((x == y) && nat_lt p q) ≡ true = rw f at e in let both = and_parts (x == y) (nat_lt p q) g in inr (eqb-true x y both.0, ltb-true p q both.1))
     ]
 
--- deeds lead on, one list after the other
-pub goes_on : (s t : State) (ds es : List Deed) → Leads s ds t → judged_all s (ds ++ es) ≡ judged_all t es
-goes_on s t [] es e = ap (λ x. judged_all x es) (let is : s ≡ t = cc in is)
-goes_on s t (d ∷ ds) es e = go (judged s d) (λ u. goes_on u t ds es) e
-  where
-    go : (r : Result State Fault) → ((u : State) → Leads u ds t → judged_all u (ds ++ es) ≡ judged_all t es) → before_next r (λ u. judged_all u ds) ≡ Ok t → before_next r (λ u. judged_all u (ds ++ es)) ≡ judged_all t es
-    go (Ok u) again e = again u e
-    go (Err f) again e = absurd (cc)
-
 -- who died inside had a number and was marked
 pub in_numbers : (c x i : ℕ) → IsIn (dead_phase c x i) → (0 < x) × (0 < i)
-in_numbers zero zero i h = absurd (h)
-in_numbers (suc c) zero i h = absurd (h)
-in_numbers zero (suc x) zero h = absurd (h)
-in_numbers (suc c) (suc x) zero h = absurd (h)
-in_numbers zero (suc x) (suc i) h = (omega arith, omega arith)
-in_numbers (suc c) (suc x) (suc i) h = (omega arith, omega arith)
+in_numbers c (suc x) (suc i) h = (omega arith, omega arith)
+in_numbers zero _ _ h = absurd h
+in_numbers _ _ _ h = absurd h
 
 module _ (l : Layout) (limit : ℕ) (layout : IsLayout l) where
   -- what one happening leaves, and what its answer tells
@@ -166,7 +150,7 @@ module _ (l : Layout) (limit : ℕ) (layout : IsLayout l) where
   legal_by w s (e ∷ es) h =
       let g = h.1 in
       let rest = legal_by (onward l limit w e) g.0 es g.3 in
-      (rest.0, goes_on s g.0 (event_deeds l w e) (deeds l limit (onward l limit w e) es) g.1 ∙ rest.1)
+      (rest.0, judged_all-append s g.0 (event_deeds l w e) (deeds l limit (onward l limit w e) es) g.1 ∙ rest.1)
 
   -- the first scene
   pub first : NewWords → Kept l nobody at_first.cells nothing_shown

@@ -10,7 +10,7 @@ use Rattle.rmecore.specs.declared.access.Access.{Access}
 use Rattle.rmecore.specs.declared.access.Access.TheVariants.{Load, Store}
 use Rattle.rmecore.specs.declared.own.Own.{Own}
 use Rattle.rmecore.specs.declared.word.Word.{Word}
-use Rattle.rmecore.specs.declared.word.Word.TheVariants.{Choosing as ChoosingOf, Number as NumberOf, Inside as InsideOf, Data as DataAt}
+use Rattle.rmecore.specs.declared.word.Word.TheVariants.{Data as DataAt}
 use Rattle.rmecore.specs.declared.tally.Tally.{Tally}
 use Rattle.rmecore.proofs.Invariant.{put_same, put_other}
 use Rattle.redomail.specs.declared.deed.Deed.{Deed}
@@ -18,7 +18,7 @@ use Rattle.redomail.specs.declared.reply.Reply.{Reply}
 use Rattle.redomail.specs.Script.{Script, Get as Asks, Put as Writes, Done}
 use Rattle.redomail.specs.Left.{left, fed}
 use Rattle.rmeworld.specs.declared.call.Call.{Call}
-use Rattle.rmeworld.specs.declared.call.Call.TheVariants.{Lock, Unlock, Consistent, Recover, Append, Close, Get, Put, Withdraw}
+use Rattle.rmeworld.specs.declared.call.Call.TheVariants.{Unlock}
 use Rattle.rmeworld.specs.declared.errand.Errand.{Errand as Chore}
 use Rattle.rmeworld.specs.declared.errand.Errand.TheVariants.{Free as IsFree, Asking, Doing as Does}
 use Rattle.rmeworld.specs.declared.why.Why.TheVariants.{Mending}
@@ -52,10 +52,8 @@ own_at-set : (words : List Own) (p : ℕ) (x : Own) → p < length words → own
 own_at-set words p x below = λ i. λ q. at-set words zeros p x below q i
 
 pub words_set_is : (words : List Own) (word : Word) (v : ℕ) → InWords (length words) word → own_at (words_set words word v) ≡ write (own_at words) word v
-words_set_is words (ChoosingOf p) v below = own_at-set words p _ below
-words_set_is words (NumberOf p) v below = own_at-set words p _ below
-words_set_is words (InsideOf p) v below = own_at-set words p _ below
 words_set_is words (DataAt i) v below = refl
+words_set_is words _ v below = own_at-set words _ _ below
 
 pub le-ltb : (a b : ℕ) → b ≤ a → nat_lt a b ≡ false
 le-ltb a b h =
@@ -74,10 +72,8 @@ cell_set_is l cells i v filled =
 -- the words after an access
 -- an own word is one of the world's
 own_within : (n q : ℕ) (word : Word) → q < n → IsOwnWord q word → InWords n word
-own_within n q (ChoosingOf r) below own = subst (λ i. i < n) (sym own) below
-own_within n q (NumberOf r) below own = subst (λ i. i < n) (sym own) below
-own_within n q (InsideOf r) below own = subst (λ i. i < n) (sym own) below
 own_within n q (DataAt i) below own = tt
+own_within n q _ below own = subst (λ i. i < n) (sym own) below
 
 pub words_by_is : (words : List Own) (p q : ℕ) (a : Access) (v : ℕ) → q < length words → StoresOwn q a → own_at (words_by words a) ≡ words_after (own_at words) (Moves p (kind_of a) (word_of a) (carried a v))
 words_by_is words p q (Load kind word) v below own = rw own refl
@@ -86,9 +82,7 @@ words_by_is words p q (Store kind word x) v below own = rw (own.0) (words_set_is
 pub cells_by_is : (l : Layout) (cells : List ℕ) (p q : ℕ) (a : Access) (v : ℕ) → length cells ≡ size l → StoresOwn q a → words_of (cells_by cells a) ≡ cells_after l (words_of cells) (Moves p (kind_of a) (word_of a) (carried a v))
 cells_by_is l cells p q (Load kind word) v filled own = rw own refl
 cells_by_is l cells p q (Store kind (DataAt i) x) v filled own = rw (own.0) (cell_set_is l cells i x filled)
-cells_by_is l cells p q (Store kind (ChoosingOf i) x) v filled own = rw (own.0) refl
-cells_by_is l cells p q (Store kind (NumberOf i) x) v filled own = rw (own.0) refl
-cells_by_is l cells p q (Store kind (InsideOf i) x) v filled own = rw (own.0) refl
+cells_by_is l cells p q (Store kind _ x) v filled own = rw (own.0) refl
 
 -- a step of process p
 module _ (s : WorldState) (p : ℕ) (a : Access) where
@@ -173,14 +167,7 @@ keeps_stepped s (Does why job) v = by (left (fed job v))
 pub keeps_started : (s : Stand) (b : Bool) (call : Call) → s.mended ≡ b → HasSeat s.layout s.limit s.index (stand_started s call)
 keeps_started s true Unlock is = rw is (refl, refl, refl)
 keeps_started s false Unlock is = rw is (refl, refl, refl)
-keeps_started s b Lock is = (refl, refl, refl)
-keeps_started s b Recover is = (refl, refl, refl)
-keeps_started s b Withdraw is = (refl, refl, refl)
-keeps_started s b Consistent is = (refl, refl, refl)
-keeps_started s b (Append seq value) is = (refl, refl, refl)
-keeps_started s b Close is = (refl, refl, refl)
-keeps_started s b (Get i) is = (refl, refl, refl)
-keeps_started s b (Put i v) is = (refl, refl, refl)
+keeps_started s b _ is = (refl, refl, refl)
 
 -- seats after one process moved
 pub seated_set :
@@ -199,14 +186,9 @@ seated_set {l = l} {limit = limit} {p = p} {processes = processes} seated below 
 
 pub words_by_length : (words : List Own) (a : Access) → length (words_by words a) ≡ length words
 words_by_length words (Load kind word) = refl
-words_by_length words (Store kind (ChoosingOf q) x) = length-set words q _
-words_by_length words (Store kind (NumberOf q) x) = length-set words q _
-words_by_length words (Store kind (InsideOf q) x) = length-set words q _
 words_by_length words (Store kind (DataAt i) x) = refl
+words_by_length words (Store kind _ x) = length-set words _ _
 
 pub cells_by_length : (cells : List ℕ) (a : Access) → length (cells_by cells a) ≡ length cells
-cells_by_length cells (Load kind word) = refl
 cells_by_length cells (Store kind (DataAt i) x) = length-set cells i x
-cells_by_length cells (Store kind (ChoosingOf q) x) = refl
-cells_by_length cells (Store kind (NumberOf q) x) = refl
-cells_by_length cells (Store kind (InsideOf q) x) = refl
+cells_by_length cells _ = refl

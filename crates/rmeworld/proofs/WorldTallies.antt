@@ -15,7 +15,7 @@ use Rattle.rmecore.specs.declared.kind.Kind.TheVariants.{Get as Gets, Put as Put
 use Rattle.rmecore.specs.declared.own.Own.{Own}
 use Rattle.rmecore.specs.declared.tally.Tally.{Tally}
 use Rattle.rmecore.specs.declared.word.Word.{Word}
-use Rattle.rmecore.specs.declared.word.Word.TheVariants.{Choosing as ChoosingOf, Number as NumberOf, Inside as InsideOf, Data as DataAt}
+use Rattle.rmecore.specs.declared.word.Word.TheVariants.{Data as DataAt}
 use Rattle.rmecore.proofs.Invariant.{put_same, put_other}
 use Rattle.rmecore.proofs.Tallies.{never_glances, exact_before, sums, Was, rereads_on, reads_begun}
 use Rattle.rmecore.proofs.Turns.{not_data}
@@ -38,7 +38,7 @@ use Rattle.rmeworld.specs.WorldState.{WorldState, stand_at, spot_at, scene_of, I
 use Rattle.rmeworld.specs.declared.answer.Answer.{Answer}
 use Rattle.rmeworld.specs.declared.call.Call.{Call}
 use Rattle.rmeworld.specs.declared.why.Why.{Why}
-use Rattle.rmeworld.specs.declared.why.Why.TheVariants.{Checking, Ruining, Mending, Working}
+use Rattle.rmeworld.specs.declared.why.Why.TheVariants.{Checking}
 use Rattle.rmeworld.proofs.CallBounds.{fewer_at}
 use Rattle.rmeworld.proofs.CallSteps.{more, guard_spot, To, step_by, start_to}
 use Rattle.rmeworld.proofs.WorldSteps.{IsStep, step_takes}
@@ -56,10 +56,7 @@ no_glance limit p s e a is = subst (λ o. IfSome o (λ a. is_glance (kind_of a) 
 -- a process that rereads after a step has read an own word in it
 ended_not : (why : Why) (a : Reply) → IsRereading (end_place why a) → ⊥
 ended_not Checking (Ruined true) h = h
-ended_not Checking _ h = h
-ended_not Ruining a h = h
-ended_not Mending a h = h
-ended_not (Working t) a h = h
+ended_not _ _ h = h
 
 pub settled_not : (m c : Bool) (why : Why) (left : Script Reply) → IsRereading (settled m c why left).lock → ⊥
 settled_not m c why (Asks i rest) h = h
@@ -84,9 +81,7 @@ module _ (l : Layout) (limit p : ℕ) where
   -- a lock word is read as it stands
   core_reads : (words : ℕ → Own) (cells : Words) (s : Place) (kind : Kind) (word : Word) (v : ℕ) → IsSome (next l.procs limit p s kind word v) → (is_store kind ≡ false → reading_of words cells word ≡ v) → CoreReads words (Steps p kind word v)
   core_reads words cells s kind (DataAt i) v some reads = λ load. absurd (not_data l.procs limit p s kind i v some)
-  core_reads words cells s kind (ChoosingOf q) v some reads = reads
-  core_reads words cells s kind (NumberOf q) v some reads = reads
-  core_reads words cells s kind (InsideOf q) v some reads = reads
+  core_reads words cells s kind _ v some reads = reads
 
 -- the count after one step of a process, begun with the words in its tally
 module _ (l : Layout) (limit : ℕ) (w : Scene) (p : ℕ) (kind : Kind) (word : Word) (v : ℕ) (t : Tally) (can : Can l limit w (Moves p kind word v)) (moves : is_glance kind ≡ false) (tallied : IsTallied l (w.words p) (w.spots p) t) where
@@ -149,9 +144,7 @@ all_but l w w' p tallies tallies' words spots same here all q below =
 others_words : (words : ℕ → Own) (p r : ℕ) (a : Access) (v q : ℕ) → StoresOwn r a → r ≡ p → q ≢ p → words_after words (Moves p (kind_of a) (word_of a) v) q ≡ words q
 others_words words p r (Load kind word) v q own mine ne = rw own refl
 others_words words p r (Store kind (DataAt i) x) v q own mine ne = rw (own.0) refl
-others_words words p r (Store kind (ChoosingOf j) x) v q own mine ne = let far : q ≢ j = λ e. ne (e ∙ own.1 ∙ mine) in rw (own.0) (put_other words j _ q far)
-others_words words p r (Store kind (NumberOf j) x) v q own mine ne = let far : q ≢ j = λ e. ne (e ∙ own.1 ∙ mine) in rw (own.0) (put_other words j _ q far)
-others_words words p r (Store kind (InsideOf j) x) v q own mine ne = let far : q ≢ j = λ e. ne (e ∙ own.1 ∙ mine) in rw (own.0) (put_other words j _ q far)
+others_words words p r (Store kind _ x) v q own mine ne = rw (own.0) (put_other words _ _ q (λ e. ne (e ∙ own.1 ∙ mine)))
 
 module _ (s : WorldState) (p : ℕ) (a : Access) (step : IsStep s p a) (all : AllTallied s.layout (scene_of s) s.tallies) where
   abbrev v : ℕ

@@ -3,7 +3,7 @@ use Rattle.std.proofs.Common.{◌≡◌, ℕ, zero, suc, ◌+◌, ◌<◌, ◌�
 use Rattle.std.proofs.lemmas.Bool.{cases_lt, cases_Bool}
 use Rattle.std.proofs.lemmas.List.{get_or-replicate, get_or_past, get_or_default, length-replicate, length-set}
 use Rattle.rmecore.specs.Machine.{access, kind_of, word_of, carried}
-use Rattle.rmecore.specs.Place.{Place, Rest, Dead, Reread, Opening, Door, Shutting, Wait, Inside, Leaving, Withdrawing, Unmarking}
+use Rattle.rmecore.specs.Place.{Place, Reread, Door, Wait}
 use Rattle.rmecore.specs.World.{step_deed}
 use Rattle.rmecore.specs.declared.outer.Outer.{Outer}
 use Rattle.redomail.specs.declared.deed.Deed.TheVariants.{Outer as OuterDeed}
@@ -13,7 +13,7 @@ use Rattle.rmecore.specs.declared.tally.Tally.{Tally}
 use Rattle.rmecore.specs.declared.access.Access.{Access}
 use Rattle.rmecore.specs.declared.access.Access.TheVariants.{Load, Store}
 use Rattle.redomail.specs.declared.layout.Layout.{Layout}
-use Rattle.redomail.specs.Layout.{Words, words_of, place_at, held, size, IsLayout}
+use Rattle.redomail.specs.Layout.{Words, words_of, held, size, IsLayout}
 use Rattle.redomail.specs.declared.deed.Deed.{Deed}
 use Rattle.judge.specs.Table.{empty}
 use Rattle.rmeworld.specs.declared.call.Call.{Call}
@@ -28,6 +28,7 @@ use Rattle.rmeworld.proofs.StoryGrows.{reached_more}
 use Rattle.rmeworld.specs.Tallied.{IsTallied}
 use Rattle.rmeworld.proofs.WorldTallies.{tallied_step, tallied_start, tallied_crash}
 use Rattle.rmeworld.proofs.WorldSteps.{IsStep, step_takes, seated_set, words_by_length, cells_by_length, keeps_stepped, keeps_started, start_takes, crash_takes}
+use Rattle.redomail.proofs.Safe.{size_small}
 
 pub reached_by : (s : WorldState) (e : Happening) (new : WorldState) → Takes s e new → IsReached s.layout s.limit (scene_of s) s.history → IsReached s.layout s.limit (scene_of new) new.history
 reached_by s e new takes reached =
@@ -155,22 +156,10 @@ mails l p q cells (Store kind word v) x own = rw (own.0) refl
 -- the lock's part puts no data word
 no_put : (limit p : ℕ) (place : Place) (l : Layout) (q : ℕ) (cells : Words) → IfSome (access limit p place) (λ a. mail_by l q cells a ≡ [])
 no_put limit p (Door [] m) l q cells = elim (cases_Bool (nat_lt m limit)) [ inl e ↦ rw e refl | inr e ↦ rw e refl ]
-no_put limit p (Door (j ∷ js) m) l q cells = refl
-no_put limit p (Reread call []) l q cells = refl
-no_put limit p (Reread call (c ∷ [])) l q cells = refl
-no_put limit p (Reread call (c ∷ k ∷ [])) l q cells = refl
 no_put limit p (Reread call (c ∷ k ∷ i ∷ seen)) l q cells = tt
-no_put limit p Opening l q cells = refl
-no_put limit p (Shutting call k) l q cells = refl
 no_put limit p (Wait k unpassed (Some j)) l q cells = refl
 no_put limit p (Wait k (j ∷ js) None) l q cells = refl
-no_put limit p (Wait k [] None) l q cells = refl
-no_put limit p Leaving l q cells = refl
-no_put limit p Withdrawing l q cells = refl
-no_put limit p (Unmarking call) l q cells = refl
-no_put limit p Rest l q cells = tt
-no_put limit p Dead l q cells = tt
-no_put limit p Inside l q cells = tt
+no_put limit p _ l q cells = assumption
 
 -- a step has one deed at most
 one_deed : (l : Layout) (limit p q : ℕ) (place : Place) (e : Errand) (a : Access) (cells : Words) (x : ℕ) → access_by limit p place e ≡ Some a
@@ -226,10 +215,6 @@ world_crash s p world below =
       reached = reached_by s (Falls p) (crashed s p) (crash_takes s p world.seated below) world.reached;
       tallied = tallied_crash s p below (crash_takes s p world.seated below) world.tallied;
     }
-
-size_small : (l : Layout) → IsLayout l → size l ≤ 900000
-unfolding place_at
-size_small l h = let small = h.small in grind arith
 
 pub size_held : (l : Layout) → IsLayout l → held (size l) ≡ size l
 size_held l h = let small = size_small l h in omega (arith, small)

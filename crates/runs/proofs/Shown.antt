@@ -8,7 +8,8 @@ use Rattle.redomail.specs.declared.deed.Deed.TheVariants.{Outer, Commit, Show, C
 use Rattle.redomail.proofs.Stands.{stand_by}
 use Rattle.judge.specs.Legal.{Leads, judged_all}
 use Rattle.judge.specs.Table.{after}
-use Rattle.rmeworld.proofs.Stories.{before_is, goes_on}
+use Rattle.rmeworld.proofs.Stories.{before_is}
+use Rattle.judge.proofs.Histories.{judged_all-append}
 use Rattle.runs.proofs.Runs.{spelled-append, legal_front}
 
 -- deeds take no message away that is shown
@@ -82,7 +83,7 @@ module _ (s : Setup) (layout : IsLayout s.layout) where
       let first : List Deed = deeds l s.limit at_first (spelled es) in
       let then : List Deed = deeds l s.limit (end_of s es) (spelled later) in
       let all : deeds l s.limit at_first (spelled (es ++ later)) ≡ first ++ then = ap (deeds l s.limit at_first) (spelled-append es later) ∙ deeds-append l s.limit at_first (spelled es) (spelled later) in
-      let leads : Leads a.now then b.now = sym (goes_on start a.now first then a.leads) ∙ ap (judged_all start) (sym all) ∙ b.leads in
+      let leads : Leads a.now then b.now = sym (judged_all-append start a.now first then a.leads) ∙ ap (judged_all start) (sym all) ∙ b.leads in
       let rest = all_shown a.now then in
       (rest.0, ap (λ (t : State). t.mail.shown) (state_led a.now b.now then leads) ∙ rest.1)
 

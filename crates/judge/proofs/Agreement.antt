@@ -1,20 +1,12 @@
 -- Only the processes count: where two abstract locks agree below n, they allow the same deeds of n processes.
-use Rattle.std.specs.Prelude.{◌≡◌, ℕ, zero, suc, ◌<◌, Bool, false, ◌||◌, ◌==◌, if◌then◌else◌, List, [], ◌∷◌, refl}
-use Rattle.std.proofs.Common.{sym, ◌∙◌, ap, subst, inl, inr, arith}
-use Rattle.std.proofs.lemmas.Bool.{cases_eq, ltb-true, cond-true, cond-false, eq-eqb, ne_eqb}
-use Rattle.rmecore.specs.Needs.{AllHold, least, put}
-use Rattle.rmecore.specs.AbstractLock.{Abstract, Legal, row, done, is_out, is_door, is_ready, is_inside, is_dead_in, crashed, doer as lock_doer}
-use Rattle.rmecore.specs.declared.fault.Fault.{Fault}
-use Rattle.rmecore.specs.declared.fault.Fault.TheVariants.{OutOfPlace, TwoInside, NotReentered, Overtaken}
-use Rattle.rmecore.specs.declared.outer.Outer.{Outer}
-use Rattle.rmecore.specs.declared.outer.Outer.TheVariants.{Begin, Ready as IsReady, Enter, Crash, Reenter, Leave, Quit}
-use Rattle.rmecore.specs.declared.phase.Phase.{Phase}
-use Rattle.rmecore.specs.declared.phase.Phase.TheVariants.{Out, Door, Ready, Inside}
-use Rattle.redomail.specs.Mailbox.{Mailbox, doer, row as mail_row, done as mail_done}
-use Rattle.redomail.specs.declared.deed.Deed.{Deed}
+use Rattle.std.proofs.Common.{◌≡◌, ℕ, zero, suc, ◌<◌, Bool, false, ◌||◌, ◌==◌, if◌then◌else◌, List, [], ◌∷◌, refl, sym, ◌∙◌, ap, subst, inl, inr, arith, ltb-true, eq-eqb, ne_eqb}
+use Rattle.judge.proofs.Common.{cases_eq, cond-true, cond-false, Fault, OutOfPlace, TwoInside, NotReentered, Overtaken, Outer, Begin, Ready as IsReady, Enter, Crash, Reenter, Leave, Quit, Phase, Out}
+use Rattle.judge.proofs.Common.{Door, Inside, Abstract, Legal, done, is_out, is_door, is_ready, is_inside, is_dead_in, crashed, lock_doer, AllHold, least, put, Deed, Mailbox, doer, row as mail_row}
+use Rattle.judge.proofs.Common.{MailAllows, Agree, lock_after}
+use Rattle.rmecore.specs.AbstractLock.{row}
+use Rattle.rmecore.specs.declared.phase.Phase.TheVariants.{Ready}
+use Rattle.redomail.specs.Mailbox.{done as mail_done}
 use Rattle.redomail.specs.declared.deed.Deed.TheVariants as deed
-use Rattle.judge.specs.Table.{lock_after}
-use Rattle.judge.specs.Halves.{MailAllows, Agree}
 
 least-agree : (n : ℕ) (t u : ℕ → Bool) → ((k : ℕ) → k < n → t k ≡ u k) → least n t ≡ least n u
 least-agree zero t u same = refl

@@ -1,12 +1,8 @@
 -- Counts of a list that grows by one.
-use Rattle.std.specs.Prelude.{◌≡◌, ◌≢◌, ℕ, ◌+◌, ◌<◌, ◌≤◌, Bool, List, [], ◌∷◌, ◌++◌, length, count_by, cond, ◌==◌, refl}
-use Rattle.std.proofs.Common.{sym, inl, inr, arith, get_or, set, get_or-set_same, get_or-set_other}
-use Rattle.std.proofs.lemmas.Bool.{cond-true, cond-false, eq-eqb, ne_eqb, cases_eq}
+use Rattle.std.proofs.Common.{◌≡◌, ◌≢◌, ℕ, ◌+◌, ◌<◌, ◌≤◌, Bool, List, [], ◌∷◌, ◌++◌, length, count_by, cond, ◌==◌, refl, sym, inl, inr, arith, get_or, set, get_or-set_same, get_or-set_other, eq-eqb, ne_eqb}
+use Rattle.judge.proofs.Common.{cases_eq, cond-true, cond-false, Message, is_by, Lists}
 use Rattle.std.proofs.lemmas.List.Sums.{sum_by-append}
-use Rattle.redomail.specs.declared.message.Message.{Message}
-use Rattle.redomail.specs.Mailbox.{is_by}
 pub use Rattle.redomail.specs.Shape.{bit as one_if}
-use Rattle.judge.specs.Kept.{Lists}
 
 pub count_cons : {X : Type 0} (f : X → Bool) (x : X) (xs : List X) → count_by f (x ∷ xs) ≡ one_if (f x) + count_by f xs
 count_cons f x xs = let e = sum_by-append (λ y. cond (f y) 1 0) (x ∷ []) xs in omega (arith, e)

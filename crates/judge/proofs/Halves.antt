@@ -1,18 +1,8 @@
 -- The lock's half and the mailbox's half of a list of deeds.
-use Rattle.std.specs.Prelude.{◌≡◌, ℕ, Bool, true, List, [], ◌∷◌, ◌++◌, map, Some, None, is_none, Ok, refl}
-use Rattle.std.proofs.Common.{sym, ◌∙◌, ap, subst}
-use Rattle.std.proofs.lemmas.Bool.{cond-true}
-use Rattle.rmecore.specs.Needs.{AllHold, first_fault}
-use Rattle.rmecore.specs.AbstractLock.{Abstract, Legal, doer as lock_doer, is_inside, done, nobody}
-use Rattle.rmecore.specs.declared.fault.Fault.{Fault}
-use Rattle.rmecore.specs.declared.outer.Outer.{Outer}
-use Rattle.rmecore.specs.declared.outer.Outer.TheVariants.{Leave}
-use Rattle.redomail.specs.Mailbox.{Mailbox, nothing_shown, row}
-use Rattle.redomail.specs.declared.deed.Deed.{Deed}
+use Rattle.std.proofs.Common.{◌≡◌, ℕ, Bool, true, List, [], ◌∷◌, ◌++◌, map, Some, None, is_none, Ok, refl, sym, ◌∙◌, ap, subst}
+use Rattle.judge.proofs.Common.{cond-true, Fault, Outer, Leave, Abstract, Legal, done, is_inside, lock_doer, nobody, AllHold, first_fault, Deed, Mailbox, row, nothing_shown, MailAllows, outers}
+use Rattle.judge.proofs.Common.{all_after, and_then, judged_all, Leads, State, lock_needs, mail_needs, needs, after, empty, unless, judged}
 use Rattle.redomail.specs.declared.deed.Deed.TheVariants as deed
-use Rattle.judge.specs.Table.{State, empty, needs, lock_needs, mail_needs, after, unless, judged}
-use Rattle.judge.specs.Legal.{and_then, judged_all, Leads}
-use Rattle.judge.specs.Halves.{outers, MailAllows, all_after}
 use Rattle.judge.proofs.Steps.{Allowed, Allowed-from_leads}
 use Rattle.judge.proofs.Histories.{same_state}
 

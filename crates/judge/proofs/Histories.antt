@@ -1,11 +1,6 @@
 -- A history with one more deed.
-use Rattle.std.specs.Prelude.{◌≡◌, List, [], ◌∷◌, ◌++◌, Some, None, Result, Ok, Err}
-use Rattle.std.proofs.Common.{sym, ◌∙◌, ap}
-use Rattle.redomail.specs.declared.deed.Deed.{Deed}
-use Rattle.rmecore.specs.declared.fault.Fault.{Fault}
-use Rattle.judge.specs.Table.{State, needs, after, unless, judged}
-use Rattle.rmecore.specs.Needs.{first_fault}
-use Rattle.judge.specs.Legal.{and_then, judged_all, Leads}
+use Rattle.std.proofs.Common.{◌≡◌, List, [], ◌∷◌, ◌++◌, Some, None, Result, Ok, Err, sym, ◌∙◌, ap}
+use Rattle.judge.proofs.Common.{Fault, first_fault, Deed, and_then, judged_all, Leads, State, needs, after, unless, judged}
 
 pub same_state : (s t : State) → ◌≡◌ {A = Result State Fault} (Ok s) (Ok t) → s ≡ t
 same_state s t e = cc

@@ -1,17 +1,9 @@
 -- Nobody enters while another is inside, and after a crash inside nobody but the one that crashed.
-use Rattle.std.specs.Prelude.{◌≡◌, ℕ, zero, suc, ◌<◌, true, false, List, [], ◌∷◌, refl, ◌⊎◌}
-use Rattle.std.proofs.Common.{sym, ◌∙◌, ap, subst, inl, inr, arith}
-use Rattle.std.proofs.lemmas.Bool.{true≢false}
-use Rattle.rmecore.specs.declared.outer.Outer.TheVariants.{Begin, Ready, Enter, Crash, Reenter, Leave, Quit}
-use Rattle.redomail.specs.declared.deed.Deed.{Deed}
+use Rattle.std.proofs.Common.{◌≡◌, ℕ, zero, suc, ◌<◌, true, false, List, [], ◌∷◌, refl, ◌⊎◌, sym, ◌∙◌, ap, subst, inl, inr, arith, true≢false}
+use Rattle.judge.proofs.Common.{Begin, Ready, Enter, Crash, Reenter, Leave, Quit, Phase, is_inside, is_dead_in, crashed, AllHold, put, none_below, put_same, Deed, NoneBefore, IsEntryOf, IsExitOf}
+use Rattle.judge.proofs.Common.{IsEntry, At, Stands, NoneBetween, NoTwoInside, DeadReenters, State, needs, after, empty}
 use Rattle.redomail.specs.declared.deed.Deed.TheVariants as deed
-use Rattle.rmecore.specs.declared.phase.Phase.{Phase}
 use Rattle.rmecore.specs.declared.phase.Phase.TheVariants as phase
-use Rattle.judge.specs.Table.{State, empty, needs, after}
-use Rattle.rmecore.specs.AbstractLock.{is_inside, is_dead_in, crashed}
-use Rattle.rmecore.specs.Needs.{put, none_below, AllHold}
-use Rattle.judge.specs.Plain.{NoneBefore, IsEntryOf, IsExitOf, IsEntry, At, Stands, NoneBetween, NoTwoInside, DeadReenters}
-use Rattle.rmecore.proofs.Invariant.{put_same}
 use Rattle.judge.proofs.Steps.{Allowed, put_cases, none_below-at, procs-after, doer_below, inside_stays, dead_stays}
 
 -- inside, alive or dead

@@ -1,12 +1,8 @@
 -- The least number with a test.
-use Rattle.std.specs.Prelude.{◌≡◌, ℕ, zero, suc, ◌<◌, Bool, true, false, not, List, [], ◌∷◌, length, refl}
+use Rattle.std.proofs.Common.{◌≡◌, ℕ, zero, suc, ◌<◌, Bool, true, false, not, List, [], ◌∷◌, length, refl, sym, ◌∙◌, ap, inl, inr, arith, get_or, true≢false}
+use Rattle.judge.proofs.Common.{cases_Bool, or_cases, false_from_ne_true, false≢true, list_any_at, least, none_below, Lists}
 use Rattle.std.specs.List.{list_any}
-use Rattle.std.proofs.Common.{sym, ◌∙◌, ap, inl, inr, arith, get_or}
-use Rattle.std.proofs.lemmas.List.Folds.{list_any_at}
-use Rattle.std.proofs.lemmas.Bool.{cases_Bool, or_cases, false_from_ne_true, true≢false, false≢true}
-use Rattle.rmecore.specs.Needs.{least, none_below}
 use Rattle.rmecore.proofs.Allowing.{none_below-from}
-use Rattle.judge.specs.Kept.{Lists}
 use Rattle.judge.proofs.Steps.{none_below-at}
 
 pub least-at : (n : ℕ) (test : ℕ → Bool) (q : ℕ) → q < n → test q ≡ true → ((k : ℕ) → k < q → test k ≡ false) → least n test ≡ q

@@ -1,16 +1,9 @@
 -- The mailbox: the Shows of each sender are numbered from 1, committed before, placed by their count, and none follows a Close.
-use Rattle.std.specs.Prelude.{◌≡◌, ℕ, zero, suc, ◌+◌, ◌<◌, true, ◌&&◌, ◌==◌, bytes_eq, List, [], ◌∷◌, length, take, count_by, Option, Some, None, is_none, refl, ◌⊎◌}
-use Rattle.std.proofs.Common.{sym, ◌∙◌, subst, inl, inr, arith, length-append}
-use Rattle.std.proofs.lemmas.Bool.{true≢false, false≢true, and_parts, eqb-true, not-true}
+use Rattle.std.proofs.Common.{◌≡◌, ℕ, zero, suc, ◌+◌, ◌<◌, true, ◌&&◌, ◌==◌, bytes_eq, List, [], ◌∷◌, length, take, count_by, Option, Some, None, is_none, refl, ◌⊎◌, sym, ◌∙◌, subst, inl, inr, arith, length-append, true≢false, eqb-true}
+use Rattle.judge.proofs.Common.{false≢true, and_parts, not-true, Begin, AllHold, Deed, Message, is_by, is_pending, message, Stands, is_show, is_show_of, StandsBefore, MailInOrder, State, needs, after}
+use Rattle.judge.proofs.Common.{empty}
 use Rattle.std.proofs.lemmas.Slice.Eq.{bytes_eq-Decides}
-use Rattle.rmecore.specs.declared.outer.Outer.TheVariants.{Begin}
-use Rattle.redomail.specs.declared.deed.Deed.{Deed}
 use Rattle.redomail.specs.declared.deed.Deed.TheVariants as deed
-use Rattle.redomail.specs.declared.message.Message.{Message}
-use Rattle.judge.specs.Table.{State, empty, needs, after}
-use Rattle.rmecore.specs.Needs.{AllHold}
-use Rattle.redomail.specs.Mailbox.{is_by, message, is_pending}
-use Rattle.judge.specs.Plain.{is_show, is_show_of, Stands, StandsBefore, MailInOrder}
 use Rattle.judge.proofs.Counts.{one_if, count_cons, count_push}
 use Rattle.judge.proofs.Steps.{Allowed}
 

@@ -1,13 +1,7 @@
 -- Lists read by index.
-use Rattle.std.specs.Prelude.{◌≡◌, ℕ, ◌+◌, ◌<◌, ◌≤◌, List, [], ◌∷◌, ◌++◌, take, length, count_by, slice_get, map, IfSome, refl}
-use Rattle.std.proofs.Common.{sym, ◌∙◌, ap, subst, inl, inr, arith, get_or, set, below_more}
+use Rattle.std.proofs.Common.{◌≡◌, ℕ, ◌+◌, ◌<◌, ◌≤◌, List, [], ◌∷◌, ◌++◌, take, length, count_by, slice_get, map, IfSome, refl, sym, ◌∙◌, ap, subst, inl, inr, arith, get_or, set, below_more}
+use Rattle.judge.proofs.Common.{cases_lt, take_more, get_or-map, Message, is_by, Lists, IsNext, AreNumbered}
 use Rattle.std.proofs.lemmas.Option.{slice_get-get_or, slice_get_past}
-use Rattle.std.proofs.lemmas.Bool.{cases_lt}
-use Rattle.std.proofs.lemmas.List.{take_more, get_or-map}
-use Rattle.redomail.specs.declared.message.Message.{Message}
-use Rattle.redomail.specs.Mailbox.{is_by}
-use Rattle.judge.specs.Kept.{Lists}
-use Rattle.judge.specs.Starts.{IsNext, AreNumbered}
 use Rattle.judge.proofs.Counts.{Lists-counted}
 
 -- what is known of the element at a place

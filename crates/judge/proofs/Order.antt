@@ -1,16 +1,9 @@
 -- First come, first served: who is ready when another begins enters or quits before that one enters.
-use Rattle.std.specs.Prelude.{◌≡◌, ℕ, zero, suc, ◌<◌, true, false, List, [], ◌∷◌}
-use Rattle.std.proofs.Common.{sym, ◌∙◌, ap, subst, inl, inr, arith}
-use Rattle.rmecore.specs.declared.outer.Outer.TheVariants.{Begin, Enter, Quit}
-use Rattle.redomail.specs.declared.deed.Deed.{Deed}
+use Rattle.std.proofs.Common.{◌≡◌, ℕ, zero, suc, ◌<◌, true, false, List, [], ◌∷◌, sym, ◌∙◌, ap, subst, inl, inr, arith}
+use Rattle.judge.proofs.Common.{Begin, Enter, Quit, is_ready, AllHold, put_same, Deed, doer, NoneBefore, Stands, NoneBetween, GoneBefore, IsEndOf, IsGoneOf, GoneBetween, FirstComeFirstServed, State}
+use Rattle.judge.proofs.Common.{needs, after}
 use Rattle.redomail.specs.declared.deed.Deed.TheVariants as deed
 use Rattle.rmecore.specs.declared.phase.Phase.TheVariants as phase
-use Rattle.judge.specs.Table.{State, needs, after}
-use Rattle.rmecore.specs.AbstractLock.{is_ready}
-use Rattle.rmecore.specs.Needs.{AllHold}
-use Rattle.redomail.specs.Mailbox.{doer}
-use Rattle.judge.specs.Plain.{NoneBefore, GoneBefore, IsEndOf, IsGoneOf, Stands, NoneBetween, GoneBetween, FirstComeFirstServed}
-use Rattle.rmecore.proofs.Invariant.{put_same}
 use Rattle.judge.proofs.Steps.{Allowed, put_cases, none_below-at, procs-after, doer_below, ready_stays, is_gone, is_end_while_ready}
 
 -- the same, one deed later

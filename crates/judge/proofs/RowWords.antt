@@ -1,13 +1,9 @@
 -- A row of bits as a number.
-use Rattle.std.specs.Prelude.{◌≡◌, ℕ, zero, suc, ◌+◌, ◌-◌, ◌*◌, ◌%◌, ◌^◌, ◌<◌, ◌≤◌, Bool, true, false, if◌then◌else◌}
-use Rattle.std.specs.Int.{bit_at}
-use Rattle.std.proofs.Common.{◌∙◌, inl, inr, arith}
-use Rattle.std.proofs.lemmas.Bool.{cases_eq}
+use Rattle.std.proofs.Common.{◌≡◌, ℕ, zero, suc, ◌+◌, ◌-◌, ◌*◌, ◌%◌, ◌^◌, ◌<◌, ◌≤◌, Bool, true, false, if◌then◌else◌, ◌∙◌, inl, inr, arith}
+use Rattle.judge.proofs.Common.{cases_eq, bit_at_cat_low, bit_at_cat_high, bit_at_lowest, bit_at, HasBits, row_word}
 use Rattle.std.proofs.lemmas.Nat.{mod-pow-add}
 use Rattle.std.proofs.Math.Nat.{mod-one, mod-eq_of_lt, two-pow-succ}
 use Rattle.std.proofs.Math.Pow.{pow-lt, pow_mono}
-use Rattle.std.proofs.lemmas.Nat.Bits.{bit_at_cat_low, bit_at_cat_high, bit_at_lowest}
-use Rattle.judge.specs.Kept.{HasBits, row_word}
 
 pub mod-pow-suc : (row n : ℕ) → row % 2 ^ suc n ≡ (bit_at row n) * 2 ^ n + row % 2 ^ n
 mod-pow-suc row n = let e : suc n ≡ 1 + n = omega arith in rw e (mod-pow-add row 1 n)

@@ -1,13 +1,6 @@
 -- Sets as rows of bits.
-use Rattle.std.specs.Prelude.{◌≡◌, ◌≢◌, ℕ, ◌+◌, ◌<◌, Bool, true, false, ◌||◌, ◌==◌, max, List, [], ◌∷◌, ◌++◌, take, length, slice_index, bit_or, refl}
-use Rattle.std.specs.Int.{bit_at}
-use Rattle.std.proofs.Common.{sym, ◌∙◌, ap, subst, inl, inr, arith, get_or, below_more, length-append}
-use Rattle.std.proofs.lemmas.Bool.{cases_eq, eq-eqb, ne_eqb}
-use Rattle.std.proofs.lemmas.List.{get_or_append_left, get_or_push}
-use Rattle.std.proofs.lemmas.List.Folds.{list_any_more}
-use Rattle.std.proofs.lemmas.Nat.Bits.{bit_at_or}
-use Rattle.judge.specs.Kept.{HasBits}
-use Rattle.judge.specs.Starts.{is_named}
+use Rattle.std.proofs.Common.{◌≡◌, ◌≢◌, ℕ, ◌+◌, ◌<◌, Bool, true, false, ◌||◌, ◌==◌, max, List, [], ◌∷◌, ◌++◌, take, length, slice_index, bit_or, refl, sym, ◌∙◌, ap, subst, inl, inr, arith, get_or, below_more, length-append, eq-eqb, ne_eqb}
+use Rattle.judge.proofs.Common.{cases_eq, get_or_append_left, get_or_push, list_any_more, bit_at_or, bit_at, HasBits, is_named}
 use Rattle.judge.proofs.Counts.{one_if}
 
 either : (b c : Bool) → max (one_if b) (one_if c) ≡ one_if (b || c)

@@ -1,16 +1,8 @@
 -- The laws from a start.
-use Rattle.std.specs.Prelude.{◌≡◌, ℕ, zero, suc, ◌+◌, ◌<◌, ◌≤◌, Bool, true, false, List, [], ◌∷◌, length, count_by, Option, Some, None, IfSome, refl}
-use Rattle.std.proofs.Common.{sym, ◌∙◌, ap, subst, inl, inr, arith, get_or}
-use Rattle.std.proofs.lemmas.Bool.{cases_lt, true≢false, false≢true, cond-true}
-use Rattle.std.proofs.lemmas.List.{get_or_past}
-use Rattle.std.proofs.lemmas.List.Folds.{list_any_at}
-use Rattle.redomail.specs.declared.deed.Deed.{Deed}
-use Rattle.redomail.specs.declared.message.Message.{Message}
-use Rattle.rmecore.specs.declared.phase.Phase.{Phase}
+use Rattle.std.proofs.Common.{◌≡◌, ℕ, zero, suc, ◌+◌, ◌<◌, ◌≤◌, Bool, true, false, List, [], ◌∷◌, length, count_by, Option, Some, None, IfSome, refl, sym, ◌∙◌, ap, subst, inl, inr, arith, get_or, true≢false}
+use Rattle.judge.proofs.Common.{cond-true, false≢true, cases_lt, get_or_past, list_any_at, Phase, is_out, is_inside, is_dead_in, Deed, Message, is_by, is_pending, IsNext, IsStart, LockHolds, phase_in}
+use Rattle.judge.proofs.Common.{state_of}
 use Rattle.rmecore.specs.declared.phase.Phase.TheVariants as phase
-use Rattle.rmecore.specs.AbstractLock.{is_out, is_inside, is_dead_in}
-use Rattle.redomail.specs.Mailbox.{is_by, is_pending}
-use Rattle.judge.specs.Starts.{IsStart, LockHolds, IsNext, phase_in, state_of}
 use Rattle.judge.specs.PlainFrom.{IsPlainFrom}
 use Rattle.judge.specs.declared.start.Start.{Start}
 use Rattle.judge.proofs.Counts.{one_if, count_cons}

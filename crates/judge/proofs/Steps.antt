@@ -1,19 +1,9 @@
 -- One step of the judge: what an allowed deed needed, and which places it keeps.
-use Rattle.std.specs.Prelude.{◌≡◌, ℕ, ◌<◌, Bool, true, false, ◌||◌, ◌==◌, cond, List, [], ◌∷◌, Option, Some, None, Result, Ok, refl, ◌⊎◌}
-use Rattle.std.proofs.Common.{sym, ◌∙◌, ap, subst, inl, inr, arith}
-use Rattle.std.proofs.lemmas.Bool.{cases_eq, true≢false, eqb-true, eqb-false, cond_both, ltb-true}
-use Rattle.rmecore.specs.declared.outer.Outer.TheVariants.{Begin, Ready, Enter, Crash, Reenter, Leave, Quit}
-use Rattle.redomail.specs.declared.deed.Deed.{Deed}
+use Rattle.std.proofs.Common.{◌≡◌, ℕ, ◌<◌, Bool, true, false, ◌||◌, ◌==◌, cond, List, [], ◌∷◌, Option, Some, None, Result, Ok, refl, ◌⊎◌, sym, ◌∙◌, ap, subst, inl, inr, arith, true≢false, eqb-true, ltb-true}
+use Rattle.judge.proofs.Common.{cases_eq, eqb-false, cond_both, Fault, Begin, Ready, Enter, Crash, Reenter, Leave, Quit, Phase, is_out, is_door, is_ready, is_inside, is_dead_in, crashed, AllHold}
+use Rattle.judge.proofs.Common.{least, put, first_fault, none_below, Deed, doer, and_then, judged_all, Leads, IsEntryOf, IsExitOf, IsEndOf, IsGoneOf, State, needs, after, unless}
 use Rattle.redomail.specs.declared.deed.Deed.TheVariants as deed
-use Rattle.rmecore.specs.declared.fault.Fault.{Fault}
-use Rattle.rmecore.specs.declared.phase.Phase.{Phase}
 use Rattle.rmecore.specs.declared.phase.Phase.TheVariants as phase
-use Rattle.judge.specs.Table.{State, needs, after, unless}
-use Rattle.rmecore.specs.AbstractLock.{is_out, is_door, is_ready, is_inside, is_dead_in, crashed}
-use Rattle.rmecore.specs.Needs.{put, least, none_below, first_fault, AllHold}
-use Rattle.redomail.specs.Mailbox.{doer}
-use Rattle.judge.specs.Legal.{and_then, judged_all, Leads}
-use Rattle.judge.specs.Plain.{IsEntryOf, IsExitOf, IsEndOf, IsGoneOf}
 use Rattle.rmecore.proofs.Allowing.{least-le}
 
 -- each of these deeds is allowed

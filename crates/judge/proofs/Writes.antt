@@ -1,14 +1,7 @@
 -- What a judge keeps at the start, and after a write.
-use Rattle.std.specs.Prelude.{◌≡◌, ◌≢◌, ℕ, ◌<◌, ◌≤◌, Bool, false, List, ◌++◌, take, drop, length, refl}
-use Rattle.std.proofs.Common.{sym, ◌∙◌, ap, subst, arith, get_or, set, replicate, get_or-set_same, get_or-set_other}
-use Rattle.std.proofs.lemmas.List.{get_or-replicate, take-append-le}
+use Rattle.std.proofs.Common.{◌≡◌, ◌≢◌, ℕ, ◌<◌, ◌≤◌, Bool, false, List, ◌++◌, take, drop, length, refl, sym, ◌∙◌, ap, subst, arith, get_or, set, replicate, get_or-set_same, get_or-set_other}
+use Rattle.judge.proofs.Common.{get_or-replicate, take-append-le, bit_at-zero, Phase, put, Kept, Lists, HasBits, IsSound, HasRows, Keeps, State}
 use Rattle.std.proofs.Math.Seq.{take-length}
-use Rattle.std.proofs.lemmas.Nat.Bits.{bit_at-zero}
-use Rattle.rmecore.specs.declared.phase.Phase.{Phase}
-use Rattle.rmecore.specs.Needs.{put}
-use Rattle.judge.specs.Kept.{Kept, IsSound, Lists, HasBits, HasRows}
-use Rattle.judge.specs.Table.{State}
-use Rattle.judge.specs.Stands.{Keeps}
 use Rattle.judge.proofs.Steps.{put_cases}
 
 pub Lists-replicate : {X : Type 0} (xs : List X) (n : ℕ) (x : X) → xs ≡ replicate n x → Lists xs n (λ k. x)

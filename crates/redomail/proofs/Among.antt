@@ -1,14 +1,7 @@
 -- Numbers that are shown.
-use Rattle.std.proofs.Common.{◌≡◌, ℕ, zero, suc, ◌+◌, ◌==◌, List, [], ◌∷◌, ◌++◌, refl, sym, ap, ◌∙◌, subst, inl, inr, arith, eqb-true, append_assoc}
-use Rattle.std.specs.Prelude.{nat_le}
-use Rattle.std.proofs.lemmas.Bool.{cases_Bool, leb-true, leb-false}
-use Rattle.redomail.specs.declared.message.Message.{Message}
+use Rattle.std.proofs.Common.{◌≡◌, ℕ, zero, suc, ◌+◌, ◌==◌, List, [], ◌∷◌, ◌++◌, refl, sym, ap, ◌∙◌, subst, inl, inr, arith, eqb-true, append_assoc, nat_le, leb-true, leb-false}
+use Rattle.redomail.proofs.Common.{cases_Bool, Message, row, place_at, message, IsAmong, Safe, Done, entry, entries, count_of, IsNumbered}
 use Rattle.redomail.specs.declared.reply.Reply.TheVariants.{Stored, Already}
-use Rattle.redomail.specs.Mailbox.{message, IsAmong}
-use Rattle.redomail.specs.Layout.{place_at, row}
-use Rattle.redomail.specs.Script.{Done}
-use Rattle.redomail.specs.Shape.{entry, entries, count_of, IsNumbered}
-use Rattle.redomail.specs.Safe.{Safe}
 use Rattle.redomail.specs.Laws.{NumbersAreShown, AnsweredIsShown}
 use Rattle.redomail.proofs.Changes.{count_of-push}
 

@@ -1,22 +1,10 @@
 -- The apply steps and storing are safe.
-use Rattle.std.specs.Prelude.{◌≡◌, ℕ, suc, ◌+◌, ◌-◌, true, false, ◌==◌, List, [], ◌∷◌, ◌++◌, length, refl}
-use Rattle.std.proofs.Common.{sym, ◌∙◌, subst, inl, inr, arith}
-use Rattle.std.proofs.lemmas.Bool.{eq-eqb, ne_eqb, cond_both}
+use Rattle.std.proofs.Common.{◌≡◌, ℕ, suc, ◌+◌, ◌-◌, true, false, ◌==◌, List, [], ◌∷◌, ◌++◌, length, refl, sym, ◌∙◌, subst, inl, inr, arith, eq-eqb, ne_eqb}
+use Rattle.redomail.proofs.Common.{cond_both, put, Layout, Message, Record, Reply, deeds_of_put, row, Words, held, last_at, place_at, message, Mailbox, done, Safe, Added, Done, Put, puts, entry}
+use Rattle.redomail.proofs.Common.{apply_steps, store_steps}
 use Rattle.redomail.specs.declared.deed.Deed.TheVariants as deed
-use Rattle.redomail.specs.declared.message.Message.{Message}
-use Rattle.redomail.specs.Mailbox.{Mailbox, message, done}
-use Rattle.rmecore.specs.Needs.{put}
-use Rattle.redomail.specs.declared.layout.Layout.{Layout}
-use Rattle.redomail.specs.declared.record.Record.{Record}
-use Rattle.redomail.specs.declared.reply.Reply.{Reply}
 use Rattle.redomail.specs.declared.reply.Reply.TheVariants as reply
-use Rattle.redomail.specs.Layout.{Words, row, held, last_at, place_at}
-use Rattle.redomail.specs.Script.{Put, Done, puts}
-use Rattle.redomail.specs.Tasks.{apply_steps, store_steps}
-use Rattle.redomail.specs.Shape.{entry}
 use Rattle.redomail.specs.Replies.{Tells, Disarms}
-use Rattle.redomail.specs.Deeds.{deeds_of_put}
-use Rattle.redomail.specs.Safe.{Added, Safe}
 use Rattle.redomail.proofs.Leading.{no_deed, one_deed}
 use Rattle.redomail.proofs.Safe.{quiet, same_row, row_of}
 use Rattle.redomail.proofs.Scripts.{held-small}

@@ -1,27 +1,11 @@
 -- Each task is safe, where the process inside may begin it.
-use Rattle.std.specs.Prelude.{◌≡◌, ℕ, zero, suc, ◌+◌, ◌<◌, ◌≤◌, Bool, true, false, ◌==◌, nat_lt, nat_le, List, [], ◌∷◌, ◌++◌, length, refl, not}
-use Rattle.std.proofs.Common.{sym, ◌∙◌, ap, subst, inl, inr, arith, append_assoc}
-use Rattle.std.proofs.lemmas.Bool.{eqb-true, eqb-false, leb-true, leb-false, ltb-true, ltb-false, cond_both, true≢false}
-use Rattle.std.proofs.lemmas.List.{append-nil}
+use Rattle.std.proofs.Common.{◌≡◌, ℕ, zero, suc, ◌+◌, ◌<◌, ◌≤◌, Bool, true, false, ◌==◌, nat_lt, nat_le, List, [], ◌∷◌, ◌++◌, length, refl, not, sym, ◌∙◌, ap, subst, inl, inr, arith, append_assoc, eqb-true, leb-true, leb-false, ltb-true, ltb-false, true≢false, append-nil}
+use Rattle.redomail.proofs.Common.{cond_both, eqb-false, put, Layout, Message, Reply, Task, deeds_of_put, row, Words, last_at, board_at, MailLeads, message, IsAmong, Mailbox, done, MayBegin, added_by}
+use Rattle.redomail.proofs.Common.{Safe, Seen, Done, Put, Script, gets, entry, entries, count_of, Shape, bit, recorded, RecordRule, ListRule, record_of, redo, decided, append, close, repair, script}
 use Rattle.redomail.specs.declared.deed.Deed.TheVariants as deed
-use Rattle.redomail.specs.declared.message.Message.{Message}
-use Rattle.redomail.specs.Mailbox.{Mailbox, message, done}
-use Rattle.rmecore.specs.Needs.{put}
-use Rattle.redomail.specs.Leads.{MailLeads}
-use Rattle.redomail.specs.declared.reply.Reply.{Reply}
-use Rattle.redomail.specs.declared.layout.Layout.{Layout}
-use Rattle.redomail.specs.declared.task.Task.{Task}
 use Rattle.redomail.specs.declared.task.Task.TheVariants as task
 use Rattle.redomail.specs.declared.reply.Reply.TheVariants as reply
-use Rattle.redomail.specs.Layout.{Words, row, last_at, board_at}
-use Rattle.redomail.specs.Script.{Script, Put, Done, gets}
-use Rattle.redomail.specs.Tasks.{record_of, redo, decided, append, close, repair, script}
-use Rattle.redomail.specs.Shape.{Shape, entry, entries, count_of, bit, recorded, RecordRule, ListRule}
-use Rattle.redomail.specs.Deeds.{deeds_of_put}
-use Rattle.redomail.specs.Safe.{Seen, Safe}
-use Rattle.redomail.specs.Runs.{MayBegin, added_by}
 use Rattle.redomail.specs.Laws.{ConsistentIsSafe}
-use Rattle.redomail.specs.Mailbox.{IsAmong}
 use Rattle.redomail.proofs.Among.{numbers_are_shown}
 use Rattle.redomail.proofs.Leading.{no_deed, one_deed}
 use Rattle.redomail.proofs.Words.{put-other, put-nothing, place_low, row-alike, entry-alike, entries-alike, IsNumbered-alike, ListRule-alike, deeds_of_put-none}

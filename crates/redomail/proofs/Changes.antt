@@ -1,20 +1,12 @@
 -- What a put leaves of a mode, and which mode a deed leads to.
-use Rattle.std.specs.Prelude.{◌≡◌, ℕ, zero, suc, ◌+◌, ◌<◌, ◌≤◌, true, false, not, ◌==◌, nat_lt, cond, List, [], ◌∷◌, ◌++◌, length, is_none, refl}
-use Rattle.std.proofs.Common.{sym, ◌∙◌, ap, inl, inr, arith, add-one, length-append, below_more}
-use Rattle.std.proofs.lemmas.Bool.{eq-eqb, ne_eqb, lt-ltb, cases_eq}
+use Rattle.std.proofs.Common.{◌≡◌, ℕ, zero, suc, ◌+◌, ◌<◌, ◌≤◌, true, false, not, ◌==◌, nat_lt, cond, List, [], ◌∷◌, ◌++◌, length, is_none, refl, sym, ◌∙◌, ap, inl, inr, arith, add-one, length-append, below_more, eq-eqb, ne_eqb, lt-ltb}
+use Rattle.redomail.proofs.Common.{cases_eq, bytes_eq-Decides, put, AllHold, Layout, Message, Record, row, Words, last_at, place_at, message, Mailbox, done, is_by, is_pending, entry, entries}
+use Rattle.redomail.proofs.Common.{count_of, bit}
 use Rattle.std.proofs.lemmas.List.Sums.{sum_by-append}
 use Rattle.redomail.specs.declared.deed.Deed.TheVariants as deed
-use Rattle.redomail.specs.declared.message.Message.{Message}
-use Rattle.redomail.specs.Mailbox.{Mailbox, message, is_by, is_pending, row as row_of, done}
-use Rattle.rmecore.specs.Needs.{AllHold, put}
-use Rattle.redomail.specs.declared.layout.Layout.{Layout}
-use Rattle.redomail.specs.declared.record.Record.{Record}
-use Rattle.redomail.specs.Layout.{Words, row, last_at, place_at}
-use Rattle.redomail.specs.Shape.{entry, entries, count_of}
-use Rattle.std.proofs.lemmas.Slice.Eq.{bytes_eq-Decides}
+use Rattle.redomail.specs.Mailbox.{row as row_of}
 use Rattle.redomail.proofs.Words.{put-other, put-same, place_low, row-alike, entry-alike, entries-alike, IsNumbered-alike, ListRule-alike}
 use Rattle.redomail.proofs.Modes.{Base, Idle, Armed, Half, Whole}
-use Rattle.redomail.specs.Shape.{bit}
 
 pub length-entries : (l : Layout) (w : Words) (k : ℕ) → length (entries l w k) ≡ k
 length-entries l w zero = refl

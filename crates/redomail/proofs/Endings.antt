@@ -1,17 +1,9 @@
 -- What the tasks leave in the words ruined and armed.
-use Rattle.std.proofs.Common.{◌≡◌, ℕ, ◌+◌, true, ◌==◌, List, [], ◌∷◌, ◌++◌, refl, sym, ap, ◌∙◌, arith, append_assoc}
-use Rattle.std.specs.Prelude.{nat_le, nat_lt}
-use Rattle.std.proofs.lemmas.Bool.{cond_both, eqb-true, eqb-false}
-use Rattle.rmecore.specs.Needs.{put}
-use Rattle.redomail.specs.declared.layout.Layout.{Layout}
-use Rattle.redomail.specs.declared.record.Record.{Record}
-use Rattle.redomail.specs.declared.reply.Reply.{Reply}
+use Rattle.std.proofs.Common.{◌≡◌, ℕ, ◌+◌, true, ◌==◌, List, [], ◌∷◌, ◌++◌, refl, sym, ap, ◌∙◌, arith, append_assoc, nat_le, nat_lt, eqb-true}
+use Rattle.redomail.proofs.Common.{cond_both, eqb-false, put, Layout, Record, Reply, row, Words, held, last_at, board_at, place_at, final, written, Done, puts, Script, in_row, apply_steps}
+use Rattle.redomail.proofs.Common.{store_steps, record_of, redo, decided, close, repair}
 use Rattle.redomail.specs.declared.reply.Reply.TheVariants as reply
 use Rattle.redomail.specs.declared.task.Task.TheVariants as task
-use Rattle.redomail.specs.Layout.{Words, row, held, last_at, place_at, board_at}
-use Rattle.redomail.specs.Script.{Script, Done, puts, in_row}
-use Rattle.redomail.specs.Tasks.{record_of, apply_steps, store_steps, decided, redo, close, repair}
-use Rattle.redomail.specs.Runs.{final, written}
 use Rattle.redomail.specs.Laws.{TasksEnd, ConsistentEnds}
 use Rattle.redomail.proofs.Words.{put-other, place_low}
 use Rattle.redomail.proofs.Repairs.{Outside, Outside-append, Outside-in_row, written-append, final-puts, final-gets, flag_off}

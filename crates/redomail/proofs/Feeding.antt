@@ -1,18 +1,12 @@
 -- A job that was given one more word: it fits its layout still, and what is left of it is the tail of its script.
-use Rattle.std.proofs.Common.{◌≡◌, ℕ, ◌+◌, ◌-◌, ◌*◌, ◌<◌, ◌≤◌, Bool, true, false, ◌==◌, nat_lt, nat_le, if◌then◌else◌, List, length, take, slice_set, refl, sym, ap, ◌∙◌, inl, inr, arith, length-take, length-set}
-use Rattle.std.proofs.lemmas.Bool.{cases_Bool, ltb-true, ltb-false}
-use Rattle.redomail.specs.declared.layout.Layout.{Layout}
-use Rattle.redomail.specs.declared.reply.Reply.{Reply}
+use Rattle.std.proofs.Common.{◌≡◌, ℕ, ◌+◌, ◌-◌, ◌*◌, ◌<◌, ◌≤◌, Bool, true, false, ◌==◌, nat_lt, nat_le, if◌then◌else◌, List, length, take, slice_set, refl, sym, ap, ◌∙◌, inl, inr, arith, length-take, length-set, ltb-true, ltb-false}
+use Rattle.redomail.proofs.Common.{cases_Bool, Layout, Reply, Task, left_at, value_width, buffer_width, words_read, steps_done, board_index, FitsStage, IsLayout, Done, puts, tail, store_steps}
+use Rattle.redomail.proofs.Common.{record_of, redo, decided}
 use Rattle.redomail.specs.declared.reply.Reply.TheVariants as reply
 use Rattle.redomail.specs.declared.stage.Stage.{Stage}
 use Rattle.redomail.specs.declared.stage.Stage.TheVariants as stage
-use Rattle.redomail.specs.declared.task.Task.{Task}
 use Rattle.redomail.specs.declared.task.Task.TheVariants as task
-use Rattle.redomail.specs.Layout.{IsLayout}
-use Rattle.redomail.specs.Jobs.{left_at, value_width, buffer_width, words_read, steps_done, board_index, FitsStage}
-use Rattle.redomail.specs.Script.{Done, tail, puts}
 use Rattle.redomail.specs.Stages.{first_stage, stage_after, decided_stage, read_stage}
-use Rattle.redomail.specs.Tasks.{store_steps, decided, redo, record_of}
 use Rattle.redomail.proofs.Scripts.{store-on, store-end, store-redo, read-on, read-end}
 
 module _ (l : Layout) (lawful : IsLayout l) where

@@ -1,21 +1,9 @@
 -- A run of a safe script keeps the mailbox, and entries below count stand.
-use Rattle.std.specs.Prelude.{ℕ, zero, suc, List, refl}
-use Rattle.std.proofs.Common.{subst, sym}
-use Rattle.redomail.specs.declared.deed.Deed.{Deed}
-use Rattle.redomail.specs.declared.message.Message.{Message}
-use Rattle.redomail.specs.Mailbox.{Mailbox}
-use Rattle.redomail.specs.Leads.{MailLeads}
-use Rattle.redomail.specs.declared.reply.Reply.{Reply}
-use Rattle.redomail.specs.declared.layout.Layout.{Layout}
-use Rattle.redomail.specs.declared.task.Task.{Task}
-use Rattle.redomail.specs.Layout.{Words}
-use Rattle.redomail.specs.Script.{Script, Get, Put, Done, tail}
-use Rattle.redomail.specs.Tasks.{script}
-use Rattle.redomail.specs.Deeds.{deeds_of_put}
-use Rattle.redomail.specs.Safe.{Safe}
+use Rattle.std.proofs.Common.{ℕ, zero, suc, List, refl, subst, sym}
+use Rattle.redomail.proofs.Common.{Deed, Layout, Message, Reply, Task, deeds_of_put, Words, MailLeads, Mailbox, MayBegin, added_by, StepKept, Run, stepped_to, ran, start, Kept, Safe, Done, Put}
+use Rattle.redomail.proofs.Common.{Script, tail, Get, script}
 use Rattle.redomail.proofs.Leading.{leads_on}
 use Rattle.redomail.specs.Laws.{StepsStaySafe, EntriesStand}
-use Rattle.redomail.specs.Runs.{StepKept, Run, stepped_to, ran, start, MayBegin, added_by, Kept}
 use Rattle.redomail.proofs.Stands.{shown_entries_stand}
 use Rattle.redomail.proofs.Safe.{seen}
 use Rattle.redomail.proofs.Begins.{begun_safe}

@@ -1,10 +1,7 @@
 -- Deeds of the mailbox one after another.
-use Rattle.std.specs.Prelude.{◌≡◌, ℕ, true, List, [], ◌∷◌, ◌++◌, refl}
-use Rattle.std.proofs.Common.{sym, subst}
-use Rattle.rmecore.specs.Needs.{AllHold}
-use Rattle.redomail.specs.declared.deed.Deed.{Deed}
-use Rattle.redomail.specs.Mailbox.{Mailbox, row, done}
-use Rattle.redomail.specs.Leads.{MailLeads}
+use Rattle.std.proofs.Common.{◌≡◌, ℕ, true, List, [], ◌∷◌, ◌++◌, refl, sym, subst}
+use Rattle.redomail.proofs.Common.{AllHold, Deed, MailLeads, Mailbox, done}
+use Rattle.redomail.specs.Mailbox.{row}
 
 pub no_deed : (cap : ℕ) (s : Mailbox) (ds : List Deed) → ds ≡ [] → MailLeads cap s ds s
 no_deed cap s ds e = subst (λ xs. MailLeads cap s xs s) (sym e) refl

@@ -1,3 +1,4 @@
+pub mod Common
 pub mod Leading
 pub mod Scripts
 pub mod Words

@@ -1,13 +1,7 @@
 -- The three modes of the words while a task runs: no record is armed, one is and isn't shown, one is and is shown.
-use Rattle.std.specs.Prelude.{◌≡◌, ◌≢◌, ℕ, ◌+◌, ◌<◌, ◌≤◌, false, Some, None, refl, ◌⊎◌}
-use Rattle.std.proofs.Common.{sym, ◌∙◌, ap, subst, inl, inr, arith, length, zero, suc}
-use Rattle.std.proofs.lemmas.Bool.{eq-eqb, ne_eqb, cond_both}
-use Rattle.redomail.specs.Mailbox.{Mailbox, message}
-use Rattle.redomail.specs.declared.layout.Layout.{Layout}
-use Rattle.redomail.specs.declared.record.Record.{Record}
-use Rattle.redomail.specs.Layout.{Words, row, last_at, IsLayout}
-use Rattle.redomail.specs.Shape.{entry, entries, count_of, IsNumbered, ListRule, recorded, Unshown, Shown, RecordRule, bit, Shape}
-use Rattle.redomail.specs.Shape.{pending_in}
+use Rattle.std.proofs.Common.{◌≡◌, ◌≢◌, ℕ, ◌+◌, ◌<◌, ◌≤◌, false, Some, None, refl, ◌⊎◌, sym, ◌∙◌, ap, subst, inl, inr, arith, length, zero, suc, eq-eqb, ne_eqb}
+use Rattle.redomail.proofs.Common.{cond_both, Layout, Record, row, Words, last_at, IsLayout, message, Mailbox, entry, entries, count_of, IsNumbered, Shape, bit, recorded, RecordRule, ListRule}
+use Rattle.redomail.proofs.Common.{Unshown, Shown, pending_in}
 
 -- what every mode has
 pub record Base (l : Layout) (p : ℕ) (w : Words) (s : Mailbox) : Type 0 where

@@ -1,24 +1,10 @@
 -- A script over a list of words: where a run of its steps has come.
-use Rattle.std.specs.Prelude.{◌≡◌, ◌≢◌, ℕ, zero, suc, ◌<◌, List, length, slice_index, slice_set, refl}
-use Rattle.std.proofs.Common.{sym, ◌∙◌, ap, subst, inl, inr, arith, get_or-set_same, get_or-set_other}
-use Rattle.std.proofs.Math.ListN.{length-set}
-use Rattle.std.proofs.lemmas.Bool.{cases_eq}
-use Rattle.redomail.specs.declared.message.Message.{Message}
-use Rattle.redomail.specs.Mailbox.{Mailbox}
-use Rattle.rmecore.specs.Needs.{put}
-use Rattle.redomail.specs.declared.layout.Layout.{Layout}
+use Rattle.std.proofs.Common.{◌≡◌, ◌≢◌, ℕ, zero, suc, ◌<◌, List, length, slice_index, slice_set, refl, sym, ◌∙◌, ap, subst, inl, inr, arith, get_or-set_same, get_or-set_other}
+use Rattle.redomail.proofs.Common.{length-set, cases_eq, put, Deed, Layout, Message, Reply, Task, Words, words_of, size, Mailbox, added_by, Run, stepped_to, ran, start, Safe, Done, Put, Script, tail}
+use Rattle.redomail.proofs.Common.{Get, head, Shape, script}
 use Rattle.redomail.specs.declared.next.Next.TheVariants as want
-use Rattle.redomail.specs.declared.task.Task.{Task}
-use Rattle.redomail.specs.declared.reply.Reply.{Reply}
-use Rattle.redomail.specs.Layout.{Words, words_of, size}
-use Rattle.redomail.specs.Script.{Script, Get, Put, Done, head, tail}
-use Rattle.redomail.specs.Tasks.{script}
-use Rattle.redomail.specs.Shape.{Shape}
-use Rattle.redomail.specs.declared.deed.Deed.{Deed}
-use Rattle.redomail.specs.Runs.{stepped_to, Run, ran, start, added_by}
 use Rattle.redomail.specs.Cells.{step_over, steps_over, outcome, IsOnWay, Ready, TaskKept, TaskAnswered}
 use Rattle.redomail.proofs.Words.{put-other, put-same}
-use Rattle.redomail.specs.Safe.{Safe}
 use Rattle.redomail.proofs.Keeps.{tasks_keep, stood}
 
 -- Some steps lead to what is left and these words, and from there to the same outcome.

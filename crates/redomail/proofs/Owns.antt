@@ -1,7 +1,6 @@
 -- Whose deeds a put's are.
-use Rattle.std.specs.Prelude.{◌&&◌, ◌==◌, refl}
-use Rattle.std.proofs.lemmas.Bool.{cond_both}
-use Rattle.redomail.specs.Leads.{AreOwn}
+use Rattle.std.proofs.Common.{◌&&◌, ◌==◌, refl}
+use Rattle.redomail.proofs.Common.{cond_both, AreOwn}
 use Rattle.redomail.specs.Laws.{PutsAreOwn}
 
 pub puts_are_own : PutsAreOwn

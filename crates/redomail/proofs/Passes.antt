@@ -1,10 +1,6 @@
 -- The shape passes from one process inside to the next, where one may leave.
-use Rattle.std.specs.Prelude.{true, None, is_none}
-use Rattle.std.proofs.Common.{◌≡◌, ℕ, refl, sym, ◌∙◌, inl, inr, arith}
-use Rattle.std.proofs.lemmas.Bool.{cases_Bool, or_right, true≢false}
-use Rattle.redomail.specs.declared.layout.Layout.{Layout}
-use Rattle.redomail.specs.Layout.{Words}
-use Rattle.redomail.specs.Shape.{pending_in}
+use Rattle.std.proofs.Common.{true, None, is_none, ◌≡◌, ℕ, refl, sym, ◌∙◌, inl, inr, arith, true≢false}
+use Rattle.redomail.proofs.Common.{cases_Bool, or_right, Layout, Words, pending_in}
 use Rattle.redomail.specs.Laws.{MayLeave, ShapePassesOn}
 
 at_rest : (l : Layout) (p q : ℕ) (w : Words) → w 3 ≡ 0 → pending_in l p w ≡ pending_in l q w

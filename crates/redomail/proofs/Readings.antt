@@ -1,15 +1,9 @@
 -- Reading the messages of data words.
-use Rattle.std.proofs.Common.{◌≡◌, ◌≢◌, ℕ, zero, suc, ◌+◌, ◌-◌, ◌<◌, ◌≤◌, List, [], ◌∷◌, ◌++◌, length, take, drop, slice_index, slice_set, cond, ◌==◌, refl, sym, ◌∙◌, ap, inl, inr, arith, drop-cons, below_more, get_or-set_same, get_or-set_other}
-use Rattle.std.proofs.Math.ListN.{length-set}
-use Rattle.std.specs.Prelude.{◌⊎◌}
-use Rattle.std.proofs.lemmas.Bool.{cond_both, cases_Bool, eqb-true, eqb-false, true≢false, cases_eq, eq-eqb, ne_eqb}
+use Rattle.std.proofs.Common.{◌≡◌, ◌≢◌, ℕ, zero, suc, ◌+◌, ◌-◌, ◌<◌, ◌≤◌, List, [], ◌∷◌, ◌++◌, length, take, drop, slice_index, slice_set, cond, ◌==◌, refl, sym, ◌∙◌, ap, inl, inr, arith, drop-cons, below_more, get_or-set_same, get_or-set_other, ◌⊎◌, eqb-true, true≢false, eq-eqb, ne_eqb}
+use Rattle.redomail.proofs.Common.{length-set, cases_Bool, cond_both, eqb-false, cases_eq, Layout, Message, HeadsHold, AreCounts, row, Words, words_of, place_at, entry, entries, count_of, IsNumbered}
+use Rattle.redomail.proofs.Common.{bit}
 use Rattle.rmecore.specs.Body.{zeros}
-use Rattle.redomail.specs.declared.message.Message.{Message}
-use Rattle.redomail.specs.declared.layout.Layout.{Layout}
-use Rattle.redomail.specs.Layout.{Words, words_of, row, place_at}
-use Rattle.redomail.specs.Shape.{bit, entry, entries, count_of, IsNumbered}
 use Rattle.redomail.specs.Laws.{ContentIsShape}
-use Rattle.redomail.specs.Content.{HeadsHold, AreCounts}
 use Rattle.redomail.proofs.Words.{place_low, place_up}
 use Rattle.redomail.proofs.Changes.{entries-more, count_of-push}
 

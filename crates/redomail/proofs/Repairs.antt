@@ -1,17 +1,8 @@
 -- A repair writes all apply steps, whatever front of them stands already.
-use Rattle.std.proofs.Common.{◌≡◌, ℕ, zero, suc, ◌+◌, ◌<◌, ◌≤◌, true, List, [], ◌∷◌, ◌++◌, take, refl, ◌⊎◌, sym, ◌∙◌, ap, subst, inl, inr, arith, append_assoc}
-use Rattle.std.proofs.lemmas.Bool.{cases_eq}
-use Rattle.std.proofs.lemmas.List.{append-nil}
-use Rattle.rmecore.specs.Needs.{put}
-use Rattle.redomail.specs.declared.reply.Reply.{Reply}
-use Rattle.redomail.specs.declared.layout.Layout.{Layout}
-use Rattle.redomail.specs.declared.record.Record.{Record}
+use Rattle.std.proofs.Common.{◌≡◌, ℕ, zero, suc, ◌+◌, ◌<◌, ◌≤◌, true, List, [], ◌∷◌, ◌++◌, take, refl, ◌⊎◌, sym, ◌∙◌, ap, subst, inl, inr, arith, append_assoc, append-nil}
+use Rattle.redomail.proofs.Common.{cases_eq, put, Layout, Record, Reply, row, Words, held, last_at, place_at, final, written, Done, puts, Script, gets, in_row, apply_steps, record_of, redo, repair}
 use Rattle.redomail.specs.declared.reply.Reply.TheVariants as reply
-use Rattle.redomail.specs.Layout.{Words, row, held, last_at, place_at}
-use Rattle.redomail.specs.Script.{Script, Done, puts, in_row, gets}
-use Rattle.redomail.specs.Tasks.{apply_steps, record_of, redo, repair}
 use Rattle.redomail.specs.Laws.{RepairCompletes}
-use Rattle.redomail.specs.Runs.{final, written}
 use Rattle.redomail.proofs.Words.{put-other, put-same, place_low, row-alike}
 
 -- none of the puts is at this index

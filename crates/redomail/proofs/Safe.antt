@@ -1,14 +1,6 @@
 -- Scripts that are safe, put by put.
-use Rattle.std.specs.Prelude.{◌≡◌, ℕ, ◌+◌, ◌<◌, ◌≤◌, List, [], ◌∷◌, ◌++◌, length, refl}
-use Rattle.std.proofs.Common.{sym, ◌∙◌, subst, arith}
-use Rattle.redomail.specs.declared.message.Message.{Message}
-use Rattle.redomail.specs.Mailbox.{Mailbox}
-use Rattle.rmecore.specs.Needs.{put}
-use Rattle.redomail.specs.declared.reply.Reply.{Reply}
-use Rattle.redomail.specs.declared.layout.Layout.{Layout}
-use Rattle.redomail.specs.Layout.{Words, row, held, size, IsLayout}
-use Rattle.redomail.specs.Script.{Script, Get, Put, puts, in_row}
-use Rattle.redomail.specs.Safe.{Seen, Safe}
+use Rattle.std.proofs.Common.{◌≡◌, ℕ, ◌+◌, ◌<◌, ◌≤◌, List, [], ◌∷◌, ◌++◌, length, refl, sym, ◌∙◌, subst, arith}
+use Rattle.redomail.proofs.Common.{put, Layout, Message, Reply, row, Words, held, IsLayout, size, Mailbox, Safe, Seen, Put, puts, Script, in_row, Get}
 use Rattle.redomail.proofs.Leading.{no_deed}
 use Rattle.redomail.proofs.Scripts.{held-small}
 use Rattle.redomail.proofs.Words.{put-other, put-same, put-nothing, place_small, deeds_of_put-none}

@@ -1,12 +1,7 @@
 -- Puts and gets in a row, from some step on.
 use Rattle.std.proofs.Common.{◌≡◌, ℕ, zero, suc, ◌+◌, ◌-◌, ◌*◌, ◌<◌, ◌≤◌, List, [], ◌∷◌, ◌++◌, length, take, drop, slice_index, slice_set, refl, sym, ◌∙◌, ap, arith, length-append}
+use Rattle.redomail.proofs.Common.{Layout, Record, Reply, held, last_at, place_at, puts, Script, gets, in_row, tail, apply_steps, store_steps}
 use Rattle.std.proofs.lemmas.List.{take_more_set}
-use Rattle.redomail.specs.declared.reply.Reply.{Reply}
-use Rattle.redomail.specs.declared.layout.Layout.{Layout}
-use Rattle.redomail.specs.declared.record.Record.{Record}
-use Rattle.redomail.specs.Layout.{held, last_at, place_at}
-use Rattle.redomail.specs.Script.{Script, tail, puts, in_row, gets}
-use Rattle.redomail.specs.Tasks.{apply_steps, store_steps}
 
 abbrev Puts : Type 0
 Puts = List (ℕ × ℕ)

@@ -1,17 +1,8 @@
 -- What is shown stays, and so do the entries below count.
-use Rattle.std.specs.Prelude.{◌≡◌, ℕ, zero, suc, ◌+◌, ◌<◌, ◌≤◌, List, [], ◌∷◌, ◌++◌, length, refl}
-use Rattle.std.proofs.Common.{sym, ◌∙◌, ap, subst, inl, inr, arith, length-append, append_assoc, get_or}
-use Rattle.std.proofs.Math.ListN.{get_or-append}
+use Rattle.std.proofs.Common.{◌≡◌, ℕ, zero, suc, ◌+◌, ◌<◌, ◌≤◌, List, [], ◌∷◌, ◌++◌, length, refl, sym, ◌∙◌, ap, subst, inl, inr, arith, length-append, append_assoc, get_or, append-nil}
+use Rattle.redomail.proofs.Common.{get_or-append, cases_eq, Deed, Layout, Message, Words, message, Mailbox, done, entry, entries, recorded}
 use Rattle.std.proofs.Math.Seq.{get_or-append_seam}
-use Rattle.std.proofs.lemmas.Bool.{cases_eq}
-use Rattle.std.proofs.lemmas.List.{append-nil}
-use Rattle.redomail.specs.declared.deed.Deed.{Deed}
 use Rattle.redomail.specs.declared.deed.Deed.TheVariants.{Show}
-use Rattle.redomail.specs.declared.layout.Layout.{Layout}
-use Rattle.redomail.specs.declared.message.Message.{Message}
-use Rattle.redomail.specs.Mailbox.{Mailbox, message, done}
-use Rattle.redomail.specs.Layout.{Words}
-use Rattle.redomail.specs.Shape.{entry, entries, recorded}
 use Rattle.redomail.specs.Laws.{ShownGrows, ShownEntriesStand}
 use Rattle.redomail.proofs.Changes.{length-entries}
 

@@ -1,17 +1,10 @@
 -- How many steps each task takes.
-use Rattle.std.proofs.Common.{subst, false, inl, inr, ◌≡◌, ℕ, zero, suc, ◌+◌, ◌*◌, true, ◌==◌, List, [], ◌∷◌, ◌++◌, length, refl, sym, ◌∙◌, ap, arith, length-append}
-use Rattle.std.specs.Prelude.{Bool, not, if◌then◌else◌, nat_le, nat_lt}
-use Rattle.std.proofs.lemmas.Bool.{cases_Bool, cond_both}
-use Rattle.redomail.specs.declared.layout.Layout.{Layout}
-use Rattle.redomail.specs.declared.record.Record.{Record}
+use Rattle.std.proofs.Common.{subst, false, inl, inr, ◌≡◌, ℕ, zero, suc, ◌+◌, ◌*◌, true, ◌==◌, List, [], ◌∷◌, ◌++◌, length, refl, sym, ◌∙◌, ap, arith, length-append, Bool, not, if◌then◌else◌, nat_le, nat_lt}
+use Rattle.redomail.proofs.Common.{cases_Bool, cond_both, Layout, Record, Reply, Words, held, last_at, place_at, steps, answer, steps_of, Done, puts, Script, gets, in_row, Get, apply_steps}
+use Rattle.redomail.proofs.Common.{store_steps, record_of, redo, decided, repair}
 use Rattle.redomail.specs.declared.task.Task.TheVariants as task
-use Rattle.redomail.specs.declared.reply.Reply.{Reply}
 use Rattle.redomail.specs.declared.reply.Reply.TheVariants as reply
-use Rattle.redomail.specs.Layout.{Words, held, last_at, place_at}
-use Rattle.redomail.specs.Script.{Script, Get, Done, puts, in_row, gets}
-use Rattle.redomail.specs.Tasks.{repair, apply_steps, store_steps, record_of, redo, decided}
 use Rattle.redomail.specs.Laws.{ConsistentTold, consistent_steps, StepsTold}
-use Rattle.redomail.specs.Runs.{steps, answer, steps_of}
 use Rattle.redomail.proofs.Scripts.{length-in_row, length-store_steps}
 
 steps-puts : (xs : List (ℕ × ℕ)) (a : Reply) (w : Words) → steps (puts xs (Done a)) w ≡ length xs

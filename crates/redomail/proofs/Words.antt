@@ -1,13 +1,6 @@
 -- Words after a put, rows of words, places, and what of the list rule a put leaves alone.
-use Rattle.std.specs.Prelude.{◌≡◌, ℕ, zero, suc, ◌+◌, ◌<◌, ◌≤◌, ◌==◌, List, [], ◌∷◌, refl}
-use Rattle.std.proofs.Common.{sym, ◌∙◌, ap, subst, arith}
-use Rattle.std.proofs.lemmas.Bool.{eqb-true, eq-eqb, ne_eqb, cond-true, cond-false, cond_both}
-use Rattle.redomail.specs.Mailbox.{message}
-use Rattle.rmecore.specs.Needs.{put}
-use Rattle.redomail.specs.declared.layout.Layout.{Layout}
-use Rattle.redomail.specs.Layout.{Words, row, last_at, place_at, IsLayout}
-use Rattle.redomail.specs.Shape.{entry, entries, IsNumbered, ListRule}
-use Rattle.redomail.specs.Deeds.{deeds_of_put}
+use Rattle.std.proofs.Common.{◌≡◌, ℕ, zero, suc, ◌+◌, ◌<◌, ◌≤◌, ◌==◌, List, [], ◌∷◌, refl, sym, ◌∙◌, ap, subst, arith, eqb-true, eq-eqb, ne_eqb}
+use Rattle.redomail.proofs.Common.{cond_both, cond-true, cond-false, put, Layout, deeds_of_put, row, Words, last_at, IsLayout, place_at, message, entry, entries, IsNumbered, ListRule}
 
 pub put-other : (w : Words) (i v j : ℕ) → (j ≡ i → ⊥) → put w i v j ≡ w j
 put-other w i v j ne = cond-false (j == i) v (w j) (ne_eqb j i ne)

@@ -1,16 +1,12 @@
 -- The next step is allowed, whatever is read; it is the least that is; and its word is one of the lock's.
-use Rattle.std.proofs.Common.{◌≡◌, ℕ, ◌+◌, ◌<◌, ◌≤◌, Bool, true, false, ◌&&◌, ◌==◌, nat_lt, nat_le, List, [], ◌∷◌, Option, Some, None, IsSome, IfSome, refl, sym, subst, inl, inr, arith, eqb-true}
-use Rattle.std.proofs.lemmas.Bool.{cases_Bool, and_parts, le-leb, ltb-false}
-use Rattle.rmecore.specs.Place.{Place, Rest, Dead, Reread, Opening, Door, Shutting, Wait, Inside, Leaving, Withdrawing, Unmarking, has, above, only, next}
-use Rattle.rmecore.specs.Machine.{first, place_of, access, kind_of, word_of, carried, Standing, next_access, owner, InLock, IsLeast, IsAllowed, StoresOwn}
+use Rattle.std.proofs.Common.{◌≡◌, ℕ, ◌+◌, ◌<◌, ◌≤◌, Bool, true, false, ◌&&◌, ◌==◌, nat_lt, nat_le, List, [], ◌∷◌, Option, Some, None, IsSome, IfSome, refl, sym, subst, inl, inr, arith, eqb-true, le-leb, ltb-false}
+use Rattle.rmecore.proofs.Common.{cases_Bool, and_parts, Store, Take as Takes, Shut as Shuts, Word, Choosing as ChoosingOf, Number as NumberOf, InsideOf, first, place_of, access, kind_of, word_of}
+use Rattle.rmecore.proofs.Common.{carried, Standing, next_access, owner, InLock, IsLeast, IsAllowed, StoresOwn, Place, Rest, Dead, Reread, Opening, Door, Shutting, Wait, Inside, Leaving, Withdrawing}
+use Rattle.rmecore.proofs.Common.{Unmarking, has, above, only, next}
 use Rattle.rmecore.proofs.Invariant.{eqb_self}
 use Rattle.rmecore.proofs.Scans.{Lined, lined_above, has-first}
-use Rattle.rmecore.specs.declared.access.Access.TheVariants.{Store}
-use Rattle.rmecore.specs.declared.kind.Kind.TheVariants.{Take as Takes, Shut as Shuts}
 use Rattle.rmecore.specs.declared.stage.Stage.{Stage}
 use Rattle.rmecore.specs.declared.stage.Stage.TheVariants.{Door as AtDoor, Wait as AtWait}
-use Rattle.rmecore.specs.declared.word.Word.{Word}
-use Rattle.rmecore.specs.declared.word.Word.TheVariants.{Choosing as ChoosingOf, Number as NumberOf, Inside as InsideOf}
 
 -- the scans of a place go by rising index
 abbrev pub Orderly : ℕ → Place → Type 0

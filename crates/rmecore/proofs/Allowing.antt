@@ -1,14 +1,8 @@
 -- What the needs of a deed say, as facts of the abstract lock, and back.
-use Rattle.std.proofs.Common.{◌≡◌, ◌≢◌, ℕ, zero, suc, ◌<◌, Bool, true, false, if◌then◌else◌, ◌==◌, ◌⊎◌, refl, ap, inl, inr, arith, eq-eqb, eqb-true, lt-ltb, ltb-true}
-use Rattle.std.proofs.lemmas.Bool.{or_cases}
-use Rattle.rmecore.specs.Needs.{AllHold, least, none_below, put}
-use Rattle.rmecore.specs.AbstractLock.{Abstract, is_out, is_door, is_ready, is_inside, is_dead_in, needs}
-use Rattle.rmecore.specs.declared.outer.Outer.{Outer}
-use Rattle.rmecore.specs.declared.outer.Outer.TheVariants.{Begin, Ready as IsReady, Enter, Crash, Reenter, Leave, Quit}
-use Rattle.rmecore.specs.declared.phase.Phase.{Phase}
-use Rattle.rmecore.specs.declared.phase.Phase.TheVariants.{Out, Door, Ready, Inside, DeadIn}
-use Rattle.std.proofs.Common.{◌≤◌}
-use Rattle.std.proofs.lemmas.Bool.{false_from_ne_true, cond_both}
+use Rattle.std.proofs.Common.{◌≡◌, ◌≢◌, ℕ, zero, suc, ◌<◌, Bool, true, false, if◌then◌else◌, ◌==◌, ◌⊎◌, refl, ap, inl, inr, arith, eq-eqb, eqb-true, lt-ltb, ltb-true, ◌≤◌}
+use Rattle.rmecore.proofs.Common.{or_cases, false_from_ne_true, cond_both, Outer, Begin, Enter, Crash, Reenter, Leave, Quit, Phase, Out, AtDoor as Door, Ready, Within as Inside, DeadIn, Abstract}
+use Rattle.rmecore.proofs.Common.{is_out, is_door, is_ready, is_inside, is_dead_in, needs, AllHold, least, none_below, put}
+use Rattle.rmecore.specs.declared.outer.Outer.TheVariants.{Ready as IsReady}
 
 -- what a deed needs, as facts
 abbrev pub Allows : ℕ → Abstract → Outer → Type 0

@@ -1,6 +1,6 @@
 -- A body from its words.
 use Rattle.std.proofs.Common.{◌≡◌, ℕ, zero, suc, ◌+◌, ◌-◌, ◌≤◌, List, ◌++◌, length, drop, refl, sym, ap, subst, arith, length-append, length-drop}
-use Rattle.std.proofs.Math.Seq.{take-append_seam}
+use Rattle.rmecore.proofs.Common.{take-append_seam}
 use Rattle.rmecore.specs.Body.{zeros, IsBody}
 
 drop-zeros : (n k : ℕ) → drop n (zeros (n + k)) ≡ zeros k

@@ -1,21 +1,13 @@
 -- Numbers stay at most limit, so the words of every world of a run are lawful.
 use Rattle.std.proofs.Common.{nat_le, nat_lt, ◌≡◌, ℕ, zero, suc, ◌+◌, ◌<◌, ◌≤◌, max, Bool, true, false, ◌&&◌, ◌||◌, ◌==◌, if◌then◌else◌, List, [], ◌∷◌, Some, None, IsSome, unwrap_or, refl, sym, subst, inl, inr, arith, eqb-true, eq-eqb, ltb-true, lt-ltb}
-use Rattle.std.proofs.lemmas.Bool.{cases_eq, cases_lt, and_parts, and_from, or_left, or_right}
-use Rattle.rmecore.specs.Place.{Event, Starts, Crashes, Steps, Place, Rest, Dead, Reread, Opening, Door, Shutting, Wait, Inside, Leaving, Withdrawing, Unmarking, has, without, others, is_before, only, next, restart, started, shut, unmarked}
-use Rattle.rmecore.specs.Needs.{put}
-use Rattle.rmecore.specs.AbstractLock.{Abstract}
-use Rattle.rmecore.specs.World.{World, at_rest, is_store, read, write, May, after, Run, final}
-use Rattle.rmecore.specs.Lawful.{IsRow, IsLawful, all_dead}
+use Rattle.rmecore.proofs.Common.{and_parts, cases_eq, cases_lt, and_from, or_left, or_right, CoreCall, Lock, Unlock, Withdraw, Kind, Take as Takes, Shut as Shuts, Rereads, Open as Opens}
+use Rattle.rmecore.proofs.Common.{Peek as Peeks, Look as Looks, Weigh as Weighs, Mark as Marks, Drop as Drops, Glance as Glances, Own, Word, Choosing as ChoosingOf, Number as NumberOf, InsideOf}
+use Rattle.rmecore.proofs.Common.{Data as DataAt, Abstract, IsRow, IsLawful, all_dead, put, Place, Rest, Dead, Reread, Opening, Door, Shutting, Wait, Inside, Leaving, Withdrawing, Unmarking, has}
+use Rattle.rmecore.proofs.Common.{only, next, Event, Starts, Crashes, Steps, without, others, is_before, restart, started, shut, unmarked, World, at_rest, is_store, read, write, May, after, Run}
+use Rattle.rmecore.proofs.Common.{final}
 use Rattle.rmecore.proofs.Invariant.{Before, Stands, Tied, put_same, put_other, row_of}
 use Rattle.rmecore.proofs.Runs.{guard, kept}
 use Rattle.rmecore.proofs.Accesses.{passed}
-use Rattle.rmecore.specs.declared.core_call.CoreCall.{CoreCall}
-use Rattle.rmecore.specs.declared.core_call.CoreCall.TheVariants.{Lock, Unlock, Withdraw}
-use Rattle.rmecore.specs.declared.kind.Kind.{Kind}
-use Rattle.rmecore.specs.declared.kind.Kind.TheVariants.{Reread as Rereads, Open as Opens, Peek as Peeks, Take as Takes, Shut as Shuts, Look as Looks, Weigh as Weighs, Mark as Marks, Drop as Drops, Glance as Glances}
-use Rattle.rmecore.specs.declared.own.Own.{Own}
-use Rattle.rmecore.specs.declared.word.Word.{Word}
-use Rattle.rmecore.specs.declared.word.Word.TheVariants.{Choosing as ChoosingOf, Number as NumberOf, Inside as InsideOf, Data as DataAt}
 
 before_test : (k p v i : ℕ) → Before k p v i → is_before k p v i ≡ true
 before_test k p v i h = elim h [ inl less ↦ or_left _ _ (lt-ltb k v less) | inr both ↦ or_right _ _ (and_from _ _ (eq-eqb k v both.0) (lt-ltb p i both.1)) ]

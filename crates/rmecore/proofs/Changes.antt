@@ -1,12 +1,7 @@
 -- A step of process p changes p's words and place alone. What has to hold of p for everything to hold, and what keeps it.
 use Rattle.std.proofs.Common.{◌≡◌, ◌≢◌, ℕ, ◌<◌, Bool, true, false, ◌⊎◌, Some, None, refl, sym, ◌∙◌, subst, inl, inr, arith}
-use Rattle.std.proofs.lemmas.Bool.{cases_eq}
-use Rattle.rmecore.specs.Place.{Place, Door, Wait}
-use Rattle.rmecore.specs.AbstractLock.{Abstract}
-use Rattle.rmecore.specs.declared.phase.Phase.{Phase}
-use Rattle.rmecore.specs.World.{World}
+use Rattle.rmecore.proofs.Common.{cases_eq, Own, Phase, Abstract, Place, Door, Wait, World}
 use Rattle.rmecore.proofs.Invariant.{Fits, phase_of, Before, Counted, Stands, WaitsPast, Looked, Pair, Tied}
-use Rattle.rmecore.specs.declared.own.Own.{Own}
 
 -- p has words x and place s, all others are as in w, and everything holds
 pub record Here (n : ℕ) (w : World) (a : Abstract) (p : ℕ) (x : Own) (s : Place) : Type 0 where

@@ -1,26 +1,14 @@
 -- A step of one process in a simulated core is a step of the definition.
-use Rattle.std.proofs.Common.{◌≡◌, ℕ, ◌<◌, ◌≤◌, ◌++◌, true, false, List, [], ◌∷◌, length, take, slice_index_or, slice_set, replicate, Option, Some, None, IsSome, IfSome, unwrap_or, refl, sym, ap, ◌∙◌, subst, inl, inr}
-use Rattle.std.proofs.lemmas.Bool.{cases_eq, cases_lt}
-use Rattle.std.proofs.lemmas.List.{get_or-set_same, get_or-set_other, get_or_default, get_or_past, get_or-replicate, length-set, length-replicate}
-use Rattle.std.proofs.Math.Seq.{take-append_seam}
-use Rattle.rmecore.specs.Place.{Event, Steps, Starts, Crashes, process, moved, started, Place, Rest, Dead, next}
-use Rattle.rmecore.specs.Lawful.{IsLawful}
-use Rattle.rmecore.specs.Needs.{put}
-use Rattle.rmecore.specs.AbstractLock.{nobody}
-use Rattle.rmecore.specs.World.{World, IsReached, May, after, at_rest, Reads, is_store, read, stored}
-use Rattle.rmecore.specs.Machine.{Standing, absent, access, next_access, after_access, kind_of, word_of, carried, performed, owner, IsLeast, IsAllowed, StoresOwn}
-use Rattle.rmecore.specs.Simulated.{Simulated, zeros, own_at, standing_at, place_at, world_of, HasSeat, IsSeated, Takes, fresh}
+use Rattle.std.proofs.Common.{◌≡◌, ℕ, ◌<◌, ◌≤◌, ◌++◌, true, false, List, [], ◌∷◌, length, take, slice_index_or, slice_set, replicate, Option, Some, None, IsSome, IfSome, unwrap_or, refl, sym, ap, ◌∙◌, subst, inl, inr, get_or-set_same, get_or-set_other, length-set}
+use Rattle.rmecore.proofs.Common.{take-append_seam, cases_eq, cases_lt, get_or_default, get_or_past, get_or-replicate, length-replicate, Access, Store, Load, CoreCall, Own, Tally, Word, nobody}
+use Rattle.rmecore.proofs.Common.{IsLawful, access, kind_of, word_of, carried, Standing, next_access, owner, IsLeast, IsAllowed, StoresOwn, absent, after_access, performed, put, Place, Rest, Dead}
+use Rattle.rmecore.proofs.Common.{next, Event, Starts, Crashes, Steps, started, process, moved, Simulated, zeros, own_at, standing_at, place_at, world_of, HasSeat, IsSeated, Takes, fresh, World}
+use Rattle.rmecore.proofs.Common.{at_rest, is_store, read, May, after, IsReached, Reads, stored}
 use Rattle.rmecore.proofs.Invariant.{put_same, put_other}
 use Rattle.rmecore.proofs.Accesses.{stores_own}
 use Rattle.rmecore.proofs.Bounds.{final_lawful, rest_bounded, rest_rows}
 use Rattle.rmecore.proofs.Images.{run_more, final_more}
 use Rattle.rmecore.proofs.Runs.{at_first}
-use Rattle.rmecore.specs.declared.access.Access.{Access}
-use Rattle.rmecore.specs.declared.access.Access.TheVariants.{Load, Store}
-use Rattle.rmecore.specs.declared.tally.Tally.{Tally}
-use Rattle.rmecore.specs.declared.core_call.CoreCall.{CoreCall}
-use Rattle.rmecore.specs.declared.own.Own.{Own}
-use Rattle.rmecore.specs.declared.word.Word.{Word}
 
 pub refill : {A : Type 0} (len : ℕ) (ws rest : List A) → length ws ≡ len → take len (ws ++ rest) ≡ ws
 refill len ws rest e = rw (← e) (take-append_seam ws rest)

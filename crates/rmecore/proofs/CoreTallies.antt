@@ -1,32 +1,16 @@
 -- Every event of a simulated core keeps what its tallies say.
-use Rattle.std.proofs.Common.{◌≡◌, ◌≢◌, ℕ, ◌+◌, ◌<◌, false, List, length, slice_index_or, slice_set, replicate, Option, Some, IsSome, IfSome, unwrap_or, refl, sym, ap, ◌∙◌, subst, inl, inr, arith}
-use Rattle.std.proofs.lemmas.Bool.{cases_eq}
-use Rattle.std.proofs.lemmas.List.{get_or-set_same, get_or-set_other, get_or-replicate}
-use Rattle.rmecore.specs.Place.{Event, Starts, Crashes, Steps, Place, Rest, Dead, Inside, Wait, started, next, process}
-use Rattle.rmecore.specs.World.{World, at_rest, IsReached, stored, May, after, deeds}
-use Rattle.rmecore.specs.AbstractLock.{nobody}
-use Rattle.rmecore.specs.Sole.{all_done}
-use Rattle.rmecore.specs.Machine.{Standing, next_access, kind_of, carried, progress, is_blocked, answer}
-use Rattle.rmecore.specs.OwnSteps.{most_steps}
-use Rattle.rmecore.specs.Paid.{is_glance}
-use Rattle.rmecore.specs.Refused.{is_idle}
-use Rattle.rmecore.specs.Simulated.{Simulated, zeros, own_at, tally_at, place_at, world_of, Takes, counted, fresh}
-use Rattle.rmecore.specs.Tallied.{IsExact, HasTaken, IsTallied, AllTallied}
+use Rattle.std.proofs.Common.{◌≡◌, ◌≢◌, ℕ, ◌+◌, ◌<◌, false, List, length, slice_index_or, slice_set, replicate, Option, Some, IsSome, IfSome, unwrap_or, refl, sym, ap, ◌∙◌, subst, inl, inr, arith, get_or-set_same, get_or-set_other}
+use Rattle.rmecore.proofs.Common.{cases_eq, get_or-replicate, Access, CoreCall, Lock, Unlock, Withdraw, Recover, CoreDone, Kind, Own, Tally, Word, nobody, kind_of, carried, Standing, next_access}
+use Rattle.rmecore.proofs.Common.{progress, is_blocked, answer, most_steps, is_glance, Place, Rest, Dead, Wait, Inside, next, Event, Starts, Crashes, Steps, started, process, is_idle, Simulated}
+use Rattle.rmecore.proofs.Common.{zeros, own_at, place_at, world_of, Takes, fresh, tally_at, counted, all_done, IsExact, HasTaken, IsTallied, AllTallied, World, at_rest, May, after, IsReached, stored}
+use Rattle.rmecore.proofs.Common.{deeds}
 use Rattle.rmecore.proofs.Invariant.{Tied, put_same, put_other}
 use Rattle.rmecore.proofs.Phases.{tied_after}
 use Rattle.rmecore.proofs.Payments.{fewer}
 use Rattle.rmecore.proofs.Runs.{at_first, kept}
 use Rattle.rmecore.proofs.CoreSteps.{Moves, settled, at_here}
 use Rattle.rmecore.proofs.Tallies.{never_glances, answered, tallied_on}
-use Rattle.rmecore.specs.declared.access.Access.{Access}
-use Rattle.rmecore.specs.declared.core_call.CoreCall.{CoreCall}
-use Rattle.rmecore.specs.declared.core_call.CoreCall.TheVariants.{Lock, Recover, Unlock, Withdraw}
-use Rattle.rmecore.specs.declared.core_done.CoreDone.{CoreDone}
-use Rattle.rmecore.specs.declared.kind.Kind.{Kind}
-use Rattle.rmecore.specs.declared.own.Own.{Own}
 use Rattle.rmecore.specs.declared.progress.Progress.{Progress}
-use Rattle.rmecore.specs.declared.tally.Tally.{Tally}
-use Rattle.rmecore.specs.declared.word.Word.{Word}
 
 -- in a run each event changes own words alone
 others_keep : (n limit : ℕ) (w : World) (e : Event) → IsReached n limit w → May n limit w e → (q : ℕ) → q ≢ process e → stored w.words e q ≡ w.words q

@@ -1,16 +1,9 @@
 -- Runs from an image and to an image; a process's place is that of its own events.
 use Rattle.std.proofs.Common.{◌≡◌, ◌≢◌, ℕ, ◌<◌, true, false, ◌==◌, ◌⊎◌, List, [], ◌∷◌, ◌++◌, Option, Some, None, unwrap_or, refl, sym, ap, ◌∙◌, subst, inl, inr, arith, eq-eqb, ne_eqb}
-use Rattle.std.proofs.lemmas.Bool.{cases_eq, and_parts, and_right}
-use Rattle.rmecore.specs.Place.{Event, Dead, is_before, moved, process}
-use Rattle.rmecore.specs.AbstractLock.{is_ready}
-use Rattle.rmecore.specs.declared.phase.Phase.{Phase}
-use Rattle.rmecore.specs.declared.phase.Phase.TheVariants.{Door as AtDoor, Ready as Waiting}
-use Rattle.rmecore.specs.World.{World, May, Run, after, final, own_events, place_after, deed, deeds, and_then}
-use Rattle.rmecore.specs.Lawful.{IsLawful, all_dead, dead_phase, phase_by, is_ahead, start_of}
+use Rattle.rmecore.proofs.Common.{and_parts, cases_eq, and_right, Outer, Own, Phase, AtDoor, Ready as Waiting, is_ready, IsLawful, all_dead, dead_phase, phase_by, is_ahead, start_of, Dead, Event}
+use Rattle.rmecore.proofs.Common.{is_before, process, moved, World, May, after, Run, final, deeds, own_events, place_after, deed, and_then}
 use Rattle.rmecore.proofs.Invariant.{Tied, Passed, Before, phase_at, waiting_means, put_same, put_other}
 use Rattle.rmecore.proofs.Rows.{before_by}
-use Rattle.rmecore.specs.declared.outer.Outer.{Outer}
-use Rattle.rmecore.specs.declared.own.Own.{Own}
 
 same_phase : (c k i : ℕ) → dead_phase c k i ≡ phase_at c k i true
 same_phase c k i = grind arith

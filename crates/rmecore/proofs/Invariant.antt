@@ -1,13 +1,7 @@
 -- What holds of every world of a run, and of the abstract lock beside it.
 use Rattle.std.proofs.Common.{◌≡◌, ◌≢◌, ℕ, zero, suc, ◌+◌, ◌-◌, ◌<◌, ◌≤◌, Bool, true, false, ◌||◌, ◌==◌, ◌⊎◌, List, [], ◌∷◌, Some, refl, ap, ◌∙◌, inl, inr, arith, eqb-true, eq-eqb, ne_eqb}
-use Rattle.std.proofs.lemmas.Bool.{cases_Bool, cases_eq}
-use Rattle.rmecore.specs.Place.{Place, Rest, Dead, Reread, Opening, Door, Shutting, Wait, Inside, Leaving, Withdrawing, Unmarking, has, without, span, others}
-use Rattle.rmecore.specs.Needs.{put}
-use Rattle.rmecore.specs.AbstractLock.{Abstract, is_ready, crashed}
-use Rattle.rmecore.specs.declared.phase.Phase.{Phase}
-use Rattle.rmecore.specs.declared.phase.Phase.TheVariants.{Out, Door as AtDoor, Ready as Waiting, Inside as Within, DeadIn as DeadWithin}
-use Rattle.rmecore.specs.World.{World}
-use Rattle.rmecore.specs.declared.own.Own.{Own}
+use Rattle.rmecore.proofs.Common.{cases_Bool, cases_eq, Own, Phase, Out, AtDoor, Ready as Waiting, Within, DeadIn as DeadWithin, Abstract, is_ready, crashed, put, Place, Rest, Dead, Reread, Opening}
+use Rattle.rmecore.proofs.Common.{Door, Shutting, Wait, Inside, Leaving, Withdrawing, Unmarking, has, without, others, span, World}
 
 -- lists as sets
 

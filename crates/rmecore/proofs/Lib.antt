@@ -1,3 +1,4 @@
+pub mod Common
 pub mod Invariant
 pub mod Allowing
 pub mod Changes

@@ -1,24 +1,15 @@
 -- Each step of a call that isn't blocked counts one, up to the answer, and then the number is that of the table.
 use Rattle.std.proofs.Common.{◌≡◌, ℕ, zero, suc, ◌+◌, ◌-◌, ◌*◌, ◌<◌, ◌≤◌, max, true, false, ◌||◌, ◌==◌, if◌then◌else◌, List, [], ◌∷◌, length, Option, Some, None, IsSome, IfSome, unwrap_or, refl, sym, ap, ◌∙◌, subst, inl, inr, arith, eqb-true, eq-eqb, ne_eqb}
-use Rattle.std.proofs.lemmas.Bool.{cases_Bool, cases_eq, false_from_ne_true}
-use Rattle.rmecore.specs.Place.{Place, Rest, Reread, Opening, Door, Shutting, Wait, Inside, Leaving, Withdrawing, Unmarking, has, without, span, others, is_before, restart, shut, unmarked, next}
-use Rattle.rmecore.specs.Machine.{is_blocked, answer, reread_answer, shut_answer, unmark_answer}
-use Rattle.rmecore.specs.OwnSteps.{own_steps, most_steps}
-use Rattle.rmecore.specs.Refused.{is_idle}
-use Rattle.rmecore.specs.Paid.{Distinct, Pays, ReadsBegun, is_glance}
+use Rattle.rmecore.proofs.Common.{cases_Bool, false_from_ne_true, cases_eq, CoreCall, Lock, Unlock, CoreDone, Kind, Take as Takes, Shut as Shuts, Rereads, Open as Opens, Peek as Peeks, Look as Looks}
+use Rattle.rmecore.proofs.Common.{Weigh as Weighs, Mark as Marks, Drop as Drops, Glance as Glances, Word, Choosing as ChoosingOf, Number as NumberOf, InsideOf, is_blocked, answer, reread_answer}
+use Rattle.rmecore.proofs.Common.{shut_answer, unmark_answer, most_steps, own_steps, is_glance, Distinct, Pays, ReadsBegun, Place, Rest, Reread, Opening, Door, Shutting, Wait, Inside, Leaving}
+use Rattle.rmecore.proofs.Common.{Withdrawing, Unmarking, has, next, without, others, is_before, restart, shut, unmarked, span, is_idle}
 use Rattle.rmecore.proofs.Invariant.{has-without}
 use Rattle.rmecore.proofs.Accesses.{passed}
 use Rattle.rmecore.proofs.Runs.{guard}
 use Rattle.rmecore.proofs.Scans.{has-span-low}
-use Rattle.rmecore.specs.declared.core_done.CoreDone.{CoreDone}
 use Rattle.rmecore.specs.declared.core_done.CoreDone.TheVariants.{In, Spent, Out, Found as Finds, Withdrawn}
 use Rattle.rmecore.specs.declared.found.Found.TheVariants.{Left, Waiting}
-use Rattle.rmecore.specs.declared.core_call.CoreCall.{CoreCall}
-use Rattle.rmecore.specs.declared.core_call.CoreCall.TheVariants.{Lock, Unlock}
-use Rattle.rmecore.specs.declared.kind.Kind.{Kind}
-use Rattle.rmecore.specs.declared.kind.Kind.TheVariants.{Reread as Rereads, Open as Opens, Peek as Peeks, Take as Takes, Shut as Shuts, Look as Looks, Weigh as Weighs, Mark as Marks, Drop as Drops, Glance as Glances}
-use Rattle.rmecore.specs.declared.word.Word.{Word}
-use Rattle.rmecore.specs.declared.word.Word.TheVariants.{Choosing as ChoosingOf, Number as NumberOf, Inside as InsideOf}
 
 without-absent : (js : List ℕ) (j : ℕ) → has js j ≡ false → without j js ≡ js
 without-absent [] j h = refl

@@ -1,14 +1,9 @@
 -- What the abstract lock says of a process that stands in the section: that it is in.
 use Rattle.std.proofs.Common.{◌≡◌, ℕ, ◌<◌, ◌⊎◌, List, [], ◌∷◌, Option, Some, None, refl, sym, ◌∙◌, subst, inl, inr}
-use Rattle.rmecore.specs.Place.{Event, Place, Inside, Leaving, process}
-use Rattle.rmecore.specs.World.{World, Run, after, final, deed, deeds, and_then}
-use Rattle.rmecore.specs.AbstractLock.{Abstract}
-use Rattle.rmecore.specs.Sole.{all_done}
+use Rattle.rmecore.proofs.Common.{Outer, Within, Abstract, Place, Inside, Leaving, Event, process, all_done, World, after, Run, final, deeds, deed, and_then}
 use Rattle.rmecore.proofs.Invariant.{Tied, Fits, phase_of, phase_within}
 use Rattle.rmecore.proofs.Rows.{after_deed}
 use Rattle.rmecore.proofs.Runs.{kept}
-use Rattle.rmecore.specs.declared.outer.Outer.{Outer}
-use Rattle.rmecore.specs.declared.phase.Phase.TheVariants.{Inside as Within}
 
 all_done-and_then : (a : Abstract) (d : Option Outer) (ds : List Outer) → all_done a (and_then d ds) ≡ all_done (after_deed a d) ds
 all_done-and_then a None ds = refl

@@ -1,20 +1,12 @@
 -- One lemma for each kind of step: the deed is allowed, and everything holds again.
 use Rattle.std.proofs.Common.{◌≡◌, ◌≢◌, ℕ, zero, suc, ◌+◌, ◌<◌, max, Bool, true, false, ◌||◌, ◌==◌, ◌⊎◌, List, [], ◌∷◌, Option, Some, None, IsSome, unwrap_or, refl, sym, ap, ◌∙◌, subst, inl, inr, arith, eqb-true, ltb-true}
-use Rattle.std.proofs.lemmas.Bool.{cases_eq, and_parts, or_cases, false_from_ne_true}
-use Rattle.rmecore.specs.Place.{Place, Rest, Dead, Reread, Opening, Door, Shutting, Wait, Inside, Leaving, Withdrawing, Unmarking, has, without, others, is_before, restart, started, shut, unmarked}
-use Rattle.rmecore.specs.Needs.{put}
-use Rattle.rmecore.specs.AbstractLock.{Abstract, done, is_ready, crashed}
+use Rattle.rmecore.proofs.Common.{and_parts, or_cases, false_from_ne_true, cases_eq, CoreCall, Lock, Unlock, Withdraw, Recover, Rereads, Outer, Begin, Enter, Crash, Reenter, Leave, Quit, Own, Out}
+use Rattle.rmecore.proofs.Common.{AtDoor, Ready as Waiting, Within, DeadIn as DeadWithin, Abstract, is_ready, crashed, done, put, Place, Rest, Dead, Reread, Opening, Door, Shutting, Wait, Inside}
+use Rattle.rmecore.proofs.Common.{Leaving, Withdrawing, Unmarking, has, without, others, is_before, restart, started, shut, unmarked, World, step_deed}
 use Rattle.rmecore.proofs.Allowing.{Allows, put_false, put_false_self, put_false_kept}
-use Rattle.rmecore.specs.declared.phase.Phase.TheVariants.{Out, Door as AtDoor, Ready as Waiting, Inside as Within, DeadIn as DeadWithin}
-use Rattle.rmecore.specs.World.{World, step_deed}
 use Rattle.rmecore.proofs.Invariant.{Fits, phase_of, Before, Counted, Stands, Pair, has-without, has-others, put_same, put_other, phase_any, phase_crashed, row_of, phase_out, phase_door, phase_waiting, phase_within, phase_dead, within_means, dead_means, waiting_means}
 use Rattle.rmecore.proofs.Changes.{Here, fewer, goes_on, knows_nothing, stays_behind, calm, Plain, quiet}
-use Rattle.rmecore.specs.declared.core_call.CoreCall.{CoreCall}
-use Rattle.rmecore.specs.declared.core_call.CoreCall.TheVariants.{Lock, Recover, Unlock, Withdraw}
-use Rattle.rmecore.specs.declared.outer.Outer.{Outer}
-use Rattle.rmecore.specs.declared.outer.Outer.TheVariants.{Begin, Ready, Enter, Crash, Reenter, Leave, Quit}
-use Rattle.rmecore.specs.declared.kind.Kind.TheVariants.{Reread as Rereads}
-use Rattle.rmecore.specs.declared.own.Own.{Own}
+use Rattle.rmecore.specs.declared.outer.Outer.TheVariants.{Ready}
 
 abbrev pub Allowed : ℕ → Abstract → Option Outer → Type 0
 Allowed n a None = Unit {0}

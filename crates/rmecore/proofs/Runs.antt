@@ -1,21 +1,14 @@
 -- Every event keeps everything, so every run does.
 use Rattle.std.proofs.Common.{◌≡◌, ◌≢◌, ℕ, ◌+◌, ◌<◌, Bool, true, false, ◌&&◌, ◌||◌, ◌==◌, if◌then◌else◌, nat_lt, nat_le, List, [], ◌∷◌, Option, Some, None, IsSome, unwrap_or, refl, sym, ap, ◌∙◌, subst, inl, arith, eqb-true}
-use Rattle.std.proofs.lemmas.Bool.{and_parts}
-use Rattle.rmecore.specs.Place.{Event, Starts, Crashes, Steps, Place, Reread, Opening, Door, Shutting, Wait, Leaving, Withdrawing, Unmarking, has, without, is_before, only, next, process}
-use Rattle.rmecore.specs.Needs.{put}
-use Rattle.rmecore.specs.AbstractLock.{Abstract, nobody, Legal}
+use Rattle.rmecore.proofs.Common.{and_parts, Kind, Take as Takes, Shut as Shuts, Rereads, Open as Opens, Peek as Peeks, Look as Looks, Weigh as Weighs, Mark as Marks, Drop as Drops, Glance as Glances}
+use Rattle.rmecore.proofs.Common.{Outer, Begin, Enter, Leave, Quit, Own, Word, Choosing as ChoosingOf, Number as NumberOf, InsideOf, Abstract, nobody, Legal, put, Place, Reread, Opening, Door}
+use Rattle.rmecore.proofs.Common.{Shutting, Wait, Leaving, Withdrawing, Unmarking, has, only, next, Event, Starts, Crashes, Steps, without, is_before, process, World, at_rest, May, after, Run, Reads}
+use Rattle.rmecore.proofs.Common.{stored, deeds, deed, and_then, step_deed}
 use Rattle.rmecore.proofs.Allowing.{needs_hold}
-use Rattle.rmecore.specs.World.{World, at_rest, Reads, stored, May, after, Run, step_deed, deed, and_then, deeds}
 use Rattle.rmecore.proofs.Invariant.{Tied, put_same, put_other}
 use Rattle.rmecore.proofs.Changes.{Here, knows_nothing, here_of, tied_of}
 use Rattle.rmecore.proofs.Rows.{Allowed, after_deed, Outcome, opens, peeks, takes, quits, shuts, looks, weighs, enters, drops, withdraws, unmarks, comes, restarts, crashes, starts}
-use Rattle.rmecore.specs.declared.outer.Outer.{Outer}
-use Rattle.rmecore.specs.declared.outer.Outer.TheVariants.{Begin, Ready, Enter, Leave, Quit}
-use Rattle.rmecore.specs.declared.kind.Kind.{Kind}
-use Rattle.rmecore.specs.declared.kind.Kind.TheVariants.{Reread as Rereads, Open as Opens, Peek as Peeks, Take as Takes, Shut as Shuts, Look as Looks, Weigh as Weighs, Mark as Marks, Drop as Drops, Glance as Glances}
-use Rattle.rmecore.specs.declared.own.Own.{Own}
-use Rattle.rmecore.specs.declared.word.Word.{Word}
-use Rattle.rmecore.specs.declared.word.Word.TheVariants.{Choosing as ChoosingOf, Number as NumberOf, Inside as InsideOf}
+use Rattle.rmecore.specs.declared.outer.Outer.TheVariants.{Ready}
 
 -- what was allowed passed its test
 pub guard : (b : Bool) (t s : Place) (P : Place → Type 0) → IsSome (only b t) → (b ≡ true → P t) → P (unwrap_or (only b t) s)

@@ -1,15 +1,10 @@
 -- One process at most is in the section, and only its entry and its exit change who is.
 use Rattle.std.proofs.Common.{◌≡◌, ◌≢◌, ℕ, ◌<◌, List, [], ◌∷◌, refl, sym, ◌∙◌, subst, inl, inr}
-use Rattle.std.proofs.lemmas.Bool.{cases_eq}
-use Rattle.rmecore.specs.Needs.{AllHold, put}
-use Rattle.rmecore.specs.AbstractLock.{Abstract, nobody, needs, done, doer, crashed, Legal}
-use Rattle.rmecore.specs.Sole.{IsIn, IsEnter, IsLeave, Sole, all_done}
+use Rattle.rmecore.proofs.Common.{cases_eq, Outer, Begin, Enter, Crash, Reenter, Leave, Quit, Phase, Out, AtDoor as Door, Ready, Within as Inside, DeadIn, Abstract, needs, nobody, crashed, done}
+use Rattle.rmecore.proofs.Common.{Legal, doer, AllHold, put, all_done, IsIn, IsEnter, IsLeave, Sole}
 use Rattle.rmecore.proofs.Allowing.{Allows, allows_from}
 use Rattle.rmecore.proofs.Invariant.{put_same, put_other}
-use Rattle.rmecore.specs.declared.outer.Outer.{Outer}
-use Rattle.rmecore.specs.declared.outer.Outer.TheVariants.{Begin, Ready as IsReady, Enter, Crash, Reenter, Leave, Quit}
-use Rattle.rmecore.specs.declared.phase.Phase.{Phase}
-use Rattle.rmecore.specs.declared.phase.Phase.TheVariants.{Out, Door, Ready, Inside, DeadIn}
+use Rattle.rmecore.specs.declared.outer.Outer.TheVariants.{Ready as IsReady}
 
 in_crashed : (phase : Phase) → IsIn (crashed phase) → IsIn phase
 in_crashed Out h = h

@@ -1,24 +1,12 @@
 -- The tallies of a simulated core count the steps of the table.
 use Rattle.std.proofs.Common.{◌≡◌, ℕ, ◌+◌, ◌<◌, Bool, true, false, ◌==◌, nat_lt, if◌then◌else◌, List, [], ◌∷◌, Option, Some, None, IsSome, IfSome, unwrap_or, refl, sym, ap, ◌∙◌, inl, inr, arith, eqb-true}
-use Rattle.std.proofs.lemmas.Bool.{cases_Bool}
-use Rattle.rmecore.specs.Place.{Steps, Place, Reread, Opening, Door, Shutting, Wait, Leaving, Withdrawing, Unmarking, only, shut, unmarked, next}
-use Rattle.rmecore.specs.World.{World, Reads, stored, is_store, write}
-use Rattle.rmecore.specs.Machine.{access, kind_of, is_blocked, answer}
-use Rattle.rmecore.specs.Paid.{ReadsBegun, is_glance}
-use Rattle.rmecore.specs.Simulated.{counted}
-use Rattle.rmecore.specs.Tallied.{IsExact, HasTaken, IsRereading, IsTallied}
+use Rattle.rmecore.proofs.Common.{cases_Bool, CoreCall, Lock, CoreDone, Kind, Take as Takes-number, Shut as Shuts, Rereads, Open as Opens, Peek as Peeks, Look as Looks, Weigh as Weighs, Mark as Marks}
+use Rattle.rmecore.proofs.Common.{Drop as Drops, Glance as Glances, Own, Tally, Word, Choosing as ChoosingOf, Number as NumberOf, InsideOf, access, kind_of, is_blocked, answer, is_glance, ReadsBegun}
+use Rattle.rmecore.proofs.Common.{Place, Reread, Opening, Door, Shutting, Wait, Leaving, Withdrawing, Unmarking, only, next, Steps, shut, unmarked, counted, IsExact, HasTaken, IsTallied, IsRereading}
+use Rattle.rmecore.proofs.Common.{World, is_store, write, Reads, stored}
 use Rattle.rmecore.proofs.Accesses.{passed}
 use Rattle.rmecore.proofs.Payments.{Comes, pays}
 use Rattle.rmecore.proofs.Runs.{guard}
-use Rattle.rmecore.specs.declared.core_call.CoreCall.{CoreCall}
-use Rattle.rmecore.specs.declared.core_call.CoreCall.TheVariants.{Lock}
-use Rattle.rmecore.specs.declared.core_done.CoreDone.{CoreDone}
-use Rattle.rmecore.specs.declared.kind.Kind.{Kind}
-use Rattle.rmecore.specs.declared.kind.Kind.TheVariants.{Reread as Rereads, Open as Opens, Peek as Peeks, Take as Takes-number, Shut as Shuts, Look as Looks, Weigh as Weighs, Mark as Marks, Drop as Drops, Glance as Glances}
-use Rattle.rmecore.specs.declared.own.Own.{Own}
-use Rattle.rmecore.specs.declared.tally.Tally.{Tally}
-use Rattle.rmecore.specs.declared.word.Word.{Word}
-use Rattle.rmecore.specs.declared.word.Word.TheVariants.{Choosing as ChoosingOf, Number as NumberOf, Inside as InsideOf}
 
 -- the machine never glances
 pub never_glances : (limit p : ℕ) (place : Place) → IfSome (access limit p place) (λ a. is_glance (kind_of a) ≡ false)

@@ -1,16 +1,9 @@
 -- Every step of the lock is an entry, a re-entry, an exit, or nothing for who is in; and none is at a data word.
 use Rattle.std.proofs.Common.{◌≡◌, ℕ, zero, suc, Bool, true, false, ◌==◌, ◌||◌, [], ◌∷◌, Option, Some, None, IsSome, refl, sym, subst}
-use Rattle.std.proofs.lemmas.Bool.{cond_both}
-use Rattle.rmecore.specs.Place.{Place, Reread, Opening, Door, Shutting, Wait, Inside, Leaving, Withdrawing, Unmarking, only, has, without, is_before, next, restart, shut, unmarked}
-use Rattle.rmecore.specs.World.{step_deed}
+use Rattle.rmecore.proofs.Common.{cond_both, CoreCall, Lock, Unlock, Kind, Take as Takes, Shut as Shuts, Rereads, Open as Opens, Peek as Peeks, Look as Looks, Weigh as Weighs, Mark as Marks}
+use Rattle.rmecore.proofs.Common.{Drop as Drops, Glance as Glances, Outer, Word, Choosing as ChoosingOf, Number as NumberOf, InsideOf, Data as DataAt, Place, Reread, Opening, Door, Shutting, Wait}
+use Rattle.rmecore.proofs.Common.{Inside, Leaving, Withdrawing, Unmarking, has, only, next, without, is_before, restart, shut, unmarked, step_deed}
 use Rattle.rmecore.specs.Turn.{Elsewhere, Plain, Turn, Enters, Reenters, Exits, Same, Else}
-use Rattle.rmecore.specs.declared.outer.Outer.{Outer}
-use Rattle.rmecore.specs.declared.core_call.CoreCall.{CoreCall}
-use Rattle.rmecore.specs.declared.core_call.CoreCall.TheVariants.{Lock, Unlock}
-use Rattle.rmecore.specs.declared.kind.Kind.{Kind}
-use Rattle.rmecore.specs.declared.kind.Kind.TheVariants.{Reread as Rereads, Open as Opens, Peek as Peeks, Take as Takes, Shut as Shuts, Look as Looks, Weigh as Weighs, Mark as Marks, Drop as Drops, Glance as Glances}
-use Rattle.rmecore.specs.declared.word.Word.{Word}
-use Rattle.rmecore.specs.declared.word.Word.TheVariants.{Choosing as ChoosingOf, Number as NumberOf, Inside as InsideOf, Data as DataAt}
 
 only_is : (b : Bool) (x t : Place) → only b x ≡ Some t → x ≡ t
 only_is true x t e = cc

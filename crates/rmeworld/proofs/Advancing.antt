@@ -1,33 +1,12 @@
 -- A step that the code has made is the world's.
 use Rattle.std.proofs.Common.{◌≡◌, ℕ, false, if◌then◌else◌, List, [], Option, Some, None, IfSome, refl, sym, ap, ◌∙◌, subst}
-use Rattle.rmecore.specs.Machine.{Standing, first, at_scan, kind_of, word_of, answer}
-use Rattle.rmecore.specs.Place.{Place, above, Door, Wait}
-use Rattle.rmecore.specs.World.{is_store, step_deed}
-use Rattle.rmecore.specs.declared.kind.Kind.{Kind}
-use Rattle.rmecore.specs.declared.kind.Kind.TheVariants.{Open as Opens}
-use Rattle.rmecore.specs.declared.own.Own.{Own}
+use Rattle.rmeworld.proofs.Common.{Access, Load, Store, Kind, Open as Opens, Own, Standing, first, at_scan, kind_of, word_of, answer, is_glance, Place, above, Door, Wait, tally_at, IsExact, is_store}
+use Rattle.rmeworld.proofs.Common.{step_deed, Layout, Words, Answer, Chore, Stepped, Advances, IsLoad, GoesOn, answer_at, answer_by, by_lock, done_by, errand_of, IsWorld, value_of, happening, or_else}
+use Rattle.rmeworld.proofs.Common.{mail_by, words_by, cells_by, the_deed, stepped_if, quiet_step, advanced_if, outer_by, Stand, standing, outcome, IsLeast, HasTaken, reading, event_deeds, WorldState}
+use Rattle.rmeworld.proofs.Common.{stand_at, spot_at, scene_of, Takes, happening_of, ChoosesLeast}
 use Rattle.rmecore.specs.declared.scan.Scan.{Scan}
 use Rattle.rmecore.specs.declared.scan.Scan.TheVariants.{Peeking, Waiting}
-use Rattle.redomail.specs.Layout.{Words}
-use Rattle.redomail.specs.declared.layout.Layout.{Layout}
-use Rattle.rmecore.specs.Paid.{is_glance}
-use Rattle.rmecore.specs.Simulated.{tally_at}
-use Rattle.rmecore.specs.Tallied.{IsExact}
-use Rattle.rmecore.specs.declared.access.Access.{Access}
-use Rattle.rmecore.specs.declared.access.Access.TheVariants.{Load, Store}
-use Rattle.rmeworld.specs.Advancing.{Advances, IsLoad, GoesOn}
-use Rattle.rmeworld.specs.Answered.{answer_at, answer_by, by_lock, done_by}
-use Rattle.rmeworld.specs.Errands.{errand_of}
-use Rattle.rmeworld.specs.Reached.{IsWorld}
-use Rattle.rmeworld.specs.Replayed.{value_of, happening, or_else, mail_by, words_by, cells_by, the_deed, stepped, stepped_by, stepped_if, quiet_step, advanced_if}
-use Rattle.rmeworld.specs.Spot.{outer_by}
-use Rattle.rmeworld.specs.Stand.{Stand, standing, outcome, IsLeast}
-use Rattle.rmeworld.specs.Tallied.{HasTaken}
-use Rattle.rmeworld.specs.WorldState.{WorldState, stand_at, spot_at, scene_of, Takes, happening_of, ChoosesLeast}
-use Rattle.rmeworld.specs.World.{reading, event_deeds}
-use Rattle.rmeworld.specs.declared.answer.Answer.{Answer}
-use Rattle.rmeworld.specs.declared.errand.Errand.{Errand as Chore}
-use Rattle.rmeworld.specs.declared.stepped.Stepped.{Stepped}
+use Rattle.rmeworld.specs.Replayed.{stepped, stepped_by}
 use Rattle.rmeworld.proofs.WorldSteps.{IsStep, step_takes}
 use Rattle.rmeworld.proofs.WorldTallies.{no_glance, answered_step}
 use Rattle.rmeworld.proofs.Worlds.{Made, made_is}

@@ -1,42 +1,17 @@
 -- Every deed of the mailbox goes back to the start of a call: what is left of each process's script sends only what that
 -- start has granted, also while others move, since nobody else puts a data word meanwhile.
-use Rattle.std.proofs.Common.{◌≡◌, ◌≢◌, ℕ, ◌<◌, Bool, true, false, ◌&&◌, ◌==◌, nat_lt, length, List, [], ◌∷◌, ◌++◌, Option, Some, None, All, Contains, refl, sym, ap, ◌∙◌, subst, inl, inr, ◌⊎◌, arith, eqb-true, append_assoc}
-use Rattle.std.proofs.lemmas.Bool.{cases_Bool, cases_eq, and_parts, lt-ltb}
-use Rattle.std.proofs.lemmas.List.Elements.{All-nil, All-cons, All-append, Contains-append_right}
-use Rattle.rmecore.specs.AbstractLock.{Abstract, Legal, nobody}
-use Rattle.rmecore.specs.Needs.{put}
-use Rattle.rmecore.specs.Place.{Place, next, started}
-use Rattle.rmecore.specs.Sole.{IsIn}
-use Rattle.rmecore.specs.World.{is_store}
+use Rattle.std.proofs.Common.{◌≡◌, ◌≢◌, ℕ, ◌<◌, Bool, true, false, ◌&&◌, ◌==◌, nat_lt, length, List, [], ◌∷◌, ◌++◌, Option, Some, None, All, Contains, refl, sym, ap, ◌∙◌, subst, inl, inr, ◌⊎◌, arith, eqb-true, append_assoc, lt-ltb}
+use Rattle.rmeworld.proofs.Common.{cases_Bool, cases_eq, and_parts, All-nil, All-cons, All-append, Contains-append_right, Kind, Gets, Puts, Outer, Phase, Within, Word, Data as DataAt, Abstract, Legal}
+use Rattle.rmeworld.proofs.Common.{nobody, put, Place, next, IsIn, is_store, put_same, put_other, after_deed as done_by, Deed, Layout, Reply, deeds_of_put, Words, IsLayout, size, Mailbox, Script}
+use Rattle.rmeworld.proofs.Common.{Get as Asks, Put as Writes, Done, script, consistent, empty, Call, Lock, Unlock, Consistent, Recover, Append, Close, Withdraw, Why, Ruining, Mending, Working}
+use Rattle.rmeworld.proofs.Common.{is_entry, puts_data, IsAsked, EveryDeedWasAsked, Errand, Free, Doing, Spot, dead, Happening, Begins, Falls, Moves, Glances, who, settled, errand_entered, at_lock}
+use Rattle.rmeworld.proofs.Common.{inside_only, begun_from, moved_by, next_spot, outer, reading, event_deeds, Scene, at_first, Reads, put_cell, cells_after, Story, onward, last_scene, outer_deeds}
+use Rattle.rmeworld.proofs.Common.{mail_deeds, deeds}
+use Rattle.rmecore.specs.Place.{started}
 use Rattle.rmecore.specs.declared.core_call.CoreCall.TheVariants as core
-use Rattle.rmecore.specs.declared.kind.Kind.{Kind}
-use Rattle.rmecore.specs.declared.kind.Kind.TheVariants.{Get as Gets, Put as Puts}
-use Rattle.rmecore.specs.declared.outer.Outer.{Outer}
-use Rattle.rmecore.specs.declared.phase.Phase.{Phase}
-use Rattle.rmecore.specs.declared.phase.Phase.TheVariants.{Inside as Within}
-use Rattle.rmecore.specs.declared.word.Word.{Word}
-use Rattle.rmecore.specs.declared.word.Word.TheVariants.{Data as DataAt}
-use Rattle.rmecore.proofs.Invariant.{put_same, put_other}
-use Rattle.redomail.specs.Deeds.{deeds_of_put}
-use Rattle.redomail.specs.Layout.{Words, IsLayout, size}
-use Rattle.redomail.specs.Mailbox.{Mailbox}
-use Rattle.redomail.specs.Script.{Script, Get as Asks, Put as Writes, Done}
-use Rattle.redomail.specs.Tasks.{script, consistent}
-use Rattle.redomail.specs.declared.deed.Deed.{Deed}
 use Rattle.redomail.specs.declared.deed.Deed.TheVariants as deed
-use Rattle.redomail.specs.declared.layout.Layout.{Layout}
-use Rattle.redomail.specs.declared.reply.Reply.{Reply}
 use Rattle.redomail.specs.declared.task.Task.TheVariants as task
-use Rattle.judge.specs.Table.{empty}
-use Rattle.rmeworld.specs.Entered.{is_entry}
-use Rattle.rmeworld.specs.Holders.{puts_data}
-use Rattle.rmeworld.specs.Sent.{IsAsked, EveryDeedWasAsked}
-use Rattle.rmeworld.specs.Spot.{Errand, Free, Doing, Spot, dead, Happening, Begins, Falls, Moves, Glances, who, settled, errand_entered, at_lock, inside_only, begun_from, moved_by, next_spot, outer}
-use Rattle.rmeworld.specs.World.{Scene, at_first, Reads, reading, put_cell, cells_after, Story, onward, last_scene, outer_deeds, mail_deeds, event_deeds, deeds}
-use Rattle.rmeworld.specs.declared.call.Call.{Call}
-use Rattle.rmeworld.specs.declared.call.Call.TheVariants.{Lock, Unlock, Consistent, Recover, Append, Close, Get, Put, Withdraw}
-use Rattle.rmeworld.specs.declared.why.Why.{Why}
-use Rattle.rmeworld.specs.declared.why.Why.TheVariants.{Ruining, Mending, Working}
+use Rattle.rmeworld.specs.declared.call.Call.TheVariants.{Get, Put}
 use Rattle.rmeworld.proofs.Holders.{At, one, putter_in, story_comes}
 use Rattle.rmeworld.proofs.Knowing.{Post, PostAt}
 use Rattle.rmeworld.proofs.Projection.{outers, at_lock_some, only_some, inside_some, some_of}
@@ -44,7 +19,6 @@ use Rattle.rmeworld.proofs.Reaching.{origin}
 use Rattle.rmeworld.proofs.Sends.{Sends, append_sends, close_sends, ruin_sends, board_sends, consistent_sends}
 use Rattle.rmeworld.proofs.Stories.{if_same, deeds_none, head}
 use Rattle.rmeworld.proofs.StoryGrows.{last_more}
-use Rattle.rmecore.proofs.Rows.{after_deed as done_by}
 
 -- only a put of a data word changes them
 cells_kept : (l : Layout) (cells : Words) (e : Happening) → puts_data e ≡ false → cells_after l cells e ≡ cells

@@ -1,22 +1,7 @@
 -- Where worlds begin, and that what follows from there is legal.
 use Rattle.std.proofs.Common.{◌≡◌, ℕ, ◌+◌, ◌<◌, ◌≤◌, ◌^◌, Bool, true, false, ◌&&◌, nat_lt, nat_le, if◌then◌else◌, List, [], length, Option, Some, None, refl, sym, subst, inr, arith, ltb-true, leb-true}
-use Rattle.std.proofs.lemmas.Bool.{and_parts}
-use Rattle.rmecore.specs.Simulated.{own_at}
-use Rattle.rmecore.specs.declared.refusal.Refusal.{Refusal}
-use Rattle.redomail.specs.declared.deed.Deed.{Deed}
-use Rattle.redomail.specs.declared.layout.Layout.{Layout}
-use Rattle.redomail.specs.Layout.{words_of}
-use Rattle.judge.specs.Legal.{Leads}
-use Rattle.judge.specs.Starts.{state_of}
-use Rattle.judge.specs.Table.{State}
-use Rattle.judge.specs.declared.start.Start.{Start}
-use Rattle.rmeworld.specs.declared.image.Image.{Image}
-use Rattle.rmeworld.specs.ImageRules.{layout_of, IsLawfulImage}
-use Rattle.rmeworld.specs.ImageStart.{IsStartOf}
-use Rattle.rmeworld.specs.Reached.{crashed_scene, IsOrigin}
-use Rattle.rmeworld.specs.Stand.{IsSize, resting}
-use Rattle.rmeworld.specs.World.{Scene, at_first}
-use Rattle.rmeworld.specs.WorldState.{WorldState, new_world, new_refusal, image_world}
+use Rattle.rmeworld.proofs.Common.{and_parts, Refusal, own_at, Deed, Layout, words_of, Start, Leads, state_of, State, Image, layout_of, IsLawfulImage, IsStartOf, crashed_scene, IsOrigin, IsSize}
+use Rattle.rmeworld.proofs.Common.{resting, Scene, at_first, WorldState, new_world, new_refusal, image_world}
 use Rattle.rmeworld.proofs.Following.{Follows}
 use Rattle.rmeworld.proofs.FromImages.{image_world_is, image_scene, crashed-at, started_later}
 use Rattle.rmeworld.proofs.Ordered.{IsOrdered, ordered_rest, ordered_crashed}

@@ -1,31 +1,17 @@
 -- No call takes more steps than its most, and one under way has taken fewer.
 use Rattle.std.proofs.Common.{◌≡◌, ℕ, zero, suc, ◌+◌, ◌*◌, ◌<◌, ◌≤◌, Bool, true, false, [], ◌∷◌, List, Option, Some, None, IsSome, refl, sym, ap, ◌∙◌, arith}
-use Rattle.rmecore.specs.Place.{Place, Rest, Reread, Shutting, Wait, Leaving, Withdrawing, Unmarking}
-use Rattle.rmecore.specs.OwnSteps.{reentry_steps, spent_steps, found_steps}
-use Rattle.rmecore.specs.Refused.{is_idle}
-use Rattle.rmecore.specs.declared.core_call.CoreCall.{CoreCall}
+use Rattle.rmeworld.proofs.Common.{CoreCall, In, InAgain, Own, reentry_steps, spent_steps, found_steps, Place, Wait, Rest, Reread, Shutting, Leaving, Withdrawing, Unmarking, is_idle, Layout, Reply}
+use Rattle.rmeworld.proofs.Common.{Script, Get as Asks, Put as Writes, Done, Answer, Clean, OwnerDied, NumbersSpent, NotRecoverable, Unlocked, Mail, Call, Lock, Unlock, Consistent, Recover, Append}
+use Rattle.rmeworld.proofs.Common.{Close, Withdraw, Why, Ruining, Mending, Working, Checking, HasStep, and_more, either, core_steps, task_steps, own_steps, most_steps, Costs, checked_steps}
+use Rattle.rmeworld.proofs.Common.{script_steps, PaysCore, Exits, PaysPart, PaysBy, PaysAt, Errand, Free, Doing, Spot, lock_part, part_call, why_call, call_by, call_at}
 use Rattle.rmecore.specs.declared.core_call.CoreCall.TheVariants as core
-use Rattle.rmecore.specs.declared.core_done.CoreDone.TheVariants.{In, InAgain}
 use Rattle.rmecore.specs.declared.found.Found.{Found}
 use Rattle.rmecore.specs.declared.found.Found.TheVariants.{Left, Waiting}
-use Rattle.rmecore.specs.declared.own.Own.{Own}
 use Rattle.rmecore.proofs.Payments.{fewer}
-use Rattle.redomail.specs.Script.{Script, Get as Asks, Put as Writes, Done}
-use Rattle.redomail.specs.declared.layout.Layout.{Layout}
-use Rattle.redomail.specs.declared.reply.Reply.{Reply}
 use Rattle.redomail.specs.declared.reply.Reply.TheVariants as reply
 use Rattle.redomail.specs.declared.task.Task.TheVariants as task
-use Rattle.rmeworld.specs.Errands.{HasStep}
-use Rattle.rmeworld.specs.OwnSteps.{and_more, either, core_steps, task_steps, own_steps, most_steps}
-use Rattle.rmeworld.specs.Paid.{Costs, checked_steps, script_steps, PaysCore, Exits, PaysPart, PaysBy, PaysAt}
-use Rattle.rmeworld.specs.Spot.{Errand, Free, Doing, Spot}
-use Rattle.rmeworld.specs.UnderWay.{lock_part, part_call, why_call, call_by, call_at}
-use Rattle.rmeworld.specs.declared.answer.Answer.{Answer}
-use Rattle.rmeworld.specs.declared.answer.Answer.TheVariants.{Clean, OwnerDied, NumbersSpent, NotRecoverable, Unlocked, Found as Finds, Mail, Withdrawn}
-use Rattle.rmeworld.specs.declared.call.Call.{Call}
-use Rattle.rmeworld.specs.declared.call.Call.TheVariants.{Lock, Unlock, Consistent, Recover, Append, Close, Get, Put, Withdraw}
-use Rattle.rmeworld.specs.declared.why.Why.{Why}
-use Rattle.rmeworld.specs.declared.why.Why.TheVariants.{Checking, Ruining, Mending, Working}
+use Rattle.rmeworld.specs.declared.answer.Answer.TheVariants.{Found as Finds, Withdrawn}
+use Rattle.rmeworld.specs.declared.call.Call.TheVariants.{Get, Put}
 use Rattle.rmeworld.proofs.Costs.{costs_most}
 
 pub summed : (k : ℕ) (o : Option ℕ) (x : ℕ) → and_more k o ≡ Some x → (y : ℕ) × (o ≡ Some y) × (x ≡ y + k)

@@ -1,19 +1,11 @@
 -- What a step of the lock's part is for the call that it belongs to: the part goes on, or ends with its answer.
 use Rattle.std.proofs.Common.{◌≡◌, ℕ, zero, suc, ◌==◌, ◌||◌, max, false, if◌then◌else◌, [], ◌∷◌, Option, Some, None, IsSome, unwrap_or, refl, inl, inr}
-use Rattle.std.proofs.lemmas.Bool.{cases_Bool}
-use Rattle.rmecore.specs.Place.{Place, Rest, Reread, Opening, Door, Shutting, Wait, Inside, Leaving, Withdrawing, Unmarking, has, without, others, is_before, restart, shut, unmarked, next}
-use Rattle.rmecore.specs.Machine.{answer, reread_answer, shut_answer, unmark_answer}
-use Rattle.rmecore.specs.Paid.{is_glance}
-use Rattle.rmecore.specs.declared.core_call.CoreCall.{CoreCall}
+use Rattle.rmeworld.proofs.Common.{cases_Bool, CoreCall, CoreDone, In, InAgain, Spent, Out, Found as Finds, Withdrawn, Kind, Open as Opens, Rereads, Peek as Peeks, Take as Takes, Shut as Shuts}
+use Rattle.rmeworld.proofs.Common.{Look as Looks, Weigh as Weighs, Mark as Marks, Drop as Drops, Glance as Glances, Word, Choosing as ChoosingOf, Number as NumberOf, answer, reread_answer}
+use Rattle.rmeworld.proofs.Common.{shut_answer, unmark_answer, is_glance, Place, Door, Wait, next, Rest, Reread, Shutting, Leaving, Withdrawing, Unmarking, Opening, Inside, has, without, others}
+use Rattle.rmeworld.proofs.Common.{is_before, restart, shut, unmarked, guard, lock_part}
 use Rattle.rmecore.specs.declared.core_call.CoreCall.TheVariants.{Lock, Recover, Unlock, Withdraw}
-use Rattle.rmecore.specs.declared.core_done.CoreDone.{CoreDone}
-use Rattle.rmecore.specs.declared.core_done.CoreDone.TheVariants.{In, InAgain, Spent, Out, Found as Finds, Withdrawn}
-use Rattle.rmecore.specs.declared.kind.Kind.{Kind}
-use Rattle.rmecore.specs.declared.kind.Kind.TheVariants.{Reread as Rereads, Open as Opens, Peek as Peeks, Take as Takes, Shut as Shuts, Look as Looks, Weigh as Weighs, Mark as Marks, Drop as Drops, Glance as Glances}
-use Rattle.rmecore.specs.declared.word.Word.{Word}
-use Rattle.rmecore.specs.declared.word.Word.TheVariants.{Choosing as ChoosingOf, Number as NumberOf, Inside as InsideOf}
-use Rattle.rmecore.proofs.Runs.{guard}
-use Rattle.rmeworld.specs.UnderWay.{lock_part}
+use Rattle.rmecore.specs.declared.word.Word.TheVariants.{Inside as InsideOf}
 use Rattle.rmeworld.proofs.Entries.{Enters}
 
 -- which part an answer ends

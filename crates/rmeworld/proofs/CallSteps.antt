@@ -1,40 +1,15 @@
 -- Each step of a call that isn't blocked counts one, up to the answer, and then the number is that of the table.
 use Rattle.std.proofs.Common.{◌≡◌, ℕ, zero, suc, ◌+◌, ◌<◌, Bool, true, false, ◌&&◌, ◌==◌, nat_lt, if◌then◌else◌, length, Option, Some, None, IsSome, unwrap_or, refl, sym, ap, ◌∙◌, subst, arith, eqb-true}
-use Rattle.std.proofs.lemmas.Bool.{and_parts}
-use Rattle.rmecore.specs.Place.{Place, Rest, Dead, Wait, Inside, Leaving, next}
-use Rattle.rmecore.specs.Machine.{answer, is_blocked as is_blocked_place}
-use Rattle.rmecore.specs.OwnSteps.{entry_steps, reentry_steps}
-use Rattle.rmecore.specs.Paid.{ReadsBegun, is_glance}
-use Rattle.rmecore.specs.declared.core_call.CoreCall.{CoreCall}
+use Rattle.rmeworld.proofs.Common.{and_parts, CoreCall, CoreDone, In, InAgain, Spent, Out, Found as Finds, Withdrawn as IsWithdrawn, Kind, Gets, Puts, Own, Word, Data as DataAt, answer}
+use Rattle.rmeworld.proofs.Common.{is_blocked as is_blocked_place, reentry_steps, entry_steps, is_glance, ReadsBegun, Place, Wait, next, Rest, Leaving, Inside, Dead, Layout, Reply, Mended, Ruined}
+use Rattle.rmeworld.proofs.Common.{Task, Script, Get as Asks, Put as Writes, Done, script, Answer, Call, Lock, Unlock, Consistent, Recover, Append, Close, Withdraw, Why, Ruining, Mending, Working}
+use Rattle.rmeworld.proofs.Common.{Checking, answer_at, answer_by, by_lock, by_script, blocked_by, next_or_same, checks_done, mended_done, HasStep, and_more, either, core_steps, task_steps, own_steps}
+use Rattle.rmeworld.proofs.Common.{Costs, checked_steps, script_steps, PaysCore, Exits, PaysPart, PaysBy, PaysAt, entry_of, Errand, Free, Doing, Spot, Begins, Moves, settled, errand_entered, at_lock}
+use Rattle.rmeworld.proofs.Common.{begun_from, moved_by, next_spot, only_spot, mended_entered, working, lock_part, part_call, why_call, call_by, call_at, task_call}
 use Rattle.rmecore.specs.declared.core_call.CoreCall.TheVariants as core
-use Rattle.rmecore.specs.declared.core_done.CoreDone.{CoreDone}
-use Rattle.rmecore.specs.declared.core_done.CoreDone.TheVariants.{In, InAgain, Spent, Out, Found as Finds, Withdrawn as IsWithdrawn}
-use Rattle.rmecore.specs.declared.kind.Kind.{Kind}
-use Rattle.rmecore.specs.declared.kind.Kind.TheVariants.{Get as Gets, Put as Puts}
-use Rattle.rmecore.specs.declared.own.Own.{Own}
-use Rattle.rmecore.specs.declared.word.Word.{Word}
-use Rattle.rmecore.specs.declared.word.Word.TheVariants.{Data as DataAt}
 use Rattle.rmecore.proofs.Payments.{Comes, pays}
-use Rattle.redomail.specs.declared.layout.Layout.{Layout}
-use Rattle.redomail.specs.declared.reply.Reply.{Reply}
-use Rattle.redomail.specs.declared.reply.Reply.TheVariants.{Mended, Ruined}
-use Rattle.redomail.specs.declared.task.Task.{Task}
 use Rattle.redomail.specs.declared.task.Task.TheVariants as task
-use Rattle.redomail.specs.Script.{Script, Get as Asks, Put as Writes, Done}
-use Rattle.redomail.specs.Tasks.{script}
-use Rattle.rmeworld.specs.declared.answer.Answer.{Answer}
-use Rattle.rmeworld.specs.declared.call.Call.{Call}
-use Rattle.rmeworld.specs.declared.call.Call.TheVariants.{Lock, Unlock, Consistent, Recover, Append, Close, Get, Put, Withdraw}
-use Rattle.rmeworld.specs.declared.why.Why.{Why}
-use Rattle.rmeworld.specs.declared.why.Why.TheVariants.{Checking, Ruining, Mending, Working}
-use Rattle.rmeworld.specs.Answered.{by_lock, by_script, answer_by, answer_at, blocked_by}
-use Rattle.rmeworld.specs.Entered.{checks_done, mended_done}
-use Rattle.rmeworld.specs.OwnSteps.{and_more, either, core_steps, task_steps, own_steps}
-use Rattle.rmeworld.specs.Paid.{Costs, entry_of, checked_steps, script_steps, PaysCore, Exits, PaysPart, PaysBy, PaysAt}
-use Rattle.rmeworld.specs.CallWalk.{next_or_same}
-use Rattle.rmeworld.specs.Errands.{HasStep}
-use Rattle.rmeworld.specs.Spot.{Errand, Free, Doing, Spot, Begins, Moves, next_spot, only_spot, settled, mended_entered, errand_entered, at_lock, moved_by, working, begun_from}
-use Rattle.rmeworld.specs.UnderWay.{lock_part, part_call, task_call, why_call, call_by, call_at}
+use Rattle.rmeworld.specs.declared.call.Call.TheVariants.{Get, Put}
 use Rattle.rmeworld.proofs.CallBounds.{summed}
 use Rattle.rmeworld.proofs.CallParts.{Follows, On, goes_on}
 use Rattle.rmeworld.proofs.Costs.{append_costs, close_costs, consistent_costs}

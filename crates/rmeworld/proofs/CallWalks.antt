@@ -1,19 +1,7 @@
 -- What the steps of one call tell, of whatever process, from its own happenings alone.
 use Rattle.std.proofs.Common.{◌≡◌, ℕ, suc, ◌+◌, ◌<◌, Bool, true, false, if◌then◌else◌, List, [], ◌∷◌, length, Option, Some, None, IsSome, refl, sym, ap, ◌∙◌, subst, arith}
-use Rattle.rmecore.specs.declared.kind.Kind.{Kind}
-use Rattle.rmecore.specs.declared.own.Own.{Own}
-use Rattle.rmecore.specs.declared.word.Word.{Word}
-use Rattle.redomail.specs.declared.layout.Layout.{Layout}
-use Rattle.redomail.specs.declared.reply.Reply.TheVariants.{Mended}
-use Rattle.rmeworld.specs.Answered.{answer_at, blocked_by}
-use Rattle.rmeworld.specs.CallWalk.{next_or_same, Walks, blocked_in, and_answer, answers_in, last_spot, Tells, CallsTakeTheirSteps}
-use Rattle.rmeworld.specs.OwnSteps.{own_steps}
-use Rattle.rmeworld.specs.Spot.{Spot, Happening, Begins, Moves, next_spot}
-use Rattle.rmeworld.specs.UnderWay.{part_call, call_by, call_at}
-use Rattle.rmeworld.specs.declared.answer.Answer.{Answer}
-use Rattle.rmeworld.specs.declared.answer.Answer.TheVariants.{Mail}
-use Rattle.rmeworld.specs.declared.call.Call.{Call}
-use Rattle.rmeworld.specs.declared.call.Call.TheVariants.{Unlock, Consistent}
+use Rattle.rmeworld.proofs.Common.{Kind, Own, Word, Layout, Mended, Answer, Mail, Call, Unlock, Consistent, answer_at, blocked_by, next_or_same, Walks, blocked_in, and_answer, answers_in, last_spot}
+use Rattle.rmeworld.proofs.Common.{Tells, CallsTakeTheirSteps, own_steps, Spot, Happening, Begins, Moves, next_spot, part_call, call_by, call_at}
 use Rattle.rmeworld.proofs.CallBounds.{fewer_at}
 use Rattle.rmeworld.proofs.CallSteps.{more, IsOver, To, step_by, start_to, over_rests}
 

@@ -1,32 +1,13 @@
 -- What a process's machine does is what the definition says, at whatever spot it stands.
-use Rattle.std.proofs.Common.{◌≡◌, ℕ, Bool, true, false, ◌&&◌, ◌==◌, if◌then◌else◌, [], ◌∷◌, Result, Ok, Err, OnErr, Option, Some, None, IsSome, IfSome, unwrap_or, refl, sym, ap, ◌∙◌, eq-eqb}
-use Rattle.rmecore.specs.Place.{Place, Inside, next}
-use Rattle.rmecore.specs.declared.refusal.Refusal.{Refusal}
-use Rattle.rmeworld.specs.declared.call.Call.{Call}
-use Rattle.rmeworld.specs.declared.call.Call.TheVariants.{Lock, Unlock, Consistent, Append, Close, Get, Put}
-use Rattle.rmeworld.specs.Refused.{first_cause, start_refusal}
-use Rattle.rmecore.specs.Machine.{Standing, progress, after_access, next_access as lock_access, kind_of, word_of, carried, IsAllowed as IsLockAllowed}
-use Rattle.rmecore.specs.declared.access.Access.{Access}
-use Rattle.redomail.specs.declared.layout.Layout.{Layout}
-use Rattle.redomail.specs.declared.reply.Reply.{Reply}
-use Rattle.redomail.specs.declared.reply.Reply.TheVariants.{Ruined}
+use Rattle.std.proofs.Common.{◌≡◌, ℕ, Bool, true, false, ◌&&◌, ◌==◌, if◌then◌else◌, [], ◌∷◌, Result, Ok, Err, OnErr, Option, Some, None, IsSome, IfSome, unwrap_or, refl, sym, ap, ◌∙◌, subst, eq-eqb}
+use Rattle.rmeworld.proofs.Common.{Access, Progress, Refusal, Standing, kind_of, word_of, progress, after_access, lock_access, carried, Place, next, Inside, Layout, Reply, Ruined, Pending, left}
+use Rattle.rmeworld.proofs.Common.{begun, Script, Get as Asks, Put as Writes, Done, tail, script, Call, Lock, Unlock, Consistent, Append, Close, Chore, IsFree, Asking, Does, Why, Mending, Checking}
+use Rattle.rmeworld.proofs.Common.{by_lock, is_entry, errand_of, HasStep, Held, first_cause, start_refusal, Errand, Free, Doing, Spot, settled, errand_entered, at_lock, begun_from, moved_by}
+use Rattle.rmeworld.proofs.Common.{only_spot, mended_entered, Stand, standing, outcome, IsAllowed, spot_of, lock_moved, job_left, stepped, stepped_by, access_by, next_access, after_at, spot_after}
+use Rattle.rmeworld.specs.declared.call.Call.TheVariants.{Get, Put}
 use Rattle.redomail.specs.declared.task.Task.TheVariants as task
-use Rattle.redomail.specs.Script.{Script, Get as Asks, Put as Writes, Done, tail}
-use Rattle.redomail.specs.Tasks.{script}
-use Rattle.redomail.specs.Left.{Pending, left, begun}
-use Rattle.rmeworld.specs.declared.errand.Errand.{Errand as Chore}
-use Rattle.rmeworld.specs.declared.errand.Errand.TheVariants.{Free as IsFree, Asking, Doing as Does}
-use Rattle.rmeworld.specs.declared.why.Why.{Why}
-use Rattle.rmeworld.specs.declared.why.Why.TheVariants.{Checking, Mending}
-use Rattle.rmeworld.specs.Answered.{by_lock}
-use Rattle.rmeworld.specs.Entered.{is_entry}
-use Rattle.rmeworld.specs.Errands.{errand_of, HasStep, Held}
-use Rattle.rmeworld.specs.Spot.{Errand, Free, Doing, Spot, only_spot, begun_from, moved_by, mended_entered, errand_entered, at_lock, settled}
-use Rattle.rmeworld.specs.Stand.{Stand, outcome, IsAllowed, spot_of, standing, lock_moved, job_left, stepped_by, access_by, next_access, after_at, spot_after}
 use Rattle.rmeworld.proofs.Entries.{stays}
-use Rattle.std.proofs.Common.{subst}
-use Rattle.rmecore.specs.declared.progress.Progress.{Progress}
-use Rattle.rmeworld.specs.Stand.{stepped}
+use Rattle.rmecore.specs.Machine.{IsAllowed as IsLockAllowed}
 
 -- the process with this to do
 abbrev pub with : Stand → Chore → Stand

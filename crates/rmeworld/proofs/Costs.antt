@@ -1,18 +1,10 @@
 -- Each script of a call ends with the number of its reply.
-use Rattle.std.proofs.Common.{◌≡◌, ℕ, zero, suc, ◌+◌, ◌*◌, ◌≤◌, true, ◌==◌, List, [], ◌∷◌, ◌++◌, length, Option, Some, refl, ap, ◌∙◌, arith, length-append}
-use Rattle.std.specs.Prelude.{nat_le, nat_lt}
-use Rattle.std.proofs.lemmas.Bool.{cond_both}
-use Rattle.redomail.specs.declared.layout.Layout.{Layout}
-use Rattle.redomail.specs.declared.record.Record.{Record}
-use Rattle.redomail.specs.declared.reply.Reply.{Reply}
+use Rattle.std.proofs.Common.{◌≡◌, ℕ, zero, suc, ◌+◌, ◌*◌, ◌≤◌, true, ◌==◌, List, [], ◌∷◌, ◌++◌, length, Option, Some, refl, ap, ◌∙◌, arith, length-append, nat_le, nat_lt}
+use Rattle.rmeworld.proofs.Common.{cond_both, Layout, Record, Reply, Script, Get as Asks, Put as Writes, Done, puts, gets, consistent, apply_steps, store_steps, record_of, decided, append, redo}
+use Rattle.rmeworld.proofs.Common.{repair, close, length-store_steps, task_steps, mending_steps, Costs}
 use Rattle.redomail.specs.declared.reply.Reply.TheVariants as reply
 use Rattle.redomail.specs.declared.task.Task.TheVariants as task
-use Rattle.redomail.specs.Script.{Script, Get as Asks, Put as Writes, Done, puts, gets}
-use Rattle.redomail.specs.Tasks.{apply_steps, store_steps, record_of, decided, append, redo, repair, close, consistent}
-use Rattle.redomail.proofs.Scripts.{length-store_steps}
 use Rattle.redomail.proofs.Steps.{length-apply_steps}
-use Rattle.rmeworld.specs.OwnSteps.{task_steps, mending_steps}
-use Rattle.rmeworld.specs.Paid.{Costs}
 
 costs-puts : (f : Reply → Option ℕ) (xs : List (ℕ × ℕ)) (a : Reply) (steps : ℕ) → f a ≡ Some (steps + length xs) → Costs f (puts xs (Done a)) steps
 costs-puts f [] a steps h = let e : steps + 0 ≡ steps = omega arith in h ∙ ap Some e

@@ -1,16 +1,10 @@
 -- The lock's machine answers In, InAgain or Found(Inside) just where it comes to be inside.
 use Rattle.std.proofs.Common.{◌≡◌, ℕ, zero, suc, Bool, true, false, nat_lt, if◌then◌else◌, [], ◌∷◌, Option, Some, None, IsSome, IfSome, unwrap_or, refl, inl, inr}
-use Rattle.std.proofs.lemmas.Bool.{cases_Bool}
-use Rattle.rmecore.specs.Place.{Place, Reread, Opening, Door, Shutting, Wait, Inside, Leaving, Withdrawing, Unmarking, without, only, restart, shut, unmarked, next}
-use Rattle.rmecore.specs.Machine.{Standing, access, next_access, after_access, kind_of, word_of, carried, answer, progress, IsAllowed}
-use Rattle.rmecore.specs.declared.access.Access.{Access}
-use Rattle.rmecore.specs.declared.core_done.CoreDone.{CoreDone}
-use Rattle.rmecore.specs.declared.core_done.CoreDone.TheVariants.{In, Spent, Withdrawn}
-use Rattle.rmecore.specs.declared.kind.Kind.TheVariants.{Reread as Rereads, Shut as Shuts, Mark as Marks}
-use Rattle.rmecore.specs.declared.core_call.CoreCall.{CoreCall as Call}
+use Rattle.rmeworld.proofs.Common.{cases_Bool, Access, CoreCall as Call, CoreDone, In, Spent, Withdrawn, Rereads, Shut as Shuts, Mark as Marks, Standing, kind_of, word_of, answer, progress}
+use Rattle.rmeworld.proofs.Common.{after_access, lock_access as next_access, carried, access, Place, Door, Wait, next, Reread, Shutting, Leaving, Withdrawing, Unmarking, Opening, Inside, without}
+use Rattle.rmeworld.proofs.Common.{restart, shut, unmarked, only, is_entry, checks_done, mended_done, mended_entered}
 use Rattle.rmecore.specs.declared.core_call.CoreCall.TheVariants.{Lock}
-use Rattle.rmeworld.specs.Spot.{mended_entered}
-use Rattle.rmeworld.specs.Entered.{is_entry, checks_done, mended_done}
+use Rattle.rmecore.specs.Machine.{IsAllowed}
 
 abbrev pub Enters : Option CoreDone → Place → Place → Type 0
 Enters done s t = (checks_done done ≡ is_entry s t) × ((b : Bool) → mended_done b done ≡ mended_entered b s t)

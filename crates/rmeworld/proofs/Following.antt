@@ -1,27 +1,11 @@
 -- What the machine that a world is does, over all its calls: it follows a story from where it began, and tells its deeds.
-use Rattle.std.proofs.Common.{◌≡◌, ℕ, ◌<◌, Bool, true, false, ◌&&◌, ◌==◌, nat_lt, if◌then◌else◌, List, [], ◌∷◌, ◌++◌, length, slice_set, Option, Some, None, IfSome, refl, sym, ap, ◌∙◌, subst, inl, inr, append-nil, ltb-true}
-use Rattle.std.proofs.lemmas.Bool.{cases_Bool, cases_eq}
-use Rattle.std.proofs.lemmas.List.{get_or-set_same, get_or-set_other}
-use Rattle.rmecore.specs.Machine.{word_of}
-use Rattle.rmecore.specs.declared.access.Access.{Access}
-use Rattle.rmecore.specs.declared.access.Access.TheVariants.{Load, Store}
-use Rattle.rmecore.specs.declared.outer.Outer.{Outer}
-use Rattle.rmecore.specs.declared.refusal.Refusal.{Refusal}
-use Rattle.rmecore.specs.declared.refusal.Refusal.TheVariants.{NoSuchProcess, NothingToDo}
-use Rattle.rmecore.specs.declared.word.Word.{Word}
-use Rattle.rmecore.specs.declared.word.Word.TheVariants.{Data as DataAt}
-use Rattle.redomail.specs.declared.deed.Deed.{Deed}
-use Rattle.redomail.specs.declared.layout.Layout.{Layout}
-use Rattle.redomail.specs.Layout.{IsLayout, Words, words_of}
-use Rattle.redomail.specs.Deeds.{deeds_of_put}
-use Rattle.rmeworld.specs.declared.call.Call.{Call}
-use Rattle.rmeworld.specs.Reached.{IsWorld}
-use Rattle.rmeworld.specs.Refused.{is_idle, start_refusal as spot_refusal}
-use Rattle.rmeworld.specs.Replayed.{start_refusal, started, advance_refusal, stepped, advanced, crash_refusal, crash_deed, crashed, happening, list_of, the_deed, or_else, mail_by, stepped_if, advanced_if, advanced_by}
-use Rattle.rmeworld.specs.Spot.{Happening, Begins, next_spot}
-use Rattle.rmeworld.specs.Stand.{Stand, spot_of, next_access, IsAllowed, IsLeast, StoresOwn, outcome, started as stand_started, stepped as stand_stepped, crashed as stand_crashed}
-use Rattle.rmeworld.specs.World.{Scene, Can, put_deeds, event_deeds, reading, onward}
-use Rattle.rmeworld.specs.WorldState.{WorldState, absent, stand_at, spot_at, scene_of, Takes}
+use Rattle.std.proofs.Common.{◌≡◌, ℕ, ◌<◌, Bool, true, false, ◌&&◌, ◌==◌, nat_lt, if◌then◌else◌, List, [], ◌∷◌, ◌++◌, length, slice_set, Option, Some, None, IfSome, refl, sym, ap, ◌∙◌, subst, inl, inr, append-nil, ltb-true, get_or-set_same, get_or-set_other}
+use Rattle.rmeworld.proofs.Common.{cases_Bool, cases_eq, Access, Load, Store, Outer, Refusal, NoSuchProcess, NothingToDo, Word, Data as DataAt, word_of, Deed, Layout, deeds_of_put, Words, IsLayout}
+use Rattle.rmeworld.proofs.Common.{words_of, Call, IsWorld, start_refusal as spot_refusal, happening, or_else, mail_by, the_deed, stepped_if, advanced_if, started, advance_refusal, advanced}
+use Rattle.rmeworld.proofs.Common.{crash_refusal, crash_deed, list_of, advanced_by, Happening, Begins, next_spot, Stand, outcome, IsLeast, IsAllowed, spot_of, stepped as stand_stepped, next_access}
+use Rattle.rmeworld.proofs.Common.{StoresOwn, stand_started, crashed as stand_crashed, reading, event_deeds, Scene, onward, Can, put_deeds, WorldState, stand_at, spot_at, scene_of, Takes, absent}
+use Rattle.rmeworld.specs.Refused.{is_idle}
+use Rattle.rmeworld.specs.Replayed.{start_refusal, stepped, crashed}
 use Rattle.rmeworld.proofs.Ordered.{IsOrdered, ordered_crashed, ordered_stepped, goes, allowed, owns, least, has_step, begins}
 use Rattle.rmeworld.proofs.StoryGrows.{Comes, comes_more}
 use Rattle.rmeworld.proofs.WorldSteps.{IsStep, step_takes, start_takes, crash_takes}

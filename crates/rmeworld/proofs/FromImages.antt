@@ -1,28 +1,10 @@
 -- A lawful image's words are such as outlive a crash of everything, with the judge's state that they tell of.
-use Rattle.std.proofs.Common.{◌≡◌, ℕ, zero, suc, ◌+◌, ◌<◌, ◌≤◌, true, false, ◌==◌, nat_lt, if◌then◌else◌, List, [], ◌∷◌, length, map, refl, sym, ap, ◌∙◌, subst, inl, inr, ◌⊎◌, arith, eq-eqb}
-use Rattle.std.proofs.lemmas.Bool.{cases_eq, cases_lt, lt-ltb}
-use Rattle.std.proofs.lemmas.List.{get_or_past, length-map}
-use Rattle.rmecore.specs.AbstractLock.{Abstract}
-use Rattle.rmecore.specs.Lawful.{dead_phase, phase_by, start_of}
-use Rattle.rmecore.specs.Simulated.{zeros, own_at, fresh}
-use Rattle.rmecore.specs.Sole.{IsIn}
-use Rattle.rmecore.specs.declared.own.Own.{Own}
-use Rattle.redomail.specs.Layout.{Words, words_of}
-use Rattle.redomail.specs.Shape.{Shape, RecordRule, mailbox_of}
-use Rattle.redomail.specs.declared.layout.Layout.{Layout}
-use Rattle.redomail.proofs.Passes.{shape_passes_on}
+use Rattle.std.proofs.Common.{◌≡◌, ℕ, zero, suc, ◌+◌, ◌<◌, ◌≤◌, true, false, ◌==◌, nat_lt, if◌then◌else◌, List, [], ◌∷◌, length, map, refl, sym, ap, ◌∙◌, subst, inl, inr, ◌⊎◌, arith, eq-eqb, lt-ltb}
+use Rattle.rmeworld.proofs.Common.{cases_eq, cases_lt, get_or_past, length-map, Own, Abstract, dead_phase, phase_by, start_of, own_at, zeros, fresh, IsIn, Layout, Words, words_of, Shape, RecordRule}
+use Rattle.rmeworld.proofs.Common.{mailbox_of, shape_passes_on, Start, state_of, phase_in as phase_of_list, State, Image, layout_of, IsLawfulImage, IsStartOf, IsInAlone, Sits, IsLater, IsWorld}
+use Rattle.rmeworld.proofs.Common.{crashed_scene, dead, at_rest, Stand, resting, spot_of, crashed, stand_at, spot_at, scene_of, image_world, absent, HasSeat, crashed_from}
 use Rattle.redomail.proofs.Readings.{content_is_shape}
-use Rattle.judge.specs.Table.{State}
-use Rattle.rmeworld.specs.declared.image.Image.{Image}
-use Rattle.rmeworld.specs.ImageRules.{layout_of, IsIn as IsInImage, IsLawfulImage}
-use Rattle.rmeworld.specs.ImageStart.{IsInAlone, IsStartOf}
-use Rattle.judge.specs.Starts.{phase_in as phase_of_list, state_of}
-use Rattle.judge.specs.declared.start.Start.{Start}
-use Rattle.rmeworld.specs.Law.{Sits, IsLater}
-use Rattle.rmeworld.specs.Reached.{crashed_scene, IsWorld}
-use Rattle.rmeworld.specs.Spot.{at_rest, dead}
-use Rattle.rmeworld.specs.Stand.{Stand, spot_of, resting, crashed}
-use Rattle.rmeworld.specs.WorldState.{absent, stand_at, spot_at, scene_of, HasSeat, crashed_from, image_world}
+use Rattle.rmeworld.specs.ImageRules.{IsIn as IsInImage}
 use Rattle.rmeworld.proofs.LawfulNow.{find_in}
 use Rattle.rmeworld.proofs.WorldSteps.{le-ltb}
 use Rattle.rmeworld.proofs.WorldTallies.{unstarted}

@@ -1,54 +1,23 @@
 -- What each happening leaves: its deeds are allowed, and everything that is known stands after it.
-use Rattle.std.proofs.Common.{◌≡◌, ◌≢◌, ℕ, ◌<◌, Bool, true, false, ◌&&◌, ◌==◌, nat_lt, length, List, [], ◌∷◌, ◌++◌, Option, Some, None, Ok, refl, sym, ap, ◌∙◌, subst, inl, inr, ◌⊎◌}
-use Rattle.std.proofs.lemmas.Bool.{cases_Bool, true≢false, ltb-true, lt-ltb}
-use Rattle.rmecore.specs.Needs.{AllHold, put}
-use Rattle.rmecore.specs.AbstractLock.{Abstract, is_inside, needs, done}
-use Rattle.rmecore.specs.Place.{Place, Rest, Dead, Reread, Wait, Inside, Leaving, Withdrawing, next, started}
-use Rattle.rmecore.specs.Sole.{IsIn, Sole, IsLeave}
+use Rattle.std.proofs.Common.{◌≡◌, ◌≢◌, ℕ, ◌<◌, Bool, true, false, ◌&&◌, ◌==◌, nat_lt, length, List, [], ◌∷◌, ◌++◌, Option, Some, None, Ok, refl, sym, ap, ◌∙◌, subst, inl, inr, ◌⊎◌, true≢false, ltb-true, lt-ltb}
+use Rattle.rmeworld.proofs.Common.{cases_Bool, CoreCall, Kind, Outer, Begin, Ready, Enter, Crash, Reenter, Leave, Quit, Phase, Word, Abstract, is_inside, doer, needs, done, put, AllHold, Place, Wait}
+use Rattle.rmeworld.proofs.Common.{next, Rest, Reread, Leaving, Withdrawing, Inside, Dead, IsIn, Sole, IsLeave, step_deed, Allows, allows_from, put_same, after_deed as done_by, neither, phase_other}
+use Rattle.rmeworld.proofs.Common.{sole_done, in_after, turn, Deed, Layout, Reply, deeds_of_put, Words, IsLayout, MailLeads, AreOwn, Mailbox, Script, Get as Asks, Put as Writes, Shape, bit, script}
+use Rattle.rmeworld.proofs.Common.{consistent, puts_are_own, shape_passes_on, may_leave, Leads, judged_all, State, AllHold-append, judged-allowed, Call, Lock, Unlock, Consistent, Recover, Append}
+use Rattle.rmeworld.proofs.Common.{Close, Withdraw, Why, Ruining, Mending, Working, Checking, ErrandTells, Errand, Free, Doing, Spot, dead, settled, errand_entered, at_lock, begun_from}
+use Rattle.rmeworld.proofs.Common.{mended_entered, outer_deeds}
+use Rattle.rmecore.specs.Place.{started}
 use Rattle.rmecore.specs.Turn.{Elsewhere, Plain, Turn, Enters, Reenters, Exits, Same, Else}
-use Rattle.rmecore.specs.World.{step_deed}
-use Rattle.rmecore.specs.declared.core_call.CoreCall.{CoreCall}
 use Rattle.rmecore.specs.declared.core_call.CoreCall.TheVariants as core
-use Rattle.rmecore.specs.declared.kind.Kind.{Kind}
-use Rattle.rmecore.specs.declared.outer.Outer.{Outer}
-use Rattle.rmecore.specs.declared.outer.Outer.TheVariants.{Begin, Ready, Enter, Crash, Reenter, Leave, Quit}
-use Rattle.rmecore.specs.declared.phase.Phase.{Phase}
 use Rattle.rmecore.specs.declared.phase.Phase.TheVariants as phase
-use Rattle.rmecore.specs.declared.word.Word.{Word}
-use Rattle.rmecore.proofs.Allowing.{Allows, allows_from}
-use Rattle.rmecore.proofs.Invariant.{put_same}
-use Rattle.rmecore.proofs.Soles.{sole_done, in_after}
-use Rattle.rmecore.proofs.Turns.{turn}
-use Rattle.redomail.specs.declared.deed.Deed.{Deed}
 use Rattle.redomail.specs.declared.deed.Deed.TheVariants as deed
-use Rattle.redomail.specs.declared.layout.Layout.{Layout}
 use Rattle.redomail.specs.declared.task.Task.TheVariants as task
-use Rattle.redomail.specs.declared.reply.Reply.{Reply}
-use Rattle.redomail.specs.Deeds.{deeds_of_put}
-use Rattle.redomail.specs.Layout.{Words, IsLayout}
-use Rattle.redomail.specs.Leads.{MailLeads, AreOwn}
-use Rattle.redomail.specs.Mailbox.{Mailbox, row as mail_row, done as mail_done}
-use Rattle.redomail.specs.Script.{Script, Get as Asks, Put as Writes}
-use Rattle.redomail.specs.Shape.{Shape, bit}
-use Rattle.redomail.specs.Tasks.{script, consistent}
-use Rattle.redomail.proofs.Owns.{puts_are_own}
-use Rattle.redomail.proofs.Passes.{shape_passes_on, may_leave}
+use Rattle.redomail.specs.Mailbox.{row as mail_row, done as mail_done}
 use Rattle.redomail.proofs.Safe.{seen}
-use Rattle.judge.specs.Legal.{and_then, judged_all, Leads}
-use Rattle.judge.specs.Table.{State}
-use Rattle.judge.proofs.Halves.{AllHold-append, judged-allowed}
-use Rattle.rmeworld.specs.declared.call.Call.{Call}
-use Rattle.rmeworld.specs.declared.call.Call.TheVariants.{Lock, Unlock, Consistent, Recover, Append, Close, Get, Put, Withdraw}
-use Rattle.rmeworld.specs.declared.why.Why.{Why}
-use Rattle.rmeworld.specs.declared.why.Why.TheVariants.{Checking, Ruining, Mending, Working}
-use Rattle.rmeworld.specs.Spot.{Errand, Free, Doing, Spot, dead, settled, errand_entered, mended_entered, at_lock, begun_from}
-use Rattle.rmeworld.specs.World.{outer_deeds}
-use Rattle.rmeworld.specs.Law.{ErrandTells}
+use Rattle.judge.specs.Legal.{and_then}
+use Rattle.rmeworld.specs.declared.call.Call.TheVariants.{Get, Put}
 use Rattle.rmeworld.proofs.Projection.{at_lock_some, begun, inside_some}
 use Rattle.rmeworld.proofs.Knowing.{Clean, Work, Post, PostAt, settled_post, Post-out, checking, ruining, mending, appending, closing, getting, putting, work_tells}
-use Rattle.rmecore.specs.AbstractLock.{doer}
-use Rattle.rmecore.proofs.Rows.{after_deed as done_by}
-use Rattle.rmecore.proofs.Soles.{neither, phase_other}
 
 abbrev pub AllowsBy : ℕ → Abstract → Option Outer → Type 0
 AllowsBy n a None = Unit {0}

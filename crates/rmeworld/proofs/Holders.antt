@@ -1,43 +1,18 @@
 -- Who puts a data word is in, and who has entered stays in until it leaves.
 use Rattle.std.proofs.Common.{◌≡◌, ℕ, ◌<◌, Bool, true, List, [], ◌∷◌, ◌++◌, Option, Some, None, IsSome, refl, sym, ap, ◌∙◌, subst, inl, inr}
-use Rattle.std.proofs.lemmas.Bool.{cases_eq}
-use Rattle.std.proofs.lemmas.List.Elements.{All-head, All-tail}
-use Rattle.rmecore.specs.AbstractLock.{Abstract, nobody, Legal, needs, done}
-use Rattle.rmecore.specs.Needs.{AllHold, put}
-use Rattle.rmecore.specs.Place.{Place, next}
-use Rattle.rmecore.specs.Sole.{IsIn, all_done}
-use Rattle.rmecore.specs.World.{is_store, and_then}
-use Rattle.rmecore.specs.declared.kind.Kind.{Kind}
-use Rattle.rmecore.specs.declared.outer.Outer.{Outer}
-use Rattle.rmecore.specs.declared.outer.Outer.TheVariants.{Begin, Ready, Enter, Crash, Reenter, Leave, Quit}
-use Rattle.rmecore.specs.declared.phase.Phase.TheVariants.{Out as IsOut, Inside as Within}
-use Rattle.rmecore.specs.declared.word.Word.TheVariants.{Data as DataAt}
-use Rattle.rmecore.proofs.Allowing.{allows_from}
-use Rattle.rmecore.proofs.Invariant.{put_same, put_other}
-use Rattle.rmecore.proofs.Runs.{legal}
-use Rattle.rmecore.proofs.Soles.{in_after}
-use Rattle.rmecore.proofs.Turns.{not_data}
-use Rattle.redomail.specs.Layout.{Words, IsLayout}
-use Rattle.redomail.specs.Leads.{AreOwn}
-use Rattle.redomail.specs.Mailbox.{Mailbox}
-use Rattle.redomail.specs.declared.deed.Deed.{Deed}
+use Rattle.rmeworld.proofs.Common.{cases_eq, All-head, All-tail, Kind, Outer, Begin, Ready, Enter, Crash, Reenter, Leave, Quit, Within, Data as DataAt, Abstract, Legal, nobody, needs, done, put}
+use Rattle.rmeworld.proofs.Common.{AllHold, Place, next, IsIn, all_done, is_store, and_then, allows_from, put_same, put_other, after_deed as done_by, legal, in_after, not_data, Deed, Layout, Words}
+use Rattle.rmeworld.proofs.Common.{IsLayout, AreOwn, Mailbox, outers as lock_deeds, Leads, empty, judged_all-append, puts_data, AllPutBy, NoEndOf, OnlyHoldersPut, Errand, Free, Doing, Happening}
+use Rattle.rmeworld.proofs.Common.{Moves, who, moved_by, next_spot, outer, event_deeds, Scene, at_first, Story, onward, last_scene, outer_deeds, mail_deeds, deeds}
+use Rattle.rmecore.specs.declared.phase.Phase.TheVariants.{Out as IsOut}
 use Rattle.redomail.specs.declared.deed.Deed.TheVariants as deed
-use Rattle.redomail.specs.declared.layout.Layout.{Layout}
-use Rattle.judge.specs.Halves.{outers as lock_deeds}
-use Rattle.judge.specs.Legal.{Leads}
 use Rattle.judge.specs.Plain.{IsEndOf}
-use Rattle.judge.specs.Table.{empty}
-use Rattle.rmeworld.specs.Holders.{puts_data, AllPutBy, NoEndOf, OnlyHoldersPut}
-use Rattle.rmeworld.specs.Spot.{Errand, Free, Doing, Happening, Moves, who, moved_by, next_spot, outer}
-use Rattle.rmeworld.specs.World.{Scene, at_first, Story, onward, last_scene, outer_deeds, mail_deeds, event_deeds, deeds}
 use Rattle.rmeworld.proofs.Projection.{outers, projected, core_of, some_of}
 use Rattle.rmeworld.proofs.Happenings.{judge_of, AllowsBy, Kept}
 use Rattle.rmeworld.proofs.Knowing.{Post, PostAt}
 use Rattle.rmeworld.proofs.Stories.{AllPosts, happens, head, posts}
 use Rattle.rmeworld.proofs.Reaching.{mail_own, done-and_then, origin}
 use Rattle.rmeworld.proofs.WorldTallies.{at_lock_some}
-use Rattle.rmecore.proofs.Rows.{after_deed as done_by}
-use Rattle.judge.proofs.Histories.{judged_all-append}
 
 -- the lock's deeds among those of a story
 own_none : (p : ℕ) (ds : List Deed) → AreOwn p ds → lock_deeds ds ≡ []

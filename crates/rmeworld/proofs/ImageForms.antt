@@ -1,15 +1,12 @@
 -- Lists in JSON, read back.
 use Rattle.std.proofs.Common.{◌≡◌, Bool, true, false, codes, ℕ, zero, suc, ◌<◌, List, [], ◌∷◌, length, get_or, map, Option, Some, None, refl, sym, ap, ◌∙◌, arith}
-use Rattle.std.proofs.lemmas.Bool.{false≢true}
-use Rattle.std.proofs.lemmas.List.{length-map}
-use Rattle.serde_json.specs.Data.{Data, array, object, Items, no_items, item, Members, no_members, member}
+use Rattle.rmeworld.proofs.Common.{false≢true, length-map, array, object, Items, no_items, item, Members, no_members, member, view, items_of, items_view, members_view, Image, whole_data, width_member}
+use Rattle.rmeworld.proofs.Common.{image_data}
+use Rattle.serde_json.specs.Data.{Data}
 use Rattle.serde_json.specs.Events.{members_len}
 use Rattle.serde_json.specs.Find.{as_array}
-use Rattle.serde_json.specs.View.{view, items_of, items_view, members_view}
 use Rattle.serde_json.specs.declared.value.Value.{Value}
 use Rattle.serde_json.proofs.Views.{Entry, members_len-members_view}
-use Rattle.rmeworld.specs.declared.image.Image.{Image}
-use Rattle.rmeworld.specs.ImageText.{whole_data, width_member, image_data}
 
 abbrev datas : Items → List Data
 datas no_items = []

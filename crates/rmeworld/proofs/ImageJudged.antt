@@ -1,30 +1,16 @@
 -- A judge can start from the start of a lawful image.
-use Rattle.std.specs.Prelude.{◌≡◌, ◌≢◌, ℕ, zero, suc, ◌+◌, ◌<◌, ◌≤◌, Bool, true, false, ◌==◌, List, [], ◌∷◌, take, length, map, count_by, All, IfSome, is_none, ◌⊎◌, refl}
-use Rattle.std.proofs.Common.{sym, ◌∙◌, ap, subst, inl, inr, arith, get_or}
+use Rattle.std.proofs.Common.{◌≡◌, ◌≢◌, ℕ, zero, suc, ◌+◌, ◌<◌, ◌≤◌, Bool, true, false, ◌==◌, List, [], ◌∷◌, take, length, map, count_by, All, IfSome, is_none, ◌⊎◌, refl, sym, ◌∙◌, ap, subst, inl, inr, arith, get_or, eq-eqb, ne_eqb, eqb-true, append-nil}
+use Rattle.rmeworld.proofs.Common.{take-append_seam, cases_Bool, cases_eq, cases_lt, false≢true, length-map, get_or-map, get_or_default, take-append-le, Own, Phase, is_inside, is_ready, is_dead_in}
+use Rattle.rmeworld.proofs.Common.{dead_phase, phase_by, is_ahead as is_ahead_by, own_at, zeros, Layout, Words, words_of, RecordRule, mailbox_of, entry, entries, recorded, IsNumbered, length-entries}
+use Rattle.rmeworld.proofs.Common.{Start, phase_in, is_named, IsNext, AreNumbered, LockHolds, MailHolds, IsStart, Image, layout_of, IsLawfulImage, IsStartOf, IsInAlone}
 use Rattle.std.specs.List.{list_any}
-use Rattle.std.proofs.lemmas.Bool.{cases_Bool, cases_eq, cases_lt, eq-eqb, ne_eqb, eqb-true, false≢true}
-use Rattle.std.proofs.lemmas.List.{append-nil, get_or-map, get_or_default, length-map, take-append-le}
 use Rattle.std.proofs.lemmas.List.Folds.{list_any-from_Any, list_any_none}
 use Rattle.std.proofs.Math.ListN.{get_or-eq_default}
-use Rattle.std.proofs.Math.Seq.{take-append_seam}
-use Rattle.rmecore.specs.AbstractLock.{is_ready, is_inside, is_dead_in}
-use Rattle.rmecore.specs.Lawful.{phase_by, dead_phase, is_ahead as is_ahead_by}
-use Rattle.rmecore.specs.Simulated.{own_at, zeros}
-use Rattle.rmecore.specs.declared.own.Own.{Own}
-use Rattle.rmecore.specs.declared.phase.Phase.{Phase}
 use Rattle.rmecore.specs.declared.phase.Phase.TheVariants.{Out, Door, Ready}
-use Rattle.redomail.specs.declared.layout.Layout.{Layout}
-use Rattle.redomail.specs.Layout.{Words, words_of}
-use Rattle.redomail.specs.Shape.{entry, entries, recorded, IsNumbered, RecordRule, mailbox_of}
-use Rattle.redomail.proofs.Changes.{length-entries}
 use Rattle.redomail.proofs.Stands.{get_or-entries}
-use Rattle.judge.specs.Starts.{phase_in, is_named, IsNext, AreNumbered, LockHolds, MailHolds, IsStart}
-use Rattle.judge.specs.declared.start.Start.{Start}
 use Rattle.judge.proofs.Counts.{one_if, count_cons}
 use Rattle.judge.proofs.Numbers.{Numbered, Numbered-more, AreNumbered-from}
-use Rattle.rmeworld.specs.declared.image.Image.{Image}
-use Rattle.rmeworld.specs.ImageRules.{layout_of, IsIn, IsLawfulImage}
-use Rattle.rmeworld.specs.ImageStart.{IsInAlone, IsStartOf}
+use Rattle.rmeworld.specs.ImageRules.{IsIn}
 use Rattle.rmeworld.proofs.ImageRules.{only_one, record_is_numbered}
 
 -- Counts.

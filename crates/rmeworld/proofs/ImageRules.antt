@@ -1,16 +1,8 @@
 -- The rules of an image, one by another.
 use Rattle.std.proofs.Common.{◌≡◌, ◌≢◌, ℕ, ◌<◌, true, length, slice_index, inl, inr, sym, subst, arith}
-use Rattle.std.proofs.lemmas.Bool.{cases_eq}
+use Rattle.rmeworld.proofs.Common.{cases_eq, Own, IsLawful, is_before, own_at, Layout, Words, words_of, RecordRule, IsNumbered, Image, layout_of, IsRecorded, Keeps}
 use Rattle.std.proofs.lemmas.Bool.Decides.{nat_tests}
-use Rattle.rmecore.specs.Lawful.{IsLawful}
-use Rattle.rmecore.specs.Place.{is_before}
-use Rattle.rmecore.specs.Simulated.{own_at}
-use Rattle.rmecore.specs.declared.own.Own.{Own}
-use Rattle.redomail.specs.declared.layout.Layout.{Layout}
-use Rattle.redomail.specs.Layout.{Words, words_of}
-use Rattle.redomail.specs.Shape.{IsNumbered, RecordRule}
-use Rattle.rmeworld.specs.declared.image.Image.{Image}
-use Rattle.rmeworld.specs.ImageRules.{layout_of, IsIn, IsRecorded, Keeps}
+use Rattle.rmeworld.specs.ImageRules.{IsIn}
 
 pub record_is_numbered : (l : Layout) (p : ℕ) (w : Words) → RecordRule l p w → IsNumbered l w (w 2)
 record_is_numbered l p w r = elim r.rule [ inl h ↦ h.numbered | inr h ↦ h.listed.numbered ]

@@ -1,21 +1,11 @@
 -- The image that a text spells is one, and its own line spells it.
-use Rattle.std.proofs.Common.{◌≡◌, ◌≤◌, ℕ, Bool, true, false, List, [], ◌∷◌, ◌++◌, map, max, Some, inl, inr, refl, sym, ap, ap₂, subst, ◌∙◌, arith}
-use Rattle.std.specs.Prelude.{IsUtf8}
-use Rattle.std.proofs.lemmas.Bool.{true≢false}
+use Rattle.std.proofs.Common.{◌≡◌, ◌≤◌, ℕ, Bool, true, false, List, [], ◌∷◌, ◌++◌, map, max, Some, inl, inr, refl, sym, ap, ap₂, subst, ◌∙◌, arith, IsUtf8, true≢false}
+use Rattle.rmeworld.proofs.Common.{tokens, print, array, Items, no_items, item, Members, no_members, member, null, number, unsigned, depth, items_depth, read, max_depth, items_of, Own, Refusal}
+use Rattle.rmeworld.proofs.Common.{OutOfMemory, Image, IsLawfulImage, Keeps, whole_data, image_data, own_data, written_data, Spells, IsFirstBrokenAs, IsUnread}
 use Rattle.std.proofs.lemmas.Str.{IsUtf8-append}
-use Rattle.json.specs.Lex.{tokens}
-use Rattle.json.specs.Print.{print}
-use Rattle.rmecore.specs.declared.own.Own.{Own}
-use Rattle.serde_json.specs.Data.{Data, null, number, unsigned, array, Items, no_items, item, Members, no_members, member, depth, items_depth}
-use Rattle.serde_json.specs.Read.{read, max_depth}
-use Rattle.serde_json.specs.View.{items_of}
+use Rattle.serde_json.specs.Data.{Data}
 use Rattle.json.proofs.Found.{Some_inj}
 use Rattle.json.proofs.Printed.Utf8.{IsUtf8-IsGap}
-use Rattle.rmeworld.specs.declared.image.Image.{Image}
-use Rattle.rmecore.specs.declared.refusal.Refusal.{Refusal}
-use Rattle.rmecore.specs.declared.refusal.Refusal.TheVariants.{OutOfMemory}
-use Rattle.rmeworld.specs.ImageRules.{IsLawfulImage, Keeps}
-use Rattle.rmeworld.specs.ImageText.{whole_data, own_data, image_data, written_data, Spells, IsFirstBrokenAs, IsUnread}
 use Rattle.rmeworld.proofs.ImageForms.{rest_of_members, members_or}
 use Rattle.rmeworld.proofs.LineFeeds.{read_line}
 

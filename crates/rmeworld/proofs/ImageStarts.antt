@@ -1,17 +1,8 @@
 -- The sets of those ahead, one name after another, and that a lawful image has content.
-use Rattle.std.proofs.Common.{◌≡◌, ◌≢◌, ℕ, ◌+◌, ◌<◌, ◌≤◌, Bool, true, false, ◌||◌, ◌==◌, List, [], ◌∷◌, ◌++◌, length, map, slice_index, slice_index_or, inl, inr, refl, sym, ap, ◌∙◌, arith}
+use Rattle.std.proofs.Common.{◌≡◌, ◌≢◌, ℕ, ◌+◌, ◌<◌, ◌≤◌, Bool, true, false, ◌||◌, ◌==◌, List, [], ◌∷◌, ◌++◌, length, map, slice_index, slice_index_or, inl, inr, refl, sym, ap, ◌∙◌, arith, eq-eqb, ne_eqb, Result, Ok, Err, IfErr, IsErrOf, ◌⊎◌}
+use Rattle.rmeworld.proofs.Common.{get_or-append_seam, cases_eq, length-map, map-append, Refusal, OutOfMemory, BadShape, IsContent, is_named, Image, layout_of, IsLawfulImage}
 use Rattle.std.proofs.Math.ListN.{get_or-append}
-use Rattle.std.proofs.Math.Seq.{get_or-append_seam}
-use Rattle.std.proofs.lemmas.Bool.{cases_eq, eq-eqb, ne_eqb}
-use Rattle.std.proofs.lemmas.List.{map-append, length-map}
 use Rattle.std.proofs.lemmas.List.Folds.{list_any-append}
-use Rattle.std.specs.Prelude.{Result, Ok, Err, IfErr, IsErrOf, ◌⊎◌}
-use Rattle.rmecore.specs.declared.refusal.Refusal.{Refusal}
-use Rattle.rmecore.specs.declared.refusal.Refusal.TheVariants.{BadShape, OutOfMemory}
-use Rattle.redomail.specs.Content.{IsContent}
-use Rattle.judge.specs.Starts.{is_named}
-use Rattle.rmeworld.specs.declared.image.Image.{Image}
-use Rattle.rmeworld.specs.ImageRules.{layout_of, IsLawfulImage}
 
 or_true : (b : Bool) → (b || true) ≡ true
 or_true true = refl

@@ -1,10 +1,7 @@
 -- What is written of an image.
 use Rattle.std.proofs.Common.{◌≡◌, ℕ, List, [], ◌∷◌, false, map, refl}
-use Rattle.rmecore.specs.declared.own.Own.{Own}
-use Rattle.serde_json.specs.View.{items_of}
+use Rattle.rmeworld.proofs.Common.{items_of, Own, Image, whole_data, own_data, written_data}
 use Rattle.serde_json.specs.Written.{has_float, items_have_float}
-use Rattle.rmeworld.specs.declared.image.Image.{Image}
-use Rattle.rmeworld.specs.ImageText.{whole_data, own_data, written_data}
 
 no_float_in_list : (ns : List ℕ) → items_have_float (items_of (map whole_data ns)) ≡ false
 no_float_in_list [] = refl

@@ -1,15 +1,8 @@
 -- A wider image keeps the rules, and its list.
 use Rattle.std.proofs.Common.{◌≡◌, ℕ, zero, suc, ◌+◌, ◌<◌, ◌≤◌, List, [], ◌∷◌, length, map, cond, ◌==◌, inl, inr, refl, sym, ap, subst, ◌∙◌, arith}
-use Rattle.std.proofs.lemmas.List.{map-append}
-use Rattle.rmecore.specs.Simulated.{own_at}
-use Rattle.redomail.specs.declared.layout.Layout.{Layout}
-use Rattle.redomail.specs.Layout.{Words, words_of, row, place_at, last_at}
-use Rattle.redomail.specs.Shape.{entry, entries, count_of, recorded, IsNumbered, ListRule, RecordRule, Unshown, Shown}
-use Rattle.redomail.specs.Content.{HeadsHold}
-use Rattle.redomail.proofs.Changes.{count_of-push}
-use Rattle.rmeworld.specs.declared.image.Image.{Image}
-use Rattle.rmeworld.specs.ImageRules.{layout_of, IsSized, IsIn, IsRecorded, IsLawfulImage}
-use Rattle.rmeworld.specs.ImageWiden.{padded, widened, IsWider, shown_in}
+use Rattle.rmeworld.proofs.Common.{map-append, own_at, Layout, HeadsHold, Words, words_of, row, last_at, place_at, RecordRule, entry, entries, recorded, IsNumbered, count_of, ListRule, Unshown, Shown}
+use Rattle.rmeworld.proofs.Common.{count_of-push, Image, layout_of, IsLawfulImage, IsRecorded, IsSized, padded, widened, IsWider, shown_in}
+use Rattle.rmeworld.specs.ImageRules.{IsIn}
 
 head_or : ℕ → List ℕ → ℕ
 head_or x [] = x

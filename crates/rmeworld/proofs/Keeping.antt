@@ -1,30 +1,12 @@
 -- In every run of a world what is not refused is the definition's, and is told so.
 use Rattle.std.proofs.Common.{◌≡◌, ℕ, false, List, [], ◌∷◌, ◌++◌, length, Option, Some, None, refl, sym, ap, subst, inl, inr}
-use Rattle.rmecore.specs.Machine.{kind_of}
-use Rattle.rmecore.specs.Paid.{is_glance}
-use Rattle.rmecore.specs.declared.access.Access.{Access}
-use Rattle.rmecore.specs.declared.refusal.Refusal.{Refusal}
-use Rattle.rmecore.specs.Simulated.{own_at}
-use Rattle.redomail.specs.declared.layout.Layout.{Layout}
-use Rattle.redomail.specs.Layout.{words_of}
-use Rattle.judge.specs.Legal.{Leads, IsLegal}
-use Rattle.judge.specs.Starts.{state_of}
-use Rattle.judge.specs.Table.{State}
-use Rattle.judge.specs.declared.start.Start.{Start}
-use Rattle.rmeworld.specs.declared.image.Image.{Image}
-use Rattle.rmeworld.specs.ImageRules.{layout_of, IsLawfulImage}
-use Rattle.rmeworld.specs.ImageStart.{IsStartOf}
-use Rattle.rmeworld.specs.Reached.{crashed_scene, IsOrigin}
-use Rattle.rmeworld.specs.declared.call.Call.{Call}
+use Rattle.rmeworld.proofs.Common.{Access, Refusal, kind_of, is_glance, own_at, Layout, words_of, Start, Leads, IsLegal, state_of, State, Call, Image, answer_at, done_by, errand_of, layout_of}
+use Rattle.rmeworld.proofs.Common.{IsLawfulImage, IsStartOf, crashed_scene, IsOrigin, value_of, stepped_if, advanced_if, started, advance_refusal, advanced, crash_refusal, list_of, advanced_by}
+use Rattle.rmeworld.proofs.Common.{outer_by, Begins, Falls, outer, Stand, event_deeds, Scene, at_first, WorldState, stand_at, spot_at, scene_of, Takes, happening_of, ChoosesLeast, new_world}
+use Rattle.rmeworld.proofs.Common.{new_refusal, image_world}
 use Rattle.rmeworld.specs.Acts.{Act, Starts, Steps, Crashes, unless}
-use Rattle.rmeworld.specs.Answered.{answer_at, done_by}
-use Rattle.rmeworld.specs.Errands.{errand_of}
-use Rattle.rmeworld.specs.Replayed.{start_refusal, started, advance_refusal, stepped, advanced, crash_refusal, crashed, value_of, list_of, stepped_by, stepped_if, advanced_by, advanced_if}
-use Rattle.rmeworld.specs.Spot.{Begins, Falls, outer, outer_by}
-use Rattle.rmeworld.specs.Stand.{Stand}
-use Rattle.rmeworld.specs.World.{Scene, at_first, event_deeds}
+use Rattle.rmeworld.specs.Replayed.{start_refusal, stepped, crashed, stepped_by}
 use Rattle.rmeworld.specs.WorldRuns.{acted, run_of, IsFirst, IsRun}
-use Rattle.rmeworld.specs.WorldState.{WorldState, stand_at, spot_at, scene_of, Takes, happening_of, ChoosesLeast, new_world, new_refusal, image_world}
 use Rattle.rmeworld.proofs.Beginning.{follows_new, follows_image, follows_legal, image_origin}
 use Rattle.rmeworld.proofs.Following.{Follows, Stepping, below_if, start_is, step_is, follows_started, follows_advanced, follows_crashed}
 use Rattle.rmeworld.proofs.WorldSteps.{step_takes, crash_takes}

@@ -1,32 +1,16 @@
 -- What each process knows of the data words: the one that is inside with a script, what is safe of the script that is left
 -- and how it ends; the one inside and mended, that they are clean; the one at its exit, that they are clean or ruined.
-use Rattle.std.proofs.Common.{◌≡◌, ℕ, ◌<◌, Bool, true, false, ◌&&◌, ◌==◌, length, if◌then◌else◌, List, refl, sym, ap, ◌∙◌, subst, inl, inr, arith, eqb-true}
-use Rattle.std.proofs.lemmas.Bool.{cases_Bool, and_parts, eqb-false, true≢false}
-use Rattle.rmecore.specs.Place.{Place, Inside, Leaving}
-use Rattle.rmecore.specs.declared.phase.Phase.{Phase}
-use Rattle.rmecore.specs.declared.phase.Phase.TheVariants.{Inside as Within}
-use Rattle.redomail.specs.declared.layout.Layout.{Layout}
-use Rattle.redomail.specs.declared.message.Message.{Message}
-use Rattle.redomail.specs.declared.task.Task.{Task}
+use Rattle.std.proofs.Common.{◌≡◌, ℕ, ◌<◌, Bool, true, false, ◌&&◌, ◌==◌, length, if◌then◌else◌, List, refl, sym, ap, ◌∙◌, subst, inl, inr, arith, eqb-true, true≢false}
+use Rattle.rmeworld.proofs.Common.{cases_Bool, and_parts, eqb-false, Phase, Within, Place, Leaving, Inside, Layout, Message, Reply, Mended, Ruined, Stored, Already, Task, Words, IsLayout, Mailbox}
+use Rattle.rmeworld.proofs.Common.{message, Safe, Script, Get, Put, Done, Shape, bit, recorded, script, consistent, Why, Ruining, Mending, Working, Checking, AppendTells, WhyTells, Errand, Free}
+use Rattle.rmeworld.proofs.Common.{Doing, Spot, settled, end_place, end_mended}
 use Rattle.redomail.specs.declared.task.Task.TheVariants as task
-use Rattle.redomail.specs.declared.reply.Reply.{Reply}
-use Rattle.redomail.specs.declared.reply.Reply.TheVariants.{Stored, Already, Mended, Ruined}
-use Rattle.redomail.specs.Layout.{Words, IsLayout}
-use Rattle.redomail.specs.Mailbox.{Mailbox, message}
-use Rattle.redomail.specs.Safe.{Safe}
-use Rattle.redomail.specs.Script.{Script, Get, Put, Done}
-use Rattle.redomail.specs.Tasks.{script, consistent}
-use Rattle.redomail.specs.Shape.{Shape, bit, recorded}
 use Rattle.redomail.specs.Runs.{answer, final, added_by, Allowed, MayBegin}
 use Rattle.redomail.specs.Endings.{FindsArmed, ruined_after, armed_after}
 use Rattle.redomail.proofs.Begins.{begun_safe, consistent_safe}
 use Rattle.redomail.proofs.Endings.{tasks_end, consistent_ends}
 use Rattle.redomail.proofs.Steps.{consistent_told}
 use Rattle.redomail.proofs.Among.{answered_is_shown}
-use Rattle.rmeworld.specs.declared.why.Why.{Why}
-use Rattle.rmeworld.specs.declared.why.Why.TheVariants.{Checking, Ruining, Mending, Working}
-use Rattle.rmeworld.specs.Spot.{Errand, Free, Doing, Spot, end_place, end_mended, settled}
-use Rattle.rmeworld.specs.Law.{AppendTells, WhyTells}
 
 -- ruined is 0 and no record is armed
 abbrev pub Clean : Words → Type 0

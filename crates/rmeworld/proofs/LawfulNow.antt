@@ -1,24 +1,7 @@
 -- The image of a scene that a story comes to is lawful.
 use Rattle.std.proofs.Common.{◌≡◌, ℕ, zero, suc, ◌<◌, ◌≤◌, ◌^◌, Bool, true, false, List, length, slice_index, refl, sym, ap, ◌∙◌, subst, inl, inr, ◌⊎◌, arith}
-use Rattle.std.proofs.lemmas.Bool.{cases_eq}
-use Rattle.rmecore.specs.Simulated.{own_at}
-use Rattle.rmecore.specs.Sole.{IsIn}
-use Rattle.rmecore.specs.declared.phase.Phase.{Phase}
-use Rattle.rmecore.specs.declared.phase.Phase.TheVariants.{Inside, DeadIn}
-use Rattle.redomail.specs.Content.{HeadsHold}
-use Rattle.redomail.specs.Layout.{Words, words_of, size}
-use Rattle.redomail.specs.Shape.{Shape, RecordRule, bit}
-use Rattle.redomail.specs.declared.deed.Deed.{Deed}
-use Rattle.redomail.specs.declared.layout.Layout.{Layout}
-use Rattle.judge.specs.Table.{State}
-use Rattle.rmeworld.specs.ImageRules.{layout_of, IsLawfulImage}
-use Rattle.rmeworld.specs.Reached.{IsImageOf, EveryStoryLeavesAnImage, IsWorld, IsLegalHistory}
-use Rattle.rmeworld.specs.Replayed.{image_of}
-use Rattle.rmeworld.specs.Spot.{Spot}
-use Rattle.rmeworld.specs.Stand.{IsSize}
-use Rattle.rmeworld.specs.World.{Scene}
-use Rattle.rmeworld.specs.WorldState.{WorldState, scene_of}
-use Rattle.rmeworld.specs.declared.image.Image.{Image}
+use Rattle.rmeworld.proofs.Common.{cases_eq, Phase, Within as Inside, DeadIn, own_at, IsIn, Deed, Layout, HeadsHold, Words, size, words_of, Shape, RecordRule, bit, State, Image, layout_of}
+use Rattle.rmeworld.proofs.Common.{IsLawfulImage, IsWorld, IsImageOf, EveryStoryLeavesAnImage, IsLegalHistory, image_of, Spot, IsSize, Scene, WorldState, scene_of}
 use Rattle.rmeworld.proofs.Reaching.{Arrived, arrives, origin, reached_arrives}
 use Rattle.rmeworld.proofs.Stories.{before_is}
 

@@ -1,3 +1,4 @@
+pub mod Common
 pub mod ImageForms
 pub mod ImageJudged
 pub mod ImageRules

@@ -1,9 +1,10 @@
 -- A line feed behind a JSON text changes nothing of what is read.
 use Rattle.std.proofs.Common.{◌≡◌, ℕ, Bool, true, false, cond, ◌&&◌, List, [], ◌∷◌, ◌++◌, Option, Some, None, option_and_then, refl, sym, ap, ap₂, subst, ◌∙◌, append_assoc, append-nil}
+use Rattle.rmeworld.proofs.Common.{tokens, token, comma, colon, string_token, between, punctuate, lex, print, escape, quoted, token_text, begins, ends, separator, IsPrintable, print_from}
+use Rattle.rmeworld.proofs.Common.{ArePrintable, read, max_depth, of_json}
 use Rattle.json.specs.Token.{Token, begin_object, end_object, begin_array, end_array, key, string, number, boolean, null, bad}
 use Rattle.json.specs.Word.{ends_word, word}
-use Rattle.json.specs.Lex.{token, comma, colon, string_token, lex, between, fresh, punctuate, tokens}
-use Rattle.json.specs.Print.{escape, quoted, token_text, begins, ends, separator, print_from, print, IsPrintable, ArePrintable}
+use Rattle.json.specs.Lex.{fresh}
 use Rattle.json.specs.Json.{Json, if_last, value}
 use Rattle.json.proofs.Found.{not_found}
 use Rattle.json.proofs.Numbered.{ArePrintableOrBad-tokens, value-HasNumbers}
@@ -12,7 +13,6 @@ use Rattle.json.proofs.Printed.Strings.{content-escape, lex-escape}
 use Rattle.json.proofs.Printed.Trees.{ArePrintable-json_tokens}
 use Rattle.json.proofs.Unique.Spelling.{value-json_tokens_back}
 use Rattle.serde_json.specs.Data.{Data}
-use Rattle.serde_json.specs.Read.{of_json, read, max_depth}
 
 -- where f ends a word, so does what is printed behind a value before it
 ended : (f : List ℕ) → ends_word f ≡ true → (ts : List Token) → ends_word (print_from true ts ++ f) ≡ true

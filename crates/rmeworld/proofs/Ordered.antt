@@ -1,35 +1,17 @@
 -- What each process of a world keeps in its private memory, so that whatever its machine does is the definition's step.
-use Rattle.std.proofs.Common.{◌≡◌, ℕ, Bool, true, false, ◌&&◌, ◌==◌, nat_lt, if◌then◌else◌, [], ◌∷◌, length, Option, Some, None, IfSome, refl, sym, ◌∙◌, subst, inl, inr, arith, eqb-true, ltb-true}
-use Rattle.std.proofs.lemmas.Bool.{cases_Bool, true≢false}
-use Rattle.rmecore.specs.Place.{Place, Rest, Dead, Wait, Inside}
-use Rattle.rmecore.specs.Machine.{after_access, next_access as lock_access, StoresOwn as IsLockOwn, IsLeast as IsLeastOfLock}
-use Rattle.rmecore.specs.declared.access.Access.{Access}
-use Rattle.rmecore.specs.declared.access.Access.TheVariants.{Store}
-use Rattle.rmecore.specs.declared.word.Word.TheVariants.{Data as DataAt}
+use Rattle.std.proofs.Common.{◌≡◌, ℕ, Bool, true, false, ◌&&◌, ◌==◌, nat_lt, if◌then◌else◌, [], ◌∷◌, length, Option, Some, None, IfSome, refl, sym, ◌∙◌, subst, inl, inr, arith, eqb-true, ltb-true, true≢false}
+use Rattle.rmeworld.proofs.Common.{cases_Bool, Access, Store, Refusal, Unmended, BadIndex, BadWidth, Data as DataAt, after_access, lock_access, IsLeastOfLock, Place, Wait, Rest, Inside, Dead, Layout}
+use Rattle.rmeworld.proofs.Common.{Reply, Ruined, IsLayout, Pending, left, fed, Script, Get as Asks, Put as Writes, Done, tail, stage_after, Call, Lock, Unlock, Consistent, Recover, Append, Close}
+use Rattle.rmeworld.proofs.Common.{Withdraw, Chore, IsFree, Asking, Does, Why, Mending, Checking, is_entry, errand_of, HasStep, Held, first_cause, start_refusal, is_idle_by, Doing, Spot, Begins}
+use Rattle.rmeworld.proofs.Common.{begun_from, next_spot, only_spot, end_place, Stand, standing, IsLeast, resting, IsAllowed, spot_of, lock_moved, job_left, stepped, stepped_by, access_by}
+use Rattle.rmeworld.proofs.Common.{next_access, spot_after, StoresOwn, stand_started as started, crashed}
+use Rattle.rmecore.specs.Machine.{StoresOwn as IsLockOwn}
 use Rattle.rmecore.proofs.Accesses.{all_allowed, stores_own}
-use Rattle.rmecore.specs.declared.refusal.Refusal.{Refusal}
-use Rattle.rmecore.specs.declared.refusal.Refusal.TheVariants.{Unmended, BadIndex, BadWidth}
-use Rattle.redomail.specs.declared.layout.Layout.{Layout}
-use Rattle.redomail.specs.declared.reply.Reply.{Reply}
-use Rattle.redomail.specs.declared.reply.Reply.TheVariants.{Ruined}
 use Rattle.redomail.specs.declared.task.Task.TheVariants as task
 use Rattle.redomail.specs.Jobs.{FitsStage}
-use Rattle.redomail.specs.Layout.{IsLayout}
-use Rattle.redomail.specs.Left.{Pending, left, fed}
-use Rattle.redomail.specs.Script.{Script, Get as Asks, Put as Writes, Done, tail}
-use Rattle.redomail.specs.Stages.{stage_after}
 use Rattle.redomail.proofs.Feeding.{fits_first, fits_after, left_after}
-use Rattle.rmeworld.specs.declared.call.Call.{Call}
-use Rattle.rmeworld.specs.declared.call.Call.TheVariants.{Lock, Unlock, Consistent, Recover, Append, Close, Get, Put, Withdraw}
-use Rattle.rmeworld.specs.declared.errand.Errand.{Errand as Chore}
-use Rattle.rmeworld.specs.declared.errand.Errand.TheVariants.{Free as IsFree, Asking, Doing as Does}
-use Rattle.rmeworld.specs.declared.why.Why.{Why}
-use Rattle.rmeworld.specs.declared.why.Why.TheVariants.{Checking, Mending}
-use Rattle.rmeworld.specs.Entered.{is_entry}
-use Rattle.rmeworld.specs.Errands.{errand_of, HasStep, Held}
-use Rattle.rmeworld.specs.Refused.{is_idle, is_idle_by, first_cause, start_refusal}
-use Rattle.rmeworld.specs.Spot.{Spot, Doing, Begins, next_spot, begun_from, only_spot, end_place}
-use Rattle.rmeworld.specs.Stand.{Stand, spot_of, standing, resting, crashed, job_left, lock_moved, access_by, next_access, spot_after, IsAllowed, IsLeast, StoresOwn, started, stepped, stepped_by}
+use Rattle.rmeworld.specs.declared.call.Call.TheVariants.{Get, Put}
+use Rattle.rmeworld.specs.Refused.{is_idle}
 use Rattle.rmeworld.proofs.Scanned.{IsScanned, least_of_lock, scanned_after, no_step_is_idle}
 use Rattle.rmeworld.proofs.Chores.{with, lock_goes, ask_goes, job_goes, Goes, lock_allowed, doing_allowed, script_allowed}
 use Rattle.rmeworld.proofs.Projection.{entry_inside}

@@ -1,31 +1,15 @@
 -- A story with the data words left out is a run of the lock, with the same deeds.
 use Rattle.std.proofs.Common.{◌≡◌, ℕ, ◌<◌, Bool, true, false, ◌&&◌, ◌==◌, nat_lt, length, List, [], ◌∷◌, Option, Some, None, IsSome, unwrap_or, refl, sym, ap, ◌∙◌, subst, inl, inr, ◌⊎◌, eqb-true}
-use Rattle.std.proofs.lemmas.Bool.{cases_Bool}
-use Rattle.rmecore.specs.Needs.{put}
-use Rattle.rmecore.specs.Place.{Place, Dead, Inside, Leaving, Event, Starts, Crashes, Steps, next, started, process, moved}
-use Rattle.rmecore.specs.World.{World, Reads, is_store, read, stored, after, Run, deed, deeds, and_then, final}
-use Rattle.rmecore.specs.declared.outer.Outer.{Outer}
-use Rattle.rmecore.specs.declared.core_call.CoreCall.{CoreCall}
+use Rattle.rmeworld.proofs.Common.{cases_Bool, CoreCall, Kind, Gets, Puts, Outer, Own, Word, Data as DataAt, put, Place, next, Leaving, Inside, Dead, Event, Starts, Crashes, Steps, process, moved}
+use Rattle.rmeworld.proofs.Common.{is_store, and_then, World, stored, Run, deed, final, not_data, Layout, Reply, Ruined, Script, Get as Asks, Put as Writes, Done, script, consistent, Call, Lock}
+use Rattle.rmeworld.proofs.Common.{Unlock, Consistent, Recover, Append, Close, Withdraw, Why, Ruining, Mending, Checking, is_entry, outer_by, Errand, Free, Doing, Spot, dead, Happening, Begins, Falls}
+use Rattle.rmeworld.proofs.Common.{Moves, Glances as Looks-at, who, settled, errand_entered, at_lock, inside_only, begun_from, moved_by, next_spot, outer, only_spot, mended_entered, end_place}
+use Rattle.rmeworld.proofs.Common.{reading, Scene, Reads as Scene-Reads, Story, onward, last_scene, words_after}
+use Rattle.rmecore.specs.Place.{started}
+use Rattle.rmecore.specs.World.{Reads, read, after, deeds}
 use Rattle.rmecore.specs.declared.core_call.CoreCall.TheVariants as core
-use Rattle.rmecore.specs.declared.kind.Kind.{Kind}
-use Rattle.rmecore.specs.declared.kind.Kind.TheVariants.{Get as Gets, Put as Puts}
-use Rattle.rmecore.specs.declared.own.Own.{Own}
-use Rattle.rmecore.specs.declared.word.Word.{Word}
-use Rattle.rmecore.specs.declared.word.Word.TheVariants.{Data as DataAt}
-use Rattle.rmecore.proofs.Turns.{not_data}
-use Rattle.redomail.specs.declared.layout.Layout.{Layout}
-use Rattle.redomail.specs.declared.reply.Reply.{Reply}
-use Rattle.redomail.specs.declared.reply.Reply.TheVariants.{Ruined}
 use Rattle.redomail.specs.declared.task.Task.TheVariants as task
-use Rattle.redomail.specs.Script.{Script, Get as Asks, Put as Writes, Done}
-use Rattle.redomail.specs.Tasks.{script, consistent}
-use Rattle.rmeworld.specs.declared.call.Call.{Call}
-use Rattle.rmeworld.specs.declared.call.Call.TheVariants.{Lock, Unlock, Consistent, Recover, Append, Close, Get, Put, Withdraw}
-use Rattle.rmeworld.specs.declared.why.Why.{Why}
-use Rattle.rmeworld.specs.declared.why.Why.TheVariants.{Checking, Ruining, Mending}
-use Rattle.rmeworld.specs.Entered.{is_entry}
-use Rattle.rmeworld.specs.Spot.{Errand, Free, Doing, Spot, dead, Happening, Begins, Falls, Moves, Glances as Looks-at, who, end_place, settled, errand_entered, mended_entered, at_lock, inside_only, begun_from, moved_by, next_spot, only_spot, outer_by, outer}
-use Rattle.rmeworld.specs.World.{Reads as Scene-Reads, reading, words_after, Scene, onward, Story, last_scene}
+use Rattle.rmeworld.specs.declared.call.Call.TheVariants.{Get, Put}
 
 -- a process with an errand is inside
 abbrev pub Held : Errand → Place → Type 0

@@ -1,42 +1,19 @@
 -- What the lock theorem says of a world that a story comes to: its history is legal, and its words are lawful.
-use Rattle.std.proofs.Common.{◌≡◌, ℕ, zero, suc, ◌<◌, ◌≤◌, nat_lt, Bool, if◌then◌else◌, List, [], ◌∷◌, ◌++◌, Option, Some, None, refl, sym, ap, ◌∙◌, subst, inl, inr, arith}
-use Rattle.std.proofs.lemmas.Bool.{cases_Bool, lt-ltb}
-use Rattle.rmecore.specs.AbstractLock.{Abstract, Legal}
-use Rattle.rmecore.specs.Lawful.{IsRow, IsLawful, all_dead as core_dead}
-use Rattle.rmecore.specs.Place.{Dead}
-use Rattle.rmecore.specs.Sole.{IsIn, all_done}
-use Rattle.rmecore.specs.World.{and_then, final}
-use Rattle.rmecore.specs.declared.outer.Outer.{Outer}
-use Rattle.rmecore.specs.declared.own.Own.{Own}
+use Rattle.std.proofs.Common.{◌≡◌, ℕ, zero, suc, ◌<◌, ◌≤◌, nat_lt, Bool, if◌then◌else◌, List, [], ◌∷◌, ◌++◌, Option, Some, None, refl, sym, ap, ◌∙◌, subst, inl, inr, arith, lt-ltb}
+use Rattle.rmeworld.proofs.Common.{cases_Bool, Outer, Own, Word, Data as DataAt, Abstract, Legal, IsLawful, IsRow, Dead, IsIn, all_done, is_store, and_then, final, Tied, Fits, Pair, phase_at}
+use Rattle.rmeworld.proofs.Common.{phase_of, after_deed as done_by, legal, Deed, OuterDeed, Commit, Show, Ruin, Layout, NewWords, Words, IsLayout, AreOwn, puts_are_own, all_after, Leads, empty, State}
+use Rattle.rmeworld.proofs.Common.{after, state_led, judged_all-append, Sits, IsLater, Sound, crashed_scene, IsOrigin, IsReached, Spot, dead, Happening, Moves, who, outer, at_rest, event_deeds, Scene}
+use Rattle.rmeworld.proofs.Common.{at_first, Story, onward, last_scene, outer_deeds, mail_deeds, deeds, put_deeds}
+use Rattle.rmecore.specs.Lawful.{all_dead as core_dead}
 use Rattle.rmecore.proofs.Bounds.{Bounded, Within, final_lawful, image_bounded, rest_bounded, rest_rows}
 use Rattle.rmecore.proofs.Images.{at_image}
-use Rattle.rmecore.proofs.Invariant.{Tied, Fits, Pair, phase_at, phase_of}
 use Rattle.rmecore.proofs.Phases.{tied_after}
-use Rattle.rmecore.proofs.Runs.{at_first as core_first, legal}
-use Rattle.redomail.specs.Leads.{AreOwn}
-use Rattle.redomail.specs.Layout.{Words, IsLayout}
-use Rattle.redomail.specs.Laws.{NewWords}
-use Rattle.redomail.specs.declared.deed.Deed.{Deed}
-use Rattle.redomail.specs.declared.deed.Deed.TheVariants.{Outer as OuterDeed, Commit, Show, Close, Ruin}
-use Rattle.redomail.specs.declared.layout.Layout.{Layout}
-use Rattle.redomail.proofs.Owns.{puts_are_own}
-use Rattle.judge.specs.Halves.{all_after}
-use Rattle.judge.specs.Legal.{Leads}
-use Rattle.judge.specs.Table.{State, empty, after}
-use Rattle.judge.proofs.Halves.{state_led}
-use Rattle.rmecore.specs.World.{is_store}
-use Rattle.rmecore.specs.declared.word.Word.{Word}
-use Rattle.rmecore.specs.declared.word.Word.TheVariants.{Data as DataAt}
-use Rattle.rmeworld.specs.Law.{Sits, IsLater, Sound}
-use Rattle.rmeworld.specs.Reached.{crashed_scene, IsOrigin, IsReached}
-use Rattle.rmeworld.specs.Spot.{Spot, Happening, Moves, who, at_rest, dead, outer}
-use Rattle.rmeworld.specs.World.{Scene, at_first, Story, onward, last_scene, outer_deeds, put_deeds, mail_deeds, event_deeds, deeds}
+use Rattle.rmecore.proofs.Runs.{at_first as core_first}
+use Rattle.redomail.specs.declared.deed.Deed.TheVariants.{Close}
 use Rattle.rmeworld.proofs.Projection.{Held, core_of, outers, projected}
 use Rattle.rmeworld.proofs.Happenings.{judge_of, Kept}
 use Rattle.rmeworld.proofs.Knowing.{PostAt}
 use Rattle.rmeworld.proofs.Stories.{sound, first, later}
-use Rattle.rmecore.proofs.Rows.{after_deed as done_by}
-use Rattle.judge.proofs.Histories.{judged_all-append}
 
 -- the judge's lock after a story's deeds
 

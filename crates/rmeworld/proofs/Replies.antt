@@ -1,41 +1,12 @@
 -- What the replies of an append tell of the mailbox then and there; and what was stored stays shown.
 use Rattle.std.proofs.Common.{◌≡◌, ℕ, zero, suc, ◌+◌, ◌-◌, ◌<◌, ◌≤◌, Bool, true, false, ◌&&◌, ◌==◌, List, [], ◌∷◌, ◌++◌, Some, All, Contains, refl, sym, ap, ◌∙◌, subst, inl, inr, arith, eqb-true, eq-eqb, append_assoc}
-use Rattle.std.proofs.lemmas.Bool.{and_parts}
-use Rattle.std.proofs.lemmas.List.Elements.{All-nil, All-push, All-contains, Contains-append_left, Contains-append_right, Contains-push}
-use Rattle.rmecore.specs.AbstractLock.{Abstract, nobody}
-use Rattle.rmecore.specs.Needs.{put}
-use Rattle.rmecore.specs.Place.{Place}
-use Rattle.rmecore.specs.Sole.{all_done}
-use Rattle.rmecore.specs.World.{is_store}
-use Rattle.rmecore.specs.declared.kind.Kind.{Kind}
-use Rattle.rmecore.specs.declared.kind.Kind.TheVariants.{Get as Gets, Put as Puts}
-use Rattle.rmecore.specs.declared.word.Word.{Word}
-use Rattle.rmecore.specs.declared.word.Word.TheVariants.{Data as DataAt}
-use Rattle.redomail.specs.Deeds.{deeds_of_put}
-use Rattle.redomail.specs.Layout.{Words, IsLayout, place_at}
-use Rattle.redomail.specs.Leads.{MailLeads}
-use Rattle.redomail.specs.Mailbox.{Mailbox, IsAmong, message}
-use Rattle.redomail.specs.Safe.{Safe}
-use Rattle.redomail.specs.Script.{Script, Get as Asks, Put as Writes, Done, tail}
-use Rattle.redomail.specs.Shape.{entry, entries, count_of, IsNumbered}
-use Rattle.redomail.specs.declared.deed.Deed.{Deed}
+use Rattle.rmeworld.proofs.Common.{and_parts, All-nil, Contains-append_right, All-push, All-contains, Contains-append_left, Contains-push, Kind, Gets, Puts, Word, Data as DataAt, Abstract, nobody}
+use Rattle.rmeworld.proofs.Common.{put, Place, all_done, is_store, Deed, Layout, Message, Reply, Stored, OutOfOrder, Full, Closed, Task, deeds_of_put, Words, IsLayout, place_at, MailLeads, Mailbox}
+use Rattle.rmeworld.proofs.Common.{message, IsAmong, Safe, Script, Get as Asks, Put as Writes, Done, tail, entry, entries, IsNumbered, count_of, count_of-push, all_after, empty, State, after}
+use Rattle.rmeworld.proofs.Common.{state_led, Mail, Working, answer_at, answer_by, by_script, mail_after, ReplyTells, RepliesTell, StoredIsShown, outer_by, Errand, Doing, Spot, Happening, Moves}
+use Rattle.rmeworld.proofs.Common.{settled, moved_by, next_spot, reading, event_deeds, Scene, at_first, Story, onward, last_scene, outer_deeds, mail_deeds, deeds}
 use Rattle.redomail.specs.declared.deed.Deed.TheVariants as deed
-use Rattle.redomail.specs.declared.layout.Layout.{Layout}
-use Rattle.redomail.specs.declared.message.Message.{Message}
-use Rattle.redomail.specs.declared.reply.Reply.{Reply}
-use Rattle.redomail.specs.declared.reply.Reply.TheVariants.{Stored, OutOfOrder, Full, Closed}
-use Rattle.redomail.specs.declared.task.Task.{Task}
 use Rattle.redomail.specs.declared.task.Task.TheVariants as task
-use Rattle.redomail.proofs.Changes.{count_of-push}
-use Rattle.judge.specs.Halves.{all_after}
-use Rattle.judge.specs.Table.{State, empty, after}
-use Rattle.judge.proofs.Halves.{state_led}
-use Rattle.rmeworld.specs.Answered.{by_script, answer_by, answer_at}
-use Rattle.rmeworld.specs.Sent.{mail_after, ReplyTells, RepliesTell, StoredIsShown}
-use Rattle.rmeworld.specs.Spot.{Errand, Doing, Spot, Happening, Moves, settled, moved_by, next_spot, outer_by}
-use Rattle.rmeworld.specs.World.{Scene, at_first, reading, Story, onward, last_scene, outer_deeds, mail_deeds, event_deeds, deeds}
-use Rattle.rmeworld.specs.declared.answer.Answer.TheVariants.{Mail}
-use Rattle.rmeworld.specs.declared.why.Why.TheVariants.{Working}
 use Rattle.rmeworld.proofs.Happenings.{judge_of}
 use Rattle.rmeworld.proofs.Holders.{story_comes, story_front, story_back}
 use Rattle.rmeworld.proofs.Knowing.{Post}

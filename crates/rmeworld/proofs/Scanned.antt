@@ -1,15 +1,9 @@
 -- Where the machine of a process may stand: its scans go by rising index, and so its next step is one of the least process.
 use Rattle.std.proofs.Common.{◌≡◌, ℕ, zero, suc, ◌+◌, ◌<◌, max, Bool, true, false, ◌||◌, ◌&&◌, ◌==◌, nat_lt, nat_le, if◌then◌else◌, List, [], ◌∷◌, Option, Some, None, IfSome, unwrap_or, refl, sym, ap, ◌∙◌, subst}
-use Rattle.std.proofs.lemmas.Bool.{cond_both}
-use Rattle.rmecore.specs.Machine.{Standing, first, access, next_access, after_access, IsLeast as IsLeastOfLock}
-use Rattle.rmecore.specs.Place.{Place, Rest, Reread, Opening, Door, Shutting, Wait, Inside, Leaving, Withdrawing, Unmarking, has, without, above, others, only, is_before, restart, shut, unmarked}
-use Rattle.rmecore.specs.Refused.{is_idle}
-use Rattle.rmecore.specs.declared.access.Access.{Access}
-use Rattle.rmecore.specs.declared.access.Access.TheVariants.{Store}
-use Rattle.rmecore.specs.declared.core_call.CoreCall.{CoreCall}
+use Rattle.rmeworld.proofs.Common.{cond_both, Access, Store, CoreCall, Take as Takes, Shut as Shuts, Choosing as ChoosingOf, Number as NumberOf, Standing, first, after_access}
+use Rattle.rmeworld.proofs.Common.{lock_access as next_access, access, IsLeastOfLock, Place, above, Door, Wait, Rest, Reread, Shutting, Leaving, Withdrawing, Unmarking, Opening, Inside, has, without}
+use Rattle.rmeworld.proofs.Common.{others, is_before, restart, shut, unmarked, only, is_idle}
 use Rattle.rmecore.specs.declared.core_call.CoreCall.TheVariants.{Lock, Unlock}
-use Rattle.rmecore.specs.declared.kind.Kind.TheVariants.{Take as Takes, Shut as Shuts}
-use Rattle.rmecore.specs.declared.word.Word.TheVariants.{Choosing as ChoosingOf, Number as NumberOf}
 use Rattle.rmecore.proofs.Accesses.{Orderly, all_least}
 use Rattle.rmecore.proofs.Scans.{Lined, lined_above, above_first, without-first, has-first}
 

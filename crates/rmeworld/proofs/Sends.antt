@@ -1,22 +1,11 @@
 -- What the puts of a script make of the mailbox: each Commit is that of the append's own number and value, each Close that
 -- of a close, each Ruin that of a ruin. It holds over any words, so it stands still while other processes move.
 use Rattle.std.proofs.Common.{◌≡◌, ℕ, zero, suc, ◌+◌, ◌<◌, ◌≤◌, true, ◌&&◌, ◌==◌, nat_lt, nat_le, List, [], ◌∷◌, ◌++◌, length, All, refl, sym, ◌∙◌, subst, arith, eqb-true}
-use Rattle.std.proofs.lemmas.Bool.{cond_both, and_parts}
-use Rattle.std.proofs.lemmas.List.Elements.{All-nil, All-cons}
-use Rattle.rmecore.specs.Needs.{put}
-use Rattle.redomail.specs.Deeds.{deeds_of_put}
-use Rattle.redomail.specs.Layout.{Words, IsLayout, row, held, board_at, last_at, place_at}
-use Rattle.redomail.specs.Script.{Script, Get, Put, Done, puts, in_row, gets}
-use Rattle.redomail.specs.Tasks.{record_of, apply_steps, store_steps, redo, repair, consistent, script}
-use Rattle.redomail.specs.declared.deed.Deed.{Deed}
+use Rattle.rmeworld.proofs.Common.{and_parts, cond_both, All-nil, All-cons, put, Deed, Layout, Record, Reply, deeds_of_put, Words, IsLayout, row, last_at, held, board_at, place_at, Script, Get, Put}
+use Rattle.rmeworld.proofs.Common.{Done, puts, gets, in_row, script, consistent, apply_steps, store_steps, record_of, redo, repair, held-small, put-other, put-same, place_low, deeds_of_put-none}
 use Rattle.redomail.specs.declared.deed.Deed.TheVariants as deed
-use Rattle.redomail.specs.declared.layout.Layout.{Layout}
-use Rattle.redomail.specs.declared.record.Record.{Record}
-use Rattle.redomail.specs.declared.reply.Reply.{Reply}
 use Rattle.redomail.specs.declared.reply.Reply.TheVariants as reply
 use Rattle.redomail.specs.declared.task.Task.TheVariants as task
-use Rattle.redomail.proofs.Scripts.{held-small}
-use Rattle.redomail.proofs.Words.{put-other, put-same, place_low, deeds_of_put-none}
 
 -- each deed of this script's puts, over these words, has D
 abbrev pub Sends : Layout → ℕ → (Deed → Type 0) → Script Reply → Words → Type 0

@@ -1,23 +1,10 @@
 -- What a mailbox shows was committed, and so it was sent; a closed one was closed, and a ruined lock ruined.
 use Rattle.std.proofs.Common.{◌≡◌, ℕ, true, List, [], ◌∷◌, All, sym, ap, ◌∙◌, subst, inl, inr, ◌⊎◌}
-use Rattle.std.proofs.lemmas.Bool.{cases_Bool, false≢true}
-use Rattle.std.proofs.lemmas.List.Elements.{All-nil, All-head, All-tail, All-push}
-use Rattle.rmecore.specs.AbstractLock.{Abstract, nobody}
-use Rattle.rmecore.specs.Sole.{all_done}
-use Rattle.redomail.specs.Layout.{Words}
-use Rattle.redomail.specs.Mailbox.{Mailbox, message, is_pending}
-use Rattle.redomail.specs.Shape.{Shape, bit}
-use Rattle.redomail.specs.declared.deed.Deed.{Deed}
+use Rattle.rmeworld.proofs.Common.{cases_Bool, false≢true, All-nil, All-head, All-tail, All-push, Abstract, nobody, all_done, Deed, Layout, Message, Words, Mailbox, message, is_pending, Shape, bit}
+use Rattle.rmeworld.proofs.Common.{all_after, empty, State, after, state_led, IsAsked, mail_after, IsSent, EveryMessageWasSent, EveryCloseWasAsked, EveryRuinWasAsked, at_first, last_scene, deeds}
 use Rattle.redomail.specs.declared.deed.Deed.TheVariants as deed
-use Rattle.redomail.specs.declared.layout.Layout.{Layout}
-use Rattle.redomail.specs.declared.message.Message.{Message}
-use Rattle.judge.specs.Halves.{all_after}
-use Rattle.judge.specs.Table.{State, empty, after}
-use Rattle.judge.proofs.Halves.{state_led}
 use Rattle.judge.proofs.Mail.{message_parts}
 use Rattle.judge.proofs.Steps.{Allowed, Allowed-from_leads}
-use Rattle.rmeworld.specs.Sent.{mail_after, IsAsked, IsSent, EveryMessageWasSent, EveryCloseWasAsked, EveryRuinWasAsked}
-use Rattle.rmeworld.specs.World.{at_first, last_scene, deeds}
 use Rattle.rmeworld.proofs.Asked.{every_deed_was_asked}
 use Rattle.rmeworld.proofs.Happenings.{judge_of, Kept}
 use Rattle.rmeworld.proofs.Holders.{story_comes}

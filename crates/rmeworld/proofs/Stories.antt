@@ -1,38 +1,14 @@
 -- Every happening keeps everything, so every story is sound.
-use Rattle.std.proofs.Common.{◌≡◌, ℕ, zero, suc, nat_lt, ◌<◌, Bool, true, false, ◌&&◌, ◌==◌, if◌then◌else◌, List, [], ◌∷◌, Option, Some, None, IsSome, refl, sym, ap, ◌∙◌, subst, inl, inr, ◌⊎◌, arith, eqb-true}
-use Rattle.std.proofs.lemmas.Bool.{cases_eq, cases_Bool, and_parts, ltb-true, lt-ltb}
-use Rattle.rmecore.specs.AbstractLock.{Abstract, nobody, Legal}
-use Rattle.rmecore.specs.Lawful.{dead_phase, start_of}
-use Rattle.rmecore.specs.Needs.{put}
-use Rattle.rmecore.specs.Place.{Place, next, is_before}
-use Rattle.rmecore.specs.Sole.{IsIn}
-use Rattle.rmecore.specs.World.{is_store, and_then, step_deed}
-use Rattle.rmecore.specs.declared.kind.Kind.{Kind}
-use Rattle.rmecore.specs.declared.kind.Kind.TheVariants.{Get as Gets, Put as Puts}
-use Rattle.rmecore.specs.declared.outer.Outer.{Outer}
-use Rattle.rmecore.specs.declared.outer.Outer.TheVariants.{Crash}
-use Rattle.rmecore.specs.declared.own.Own.{Own}
-use Rattle.rmecore.specs.declared.word.Word.{Word}
-use Rattle.rmecore.specs.declared.word.Word.TheVariants.{Data as DataAt}
-use Rattle.rmecore.proofs.Invariant.{put_same, put_other}
-use Rattle.rmecore.proofs.Soles.{sole_nobody}
-use Rattle.rmecore.proofs.Turns.{not_data}
-use Rattle.redomail.specs.Deeds.{deeds_of_put}
-use Rattle.redomail.specs.Laws.{NewWords}
-use Rattle.redomail.specs.Layout.{Words, IsLayout, size}
-use Rattle.redomail.specs.Mailbox.{Mailbox, nothing_shown}
-use Rattle.redomail.specs.Script.{Get, Put}
-use Rattle.redomail.specs.declared.layout.Layout.{Layout}
-use Rattle.judge.specs.Legal.{Leads}
-use Rattle.judge.specs.Table.{State}
-use Rattle.rmeworld.specs.Law.{Sits, IsLater, ErrandTells, Tells, Sound}
-use Rattle.rmeworld.specs.Spot.{Errand, Free, Doing, Spot, dead, Happening, Begins, Falls, Moves, Glances, who, moved_by, next_spot, settled, outer_by, outer}
-use Rattle.rmeworld.specs.World.{Scene, at_first, all_dead, Reads as Scene-Reads, reading, put_cell, cells_after, Story, onward, mail_deeds, event_deeds, deeds}
+use Rattle.std.proofs.Common.{◌≡◌, ℕ, zero, suc, nat_lt, ◌<◌, Bool, true, false, ◌&&◌, ◌==◌, if◌then◌else◌, List, [], ◌∷◌, Option, Some, None, IsSome, refl, sym, ap, ◌∙◌, subst, inl, inr, ◌⊎◌, arith, eqb-true, ltb-true, lt-ltb}
+use Rattle.rmeworld.proofs.Common.{cases_Bool, cases_eq, and_parts, Kind, Gets, Puts, Outer, Crash, Own, Word, Data as DataAt, Abstract, Legal, nobody, dead_phase, start_of, put, Place, next}
+use Rattle.rmeworld.proofs.Common.{is_before, IsIn, is_store, step_deed, and_then, put_same, put_other, after_deed as done_by, sole_nobody, not_data, Layout, deeds_of_put, NewWords, Words, IsLayout}
+use Rattle.rmeworld.proofs.Common.{size, Mailbox, nothing_shown, Get, Put, Leads, State, judged_all-append, Sits, IsLater, ErrandTells, Sound, outer_by, Errand, Free, Doing, Spot, dead, Happening}
+use Rattle.rmeworld.proofs.Common.{Begins, Falls, Moves, Glances, who, settled, moved_by, next_spot, outer, reading, event_deeds, Scene, at_first, Reads as Scene-Reads, put_cell, cells_after, Story}
+use Rattle.rmeworld.proofs.Common.{onward, mail_deeds, deeds, all_dead}
+use Rattle.rmeworld.specs.Law.{Tells}
 use Rattle.rmeworld.proofs.Projection.{at_lock_some, only_some, some_of, outers}
 use Rattle.rmeworld.proofs.Knowing.{Post, PostAt}
 use Rattle.rmeworld.proofs.Happenings.{AllowsBy, judge_of, Kept, Outcome, nothing, begins, falls, gets, puts, locks}
-use Rattle.rmecore.proofs.Rows.{after_deed as done_by}
-use Rattle.judge.proofs.Histories.{judged_all-append}
 
 some_by : (o : Option Place) (t : Place) → o ≡ Some t → IsSome o
 some_by o t e = rw e refl

@@ -1,17 +1,7 @@
 -- A record that is being stored has a step left at each step but its last.
-use Rattle.std.proofs.Common.{◌≡◌, ℕ, true, nat_lt, subst, sym, zero, suc, ◌+◌, ◌*◌, ◌<◌, List, [], ◌∷◌, length, drop, arith}
-use Rattle.redomail.specs.declared.layout.Layout.{Layout}
-use Rattle.redomail.specs.declared.record.Record.{Record}
-use Rattle.redomail.specs.declared.reply.Reply.{Reply}
-use Rattle.std.proofs.lemmas.Bool.{lt-ltb}
-use Rattle.redomail.specs.declared.stage.Stage.TheVariants.{Write}
-use Rattle.redomail.specs.Left.{Pending, left, fed}
+use Rattle.std.proofs.Common.{◌≡◌, ℕ, true, nat_lt, subst, sym, zero, suc, ◌+◌, ◌*◌, ◌<◌, List, [], ◌∷◌, length, drop, arith, lt-ltb}
+use Rattle.rmeworld.proofs.Common.{Layout, Record, Reply, Write, Pending, left, fed, Script, Done, puts, stage_after, store_steps, length-store_steps, HasStep}
 use Rattle.redomail.specs.Jobs.{left_at}
-use Rattle.redomail.specs.Stages.{stage_after}
-use Rattle.redomail.specs.Script.{Script, Done, puts}
-use Rattle.redomail.specs.Tasks.{store_steps}
-use Rattle.redomail.proofs.Scripts.{length-store_steps}
-use Rattle.rmeworld.specs.Errands.{HasStep}
 
 puts_left : (xs : List (ℕ × ℕ)) (k : ℕ) (e : Script Reply) → k < length xs → HasStep (puts (drop k xs) e)
 puts_left [] k e h = absurd (omega arith)

@@ -1,12 +1,7 @@
 -- A happening that may come at the end prolongs a story; and a process's spot follows from its own happenings.
 use Rattle.std.proofs.Common.{◌≡◌, ℕ, true, false, ◌==◌, List, [], ◌∷◌, ◌++◌, unwrap_or, refl, sym, ap, ◌∙◌, subst, inl, inr, eq-eqb, ne_eqb, append-nil, append_assoc}
-use Rattle.std.proofs.lemmas.Bool.{cases_eq}
-use Rattle.rmecore.proofs.Invariant.{put_same, put_other}
-use Rattle.redomail.specs.declared.deed.Deed.{Deed}
-use Rattle.redomail.specs.declared.layout.Layout.{Layout}
-use Rattle.rmeworld.specs.Spot.{Happening, who, next_spot}
-use Rattle.rmeworld.specs.World.{Scene, Can, onward, Story, last_scene, event_deeds, deeds, own_happenings, spot_after}
-use Rattle.rmeworld.specs.Reached.{IsReached}
+use Rattle.rmeworld.proofs.Common.{cases_eq, put_same, put_other, Deed, Layout, IsReached, Happening, who, next_spot, event_deeds, Scene, Story, onward, last_scene, deeds, Can, own_happenings}
+use Rattle.rmeworld.specs.World.{spot_after}
 
 module _ (l : Layout) (limit : ℕ) where
   pub story_more : (w : Scene) (es : List Happening) (e : Happening) → Story l limit w es → Can l limit (last_scene l limit w es) e → Story l limit w (es ++ e ∷ [])

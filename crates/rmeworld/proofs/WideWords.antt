@@ -1,20 +1,9 @@
 -- The words of a wider image stand where its layout says.
-use Rattle.std.proofs.Common.{◌≡◌, ℕ, zero, suc, ◌+◌, ◌-◌, ◌<◌, ◌≤◌, List, [], ◌++◌, length, drop, refl, sym, ap, inl, inr, ◌∙◌, arith, append_assoc, length-append, length-take, length-drop}
-use Rattle.std.proofs.Math.Seq.{drop-append_seam, take-append_seam}
-use Rattle.std.proofs.lemmas.Bool.{cases_eq}
-use Rattle.std.proofs.lemmas.List.{append-nil}
+use Rattle.std.proofs.Common.{◌≡◌, ℕ, zero, suc, ◌+◌, ◌-◌, ◌<◌, ◌≤◌, List, [], ◌++◌, length, drop, refl, sym, ap, inl, inr, ◌∙◌, arith, append_assoc, length-append, length-take, length-drop, append-nil}
+use Rattle.rmeworld.proofs.Common.{take-append_seam, drop-append_seam, cases_eq, Own, Layout, HeadsHold, Words, size, words_of, row, place_at, entry, place_low, entry-from_row, Image, layout_of}
+use Rattle.rmeworld.proofs.Common.{padded, widened, IsWider, words_from, wide_place, wide_words}
 use Rattle.rmecore.specs.Body.{zeros}
-use Rattle.redomail.specs.declared.layout.Layout.{Layout}
-use Rattle.redomail.specs.Layout.{Words, words_of, row, size, place_at}
-use Rattle.redomail.specs.Shape.{entry}
-use Rattle.redomail.specs.Content.{HeadsHold}
 use Rattle.redomail.proofs.Readings.{row-slice, place_within}
-use Rattle.redomail.proofs.Words.{place_low, entry-from_row}
-use Rattle.rmecore.specs.declared.own.Own.{Own}
-use Rattle.rmeworld.specs.declared.image.Image.{Image}
-use Rattle.rmeworld.specs.ImageRules.{layout_of}
-use Rattle.rmeworld.specs.ImageWiden.{padded, widened, IsWider}
-use Rattle.rmeworld.specs.WideWords.{words_from, wide_place, wide_words}
 
 length-zeros : (n : ℕ) → length (zeros n) ≡ n
 length-zeros zero = refl

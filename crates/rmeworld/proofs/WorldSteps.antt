@@ -1,34 +1,11 @@
 -- A step in memory is a happening of the definition.
-use Rattle.std.proofs.Common.{◌≡◌, ℕ, ◌<◌, ◌≤◌, Bool, true, false, ◌==◌, nat_lt, if◌then◌else◌, List, ◌++◌, length, slice_index_or, slice_set, Some, IsSome, unwrap_or, refl, sym, ap, ◌∙◌, subst, inl, inr, arith, append-nil}
-use Rattle.std.proofs.lemmas.Bool.{cases_Bool, cases_eq, cases_lt, lt-ltb, ltb-true}
-use Rattle.std.proofs.lemmas.List.{get_or-set_same, get_or-set_other, length-set, set_past}
-use Rattle.rmecore.specs.Needs.{put}
-use Rattle.rmecore.specs.World.{write}
-use Rattle.rmecore.specs.Machine.{kind_of, word_of, carried}
-use Rattle.rmecore.specs.Simulated.{zeros, own_at}
-use Rattle.rmecore.specs.declared.access.Access.{Access}
-use Rattle.rmecore.specs.declared.access.Access.TheVariants.{Load, Store}
-use Rattle.rmecore.specs.declared.own.Own.{Own}
-use Rattle.rmecore.specs.declared.word.Word.{Word}
-use Rattle.rmecore.specs.declared.word.Word.TheVariants.{Data as DataAt}
-use Rattle.rmecore.specs.declared.tally.Tally.{Tally}
-use Rattle.rmecore.proofs.Invariant.{put_same, put_other}
-use Rattle.redomail.specs.declared.deed.Deed.{Deed}
-use Rattle.redomail.specs.declared.reply.Reply.{Reply}
-use Rattle.redomail.specs.Script.{Script, Get as Asks, Put as Writes, Done}
-use Rattle.redomail.specs.Left.{left, fed}
-use Rattle.rmeworld.specs.declared.call.Call.{Call}
-use Rattle.rmeworld.specs.declared.call.Call.TheVariants.{Unlock}
-use Rattle.rmeworld.specs.declared.errand.Errand.{Errand as Chore}
-use Rattle.rmeworld.specs.declared.errand.Errand.TheVariants.{Free as IsFree, Asking, Doing as Does}
-use Rattle.rmeworld.specs.declared.why.Why.TheVariants.{Mending}
-use Rattle.redomail.specs.declared.layout.Layout.{Layout}
-use Rattle.redomail.specs.Layout.{words_of, size}
-use Rattle.rmeworld.specs.Replayed.{value_of, words_set, words_by, cells_by, advanced_by, crashed}
-use Rattle.rmeworld.specs.Spot.{Happening, Begins, Falls, Moves, who, next_spot}
-use Rattle.rmeworld.specs.Stand.{Stand, stepped_by, job_left, started as stand_started, crashed as stand_crashed, spot_of, next_access, spot_after, stepped as stand_stepped, IsAllowed, InWords, IsOwnWord, StoresOwn}
-use Rattle.rmeworld.specs.World.{reading, Reads, event_deeds, words_after, cells_after}
-use Rattle.rmeworld.specs.WorldState.{WorldState, absent, stand_at, spot_at, scene_of, HasSeat, IsSeated, Takes}
+use Rattle.std.proofs.Common.{◌≡◌, ℕ, ◌<◌, ◌≤◌, Bool, true, false, ◌==◌, nat_lt, if◌then◌else◌, List, ◌++◌, length, slice_index_or, slice_set, Some, IsSome, unwrap_or, refl, sym, ap, ◌∙◌, subst, inl, inr, arith, append-nil, lt-ltb, ltb-true, get_or-set_same, get_or-set_other, length-set}
+use Rattle.rmeworld.proofs.Common.{cases_Bool, cases_eq, cases_lt, set_past, Access, Load, Store, Own, Tally, Word, Data as DataAt, kind_of, word_of, carried, put, own_at, zeros, write, put_same}
+use Rattle.rmeworld.proofs.Common.{put_other, Deed, Layout, Reply, size, words_of, left, fed, Script, Get as Asks, Put as Writes, Done, Call, Unlock, Chore, IsFree, Asking, Does, Mending, value_of}
+use Rattle.rmeworld.proofs.Common.{words_by, cells_by, advanced_by, words_set, Happening, Begins, Falls, Moves, who, next_spot, Stand, IsAllowed, spot_of, job_left, stepped as stand_stepped}
+use Rattle.rmeworld.proofs.Common.{stepped_by, next_access, spot_after, StoresOwn, stand_started, crashed as stand_crashed, InWords, IsOwnWord, reading, event_deeds, Reads, cells_after, words_after}
+use Rattle.rmeworld.proofs.Common.{WorldState, stand_at, spot_at, scene_of, Takes, absent, HasSeat, IsSeated}
+use Rattle.rmeworld.specs.Replayed.{crashed}
 
 -- a list with one item changed, read as a function
 pub at-set : {A : Type 0} (xs : List A) (d : A) (p : ℕ) (x : A) → p < length xs → (q : ℕ) → slice_index_or (slice_set xs p x) q d ≡ put (λ i. slice_index_or xs i d) p x q

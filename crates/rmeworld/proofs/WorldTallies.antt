@@ -1,44 +1,13 @@
 -- Every happening of a world keeps what its tallies say.
-use Rattle.std.proofs.Common.{◌≡◌, ◌≢◌, ℕ, zero, suc, ◌+◌, ◌<◌, Bool, true, false, ◌&&◌, ◌==◌, if◌then◌else◌, List, [], ◌∷◌, length, map, Option, Some, None, IsSome, IfSome, unwrap_or, refl, sym, ap, ◌∙◌, subst, inl, inr, arith}
-use Rattle.std.proofs.lemmas.Bool.{cases_eq}
-use Rattle.std.proofs.lemmas.List.{get_or-set_same, get_or-set_other}
-use Rattle.rmecore.specs.Place.{Place, Steps, next}
-use Rattle.rmecore.specs.World.{Reads as CoreReads, is_store, write}
-use Rattle.rmecore.specs.Machine.{kind_of, word_of}
-use Rattle.rmecore.specs.Paid.{ReadsBegun, is_glance}
-use Rattle.rmecore.specs.Simulated.{own_at, tally_at, counted, fresh}
-use Rattle.rmecore.specs.Tallied.{IsExact, IsRereading}
-use Rattle.rmecore.specs.declared.access.Access.{Access}
-use Rattle.rmecore.specs.declared.access.Access.TheVariants.{Load, Store}
-use Rattle.rmecore.specs.declared.kind.Kind.{Kind}
-use Rattle.rmecore.specs.declared.kind.Kind.TheVariants.{Get as Gets, Put as Puts}
-use Rattle.rmecore.specs.declared.own.Own.{Own}
-use Rattle.rmecore.specs.declared.tally.Tally.{Tally}
-use Rattle.rmecore.specs.declared.word.Word.{Word}
-use Rattle.rmecore.specs.declared.word.Word.TheVariants.{Data as DataAt}
-use Rattle.rmecore.proofs.Invariant.{put_same, put_other}
+use Rattle.std.proofs.Common.{◌≡◌, ◌≢◌, ℕ, zero, suc, ◌+◌, ◌<◌, Bool, true, false, ◌&&◌, ◌==◌, if◌then◌else◌, List, [], ◌∷◌, length, map, Option, Some, None, IsSome, IfSome, unwrap_or, refl, sym, ap, ◌∙◌, subst, inl, inr, arith, get_or-set_same, get_or-set_other}
+use Rattle.rmeworld.proofs.Common.{cases_eq, Access, Load, Store, Kind, Gets, Puts, Own, Tally, Word, Data as DataAt, kind_of, word_of, is_glance, ReadsBegun, Place, next, Steps, tally_at, own_at}
+use Rattle.rmeworld.proofs.Common.{fresh, counted, IsExact, IsRereading, is_store, write, put_same, put_other, not_data, Layout, Reply, Ruined, Words, Script, Get as Asks, Put as Writes, Done, Answer}
+use Rattle.rmeworld.proofs.Common.{Call, Why, Checking, answer_at, blocked_by, errand_of, most_steps, PaysAt, value_of, started, advanced_by, Errand, Free, Doing, Spot, dead, Begins, Falls, Moves}
+use Rattle.rmeworld.proofs.Common.{settled, at_lock, moved_by, next_spot, end_place, Stand, outcome, access_by, StoresOwn, HasTaken, IsTallied, AllTallied, call_at, reading, Scene, onward, Can}
+use Rattle.rmeworld.proofs.Common.{words_after, reading_of, WorldState, stand_at, spot_at, scene_of, Takes, IsSeated}
+use Rattle.rmecore.specs.World.{Reads as CoreReads}
 use Rattle.rmecore.proofs.Tallies.{never_glances, exact_before, sums, Was, rereads_on, reads_begun}
-use Rattle.rmecore.proofs.Turns.{not_data}
-use Rattle.redomail.specs.Layout.{Words}
-use Rattle.redomail.specs.Script.{Script, Get as Asks, Put as Writes, Done}
-use Rattle.redomail.specs.declared.layout.Layout.{Layout}
-use Rattle.redomail.specs.declared.reply.Reply.{Reply}
-use Rattle.redomail.specs.declared.reply.Reply.TheVariants.{Ruined}
-use Rattle.rmeworld.specs.Answered.{answer_at, blocked_by}
-use Rattle.rmeworld.specs.OwnSteps.{most_steps}
-use Rattle.rmeworld.specs.Paid.{PaysAt}
-use Rattle.rmeworld.specs.Replayed.{value_of, advanced_by, started, crashed}
-use Rattle.rmeworld.specs.Spot.{Errand, Free, Doing, Spot, Begins, Falls, Moves, dead, next_spot, settled, end_place, at_lock, moved_by}
-use Rattle.rmeworld.specs.Errands.{errand_of}
-use Rattle.rmeworld.specs.Stand.{Stand, access_by, outcome, StoresOwn}
-use Rattle.rmeworld.specs.Tallied.{HasTaken, IsTallied, AllTallied}
-use Rattle.rmeworld.specs.UnderWay.{call_at}
-use Rattle.rmeworld.specs.World.{Scene, Can, onward, reading, reading_of, words_after}
-use Rattle.rmeworld.specs.WorldState.{WorldState, stand_at, spot_at, scene_of, IsSeated, Takes}
-use Rattle.rmeworld.specs.declared.answer.Answer.{Answer}
-use Rattle.rmeworld.specs.declared.call.Call.{Call}
-use Rattle.rmeworld.specs.declared.why.Why.{Why}
-use Rattle.rmeworld.specs.declared.why.Why.TheVariants.{Checking}
+use Rattle.rmeworld.specs.Replayed.{crashed}
 use Rattle.rmeworld.proofs.CallBounds.{fewer_at}
 use Rattle.rmeworld.proofs.CallSteps.{more, guard_spot, To, step_by, start_to}
 use Rattle.rmeworld.proofs.WorldSteps.{IsStep, step_takes}

@@ -1,31 +1,13 @@
 -- What a world in memory keeps, at every call.
-use Rattle.std.proofs.Common.{◌≡◌, ℕ, zero, suc, ◌+◌, ◌<◌, ◌≤◌, ◌^◌, ◌++◌, [], ◌∷◌, List, Option, Some, None, IfSome, nat_lt, length, replicate, slice_index_or, slice_set, refl, sym, ap, ◌∙◌, subst, inl, inr, arith}
-use Rattle.std.proofs.lemmas.Bool.{cases_lt, cases_Bool}
-use Rattle.std.proofs.lemmas.List.{get_or-replicate, get_or_past, get_or_default, length-replicate, length-set}
-use Rattle.rmecore.specs.Machine.{access, kind_of, word_of, carried}
-use Rattle.rmecore.specs.Place.{Place, Reread, Door, Wait}
-use Rattle.rmecore.specs.World.{step_deed}
-use Rattle.rmecore.specs.declared.outer.Outer.{Outer}
-use Rattle.redomail.specs.declared.deed.Deed.TheVariants.{Outer as OuterDeed}
-use Rattle.rmecore.specs.Simulated.{zeros, own_at, tally_at, counted, fresh}
-use Rattle.rmecore.specs.declared.own.Own.{Own}
-use Rattle.rmecore.specs.declared.tally.Tally.{Tally}
-use Rattle.rmecore.specs.declared.access.Access.{Access}
-use Rattle.rmecore.specs.declared.access.Access.TheVariants.{Load, Store}
-use Rattle.redomail.specs.declared.layout.Layout.{Layout}
-use Rattle.redomail.specs.Layout.{Words, words_of, held, size, IsLayout}
-use Rattle.redomail.specs.declared.deed.Deed.{Deed}
-use Rattle.judge.specs.Table.{empty}
-use Rattle.rmeworld.specs.declared.call.Call.{Call}
-use Rattle.rmeworld.specs.Replayed.{happening, mail_by, or_else, list_of, the_deed, prospect_of, words_by, cells_by, advanced_by, started, crashed}
-use Rattle.rmeworld.specs.Reached.{IsReached, IsWorld}
-use Rattle.rmeworld.specs.Spot.{Errand, Free, Doing, Happening, Begins, Falls, Moves, next_spot, outer_by, at_rest}
-use Rattle.rmeworld.specs.Errands.{errand_of}
-use Rattle.rmeworld.specs.Stand.{Stand, spot_of, resting, IsSize, access_by, next_access, outcome, StoresOwn, stepped as stand_stepped, started as stand_started}
-use Rattle.rmeworld.specs.World.{at_first, onward, reading, outer_deeds, mail_deeds, event_deeds}
-use Rattle.rmeworld.specs.WorldState.{WorldState, absent, stand_at, spot_at, scene_of, HasSeat, IsSeated, Takes, at_rest_from, new_world}
+use Rattle.std.proofs.Common.{◌≡◌, ℕ, zero, suc, ◌+◌, ◌<◌, ◌≤◌, ◌^◌, ◌++◌, [], ◌∷◌, List, Option, Some, None, IfSome, nat_lt, length, replicate, slice_index_or, slice_set, refl, sym, ap, ◌∙◌, subst, inl, inr, arith, length-set}
+use Rattle.rmeworld.proofs.Common.{cases_Bool, cases_lt, get_or_past, get_or_default, get_or-replicate, length-replicate, Access, Load, Store, Outer, Own, Tally, kind_of, word_of, carried, access}
+use Rattle.rmeworld.proofs.Common.{Place, Door, Wait, Reread, tally_at, own_at, zeros, fresh, counted, step_deed, Deed, OuterDeed, Layout, Words, IsLayout, size, words_of, held, empty, Call}
+use Rattle.rmeworld.proofs.Common.{errand_of, IsWorld, IsReached, happening, or_else, mail_by, words_by, cells_by, the_deed, started, list_of, advanced_by, prospect_of, outer_by, Errand, Free, Doing}
+use Rattle.rmeworld.proofs.Common.{Happening, Begins, Falls, Moves, next_spot, at_rest, Stand, outcome, IsSize, resting, spot_of, stepped as stand_stepped, access_by, next_access, StoresOwn}
+use Rattle.rmeworld.proofs.Common.{stand_started, IsTallied, reading, event_deeds, at_first, onward, outer_deeds, mail_deeds, WorldState, stand_at, spot_at, scene_of, Takes, new_world, absent}
+use Rattle.rmeworld.proofs.Common.{HasSeat, IsSeated, at_rest_from}
+use Rattle.rmeworld.specs.Replayed.{crashed}
 use Rattle.rmeworld.proofs.StoryGrows.{reached_more}
-use Rattle.rmeworld.specs.Tallied.{IsTallied}
 use Rattle.rmeworld.proofs.WorldTallies.{tallied_step, tallied_start, tallied_crash}
 use Rattle.rmeworld.proofs.WorldSteps.{IsStep, step_takes, seated_set, words_by_length, cells_by_length, keeps_stepped, keeps_started, start_takes, crash_takes}
 use Rattle.redomail.proofs.Safe.{size_small}

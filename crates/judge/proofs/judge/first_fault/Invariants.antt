@@ -1,5 +1,5 @@
 use Rattle.std.proofs.Common.{◌≡◌, drop}
-use Rattle.rmecore.specs.Needs.{first_fault}
+use Rattle.judge.proofs.Common.{first_fault}
 use Rattle.judge.proofs.judge.first_fault.Given as goal
 
 abbrev pub invariant-loop-need : goal.invariant-loop-need

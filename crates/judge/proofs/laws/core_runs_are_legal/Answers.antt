@@ -1,9 +1,8 @@
 use Rattle.std.proofs.Common.{map}
+use Rattle.judge.proofs.Common.{all_after, empty}
 use Rattle.rmecore.specs.World.{at_rest}
 use Rattle.rmecore.specs.World as world
 use Rattle.redomail.specs.declared.deed.Deed.TheVariants.{Outer}
-use Rattle.judge.specs.Table.{empty}
-use Rattle.judge.specs.Halves.{all_after}
 use Rattle.judge.proofs.Inside.{Sole-empty, NoTwoInside-from_allowed, DeadReenters-from_allowed}
 use Rattle.judge.proofs.Order.{FirstComeFirstServed-from_allowed}
 use Rattle.judge.proofs.Halves.{Allowed-outers, Leads-allowed}

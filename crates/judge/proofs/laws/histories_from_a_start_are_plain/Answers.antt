@@ -1,4 +1,4 @@
-use Rattle.judge.specs.Starts.{state_of}
+use Rattle.judge.proofs.Common.{state_of}
 use Rattle.judge.proofs.Steps.{Allowed-from_leads}
 use Rattle.judge.proofs.Starts.{IsPlainFrom-allowed}
 use Rattle.judge.proofs.laws.histories_from_a_start_are_plain.Goals as goal

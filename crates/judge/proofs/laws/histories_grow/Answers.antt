@@ -1,8 +1,5 @@
-use Rattle.std.proofs.Common.{◌∙◌, [], ◌∷◌, ap, Ok}
-use Rattle.std.proofs.lemmas.Bool.{lt-ltb}
-use Rattle.redomail.specs.Mailbox.{doer}
-use Rattle.judge.specs.Table.{lock_needs, mail_needs}
-use Rattle.judge.specs.Legal.{and_then}
+use Rattle.std.proofs.Common.{◌∙◌, [], ◌∷◌, ap, Ok, lt-ltb}
+use Rattle.judge.proofs.Common.{doer, and_then, lock_needs, mail_needs}
 use Rattle.judge.proofs.Halves.{AllHold-append, judged-allowed}
 use Rattle.judge.proofs.Histories.{judged_all-append}
 use Rattle.judge.proofs.laws.histories_grow.Goals as goal

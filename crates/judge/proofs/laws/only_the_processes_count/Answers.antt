@@ -1,4 +1,4 @@
-use Rattle.judge.specs.Halves.{outers}
+use Rattle.judge.proofs.Common.{outers}
 use Rattle.judge.proofs.Steps.{Allowed-from_leads}
 use Rattle.judge.proofs.Halves.{Allowed-halves, Leads-allowed, lock_half, mail_half}
 use Rattle.judge.proofs.Agreement.{Legal-agree, MailAllows-agree}

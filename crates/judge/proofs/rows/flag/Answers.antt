@@ -1,5 +1,5 @@
+use Rattle.judge.proofs.Common.{bit_at-pow_other}
 use Rattle.std.proofs.lemmas.Nat.{one_shl}
-use Rattle.std.proofs.lemmas.Nat.Bits.{bit_at-pow_other}
 use Rattle.judge.proofs.rows.flag.Goals as goal
 
 pub returns-then-holds-clause-others : goal.returns-then-holds-clause-others

@@ -1,8 +1,8 @@
 use Rattle.std.proofs.Common.{sym, ◌∙◌, arith}
+use Rattle.rmecore.proofs.Allowing.{least-none}
 use Rattle.judge.proofs.Least.{least-at}
 use Rattle.judge.proofs.Bits.{tested}
 use Rattle.judge.proofs.rows.least_in.Goals as goal
-use Rattle.rmecore.proofs.Allowing.{least-none}
 
 pub returns-then-has : goal.returns-then-has
 returns-then-has c = λ f row.

@@ -1,5 +1,5 @@
 use Rattle.std.proofs.Common.{◌≡◌, ℕ, ◌<◌, ◌==◌, false}
-use Rattle.std.specs.Int.{bit_at}
+use Rattle.judge.proofs.Common.{bit_at}
 use Rattle.judge.proofs.rows.least_in.Given as goal
 
 abbrev pub invariant-loop-q : goal.invariant-loop-q

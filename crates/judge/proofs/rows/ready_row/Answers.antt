@@ -1,7 +1,5 @@
 use Rattle.std.proofs.Common.{◌∙◌, ap}
-use Rattle.rmecore.specs.declared.phase.Phase.TheVariants.{Out}
-use Rattle.rmecore.specs.AbstractLock.{is_ready}
-use Rattle.std.proofs.lemmas.List.{get_or_default}
+use Rattle.judge.proofs.Common.{get_or_default, Out, is_ready}
 use Rattle.judge.proofs.Bits.{Filled-more}
 use Rattle.judge.proofs.rows.ready_row.Goals as goal
 

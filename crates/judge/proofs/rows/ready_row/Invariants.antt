@@ -1,6 +1,5 @@
 use Rattle.std.proofs.Common.{get_or}
-use Rattle.rmecore.specs.declared.phase.Phase.TheVariants.{Out}
-use Rattle.rmecore.specs.AbstractLock.{is_ready}
+use Rattle.judge.proofs.Common.{Out, is_ready}
 use Rattle.judge.proofs.Bits.{Filled}
 use Rattle.judge.proofs.rows.ready_row.Given as goal
 

@@ -1,6 +1,5 @@
 use Rattle.std.proofs.Common.{take}
-use Rattle.judge.specs.Kept.{HasBits}
-use Rattle.judge.specs.Starts.{is_named}
+use Rattle.judge.proofs.Common.{HasBits, is_named}
 use Rattle.judge.proofs.rows.row_of.Given as goal
 
 abbrev pub invariant-loop-name : goal.invariant-loop-name

@@ -1,7 +1,5 @@
 use Rattle.std.proofs.Common.{◌<◌, ℕ, [], List, map, All, length, slice_index_or, subst, sym, arith}
-use Rattle.std.proofs.lemmas.List.{length-map}
-use Rattle.judge.specs.Kept.{HasBits}
-use Rattle.judge.specs.Starts.{is_named}
+use Rattle.judge.proofs.Common.{length-map, HasBits, is_named}
 use Rattle.judge.proofs.Numbers.{set_here}
 use Rattle.judge.proofs.Sets.{RowsHold-more}
 use Rattle.judge.proofs.rows.rows_of.Goals as goal

@@ -1,6 +1,5 @@
 use Rattle.std.proofs.Common.{◌≡◌, ◌<◌, ℕ, [], length, map, slice_index, slice_index_or}
-use Rattle.judge.specs.Kept.{HasBits}
-use Rattle.judge.specs.Starts.{is_named}
+use Rattle.judge.proofs.Common.{HasBits, is_named}
 use Rattle.judge.proofs.rows.rows_of.Given as goal
 
 abbrev pub invariant-loop-names : goal.invariant-loop-names

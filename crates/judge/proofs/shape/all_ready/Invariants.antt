@@ -1,6 +1,5 @@
 use Rattle.std.proofs.Common.{◌≡◌, ◌<◌, ℕ, true, slice_index_or}
-use Rattle.rmecore.specs.AbstractLock.{is_ready}
-use Rattle.judge.specs.Starts.{phase_in}
+use Rattle.judge.proofs.Common.{is_ready, phase_in}
 use Rattle.judge.proofs.shape.all_ready.Given as goal
 
 abbrev pub invariant-loop-name : goal.invariant-loop-name

@@ -1,8 +1,5 @@
 use Rattle.std.proofs.Common.{◌≡◌, ℕ, List, map, true, All, slice_index_or, arith, below_more, subst, sym, refl, []}
-use Rattle.std.proofs.lemmas.List.{length-map}
-use Rattle.std.proofs.lemmas.Bool.{false≢true}
-use Rattle.rmecore.specs.AbstractLock.{is_ready}
-use Rattle.judge.specs.Starts.{phase_in}
+use Rattle.judge.proofs.Common.{false≢true, length-map, is_ready, phase_in}
 use Rattle.judge.proofs.Numbers.{set_here}
 use Rattle.judge.proofs.shape.all_sets_ready.Goals as goal
 

@@ -1,6 +1,5 @@
 use Rattle.std.proofs.Common.{◌<◌, ◌∙◌, ◌+◌, sym, ap, take, arith, refl, length-set}
-use Rattle.std.proofs.lemmas.Bool.{false≢true}
-use Rattle.judge.specs.Starts.{IsNext}
+use Rattle.judge.proofs.Common.{false≢true, IsNext}
 use Rattle.judge.proofs.Numbers.{IfSome-at, Numbered-more, AreNumbered-from, Lists-more}
 use Rattle.judge.proofs.shape.counted.Goals as goal
 

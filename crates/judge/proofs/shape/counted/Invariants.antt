@@ -1,6 +1,5 @@
 use Rattle.std.proofs.Common.{◌≡◌, length, take, count_by}
-use Rattle.redomail.specs.Mailbox.{is_by}
-use Rattle.judge.specs.Kept.{Lists}
+use Rattle.judge.proofs.Common.{is_by, Lists}
 use Rattle.judge.proofs.Numbers.{Numbered}
 use Rattle.judge.proofs.shape.counted.Given as goal
 

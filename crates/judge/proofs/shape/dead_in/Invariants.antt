@@ -1,5 +1,5 @@
 use Rattle.std.proofs.Common.{◌≡◌, take, count_by}
-use Rattle.rmecore.specs.AbstractLock.{is_dead_in}
+use Rattle.judge.proofs.Common.{is_dead_in}
 use Rattle.judge.proofs.shape.dead_in.Given as goal
 
 abbrev pub invariant-loop-phase : goal.invariant-loop-phase

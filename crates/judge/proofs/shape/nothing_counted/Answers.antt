@@ -1,5 +1,5 @@
 use Rattle.std.proofs.Common.{ℕ}
-use Rattle.std.proofs.lemmas.List.{get_or-replicate}
+use Rattle.judge.proofs.Common.{get_or-replicate}
 use Rattle.judge.proofs.shape.nothing_counted.Goals as goal
 
 pub returns-clause-none : goal.returns-clause-none

@@ -1,6 +1,6 @@
 use Rattle.std.proofs.Common.{◌≡◌}
+use Rattle.redomail.proofs.Common.{left}
 use Rattle.redomail.specs.Cells.{steps_left}
-use Rattle.redomail.specs.Left.{left}
 use Rattle.redomail.proofs.OnWay.{IsReached}
 use Rattle.redomail.proofs.cells.run_task.Given as goal
 

@@ -1,7 +1,5 @@
 use Rattle.std.proofs.Common.{◌≡◌, ◌+◌, refl, ap, arith}
-use Rattle.std.proofs.lemmas.Bool.{false≢true}
-use Rattle.redomail.specs.Layout.{words_of, place_at}
-use Rattle.redomail.specs.Shape.{entries, count_of}
+use Rattle.redomail.proofs.Common.{false≢true, words_of, place_at, entries, count_of}
 use Rattle.redomail.proofs.Readings.{one_more}
 use Rattle.redomail.proofs.contents.count_entries.Goals as goal
 

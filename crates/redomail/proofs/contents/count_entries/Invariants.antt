@@ -1,6 +1,4 @@
-use Rattle.redomail.specs.Layout.{words_of}
-use Rattle.redomail.specs.Shape.{IsNumbered}
-use Rattle.redomail.specs.Content.{AreCounts}
+use Rattle.redomail.proofs.Common.{AreCounts, words_of, IsNumbered}
 use Rattle.redomail.proofs.contents.count_entries.Given as goal
 
 abbrev pub invariant-loop-a : goal.invariant-loop-a

@@ -1,6 +1,5 @@
 use Rattle.std.proofs.Common.{◌≡◌}
-use Rattle.redomail.specs.Layout.{words_of}
-use Rattle.redomail.specs.Shape.{entries}
+use Rattle.redomail.proofs.Common.{words_of, entries}
 use Rattle.redomail.proofs.contents.shown.Given as goal
 
 abbrev pub invariant-loop-a : goal.invariant-loop-a

@@ -1,7 +1,6 @@
 use Rattle.std.proofs.Common.{◌≡◌, ℕ, ◌+◌, true, List, length, take, slice_set, ap, ◌∙◌, arith, length-take, length-set}
+use Rattle.redomail.proofs.Common.{Done, puts, record_of, redo}
 use Rattle.redomail.specs.declared.reply.Reply.TheVariants.{Mended}
-use Rattle.redomail.specs.Script.{Done, puts}
-use Rattle.redomail.specs.Tasks.{redo, record_of}
 use Rattle.redomail.proofs.Scripts.{read-on, read-end, store-redo}
 use Rattle.redomail.proofs.stage.read_on.Goals as goal
 

@@ -1,4 +1,4 @@
-use Rattle.rmecore.specs.Lawful.{all_dead, start_of}
+use Rattle.rmecore.proofs.Common.{all_dead, start_of}
 use Rattle.rmecore.proofs.Runs.{legal}
 use Rattle.rmecore.proofs.Images.{at_image}
 use Rattle.rmecore.proofs.Bounds.{final_lawful, image_bounded}

@@ -1,5 +1,4 @@
-use Rattle.rmecore.specs.World.{at_rest}
-use Rattle.rmecore.specs.AbstractLock.{nobody}
+use Rattle.rmecore.proofs.Common.{nobody, at_rest}
 use Rattle.rmecore.proofs.Runs.{at_first}
 use Rattle.rmecore.proofs.Bounds.{final_lawful, rest_bounded, rest_rows}
 use Rattle.rmecore.proofs.laws.every_run_ends_lawful.Goals as goal

@@ -1,6 +1,5 @@
+use Rattle.rmecore.proofs.Common.{nobody, at_rest}
 use Rattle.rmecore.proofs.Runs.{legal, at_first}
-use Rattle.rmecore.specs.World.{at_rest}
-use Rattle.rmecore.specs.AbstractLock.{nobody}
 use Rattle.rmecore.proofs.laws.every_run_is_legal.Goals as goal
 
 pub returns : goal.returns

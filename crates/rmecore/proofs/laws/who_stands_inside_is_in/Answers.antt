@@ -1,9 +1,7 @@
+use Rattle.rmecore.proofs.Common.{nobody, all_dead, start_of, at_rest}
 use Rattle.rmecore.proofs.Phases.{tied_after, within}
 use Rattle.rmecore.proofs.Runs.{at_first}
 use Rattle.rmecore.proofs.Images.{at_image}
-use Rattle.rmecore.specs.World.{at_rest}
-use Rattle.rmecore.specs.AbstractLock.{nobody}
-use Rattle.rmecore.specs.Lawful.{all_dead, start_of}
 use Rattle.rmecore.proofs.laws.who_stands_inside_is_in.Goals as goal
 
 pub returns-clause-from_rest : goal.returns-clause-from_rest

@@ -1,8 +1,5 @@
-use Rattle.std.proofs.Common.{◌≡◌, ◌+◌, ◌*◌, ◌<◌, length, sym, ap, ◌∙◌, arith}
-use Rattle.std.proofs.lemmas.Bool.{ltb-true}
-use Rattle.redomail.specs.declared.layout.Layout.{Layout}
-use Rattle.redomail.specs.declared.stage.Stage.TheVariants.{Write}
-use Rattle.redomail.specs.Left.{Pending}
+use Rattle.std.proofs.Common.{◌≡◌, ◌+◌, ◌*◌, ◌<◌, length, sym, ap, ◌∙◌, arith, ltb-true}
+use Rattle.rmeworld.proofs.Common.{Layout, Write, Pending}
 use Rattle.rmeworld.proofs.Storing.{stores_on}
 use Rattle.rmeworld.proofs.errand.goes_on.Goals as goal
 

@@ -1,10 +1,5 @@
 use Rattle.std.proofs.Common.{sym, subst}
-use Rattle.rmecore.specs.AbstractLock.{nobody, Legal}
-use Rattle.rmecore.specs.Lawful.{start_of, IsLawful}
-use Rattle.redomail.specs.Mailbox.{nothing_shown}
-use Rattle.judge.specs.Table.{empty}
-use Rattle.rmeworld.specs.Law.{Sound, EveryStoryIsSound}
-use Rattle.rmeworld.specs.World.{at_first, all_dead}
+use Rattle.rmeworld.proofs.Common.{Legal, nobody, start_of, IsLawful, nothing_shown, empty, Sound, EveryStoryIsSound, at_first, all_dead}
 use Rattle.rmeworld.proofs.LawfulNow.{every_story_leaves_an_image}
 use Rattle.rmeworld.proofs.Projection.{projected}
 use Rattle.rmeworld.proofs.Stories.{sound, legal_by, first, first_posts, state_is, later, later_posts}

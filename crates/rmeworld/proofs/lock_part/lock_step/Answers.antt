@@ -1,8 +1,5 @@
 use Rattle.std.proofs.Common.{ap, ◌∙◌, sym}
-use Rattle.rmecore.specs.Machine.{Standing}
-use Rattle.rmecore.specs.declared.progress.Progress.{Progress}
-use Rattle.rmeworld.specs.Spot.{mended_entered}
-use Rattle.rmeworld.specs.Entered.{is_entry, mended_done, checks_done}
+use Rattle.rmeworld.proofs.Common.{Progress, Standing, is_entry, checks_done, mended_done, mended_entered}
 use Rattle.rmeworld.proofs.Entries.{all_entered}
 use Rattle.rmeworld.proofs.lock_part.lock_step.Goals as goal
 

@@ -1,6 +1,5 @@
 use Rattle.std.proofs.Common.{◌≡◌, ◌<◌, ℕ, vec_len, slice_index_or}
-use Rattle.rmeworld.specs.Stand.{resting}
-use Rattle.rmeworld.specs.WorldState.{absent}
+use Rattle.rmeworld.proofs.Common.{resting, absent}
 use Rattle.rmeworld.proofs.world.all_at_rest.Given as goal
 
 abbrev pub invariant-loop-index : goal.invariant-loop-index

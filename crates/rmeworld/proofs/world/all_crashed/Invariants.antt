@@ -1,6 +1,5 @@
 use Rattle.std.proofs.Common.{◌≡◌, ◌<◌, ℕ, vec_len, slice_index_or}
-use Rattle.rmeworld.specs.Stand.{resting, crashed}
-use Rattle.rmeworld.specs.WorldState.{absent}
+use Rattle.rmeworld.proofs.Common.{resting, crashed, absent}
 use Rattle.rmeworld.proofs.world.all_crashed.Given as goal
 
 abbrev pub invariant-loop-index : goal.invariant-loop-index

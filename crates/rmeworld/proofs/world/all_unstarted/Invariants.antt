@@ -1,5 +1,5 @@
 use Rattle.std.proofs.Common.{◌≡◌, map, take}
-use Rattle.rmecore.specs.Simulated.{fresh}
+use Rattle.rmeworld.proofs.Common.{fresh}
 use Rattle.rmeworld.proofs.world.all_unstarted.Given as goal
 
 abbrev pub invariant-loop-own : goal.invariant-loop-own

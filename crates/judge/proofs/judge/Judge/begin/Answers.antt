@@ -1,6 +1,5 @@
 use Rattle.std.proofs.Common.{◌≡◌, ◌≤◌, ◌∙◌, ap, length, arith, sym, subst}
-use Rattle.judge.specs.Kept.{Lists}
-use Rattle.judge.specs.Stands.{Keeps}
+use Rattle.judge.proofs.Common.{Lists, Keeps}
 use Rattle.judge.proofs.Writes.{Lists-set, HasRows-set}
 use Rattle.judge.proofs.judge.Judge.begin.Goals as goal
 

@@ -1,6 +1,5 @@
-use Rattle.std.proofs.Common.{◌<◌, nat_lt, arith, ap, sym, ◌∙◌}
-use Rattle.std.proofs.lemmas.Bool.{cond-true, lt-ltb}
-use Rattle.redomail.specs.Mailbox.{doer}
+use Rattle.std.proofs.Common.{◌<◌, nat_lt, arith, ap, sym, ◌∙◌, lt-ltb}
+use Rattle.judge.proofs.Common.{cond-true, doer}
 use Rattle.judge.proofs.judge.Judge.fault.Goals as goal
 
 pub returns-in-Commit-clause-fault : goal.returns-in-Commit-clause-fault

@@ -1,4 +1,4 @@
-use Rattle.judge.specs.Table.{after}
+use Rattle.judge.proofs.Common.{after}
 use Rattle.judge.proofs.Histories.{refused, allowed}
 use Rattle.judge.proofs.judge.Judge.feed_from.Goals as goal
 

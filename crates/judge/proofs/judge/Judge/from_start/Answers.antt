@@ -1,9 +1,5 @@
-use Rattle.std.proofs.Common.{◌≡◌, ◌<◌, ◌∙◌, ap, subst, arith, get_or, length, List, ℕ, [], slice_index, slice_index_or, if◌then◌else◌, refl}
-use Rattle.std.proofs.lemmas.List.{length-map, get_or-take}
-use Rattle.std.specs.Int.{bit_at}
-use Rattle.rmecore.specs.declared.phase.Phase.TheVariants.{Out}
-use Rattle.judge.specs.Starts.{state_of, is_named}
-use Rattle.std.proofs.lemmas.List.{get_or_default}
+use Rattle.std.proofs.Common.{◌≡◌, ◌<◌, ◌∙◌, ap, subst, arith, get_or, length, List, ℕ, [], slice_index, slice_index_or, if◌then◌else◌, refl, get_or-take}
+use Rattle.judge.proofs.Common.{length-map, get_or_default, bit_at, Out, is_named, state_of}
 use Rattle.judge.proofs.judge.Judge.from_start.Goals as goal
 
 pub returns-clause-made : goal.returns-clause-made

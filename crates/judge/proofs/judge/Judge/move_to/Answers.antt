@@ -1,5 +1,5 @@
 use Rattle.std.proofs.Common.{◌≤◌, length, arith, sym, subst}
-use Rattle.judge.specs.Stands.{Keeps}
+use Rattle.judge.proofs.Common.{Keeps}
 use Rattle.judge.proofs.Writes.{Lists-set}
 use Rattle.judge.proofs.judge.Judge.move_to.Goals as goal
 

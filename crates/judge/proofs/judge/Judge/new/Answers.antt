@@ -1,5 +1,5 @@
 use Rattle.std.proofs.Common.{refl}
-use Rattle.judge.specs.Table.{empty}
+use Rattle.judge.proofs.Common.{empty}
 use Rattle.judge.proofs.Writes.{Lists-replicate, HasRows-replicate}
 use Rattle.judge.proofs.judge.Judge.new.Goals as goal
 

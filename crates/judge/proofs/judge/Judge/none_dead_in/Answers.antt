@@ -1,6 +1,5 @@
 use Rattle.std.proofs.Common.{not, ◌∙◌, ap, subst}
-use Rattle.rmecore.specs.AbstractLock.{is_dead_in}
-use Rattle.judge.specs.Kept.{IsSound}
+use Rattle.judge.proofs.Common.{is_dead_in, IsSound}
 use Rattle.judge.proofs.Least.{none_below-any}
 use Rattle.judge.proofs.Writes.{phases_kept}
 use Rattle.judge.proofs.judge.Judge.none_dead_in.Goals as goal

@@ -1,6 +1,5 @@
 use Rattle.std.proofs.Common.{◌≡◌, ◌≤◌, ◌∙◌, ap, length, arith, sym, subst}
-use Rattle.judge.specs.Kept.{HasRows}
-use Rattle.judge.specs.Stands.{Keeps}
+use Rattle.judge.proofs.Common.{HasRows, Keeps}
 use Rattle.judge.proofs.Writes.{Lists-set, take-refilled}
 use Rattle.judge.proofs.judge.Judge.pass.Goals as goal
 

@@ -1,6 +1,5 @@
 use Rattle.std.proofs.Common.{◌≤◌, ◌<◌, [], ◌∷◌, length, arith, sym, subst, refl, length-append}
-use Rattle.redomail.specs.Mailbox.{message}
-use Rattle.judge.specs.Stands.{Keeps}
+use Rattle.judge.proofs.Common.{message, Keeps}
 use Rattle.judge.proofs.Counts.{Lists-counted}
 use Rattle.judge.proofs.judge.Judge.show.Goals as goal
 

@@ -1,7 +1,5 @@
 use Rattle.std.proofs.Common.{subst, sym}
-use Rattle.redomail.specs.Jobs.{left_at}
-use Rattle.redomail.specs.Left.{left}
-use Rattle.redomail.specs.Runs.{StepKept}
+use Rattle.redomail.proofs.Common.{left_at, left, StepKept}
 use Rattle.redomail.proofs.Keeps.{step_kept}
 use Rattle.redomail.proofs.job.Job.feed.Goals as goal
 

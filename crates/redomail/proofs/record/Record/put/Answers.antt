@@ -1,5 +1,5 @@
 use Rattle.std.proofs.Common.{◌≡◌, ℕ, ◌+◌, ◌-◌, arith}
-use Rattle.redomail.specs.Layout.{held}
+use Rattle.redomail.proofs.Common.{held}
 use Rattle.redomail.proofs.Scripts.{step-record, step-commit, step-entry, step-last, step-count, step-disarm}
 use Rattle.redomail.proofs.record.Record.put.Goals as goal
 

@@ -1,6 +1,5 @@
 use Rattle.std.proofs.Common.{◌≡◌, Option, Some, None, IfSome, subst}
-use Rattle.rmecore.specs.Machine.{Standing, next_access, word_of, InLock, IsAllowed, IsLeast, StoresOwn}
-use Rattle.rmecore.specs.declared.access.Access.{Access}
+use Rattle.rmecore.proofs.Common.{Access, word_of, Standing, next_access, InLock, IsLeast, IsAllowed, StoresOwn}
 use Rattle.rmecore.specs.declared.scan.Scan.{Scan}
 use Rattle.rmecore.proofs.Accesses.{orderly, all_allowed, all_least, within, stores_own}
 use Rattle.rmecore.proofs.process.LockProcess.scan.Goals as goal

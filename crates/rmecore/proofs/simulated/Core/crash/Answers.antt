@@ -1,6 +1,5 @@
 use Rattle.std.proofs.Common.{sym, ap, subst}
-use Rattle.rmecore.specs.Machine.{Standing}
-use Rattle.rmecore.specs.Simulated.{HasSeat}
+use Rattle.rmecore.proofs.Common.{Standing, HasSeat}
 use Rattle.rmecore.proofs.CoreSteps.{seat_here, seated_process, crash_takes, reached_more}
 use Rattle.rmecore.proofs.CoreTallies.{tallied_crash}
 use Rattle.rmecore.proofs.simulated.Core.crash.Goals as goal

@@ -1,6 +1,6 @@
 use Rattle.std.proofs.Common.{◌≡◌, length, replicate, rules, arith}
+use Rattle.rmecore.proofs.Common.{zeros, fresh}
 use Rattle.std.proofs.lemmas.Grind.{common_steps}
-use Rattle.rmecore.specs.Simulated.{zeros, fresh}
 use Rattle.rmecore.proofs.CoreSteps.{reached_first, first_words, first_places, first_seated}
 use Rattle.rmecore.proofs.CoreTallies.{tallied_first}
 use Rattle.rmecore.proofs.simulated.Core.new.Goals as goal

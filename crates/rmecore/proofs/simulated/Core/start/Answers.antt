@@ -1,5 +1,5 @@
 use Rattle.std.proofs.Common.{sym, subst}
-use Rattle.rmecore.specs.Simulated.{HasSeat}
+use Rattle.rmecore.proofs.Common.{HasSeat}
 use Rattle.rmecore.proofs.CoreSteps.{found_here, seat_here, seated_set, starts_takes, reached_more}
 use Rattle.rmecore.proofs.CoreTallies.{tallied_start, own_here}
 use Rattle.rmecore.proofs.simulated.Core.start.Goals as goal

@@ -1,7 +1,5 @@
 use Rattle.std.proofs.Common.{◌≡◌, ◌++◌, length, take, drop, sym, ap, ◌∙◌, subst}
-use Rattle.rmecore.specs.World.{read}
-use Rattle.rmecore.specs.Machine.{InLock, carried, kind_of, word_of, performed, is_blocked}
-use Rattle.rmecore.specs.Simulated.{own_at, place_at, tally_at, counted, HasSeat}
+use Rattle.rmecore.proofs.Common.{kind_of, word_of, carried, InLock, performed, is_blocked, own_at, place_at, HasSeat, tally_at, counted, read}
 use Rattle.rmecore.proofs.CoreSteps.{refill, Moves, takes, seated_set, found_here, seat_here, least_here, reached_more}
 use Rattle.rmecore.proofs.CoreTallies.{tallied_step, answered_step, no_glance, counted_here, done_here}
 use Rattle.rmecore.proofs.simulated.Core.step.Goals as goal

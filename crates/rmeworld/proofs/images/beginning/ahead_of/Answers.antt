@@ -1,6 +1,5 @@
 use Rattle.std.proofs.Common.{sym, ap, subst, ◌∙◌}
-use Rattle.rmecore.specs.Lawful.{start_of}
-use Rattle.rmecore.specs.Simulated.{own_at}
+use Rattle.rmeworld.proofs.Common.{start_of, own_at}
 use Rattle.rmeworld.proofs.ImageStarts.{NamesBelow, one_named, none_named}
 use Rattle.rmeworld.proofs.images.beginning.ahead_of.Goals.{then-is_ahead+in_ok-push, else-is_ahead}
 use Rattle.rmeworld.proofs.images.beginning.ahead_of.Goals as goal

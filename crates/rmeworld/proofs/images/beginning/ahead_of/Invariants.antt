@@ -1,5 +1,4 @@
-use Rattle.rmecore.specs.Lawful.{start_of}
-use Rattle.rmecore.specs.Simulated.{own_at}
+use Rattle.rmeworld.proofs.Common.{start_of, own_at}
 use Rattle.rmeworld.proofs.ImageStarts.{NamesBelow}
 use Rattle.rmeworld.proofs.images.beginning.ahead_of.Given as goal
 

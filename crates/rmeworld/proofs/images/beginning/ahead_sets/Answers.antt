@@ -1,6 +1,5 @@
 use Rattle.std.proofs.Common.{arith}
-use Rattle.rmecore.specs.Lawful.{start_of}
-use Rattle.rmecore.specs.Simulated.{own_at}
+use Rattle.rmeworld.proofs.Common.{start_of, own_at}
 use Rattle.rmeworld.proofs.ImageStarts.{one_set}
 use Rattle.rmeworld.proofs.images.beginning.ahead_sets.Goals as goal
 

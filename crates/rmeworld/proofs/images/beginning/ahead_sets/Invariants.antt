@@ -1,7 +1,5 @@
 use Rattle.std.proofs.Common.{◌≡◌, ℕ, ◌<◌, [], length, map, slice_index_or}
-use Rattle.rmecore.specs.Lawful.{start_of}
-use Rattle.rmecore.specs.Simulated.{own_at}
-use Rattle.judge.specs.Starts.{is_named}
+use Rattle.rmeworld.proofs.Common.{start_of, own_at, is_named}
 use Rattle.rmeworld.proofs.images.beginning.ahead_sets.Given as goal
 
 abbrev pub invariant-loop-p : goal.invariant-loop-p

@@ -1,6 +1,5 @@
 use Rattle.std.proofs.Common.{arith}
-use Rattle.redomail.proofs.Words.{place_low}
-use Rattle.rmeworld.specs.ImageRules.{layout_of}
+use Rattle.rmeworld.proofs.Common.{place_low, layout_of}
 use Rattle.rmeworld.proofs.images.beginning.pending.Goals as goal
 
 pub value_at-requires-clause-within : goal.value_at-requires-clause-within

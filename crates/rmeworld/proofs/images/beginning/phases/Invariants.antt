@@ -1,5 +1,5 @@
 use Rattle.std.proofs.Common.{◌≡◌, map, take}
-use Rattle.rmecore.specs.Lawful.{phase_by}
+use Rattle.rmeworld.proofs.Common.{phase_by}
 use Rattle.rmeworld.proofs.images.beginning.phases.Given as goal
 
 abbrev pub invariant-loop-own : goal.invariant-loop-own

@@ -1,4 +1,4 @@
-use Rattle.redomail.specs.Content.{IsContent}
+use Rattle.rmeworld.proofs.Common.{IsContent}
 use Rattle.rmeworld.proofs.ImageStarts.{only_memory, lawful_content}
 use Rattle.rmeworld.proofs.images.beginning.shown.Goals as goal
 

@@ -1,8 +1,5 @@
 use Rattle.std.proofs.Common.{rules}
-use Rattle.std.proofs.lemmas.Result.{IfOk-weaker}
-use Rattle.judge.specs.Starts.{IsStart}
-use Rattle.rmeworld.specs.ImageRules.{IsLawfulImage}
-use Rattle.rmeworld.specs.ImageStart.{IsStartOf}
+use Rattle.rmeworld.proofs.Common.{IfOk-weaker, IsStart, IsLawfulImage, IsStartOf}
 use Rattle.rmeworld.proofs.ImageJudged.{is_start}
 use Rattle.rmeworld.proofs.images.beginning.start_of.Goals as goal
 

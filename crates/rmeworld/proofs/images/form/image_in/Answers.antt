@@ -1,7 +1,6 @@
 use Rattle.std.proofs.Common.{◌∙◌, sym, inr}
-use Rattle.std.proofs.lemmas.Result.{err_from_is_err_and}
+use Rattle.rmeworld.proofs.Common.{err_from_is_err_and, width_member}
 use Rattle.serde_json.proofs.Views.{view-Object}
-use Rattle.rmeworld.specs.ImageText.{width_member}
 use Rattle.rmeworld.proofs.ImageForms.{behind_four}
 use Rattle.rmeworld.proofs.images.form.image_in.Goals as goal
 

@@ -1,5 +1,5 @@
 use Rattle.std.proofs.Common.{refl}
-use Rattle.std.proofs.lemmas.Result.{err_from_is_err_and}
+use Rattle.rmeworld.proofs.Common.{err_from_is_err_and}
 use Rattle.rmeworld.proofs.ImageForms.{no_width, more_than_width}
 use Rattle.rmeworld.proofs.images.form.last_width.Goals as goal
 

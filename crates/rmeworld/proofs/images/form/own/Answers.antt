@@ -1,6 +1,5 @@
 use Rattle.std.proofs.Common.{[], ◌∷◌, refl, arith}
-use Rattle.std.proofs.lemmas.Result.{err_from_is_err_and}
-use Rattle.rmeworld.specs.ImageText.{whole_data}
+use Rattle.rmeworld.proofs.Common.{err_from_is_err_and, whole_data}
 use Rattle.rmeworld.proofs.ImageForms.{not_all, not_many}
 use Rattle.rmeworld.proofs.images.form.own.Goals as goal
 

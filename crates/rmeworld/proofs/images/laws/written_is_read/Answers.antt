@@ -1,7 +1,5 @@
 use Rattle.std.proofs.Common.{◌≡◌, true, sym, subst}
-use Rattle.std.proofs.lemmas.Result.{IfOk-weaker, IfErr-weaker}
-use Rattle.rmecore.specs.declared.refusal.Refusal.TheVariants.{OutOfMemory}
-use Rattle.rmeworld.specs.ImageText.{Spells, IsUnread}
+use Rattle.rmeworld.proofs.Common.{IfOk-weaker, IfErr-weaker, OutOfMemory, Spells, IsUnread}
 use Rattle.rmeworld.proofs.ImageSpelt.{one_image, only_unread}
 use Rattle.rmeworld.proofs.images.laws.written_is_read.Goals as goal
 

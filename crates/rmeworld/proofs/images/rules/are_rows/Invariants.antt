@@ -1,6 +1,5 @@
 use Rattle.std.proofs.Common.{ℕ, ◌<◌}
-use Rattle.rmecore.specs.Lawful.{IsRow}
-use Rattle.rmecore.specs.Simulated.{own_at}
+use Rattle.rmeworld.proofs.Common.{IsRow, own_at}
 use Rattle.rmeworld.proofs.images.rules.are_rows.Given as goal
 
 abbrev pub invariant-loop-own : goal.invariant-loop-own

@@ -1,5 +1,5 @@
 use Rattle.std.proofs.Common.{ℕ, ◌<◌}
-use Rattle.rmecore.specs.Simulated.{own_at}
+use Rattle.rmeworld.proofs.Common.{own_at}
 use Rattle.rmeworld.proofs.images.rules.find_in.Given as goal
 
 abbrev pub invariant-loop-p : goal.invariant-loop-p

@@ -1,6 +1,5 @@
 use Rattle.std.proofs.Common.{◌≡◌, ◌≢◌, ℕ, ◌<◌, true}
-use Rattle.rmecore.specs.Place.{is_before}
-use Rattle.rmecore.specs.Simulated.{own_at}
+use Rattle.rmeworld.proofs.Common.{is_before, own_at}
 use Rattle.rmeworld.proofs.images.rules.has_least.Given as goal
 
 abbrev pub invariant-loop-q : goal.invariant-loop-q

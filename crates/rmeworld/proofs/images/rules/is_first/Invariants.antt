@@ -1,6 +1,5 @@
 use Rattle.std.proofs.Common.{◌≡◌, ◌≢◌, ℕ, ◌<◌, true, length}
-use Rattle.rmecore.specs.Place.{is_before}
-use Rattle.rmecore.specs.Simulated.{own_at}
+use Rattle.rmeworld.proofs.Common.{is_before, own_at}
 use Rattle.rmeworld.proofs.images.rules.is_first.Given as goal
 
 abbrev pub invariant-loop-p : goal.invariant-loop-p

@@ -1,5 +1,5 @@
 use Rattle.std.proofs.Common.{arith}
-use Rattle.std.proofs.lemmas.Bool.{false≢true}
+use Rattle.rmeworld.proofs.Common.{false≢true}
 use Rattle.rmeworld.proofs.ImageRules.{unnumbered, by_inside, is_recorded_by}
 use Rattle.rmeworld.proofs.images.rules.is_recorded.Goals as goal
 

@@ -1,5 +1,5 @@
 use Rattle.std.proofs.Common.{◌≡◌}
-use Rattle.rmeworld.specs.WideWords.{wide_words}
+use Rattle.rmeworld.proofs.Common.{wide_words}
 use Rattle.rmeworld.proofs.images.widening.wide_cells.Given as goal
 
 abbrev pub invariant-loop-a : goal.invariant-loop-a

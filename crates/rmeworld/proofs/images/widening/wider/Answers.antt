@@ -1,7 +1,5 @@
 use Rattle.std.proofs.Common.{ap, ◌∙◌, arith}
-use Rattle.rmeworld.specs.ImageRules.{layout_of}
-use Rattle.rmeworld.specs.ImageWiden.{IsWider}
-use Rattle.rmeworld.specs.WideWords.{wide_words}
+use Rattle.rmeworld.proofs.Common.{layout_of, IsWider, wide_words}
 use Rattle.rmeworld.proofs.ImageWidens.{wider_is_lawful}
 use Rattle.rmeworld.proofs.WideWords.{long, wider_by}
 use Rattle.rmeworld.proofs.images.widening.wider.Goals as goal

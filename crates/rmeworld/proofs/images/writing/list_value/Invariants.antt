@@ -1,6 +1,5 @@
 use Rattle.std.proofs.Common.{◌≡◌, map, take}
-use Rattle.rmeworld.specs.ImageText.{whole_data}
-use Rattle.serde_json.specs.View.{view}
+use Rattle.rmeworld.proofs.Common.{view, whole_data}
 use Rattle.rmeworld.proofs.images.writing.list_value.Given as goal
 
 abbrev pub invariant-loop-number : goal.invariant-loop-number

@@ -1,6 +1,5 @@
 use Rattle.std.proofs.Common.{◌≡◌, map, take}
-use Rattle.rmeworld.specs.ImageText.{own_data}
-use Rattle.serde_json.specs.View.{view}
+use Rattle.rmeworld.proofs.Common.{view, own_data}
 use Rattle.rmeworld.proofs.images.writing.lock_value.Given as goal
 
 abbrev pub invariant-loop-own : goal.invariant-loop-own

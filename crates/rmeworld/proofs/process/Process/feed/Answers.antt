@@ -1,8 +1,5 @@
 use Rattle.std.proofs.Common.{◌≡◌, sym, ap, ◌∙◌}
-use Rattle.rmecore.specs.Machine.{next_access as lock_access, progress}
-use Rattle.rmeworld.specs.declared.errand.Errand.TheVariants.{Free}
-use Rattle.rmeworld.specs.Answered.{by_lock}
-use Rattle.rmeworld.specs.Stand.{Stand, standing, next_access, outcome}
+use Rattle.rmeworld.proofs.Common.{progress, lock_access, IsFree as Free, by_lock, Stand, standing, outcome, next_access}
 use Rattle.rmeworld.proofs.Chores.{with, lock_outcome}
 use Rattle.rmeworld.proofs.process.Process.feed.Goals as goal
 

@@ -1,8 +1,7 @@
-use Rattle.std.proofs.Common.{sym, ap, ◌∙◌, false}
-use Rattle.rmeworld.specs.Stand.{Stand, spot_of}
-use Rattle.rmeworld.proofs.process.Process.feed_quietly.Goals as goal
-use Rattle.std.proofs.Common.{refl}
+use Rattle.std.proofs.Common.{sym, ap, ◌∙◌, refl, false}
+use Rattle.rmeworld.proofs.Common.{Stand, spot_of}
 use Rattle.rmeworld.proofs.Chores.{part_moved, part_goes}
+use Rattle.rmeworld.proofs.process.Process.feed_quietly.Goals as goal
 
 pub returns-in-Free-clause-exact : goal.returns-in-Free-clause-exact
 returns-in-Free-clause-exact c = λ some.

@@ -1,8 +1,7 @@
-use Rattle.std.proofs.Common.{ap, ◌∙◌}
-use Rattle.rmeworld.specs.Stand.{spot_of}
-use Rattle.rmeworld.proofs.process.Process.move_on.Goals as goal
-use Rattle.std.proofs.Common.{refl}
+use Rattle.std.proofs.Common.{refl, ap, ◌∙◌}
+use Rattle.rmeworld.proofs.Common.{spot_of}
 use Rattle.rmeworld.proofs.Chores.{part_allowed, part_progress, part_moved, part_goes}
+use Rattle.rmeworld.proofs.process.Process.move_on.Goals as goal
 
 pub returns-clause-allowed : goal.returns-clause-allowed
 returns-clause-allowed c = part_allowed c.self.view_is c.self.inside.lock c.self.invariant.procs refl c.self.invariant.index refl c.requires c.args.value c.lock_step-mended.ensures.allowed

@@ -1,4 +1,4 @@
-use Rattle.rmeworld.specs.Errands.{errand_of}
+use Rattle.rmeworld.proofs.Common.{errand_of}
 use Rattle.rmeworld.proofs.Chores.{refuses, always_err}
 use Rattle.rmeworld.proofs.process.Process.start.Goals as goal
 

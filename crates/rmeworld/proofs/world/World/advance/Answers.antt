@@ -1,15 +1,6 @@
 use Rattle.std.proofs.Common.{◌≡◌, ◌++◌, length, take, drop, slice_index_or, slice_set, Some, sym, ap, ◌∙◌, subst}
-use Rattle.rmecore.specs.Machine.{kind_of, word_of, carried}
-use Rattle.rmecore.specs.Simulated.{counted, tally_at}
-use Rattle.rmecore.specs.declared.access.Access.{Access}
-use Rattle.rmecore.proofs.CoreSteps.{refill}
-use Rattle.redomail.specs.Layout.{words_of}
-use Rattle.rmeworld.specs.Replayed.{happening, words_by, cells_by, list_of, the_deed, or_else, mail_by, prospect_of}
-use Rattle.rmeworld.specs.Reached.{IsWorld}
-use Rattle.rmeworld.specs.Stand.{spot_of, outcome, next_access, spot_after, stepped as stand_stepped}
-use Rattle.rmeworld.specs.World.{reading, event_deeds}
-use Rattle.rmeworld.specs.WorldState.{WorldState, stand_at, scene_of}
-use Rattle.rmeworld.specs.Advancing.{Advances}
+use Rattle.rmeworld.proofs.Common.{Access, kind_of, word_of, carried, tally_at, counted, refill, words_of, Advances, IsWorld, happening, or_else, mail_by, words_by, cells_by, the_deed, list_of}
+use Rattle.rmeworld.proofs.Common.{prospect_of, outcome, spot_of, stepped as stand_stepped, next_access, spot_after, reading, event_deeds, WorldState, stand_at, scene_of}
 use Rattle.rmeworld.proofs.Advancing.{advances}
 use Rattle.rmeworld.proofs.Worlds.{found, tally_found, Made, made_is, deeds_are, the_one, world_step}
 use Rattle.rmeworld.proofs.WorldSteps.{IsStep}

@@ -1,9 +1,6 @@
 use Rattle.std.proofs.Common.{◌≡◌, ◌∷◌, [], ◌++◌, slice_index_or, slice_set, ◌<◌, sym, ap, ◌∙◌, subst}
-use Rattle.rmeworld.specs.Replayed.{crashed, crash_deed}
-use Rattle.rmeworld.specs.Reached.{IsWorld}
-use Rattle.rmeworld.specs.Spot.{Falls}
-use Rattle.rmeworld.specs.Stand.{crashed as stand_crashed}
-use Rattle.rmeworld.specs.WorldState.{WorldState, stand_at, Takes}
+use Rattle.rmeworld.proofs.Common.{IsWorld, crash_deed, Falls, crashed as stand_crashed, WorldState, stand_at, Takes}
+use Rattle.rmeworld.specs.Replayed.{crashed}
 use Rattle.rmeworld.proofs.Worlds.{found, world_crash}
 use Rattle.rmeworld.proofs.WorldSteps.{crash_takes}
 use Rattle.rmeworld.proofs.world.World.crash.Goals as goal

@@ -1,5 +1,5 @@
 use Rattle.std.proofs.Common.{subst}
-use Rattle.rmeworld.specs.Reached.{IsLegalHistory}
+use Rattle.rmeworld.proofs.Common.{IsLegalHistory}
 use Rattle.rmeworld.proofs.LawfulNow.{history_is_legal}
 use Rattle.rmeworld.proofs.world.World.history.Goals as goal
 

@@ -1,5 +1,5 @@
 use Rattle.std.proofs.Common.{◌≡◌, sym, subst, rules}
-use Rattle.rmeworld.specs.ImageRules.{IsLawfulImage}
+use Rattle.rmeworld.proofs.Common.{IsLawfulImage}
 use Rattle.rmeworld.proofs.LawfulNow.{image_is_lawful}
 use Rattle.rmeworld.proofs.world.World.image.Goals as goal
 

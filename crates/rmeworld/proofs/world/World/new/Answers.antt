@@ -1,11 +1,5 @@
 use Rattle.std.proofs.Common.{◌≡◌, ◌+◌, ◌<◌, ◌≤◌, ◌^◌, replicate, sym, ap, ◌∙◌, subst, rules, arith}
-use Rattle.std.proofs.lemmas.Grind.{common_steps}
-use Rattle.rmecore.specs.Simulated.{zeros, fresh}
-use Rattle.redomail.specs.declared.layout.Layout.{Layout}
-use Rattle.redomail.specs.Layout.{size}
-use Rattle.rmeworld.specs.Reached.{IsWorld}
-use Rattle.rmeworld.specs.Stand.{IsSize, resting}
-use Rattle.rmeworld.specs.WorldState.{at_rest_from, new_world}
+use Rattle.rmeworld.proofs.Common.{common_steps, zeros, fresh, Layout, size, IsWorld, IsSize, resting, new_world, at_rest_from}
 use Rattle.rmeworld.proofs.Worlds.{rest_is, world_new, size_held}
 use Rattle.rmeworld.proofs.world.World.new.Goals as goal
 

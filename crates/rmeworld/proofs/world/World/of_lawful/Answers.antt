@@ -1,11 +1,5 @@
 use Rattle.std.proofs.Common.{◌≡◌, ◌+◌, ◌<◌, ℕ, length, map, sym, ap, ◌∙◌, subst, arith}
-use Rattle.std.proofs.lemmas.Grind.{common_steps}
-use Rattle.rmecore.specs.Simulated.{fresh}
-use Rattle.redomail.specs.declared.layout.Layout.{Layout}
-use Rattle.rmeworld.specs.ImageRules.{layout_of}
-use Rattle.rmeworld.specs.Reached.{IsWorld}
-use Rattle.rmeworld.specs.Stand.{resting, crashed}
-use Rattle.rmeworld.specs.WorldState.{WorldState, stand_at, image_world}
+use Rattle.rmeworld.proofs.Common.{common_steps, fresh, Layout, layout_of, IsWorld, resting, crashed, WorldState, stand_at, image_world}
 use Rattle.rmeworld.proofs.FromImages.{crashed_is, image_world_is}
 use Rattle.rmeworld.proofs.world.World.of_lawful.Goals as goal
 

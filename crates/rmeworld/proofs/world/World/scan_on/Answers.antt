@@ -1,15 +1,7 @@
-use Rattle.std.proofs.Common.{◌≡◌, ◌++◌, [], List, slice_index_or, slice_set, Some, sym, ap, ◌∙◌, subst}
-use Rattle.std.proofs.lemmas.List.{append-nil}
-use Rattle.rmecore.specs.Machine.{word_of}
-use Rattle.rmecore.specs.Simulated.{own_at, counted, tally_at}
-use Rattle.rmecore.specs.declared.access.Access.{Access}
-use Rattle.redomail.specs.Layout.{words_of}
-use Rattle.redomail.specs.declared.deed.Deed.{Deed}
-use Rattle.rmeworld.specs.Replayed.{happening, stepped, stepped_if, quiet_step}
-use Rattle.rmeworld.specs.Reached.{IsWorld}
-use Rattle.rmeworld.specs.Stand.{spot_of, outcome, next_access, spot_after, stepped as stand_stepped}
-use Rattle.rmeworld.specs.World.{reading, reading_of, event_deeds}
-use Rattle.rmeworld.specs.WorldState.{WorldState, stand_at, scene_of}
+use Rattle.std.proofs.Common.{◌≡◌, ◌++◌, [], List, slice_index_or, slice_set, Some, sym, ap, ◌∙◌, subst, append-nil}
+use Rattle.rmeworld.proofs.Common.{Access, word_of, tally_at, own_at, counted, Deed, words_of, IsWorld, happening, stepped_if, quiet_step, outcome, spot_of, stepped as stand_stepped, next_access}
+use Rattle.rmeworld.proofs.Common.{spot_after, reading, event_deeds, reading_of, WorldState, stand_at, scene_of}
+use Rattle.rmeworld.specs.Replayed.{stepped}
 use Rattle.rmeworld.proofs.Advancing.{advances, scan_is_quiet, scan_tells, load_leaves}
 use Rattle.rmeworld.proofs.Worlds.{found, tally_found, Made, made_is, deeds_are, world_step}
 use Rattle.rmeworld.proofs.WorldSteps.{IsStep}

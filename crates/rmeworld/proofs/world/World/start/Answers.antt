@@ -1,10 +1,5 @@
 use Rattle.std.proofs.Common.{◌≡◌, ◌<◌, slice_index_or, slice_set, Some, sym, ap, ◌∙◌, subst}
-use Rattle.rmecore.specs.Simulated.{own_at, fresh}
-use Rattle.rmeworld.specs.Replayed.{started}
-use Rattle.rmeworld.specs.Reached.{IsWorld}
-use Rattle.rmeworld.specs.Spot.{Begins, next_spot}
-use Rattle.rmeworld.specs.Stand.{spot_of, started as stand_started}
-use Rattle.rmeworld.specs.WorldState.{WorldState, stand_at, spot_at, Takes}
+use Rattle.rmeworld.proofs.Common.{own_at, fresh, IsWorld, started, Begins, next_spot, spot_of, stand_started, WorldState, stand_at, spot_at, Takes}
 use Rattle.rmeworld.proofs.Worlds.{found, own_found, world_start}
 use Rattle.rmeworld.proofs.WorldSteps.{start_takes}
 use Rattle.rmeworld.proofs.world.World.start.Goals as goal

@@ -1,19 +1,7 @@
-use Rattle.std.proofs.Common.{◌≡◌, ◌++◌, [], List, length, take, drop, slice_index_or, slice_set, Some, refl, sym, ap, ◌∙◌, subst}
-use Rattle.std.proofs.lemmas.List.{append-nil}
-use Rattle.rmecore.specs.Machine.{word_of}
-use Rattle.rmecore.specs.Simulated.{counted, tally_at}
-use Rattle.rmecore.specs.declared.access.Access.{Access}
-use Rattle.rmecore.proofs.CoreSteps.{refill}
-use Rattle.redomail.specs.Layout.{words_of}
-use Rattle.redomail.specs.declared.deed.Deed.{Deed}
+use Rattle.std.proofs.Common.{◌≡◌, ◌++◌, [], List, length, take, drop, slice_index_or, slice_set, Some, refl, sym, ap, ◌∙◌, subst, append-nil}
+use Rattle.rmeworld.proofs.Common.{Access, word_of, tally_at, counted, refill, Deed, words_of, Stepped, unheard, IsWorld, happening, words_by, cells_by, the_deed, stepped_if, advanced_if, prospect_of}
+use Rattle.rmeworld.proofs.Common.{outcome, spot_of, stepped as stand_stepped, next_access, spot_after, reading, event_deeds, WorldState, stand_at, scene_of}
 use Rattle.rmeworld.specs.declared.outcome.Outcome.{Outcome}
-use Rattle.rmeworld.specs.declared.stepped.Stepped.{Stepped}
-use Rattle.rmeworld.specs.Advancing.{unheard}
-use Rattle.rmeworld.specs.Replayed.{happening, words_by, cells_by, the_deed, prospect_of, stepped_if, advanced_if}
-use Rattle.rmeworld.specs.Reached.{IsWorld}
-use Rattle.rmeworld.specs.Stand.{spot_of, outcome, next_access, spot_after, stepped as stand_stepped}
-use Rattle.rmeworld.specs.World.{reading, event_deeds}
-use Rattle.rmeworld.specs.WorldState.{WorldState, stand_at, scene_of}
 use Rattle.rmeworld.proofs.Worlds.{found, tally_found, Made, made_is, deeds_are, world_step}
 use Rattle.rmeworld.proofs.WorldSteps.{IsStep}
 use Rattle.rmeworld.proofs.world.World.step_unheard.Goals as goal

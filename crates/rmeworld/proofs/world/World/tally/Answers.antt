@@ -1,6 +1,5 @@
 use Rattle.std.proofs.Common.{subst}
-use Rattle.rmeworld.specs.Reached.{IsWorld}
-use Rattle.rmeworld.specs.WorldState.{scene_of}
+use Rattle.rmeworld.proofs.Common.{IsWorld, scene_of}
 use Rattle.rmeworld.proofs.WorldTallies.{takes_fewer}
 use Rattle.rmeworld.proofs.world.World.tally.Goals as goal
 

@@ -7,7 +7,7 @@ use Rattle.judge.specs.Kept.{Kept}
 use Rattle.schedule.specs.declared.fault.LineFault.{LineFault}
 use Rattle.schedule.specs.declared.hearing.Hearing.{Hearing}
 use Rattle.schedule.specs.declared.replay_fault.ReplayFault.{ReplayFault}
-use Rattle.schedule.specs.declared.replay_fault.ReplayFault.TheVariants.{Text, Refused, Read, Write, OutOfMemory}
+use Rattle.schedule.specs.declared.replay_fault.ReplayFault.TheVariants.{Text, Read, OutOfMemory}
 use Rattle.schedule.specs.declared.verdict.Verdict.{Verdict}
 use Rattle.schedule.specs.declared.stage.Stage.{Stage}
 use Rattle.schedule.specs.declared.stage.Stage.TheVariants as stages
@@ -70,12 +70,9 @@ answer_is (Err fault) = λ h. h
 pub judges : (old new text : List ℕ) (before now : ℕ) (ended : Bool) (answer : Result Verdict ReplayFault) → new ≡ old ++ text → ended ≡ true → now ≡ before
     → answer ≡ trace_answer (parts_of text) → of_text answer → JudgesTrace old new before now ended answer
 unfolding of_text IsOfDevice
-judges old new text before now ended (Ok verdict) given told fine e is = ((text, given, told, e), fine)
-judges old new text before now ended (Err (Text k n)) given told fine e is = ((text, given, told, e), fine)
-judges old new text before now ended (Err (Refused k n)) given told fine e is = ((text, given, told, e), fine)
-judges old new text before now ended (Err Write) given told fine e is = ((text, given, told, e), fine)
 judges old new text before now ended (Err Read) given told fine e is = absurd (is tt)
 judges old new text before now ended (Err OutOfMemory) given told fine e is = absurd (is tt)
+judges old new text before now ended _ given told fine e is = ((text, given, told, e), fine)
 
 pub is_of_text : (parts : List (List ℕ)) (answer : Result Verdict ReplayFault) → answer ≡ trace_answer parts → of_text answer
 is_of_text parts answer e = subst of_text (sym e) (answer_is (text_at trace_head_at item parts))

@@ -1,10 +1,8 @@
 -- The end of a report, and the whole.
-use Rattle.std.proofs.Common.{◌≡◌, ℕ, ◌+◌, ◌-◌, ◌^◌, min, List, [], ◌++◌, Option, Some, None, Result, Ok, Err, OnOk, IfErr, refl, sym, ap, subst, ◌∙◌, append_assoc, ◌⊎◌, inl, inr}
+use Rattle.std.proofs.Common.{◌≡◌, ℕ, ◌+◌, ◌-◌, ◌^◌, min, List, [], ◌++◌, Option, Some, None, Err, refl, sym, ap, subst, ◌∙◌, append_assoc, ◌⊎◌, inl, inr}
 use Rattle.std.proofs.lemmas.List.{append-nil}
 use Rattle.rmecore.specs.declared.refusal.Refusal.{Refusal}
-use Rattle.redomail.specs.declared.layout.Layout.{Layout}
 use Rattle.rmeworld.specs.declared.image.Image.{Image}
-use Rattle.rmeworld.specs.ImageRules.{layout_of}
 use Rattle.judge.specs.Table.{State}
 use Rattle.judge.specs.Stands.{Keeps}
 use Rattle.judge.specs.Kept.{Kept}
@@ -15,33 +13,12 @@ use Rattle.schedule.specs.declared.replay_fault.ReplayFault.{ReplayFault}
 use Rattle.schedule.specs.declared.replay_fault.ReplayFault.TheVariants.{Refused, Write, OutOfMemory, Text, Read}
 use Rattle.schedule.specs.Runs.{Part, deeds_of}
 use Rattle.schedule.specs.Verdicts.{verdict_on}
-use Rattle.schedule.specs.Reports.{told_text, owns_text, words_of_verdict, verdict_line, IsMailText, IsEnd}
+use Rattle.schedule.specs.Reports.{told_text, owns_text, words_of_verdict, verdict_line, IsEnd}
 use Rattle.schedule.specs.Hearings.{opened, bench, with_more, heard_with, Hears}
 use Rattle.schedule.specs.Plays.{Tape, Writes, Begins, BreaksOff, Ends, IsRefused}
 use Rattle.schedule.specs.Replays.{IsAll, Reported, CutShort, Closes}
 use Rattle.schedule.proofs.Heard.{no_more}
 use Rattle.schedule.proofs.Playing.{begins_further, begins_wider, breaks_further, breaks_wider, breaks_nothing, none_behind, line_some}
-
--- the mailbox's part of a report is one text
-mail_once : (layout : Layout) (cells one other : List ℕ) → IsMailText layout cells one → IsMailText layout cells other → one ≡ other
-mail_once layout cells one other (inl a) (inl b) = a.1 ∙ sym b.1
-mail_once layout cells one other (inl a) (inr b) = absurd (b.0 a.0)
-mail_once layout cells one other (inr a) (inl b) = absurd (a.0 b.0)
-mail_once layout cells one other (inr a) (inr b) = a.1 ∙ sym b.1
-
--- and so is the end
-end_once : (image : Image) (verdict : Verdict) (one other : List ℕ) → IsEnd image verdict one → IsEnd image verdict other → one ≡ other
-end_once image verdict one other a b =
-    a.2 ∙ ap (λ (mail : List ℕ). owns_text 0 image.lock ++ mail ++ verdict_line verdict) (mail_once (layout_of image) image.cells a.0 b.0 a.1 b.1) ∙ sym b.2
-
--- an end that is written as a page
-pub closes : (before now : Tape) (image : Image) (verdict : Verdict) (end : List ℕ) (r : Result (Unit {0}) ReplayFault) → IsEnd image verdict end
-    → OnOk r (Writes before now end)
-    → IfErr r (λ fault. (fault ≡ Write) × Begins before.taken now.taken end × (now.failures ≡ min (before.failures + 1) (2 ^ 64 - 1)))
-    → Closes before now image verdict r
-closes before now image verdict end (Ok x) is written failed = (end, is, written)
-closes before now image verdict end (Err fault) is written failed =
-    rw failed.0 (λ other also. rw (end_once image verdict other end also is) failed.1, failed.2)
 
 -- it ends with a line
 end_some : (image : Image) (verdict : Verdict) (end : List ℕ) → IsEnd image verdict end → end ≡ [] → ⊥
@@ -85,12 +62,9 @@ module _ {S : Type 0} (start : State) (image_of : S → Image) (run : Part S (�
   -- and the sink failed when it was flushed
   pub cut_flush : (before mid now : Tape) (fault : ReplayFault) → Ends before mid run fault → IsRefused fault → now.taken ≡ mid.taken → now.failures ≡ min (mid.failures + 1) (2 ^ 64 - 1)
       → CutShort before now start image_of run Write
-  cut_flush before mid now (Text line number) ends is same grown = absurd is
   cut_flush before mid now (Refused line number) ends is same grown =
       (rw same (all_begins before.taken mid.taken (all_written before mid ends.0)), rw (← ends.0.fine) grown)
-  cut_flush before mid now Read ends is same grown = absurd is
-  cut_flush before mid now Write ends is same grown = absurd is
-  cut_flush before mid now OutOfMemory ends is same grown = absurd is
+  cut_flush before mid now _ ends is same grown = absurd is
 
   pub settled : (before mid now : Tape) (fault result : ReplayFault) → Ends before mid run fault → now.taken ≡ mid.taken
       → ((result ≡ fault) × (now.failures ≡ mid.failures)) ⊎ ((result ≡ Write) × (now.failures ≡ min (mid.failures + 1) (2 ^ 64 - 1)) × IsRefused fault)
@@ -143,11 +117,8 @@ still_refused old new fault result (inr failed) is = failed.2
 
 -- an end is never refused
 pub never_refused : (before now : Tape) (image : Image) (verdict : Verdict) (fault : ReplayFault) → Closes {A = Unit {0}} before now image verdict (Err fault) → IsRefused fault → ⊥
-never_refused before now image verdict (Text line number) h is = is
 never_refused before now image verdict (Refused line number) h is = h
-never_refused before now image verdict Read h is = is
-never_refused before now image verdict Write h is = is
-never_refused before now image verdict OutOfMemory h is = is
+never_refused before now image verdict _ h is = is
 
 -- the verdict of all deeds that were heard
 pub ruled_on : (judge now : Kept) (first hearing : Hearing) (deeds : List Deed) (start : State) → first ≡ opened → Hears (bench judge first) deeds (bench now hearing) → Keeps judge start

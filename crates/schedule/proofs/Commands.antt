@@ -13,6 +13,7 @@ use Rattle.schedule.specs.Commands.{words_of_line, IsLine, commands_by_name, pla
 use Rattle.schedule.proofs.Joins.{ArePlain, decimal_above, decimals_plain}
 use Rattle.schedule.proofs.Forms.{Says, item_takes, one, two, three, reads}
 use Rattle.schedule.proofs.Places.{Fits, AreNarrow, number_again, numbers_again, many_narrow, many_fixed, many_from, many_fit}
+use Rattle.schedule.proofs.Texts.{IsCodec}
 
 abbrev name_of : Command → List ℕ
 name_of commands.Lock = codes "lock"
@@ -66,12 +67,12 @@ says width commands.Put ws ns h = three (LineSays width commands.Put (any ∷ an
 says width commands.Get ws ns h = two (LineSays width commands.Get (any ∷ any ∷ [])) (λ p i small below. record { said = refl; fits = (small, below) }) ns h
 says width commands.Step ws ns h = steps_say width (is_nil (drop 1 ws)) ns h
 says width commands.Crash ws ns h = one (LineSays width commands.Crash (any ∷ [])) (λ p small. record { said = refl; fits = small }) ns h
-says width commands.Lock ws ns h = one (LineSays width commands.Lock (any ∷ [])) (λ p small. record { said = refl; fits = (small, tt) }) ns h
 says width commands.Unlock ws ns h = one (LineSays width commands.Unlock (any ∷ [])) (λ p small. record { said = refl; fits = (small, tt) }) ns h
 says width commands.Consistent ws ns h = one (LineSays width commands.Consistent (any ∷ [])) (λ p small. record { said = refl; fits = (small, tt) }) ns h
 says width commands.Recover ws ns h = one (LineSays width commands.Recover (any ∷ [])) (λ p small. record { said = refl; fits = (small, tt) }) ns h
 says width commands.Close ws ns h = one (LineSays width commands.Close (any ∷ [])) (λ p small. record { said = refl; fits = (small, tt) }) ns h
 says width commands.Withdraw ws ns h = one (LineSays width commands.Withdraw (any ∷ [])) (λ p small. record { said = refl; fits = (small, tt) }) ns h
+says width c ws ns h = one (LineSays width c (any ∷ [])) (λ p small. record { said = refl; fits = (small, tt) }) ns h
 
 narrow : (width : ℕ) (c : Command) (ws : List (List ℕ)) → AreNarrow (places width c ws)
 narrow width commands.Append ws = (lit< tt, (lit< tt, many_narrow width))
@@ -86,26 +87,20 @@ fixed width commands.Step ws = steps_fixed (is_nil (drop 1 ws)) ws
 fixed width _ ws = refl
 
 -- what is read is spelled so
-pub line_takes : (width : ℕ) (ws : List (List ℕ)) (l : Line) → line_at width ws ≡ Ok l → (ws ≡ words_of_line l) × IsLine width l
+line_takes : (width : ℕ) (ws : List (List ℕ)) (l : Line) → line_at width ws ≡ Ok l → (ws ≡ words_of_line l) × IsLine width l
 line_takes width ws l e =
     item_takes commands_by_name (places width) line_with words_of_line (IsLine width) name_of ws l (refl, (refl, (refl, (refl, (refl, (refl, (refl, (refl, (refl, (refl, (refl, tt))))))))))) (narrow width) (fixed width) (says width) e
 
 -- what is spelled so is read
-pub line_again : (width : ℕ) (l : Line) → IsLine width l → line_at width (words_of_line l) ≡ Ok l
+line_again : (width : ℕ) (l : Line) → IsLine width l → line_at width (words_of_line l) ≡ Ok l
 unfolding item_after
-line_again width (Start p calls.Lock) h = rw (reads p h.0) refl
-line_again width (Start p calls.Unlock) h = rw (reads p h.0) refl
-line_again width (Start p calls.Consistent) h = rw (reads p h.0) refl
-line_again width (Start p calls.Recover) h = rw (reads p h.0) refl
 line_again width (Start p (calls.Append seq v)) h =
     let fit = many_fit width v h.1.1 h.1.2 in
     let same = (many_from width v fit).0 in
     let again : numbers_at (many width) (map decimal v) ≡ Ok v = ap (numbers_at (many width)) (sym same) ∙ numbers_again (many width) v fit in
     rw (reads p h.0, reads seq h.1.0, again) refl
-line_again width (Start p calls.Close) h = rw (reads p h.0) refl
 line_again width (Start p (calls.Put i v)) h = rw (reads p h.0, reads i h.1.0, reads v h.1.1) refl
 line_again width (Start p (calls.Get i)) h = rw (reads p h.0, reads i h.1) refl
-line_again width (Start p calls.Withdraw) h = rw (reads p h.0) refl
 line_again width (Step p k) h =
     elim (cases_eq k 1) [
       | inl is ↦ rw is (rw (reads p h.0) refl)
@@ -113,18 +108,13 @@ line_again width (Step p k) h =
           rw (more, reads p h.0, number_again 2 1000000 k (lit< tt) (omega (arith, h.1)) h.2) refl
     ]
 line_again width (Crash p) h = rw (reads p h) refl
+line_again width (Start p _) h = rw (reads p h.0) refl
 
 -- its words are plain
-pub line_plain : (width : ℕ) (l : Line) → IsLine width l → ArePlain (words_of_line l)
-line_plain width (Start p calls.Lock) h = (refl, decimal_above p h.0)
-line_plain width (Start p calls.Unlock) h = (refl, decimal_above p h.0)
-line_plain width (Start p calls.Consistent) h = (refl, decimal_above p h.0)
-line_plain width (Start p calls.Recover) h = (refl, decimal_above p h.0)
+line_plain : (width : ℕ) (l : Line) → IsLine width l → ArePlain (words_of_line l)
 line_plain width (Start p (calls.Append seq v)) h = (refl, (decimal_above p h.0, decimals_plain (decimal seq) v (decimal_above seq h.1.0) h.1.2))
-line_plain width (Start p calls.Close) h = (refl, decimal_above p h.0)
 line_plain width (Start p (calls.Put i v)) h = (refl, (decimal_above p h.0, (decimal_above i h.1.0, decimal_above v h.1.1)))
 line_plain width (Start p (calls.Get i)) h = (refl, (decimal_above p h.0, decimal_above i h.1))
-line_plain width (Start p calls.Withdraw) h = (refl, decimal_above p h.0)
 line_plain width (Step p k) h =
     elim (cases_eq k 1) [
       | inl is ↦ rw is (refl, decimal_above p h.0)
@@ -132,3 +122,7 @@ line_plain width (Step p k) h =
           rw more (refl, (decimal_above p h.0, decimal_above k (omega (arith, h.2))))
     ]
 line_plain width (Crash p) h = (refl, decimal_above p h)
+line_plain width (Start p _) h = (refl, decimal_above p h.0)
+
+pub line_codec : (width : ℕ) → IsCodec Line (line_at width) words_of_line (IsLine width)
+line_codec width = record { takes = line_takes width; again = line_again width; plain = line_plain width }

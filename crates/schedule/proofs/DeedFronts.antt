@@ -5,41 +5,11 @@ use Rattle.std.specs.List.{join_with_byte}
 use Rattle.std.specs.Fmt.{decimal}
 use Rattle.std.proofs.lemmas.Grind.{common_steps, flat_map-append}
 use Rattle.std.proofs.lemmas.List.{append-nil}
-use Rattle.redomail.specs.declared.deed.Deed.{Deed}
 use Rattle.redomail.specs.declared.deed.Deed.TheVariants.{Commit, Show}
-use Rattle.schedule.specs.declared.deed.DeedWord.{DeedWord}
 use Rattle.schedule.specs.Words.{spaced}
-use Rattle.schedule.specs.Texts.{line_of, parts_of}
-use Rattle.schedule.specs.Deeds.{words_of_deed, deed_at, IsDeed}
-use Rattle.schedule.specs.Fronts.{Begins, lead}
-use Rattle.schedule.proofs.Deeds.{deed_again, deed_plain}
-use Rattle.schedule.proofs.Joins.{words_of-join, parts_of-line}
+use Rattle.schedule.specs.Texts.{line_of}
+use Rattle.schedule.specs.Deeds.{words_of_deed}
 use Rattle.schedule.proofs.Spaced.{join_spaced}
-
-pub deed_begins : (width : ℕ) (d : Deed) → IsDeed width d → (text after : List ℕ) → text ≡ line_of (words_of_deed d) ++ after → Begins (deed_at width) text d after
-deed_begins width d h text after e =
-    let plain = deed_plain width d h in
-    record {
-      line = join_with_byte 32 (words_of_deed d);
-      parts = ap parts_of e ∙ parts_of-line (words_of_deed d) after plain;
-      whole = e ∙ append_assoc (join_with_byte 32 (words_of_deed d)) (10 ∷ []) after;
-      says = ap (deed_at width) (words_of-join (words_of_deed d) plain) ∙ deed_again width d h;
-    }
-
-pub short_begins : (width : ℕ) (word : DeedWord) (p : ℕ) (d : Deed) (text behind rest after : List ℕ) → IsDeed width d
-    → line_of (words_of_deed d) ≡ lead word ++ (decimal p ++ (10 ∷ []))
-    → text ≡ lead word ++ behind → behind ≡ decimal p ++ rest → rest ≡ 10 ∷ after → Begins (deed_at width) text d after
-short_begins width word p d text behind rest after h line a b c =
-    let spelled : (lead word ++ (decimal p ++ (10 ∷ []))) ++ after ≡ lead word ++ (decimal p ++ (10 ∷ after)) =
-    append_assoc (lead word) (decimal p ++ (10 ∷ [])) after ∙ ap (λ (t : List ℕ). lead word ++ t) (append_assoc (decimal p) (10 ∷ []) after) in
-    let whole : text ≡ lead word ++ (decimal p ++ (10 ∷ after)) = a ∙ ap (λ (t : List ℕ). lead word ++ t) (b ∙ ap (λ (t : List ℕ). decimal p ++ t) c) in
-    deed_begins width d h text after (whole ∙ sym spelled ∙ ap (λ (t : List ℕ). t ++ after) (sym line))
-
-pub long_begins : (width : ℕ) (word : DeedWord) (p : ℕ) (d : Deed) (text behind rest after : List ℕ) → IsDeed width d
-    → line_of (words_of_deed d) ++ after ≡ lead word ++ (decimal p ++ rest)
-    → text ≡ lead word ++ behind → behind ≡ decimal p ++ rest → Begins (deed_at width) text d after
-long_begins width word p d text behind rest after h line a b =
-    deed_begins width d h text after (a ∙ ap (λ (t : List ℕ). lead word ++ t) b ∙ sym line)
 
 -- ---- the numbers of a message
 

@@ -13,6 +13,7 @@ use Rattle.schedule.specs.Deeds.{words_of_deed, IsDeed, deeds_by_name, places, d
 use Rattle.schedule.proofs.Forms.{Says, item_takes, one, reads}
 use Rattle.schedule.proofs.Joins.{ArePlain, decimal_above, decimals_plain}
 use Rattle.schedule.proofs.Places.{Fits, AreNarrow, numbers_again, many_narrow, many_fixed, many_from, many_fit}
+use Rattle.schedule.proofs.Texts.{IsCodec}
 
 abbrev name_of : DeedWord → List ℕ
 name_of names.Begin = codes "begin"
@@ -48,7 +49,6 @@ show_says width (p ∷ at ∷ seq ∷ v) h =
 says : (width : ℕ) (c : DeedWord) (ws : List (List ℕ)) (ns : List ℕ) → Fits (places width c ws) ns → DeedSays width c (places width c ws) ns
 says width names.Commit ws ns h = commit_says width ns h
 says width names.Show ws ns h = show_says width ns h
-says width names.Begin ws ns h = one (DeedSays width names.Begin (any ∷ [])) (λ p small. record { said = refl; fits = small }) ns h
 says width names.Ready ws ns h = one (DeedSays width names.Ready (any ∷ [])) (λ p small. record { said = refl; fits = small }) ns h
 says width names.Enter ws ns h = one (DeedSays width names.Enter (any ∷ [])) (λ p small. record { said = refl; fits = small }) ns h
 says width names.Crash ws ns h = one (DeedSays width names.Crash (any ∷ [])) (λ p small. record { said = refl; fits = small }) ns h
@@ -57,6 +57,7 @@ says width names.Leave ws ns h = one (DeedSays width names.Leave (any ∷ [])) (
 says width names.Quit ws ns h = one (DeedSays width names.Quit (any ∷ [])) (λ p small. record { said = refl; fits = small }) ns h
 says width names.Close ws ns h = one (DeedSays width names.Close (any ∷ [])) (λ p small. record { said = refl; fits = small }) ns h
 says width names.Ruin ws ns h = one (DeedSays width names.Ruin (any ∷ [])) (λ p small. record { said = refl; fits = small }) ns h
+says width c ws ns h = one (DeedSays width c (any ∷ [])) (λ p small. record { said = refl; fits = small }) ns h
 
 narrow : (width : ℕ) (c : DeedWord) (ws : List (List ℕ)) → AreNarrow (places width c ws)
 narrow width names.Commit ws = (lit< tt, (lit< tt, many_narrow width))
@@ -69,7 +70,7 @@ fixed width names.Show ws = many_fixed width (drop 1 (drop 1 (drop 1 ws)))
 fixed width _ ws = refl
 
 -- what is read is spelled so
-pub deed_takes : (width : ℕ) (ws : List (List ℕ)) (d : Deed) → deed_at width ws ≡ Ok d → (ws ≡ words_of_deed d) × IsDeed width d
+deed_takes : (width : ℕ) (ws : List (List ℕ)) (d : Deed) → deed_at width ws ≡ Ok d → (ws ≡ words_of_deed d) × IsDeed width d
 deed_takes width ws d e =
     item_takes deeds_by_name (places width) deed_with words_of_deed (IsDeed width) name_of ws d (refl, (refl, (refl, (refl, (refl, (refl, (refl, (refl, (refl, (refl, (refl, tt))))))))))) (narrow width) (fixed width) (says width) e
 
@@ -79,30 +80,19 @@ value_again width v h =
     ap (numbers_at (many width)) (sym (many_from width v fit).0) ∙ numbers_again (many width) v fit
 
 -- what is spelled so is read
-pub deed_again : (width : ℕ) (d : Deed) → IsDeed width d → deed_at width (words_of_deed d) ≡ Ok d
+deed_again : (width : ℕ) (d : Deed) → IsDeed width d → deed_at width (words_of_deed d) ≡ Ok d
 unfolding item_after
-deed_again width (deeds.Outer (outers.Begin p)) h = rw (reads p h) refl
-deed_again width (deeds.Outer (outers.Ready p)) h = rw (reads p h) refl
-deed_again width (deeds.Outer (outers.Enter p)) h = rw (reads p h) refl
-deed_again width (deeds.Outer (outers.Crash p)) h = rw (reads p h) refl
-deed_again width (deeds.Outer (outers.Reenter p)) h = rw (reads p h) refl
-deed_again width (deeds.Outer (outers.Leave p)) h = rw (reads p h) refl
-deed_again width (deeds.Outer (outers.Quit p)) h = rw (reads p h) refl
 deed_again width (deeds.Commit p seq v) h = rw (reads p h.0, reads seq h.1, value_again width v h.2) refl
 deed_again width (deeds.Show p at seq v) h = rw (reads p h.0, reads at h.1, reads seq h.2, value_again width v h.3) refl
-deed_again width (deeds.Close p) h = rw (reads p h) refl
-deed_again width (deeds.Ruin p) h = rw (reads p h) refl
+deed_again width (deeds.Outer (outers.Begin p)) h = rw (reads p h) refl
+deed_again width _ h = rw (reads _ h) refl
 
 -- its words are plain
-pub deed_plain : (width : ℕ) (d : Deed) → IsDeed width d → ArePlain (words_of_deed d)
-deed_plain width (deeds.Outer (outers.Begin p)) h = (refl, decimal_above p h)
-deed_plain width (deeds.Outer (outers.Ready p)) h = (refl, decimal_above p h)
-deed_plain width (deeds.Outer (outers.Enter p)) h = (refl, decimal_above p h)
-deed_plain width (deeds.Outer (outers.Crash p)) h = (refl, decimal_above p h)
-deed_plain width (deeds.Outer (outers.Reenter p)) h = (refl, decimal_above p h)
-deed_plain width (deeds.Outer (outers.Leave p)) h = (refl, decimal_above p h)
-deed_plain width (deeds.Outer (outers.Quit p)) h = (refl, decimal_above p h)
+deed_plain : (width : ℕ) (d : Deed) → IsDeed width d → ArePlain (words_of_deed d)
 deed_plain width (deeds.Commit p seq v) h = (refl, (decimal_above p h.0, decimals_plain (decimal seq) v (decimal_above seq h.1) h.2.1))
 deed_plain width (deeds.Show p at seq v) h = (refl, (decimal_above p h.0, (decimal_above at h.1, decimals_plain (decimal seq) v (decimal_above seq h.2) h.3.1)))
-deed_plain width (deeds.Close p) h = (refl, decimal_above p h)
-deed_plain width (deeds.Ruin p) h = (refl, decimal_above p h)
+deed_plain width (deeds.Outer (outers.Begin p)) h = (refl, decimal_above p h)
+deed_plain width _ h = (refl, decimal_above _ h)
+
+pub deed_codec : (width : ℕ) → IsCodec Deed (deed_at width) words_of_deed (IsDeed width)
+deed_codec width = record { takes = deed_takes width; again = deed_again width; plain = deed_plain width }

@@ -11,7 +11,7 @@ use Rattle.schedule.specs.Deeds.{deed_at}
 use Rattle.schedule.specs.Words.{words_of}
 use Rattle.schedule.specs.Texts.{parts_of}
 use Rattle.schedule.specs.Traces.{trace_head_at}
-use Rattle.schedule.specs.Trials.{Trial, Stands, Fed, Follows}
+use Rattle.schedule.specs.Trials.{Stands, Fed}
 use Rattle.schedule.specs.Hearings.{bench, opened, Hears}
 use Rattle.schedule.specs.Fronts.{Begins}
 use Rattle.schedule.proofs.Heard.{hears_both}
@@ -49,14 +49,3 @@ fed_more opening head judge now hearing later text rest after number count deed 
           let next = stands_more head judge now hearing later (lines ++ so_far.more) line deed hears begins.says (so_far.stands lines stands) in
           subst (λ ls. Stands (stages.Judging head now later) ls) (append_assoc lines so_far.more (line ∷ [])) next;
     }
-
-pub follows_fed : (old new : Trial) (text rest : List ℕ) → Fed old.stage new.stage text rest old.line new.line → (lines : List (List ℕ)) → Follows old lines
-    → (more : List (List ℕ)) × (parts_of text ≡ more ++ parts_of rest) × Follows new (lines ++ more)
-follows_fed old new text rest fed lines follows = (
-  fed.more,
-  fed.parts,
-  λ few.
-      let all = length-append lines fed.more in
-      let known = follows (omega (arith, few, all)) in
-      (omega (arith, fed.count (omega (arith, known.0, few, all)), known.0, few, all), fed.stands lines known.1),
-)

@@ -6,13 +6,15 @@ use Rattle.std.specs.Char.{is_ascii_digit}
 use Rattle.std.specs.Fmt.{decimal}
 use Rattle.std.proofs.lemmas.Bool.{ne_eqb}
 use Rattle.std.proofs.lemmas.Fmt.{decimal_digit, decimal_step}
-use Rattle.schedule.specs.declared.line.Line.{Line}
 use Rattle.schedule.specs.declared.line.Line.TheVariants.{Step}
-use Rattle.schedule.specs.Commands.{words_of_line, IsLine, line_at}
+use Rattle.schedule.specs.Commands.{words_of_line, line_at}
 use Rattle.schedule.specs.Texts.{line_of, parts_of}
 use Rattle.schedule.specs.Fronts.{Begins}
 use Rattle.schedule.proofs.Joins.{words_of-join, parts_of-line}
-use Rattle.schedule.proofs.Commands.{line_again, line_plain}
+use Rattle.std.proofs.Common.{Result}
+use Rattle.schedule.proofs.Commands.{line_codec}
+use Rattle.schedule.proofs.Texts.{IsCodec}
+use Rattle.schedule.specs.declared.fault.LineFault.{LineFault}
 
 pub first_digit : (text after : List ℕ) (byte : ℕ) → is_ascii_digit byte ≡ true → text ≡ byte ∷ after → text ≡ decimal (byte - 48) ++ after
 first_digit text after byte digit is =
@@ -32,15 +34,28 @@ next_digit text rest after value byte digit some small is front =
 
 -- ---- a line that is spelled as it is written
 
-pub line_begins : (width : ℕ) (l : Line) → IsLine width l → (text after : List ℕ) → text ≡ line_of (words_of_line l) ++ after → Begins (line_at width) text l after
-line_begins width l h text after e =
-    let plain = line_plain width l h in
-    record {
-      line = join_with_byte 32 (words_of_line l);
-      parts = ap parts_of e ∙ parts_of-line (words_of_line l) after plain;
-      whole = e ∙ append_assoc (join_with_byte 32 (words_of_line l)) (10 ∷ []) after;
-      says = ap (line_at width) (words_of-join (words_of_line l) plain) ∙ line_again width l h;
-    }
+module _ {A : Type 0} {read : List (List ℕ) → Result A LineFault} {words : A → List (List ℕ)} {Valid : A → Type 0} (codec : IsCodec A read words Valid) where
+  pub begins : (x : A) → Valid x → (text after : List ℕ) → text ≡ line_of (words x) ++ after → Begins read text x after
+  begins x h text after e =
+      let plain = codec.plain x h in
+      record {
+        line = join_with_byte 32 (words x);
+        parts = ap parts_of e ∙ parts_of-line (words x) after plain;
+        whole = e ∙ append_assoc (join_with_byte 32 (words x)) (10 ∷ []) after;
+        says = ap read (words_of-join (words x) plain) ∙ codec.again x h;
+      }
+
+  pub short_begins : (lead : List ℕ) (p : ℕ) (x : A) (text behind rest after : List ℕ) → Valid x → line_of (words x) ≡ lead ++ (decimal p ++ (10 ∷ []))
+      → text ≡ lead ++ behind → behind ≡ decimal p ++ rest → rest ≡ 10 ∷ after → Begins read text x after
+  short_begins lead p x text behind rest after h line a b c =
+      let spelled : (lead ++ (decimal p ++ (10 ∷ []))) ++ after ≡ lead ++ (decimal p ++ (10 ∷ after)) =
+      append_assoc lead (decimal p ++ (10 ∷ [])) after ∙ ap (λ (t : List ℕ). lead ++ t) (append_assoc (decimal p) (10 ∷ []) after) in
+      let whole : text ≡ lead ++ (decimal p ++ (10 ∷ after)) = a ∙ ap (λ (t : List ℕ). lead ++ t) (b ∙ ap (λ (t : List ℕ). decimal p ++ t) c) in
+      begins x h text after (whole ∙ sym spelled ∙ ap (λ (t : List ℕ). t ++ after) (sym line))
+
+  pub long_begins : (lead : List ℕ) (p : ℕ) (x : A) (text behind rest after : List ℕ) → Valid x → line_of (words x) ++ after ≡ lead ++ (decimal p ++ rest)
+      → text ≡ lead ++ behind → behind ≡ decimal p ++ rest → Begins read text x after
+  long_begins lead p x text behind rest after h line a b = begins x h text after (a ∙ ap (λ (t : List ℕ). lead ++ t) b ∙ sym line)
 
 ended : (ds after : List ℕ) → ds ++ 10 ∷ after ≡ (ds ++ 10 ∷ []) ++ after
 ended ds after = sym (append_assoc ds (10 ∷ []) after)
@@ -48,7 +63,7 @@ ended ds after = sym (append_assoc ds (10 ∷ []) after)
 pub one_step : (width p : ℕ) (text word rest after : List ℕ) → p < 2 ^ 64 → text ≡ codes "step " ++ word → word ≡ decimal p ++ rest → rest ≡ 10 ∷ after
     → Begins (line_at width) text (Step p 1) after
 one_step width p text word rest after small a b c =
-    line_begins width (Step p 1) (small, omega arith, omega arith) text after
+    begins (line_codec width) (Step p 1) (small, omega arith, omega arith) text after
     (a ∙ ap (λ (t : List ℕ). codes "step " ++ t) (b ∙ ap (λ (t : List ℕ). decimal p ++ t) c ∙ ended (decimal p) after))
 
 spelled_steps : (p k : ℕ) (after : List ℕ) → 2 ≤ k → codes "step " ++ (decimal p ++ (32 ∷ (decimal k ++ (10 ∷ after)))) ≡ line_of (words_of_line (Step p k)) ++ after
@@ -62,7 +77,7 @@ pub more_steps : (width p k : ℕ) (text word rest more end after : List ℕ) �
     → text ≡ codes "step " ++ word → word ≡ decimal p ++ rest → rest ≡ 32 ∷ more → more ≡ decimal k ++ end → end ≡ 10 ∷ after
     → Begins (line_at width) text (Step p k) after
 more_steps width p k text word rest more end after small least most a b c d e =
-    line_begins width (Step p k) (small, omega arith, most) text after
+    begins (line_codec width) (Step p k) (small, omega arith, most) text after
     (a ∙ ap (λ (t : List ℕ). codes "step " ++ t) (b ∙ ap (λ (t : List ℕ). decimal p ++ t) (c ∙ ap (λ (t : List ℕ). 32 ∷ t) (d ∙ ap (λ (t : List ℕ). decimal k ++ t) e)))
     ∙ spelled_steps p k after least)
 

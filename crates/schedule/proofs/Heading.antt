@@ -26,21 +26,7 @@ no_memory_at_all t (Ok schedule) = no_memory t schedule (new_refusal (layout_of 
 -- a refusal is a cause, unless memory was wanting
 is_cause : (e : Refusal) → ((e ≡ refusals.OutOfMemory) × (cause e ≡ None)) ⊎ (cause e ≡ Some e)
 is_cause refusals.OutOfMemory = inl (refl, refl)
-is_cause refusals.BadProcs = inr refl
-is_cause refusals.BadLimit = inr refl
-is_cause refusals.NoSuchProcess = inr refl
-is_cause refusals.CallUnderWay = inr refl
-is_cause refusals.NotOwner = inr refl
-is_cause refusals.AlreadyIn = inr refl
-is_cause refusals.NothingToDo = inr refl
-is_cause refusals.BadCap = inr refl
-is_cause (refusals.BadImage rule) = inr refl
-is_cause refusals.NotInconsistent = inr refl
-is_cause refusals.BadShape = inr refl
-is_cause refusals.Unmended = inr refl
-is_cause refusals.BadIndex = inr refl
-is_cause refusals.NotWaiting = inr refl
-is_cause refusals.BadWidth = inr refl
+is_cause _ = inr refl
 
 header_by : (t : Tape) (schedule : Scheduled) (e : Refusal) (o : Option Refusal) → o ≡ cause e → ((e ≡ refusals.OutOfMemory) × (cause e ≡ None)) ⊎ (cause e ≡ Some e)
     → OfSchedule t t schedule o (Err (header_fault (number_of e)))

@@ -1,32 +1,13 @@
 -- The lines of a schedule at the front of a text, but those of steps.
-use Rattle.std.proofs.Common.{◌≡◌, ℕ, List, [], ◌∷◌, ◌++◌, sym, ap, ◌∙◌, append_assoc}
+use Rattle.std.proofs.Common.{◌≡◌, ℕ, List, ◌∷◌, ◌++◌, sym, ap, ◌∙◌}
 use Rattle.std.specs.Prelude.{codes}
 use Rattle.std.specs.Fmt.{decimal}
 use Rattle.rmeworld.specs.declared.call.Call.TheVariants as calls
-use Rattle.schedule.specs.declared.command.Command.{Command}
-use Rattle.schedule.specs.declared.line.Line.{Line}
 use Rattle.schedule.specs.declared.line.Line.TheVariants.{Start}
 use Rattle.schedule.specs.Words.{spaced}
 use Rattle.schedule.specs.Texts.{line_of}
-use Rattle.schedule.specs.Commands.{words_of_line, IsLine, line_at}
-use Rattle.schedule.specs.Fronts.{Begins, opening}
+use Rattle.schedule.specs.Commands.{words_of_line}
 use Rattle.schedule.proofs.DeedFronts.{before_end, message, message_is, ended}
-use Rattle.schedule.proofs.Fronts.{line_begins}
-
-pub short_begins : (width : ℕ) (word : Command) (p : ℕ) (l : Line) (text behind rest after : List ℕ) → IsLine width l
-    → line_of (words_of_line l) ≡ opening word ++ (decimal p ++ (10 ∷ []))
-    → text ≡ opening word ++ behind → behind ≡ decimal p ++ rest → rest ≡ 10 ∷ after → Begins (line_at width) text l after
-short_begins width word p l text behind rest after h line a b c =
-    let spelled : (opening word ++ (decimal p ++ (10 ∷ []))) ++ after ≡ opening word ++ (decimal p ++ (10 ∷ after)) =
-    append_assoc (opening word) (decimal p ++ (10 ∷ [])) after ∙ ap (λ (t : List ℕ). opening word ++ t) (append_assoc (decimal p) (10 ∷ []) after) in
-    let whole : text ≡ opening word ++ (decimal p ++ (10 ∷ after)) = a ∙ ap (λ (t : List ℕ). opening word ++ t) (b ∙ ap (λ (t : List ℕ). decimal p ++ t) c) in
-    line_begins width l h text after (whole ∙ sym spelled ∙ ap (λ (t : List ℕ). t ++ after) (sym line))
-
-pub long_begins : (width : ℕ) (word : Command) (p : ℕ) (l : Line) (text behind rest after : List ℕ) → IsLine width l
-    → line_of (words_of_line l) ++ after ≡ opening word ++ (decimal p ++ rest)
-    → text ≡ opening word ++ behind → behind ≡ decimal p ++ rest → Begins (line_at width) text l after
-long_begins width word p l text behind rest after h line a b =
-    line_begins width l h text after (a ∙ ap (λ (t : List ℕ). opening word ++ t) b ∙ sym line)
 
 pub append_line : (p seq : ℕ) (v rest text value end after : List ℕ) → rest ≡ 32 ∷ text → text ≡ decimal seq ++ value → value ≡ spaced v ++ end → end ≡ 10 ∷ after
     → line_of (words_of_line (Start p (calls.Append seq v))) ++ after ≡ codes "append " ++ (decimal p ++ rest)

@@ -1,6 +1,5 @@
 -- Reading the words of a line.
-use Rattle.std.proofs.Common.{◌≡◌, ℕ, suc, ◌+◌, ◌-◌, ◌^◌, ◌<◌, ◌≤◌, ◌==◌, false, List, [], ◌∷◌, ◌++◌, length, drop, Result, Ok, Err, refl, sym, ap, ◌∙◌, append_assoc, arith}
-use Rattle.std.proofs.lemmas.List.{append-nil}
+use Rattle.std.proofs.Common.{◌≡◌, ℕ, suc, ◌+◌, ◌-◌, ◌^◌, ◌<◌, ◌==◌, false, List, [], ◌∷◌, ◌++◌, length, drop, Result, Ok, Err, refl, sym, ap, ◌∙◌, append_assoc, arith}
 use Rattle.std.proofs.lemmas.List.Splits.{length-slice_split}
 use Rattle.schedule.specs.declared.fault.LineFault.{LineFault}
 use Rattle.schedule.specs.declared.fault.LineFault.TheVariants.{TrailingText}
@@ -38,11 +37,4 @@ pub stops : (front : List ℕ) (width j : ℕ) (ws : List (List ℕ)) (f : LineF
 stops front width j ws f total lt read so_far =
     let k : width - j ≡ suc (width - (j + 1)) = omega arith in
     let one : with_front front (numbers_at (many (width - j)) ws) ≡ Err f = rw (k, read) refl in
-    sym so_far ∙ one
-
-pub is_done : (front : List ℕ) (width j : ℕ) (ws : List (List ℕ)) (total : Result (List ℕ) LineFault) → width ≤ j
-    → numbers_at [] ws ≡ Ok [] → with_front front (numbers_at (many (width - j)) ws) ≡ total → total ≡ Ok front
-is_done front width j ws total le read so_far =
-    let k : width - j ≡ 0 = omega arith in
-    let one : with_front front (numbers_at (many (width - j)) ws) ≡ Ok front = rw (k, read) (ap (λ (xs : List ℕ). Ok xs) (append-nil front)) in
     sym so_far ∙ one

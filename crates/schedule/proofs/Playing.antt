@@ -245,21 +245,7 @@ plays_told t u a b told all left refused s (Err halt) h e is accepted = (rw (e, 
 -- a refusal without a number is want of memory
 pub unnumbered : (e : Refusal) → number_of e ≡ None → e ≡ refusals.OutOfMemory
 unnumbered refusals.OutOfMemory is = refl
-unnumbered refusals.BadProcs is = absurd cc
-unnumbered refusals.BadLimit is = absurd cc
-unnumbered refusals.NoSuchProcess is = absurd cc
-unnumbered refusals.CallUnderWay is = absurd cc
-unnumbered refusals.NotOwner is = absurd cc
-unnumbered refusals.AlreadyIn is = absurd cc
-unnumbered refusals.NothingToDo is = absurd cc
-unnumbered refusals.BadCap is = absurd cc
-unnumbered (refusals.BadImage rule) is = absurd cc
-unnumbered refusals.NotInconsistent is = absurd cc
-unnumbered refusals.BadShape is = absurd cc
-unnumbered refusals.Unmended is = absurd cc
-unnumbered refusals.BadIndex is = absurd cc
-unnumbered refusals.NotWaiting is = absurd cc
-unnumbered refusals.BadWidth is = absurd cc
+unnumbered _ is = absurd cc
 
 -- a refusal before anything is told, or no memory for what would be told
 numbered_halts : (t : Tape) (text : List ℕ) (o : Option Refusal) (e : Refusal) (n : Option ℕ) → number_of e ≡ n → (e ≡ refusals.OutOfMemory) ⊎ (o ≡ Some e) → (e ≡ refusals.OutOfMemory → text ≡ [] → ⊥)

@@ -1,26 +1,20 @@
 -- A schedule's text: what is read is spelled so, and what is spelled so is read.
-use Rattle.std.proofs.Common.{◌≡◌, ℕ, List, [], ◌∷◌, ◌++◌, arith, Result, Ok, Err, refl, sym, ap, subst, ◌∙◌}
+use Rattle.std.proofs.Common.{◌≡◌, ℕ, List, [], ◌∷◌, ◌++◌, arith, Ok, refl, ap, subst}
 use Rattle.schedule.specs.declared.fault.LineFault.{LineFault}
 use Rattle.schedule.specs.declared.head.Head.{Head}
-use Rattle.schedule.specs.declared.line.Line.{Line}
 use Rattle.schedule.specs.Commands.{words_of_line, IsLine, line_at}
-use Rattle.std.specs.Prelude.{IfOk}
-use Rattle.schedule.specs.declared.fault.TextFault.{TextFault}
-use Rattle.schedule.specs.Texts.{parts_of, text_at, Gives}
+use Rattle.schedule.specs.Texts.{parts_of, text_at}
 use Rattle.schedule.specs.Schedules.{Scheduled, words_of_head, head_of, sizes_of, schedule_form, head_with, spelling, IsHead, IsScheduled, head_at, scheduled_with, schedule_at}
 use Rattle.schedule.proofs.Places.{bind_ok, ok_is}
-use Rattle.schedule.proofs.Commands.{line_takes, line_again, line_plain}
 use Rattle.schedule.specs.Headers.{IsHeader}
 use Rattle.schedule.proofs.Heads.{of_width, last_width, header_takes, header_again, header_plain}
 use Rattle.schedule.proofs.Texts.{IsCodec, text_takes, text_again}
+use Rattle.schedule.proofs.Commands.{line_codec}
 
 -- a header's numbers are its sizes and, unless it is 1, its width
 made : (ss : List ℕ) (w : ℕ) → IsHeader schedule_form ss w → (sizes_of (head_with (ss ++ of_width w)) ≡ ss) × ((head_with (ss ++ of_width w)).width ≡ w)
-made [] w h = absurd (omega (arith, h.count))
-made (n ∷ []) w h = absurd (omega (arith, h.count))
-made (n ∷ l ∷ []) w h = absurd (omega (arith, h.count))
 made (n ∷ l ∷ c ∷ []) w h = (refl, last_width w)
-made (n ∷ l ∷ c ∷ d ∷ ss) w h = absurd (omega (arith, h.count))
+made _ w h = absurd (omega (arith, h.count))
 
 back : (h : Head) → IsHead h → head_with (sizes_of h ++ of_width h.width) ≡ h
 back h valid = ap (λ (w : ℕ). record { procs = h.procs; limit = h.limit; cap = h.cap; width = w }) (last_width h.width)
@@ -32,30 +26,13 @@ head_codec = record {
   plain = header_plain schedule_form head_with sizes_of (λ h. h.width) made back (refl, (refl, (refl, (refl, tt))));
 }
 
-line_codec : (h : Head) → IsHead h → IsCodec Line (line_at h.width) words_of_line (IsLine h.width)
-line_codec h fits = record { takes = line_takes h.width; again = line_again h.width; plain = line_plain h.width }
-
 pub schedule_takes : (text : List ℕ) (schedule : Scheduled) → schedule_at text ≡ Ok schedule → (text ≡ spelling schedule) × IsScheduled schedule
 schedule_takes text schedule e =
     let a = bind_ok (text_at head_at (λ h. line_at h.width) (parts_of text)) (λ read. Ok (scheduled_with read)) schedule e in
-    let t = text_takes head_at words_of_head IsHead head_codec (λ h. line_at h.width) words_of_line (λ h. IsLine h.width) line_codec text a.0 a.1 in
+    let t = text_takes head_at words_of_head IsHead head_codec (λ h. line_at h.width) words_of_line (λ h. IsLine h.width) (λ h fits. line_codec h.width) text a.0 a.1 in
     subst (λ (p : Scheduled). (text ≡ spelling p) × IsScheduled p) (ok_is {E = ℕ × LineFault} (scheduled_with a.0) schedule a.2) (t.0, record { head = t.1; lines = t.2 })
 
 pub schedule_again : (schedule : Scheduled) → IsScheduled schedule → schedule_at (spelling schedule) ≡ Ok schedule
 schedule_again schedule valid =
-    let t = text_again head_at words_of_head IsHead head_codec (λ h. line_at h.width) words_of_line (λ h. IsLine h.width) line_codec (head_of schedule) schedule.lines valid.head valid.lines in
+    let t = text_again head_at words_of_head IsHead head_codec (λ h. line_at h.width) words_of_line (λ h. IsLine h.width) (λ h fits. line_codec h.width) (head_of schedule) schedule.lines valid.head valid.lines in
     rw t refl
-
--- what the calls promise, of what reading gives
-
-pub is_found : (text : List ℕ) (r : Result Scheduled TextFault) → Gives (λ schedule. schedule) r (schedule_at text) → IfOk r (λ schedule. (text ≡ spelling schedule) × IsScheduled schedule)
-is_found text (Ok schedule) given = schedule_takes text schedule given
-is_found text (Err e) given = tt
-
-pub is_only : (text : List ℕ) (r : Result Scheduled TextFault) → Gives (λ schedule. schedule) r (schedule_at text)
-    → (schedule : Scheduled) → IsScheduled schedule → text ≡ spelling schedule → Gives (λ p. p) r (Ok schedule)
-is_only text r given schedule valid e = subst (λ (read : Result Scheduled (ℕ × LineFault)). Gives (λ p. p) r read) (ap schedule_at e ∙ schedule_again schedule valid) given
-
-pub schedule_only : (one other : Scheduled) → IsScheduled one → IsScheduled other → spelling one ≡ spelling other → one ≡ other
-schedule_only one other valid sound e =
-    ok_is {E = ℕ × LineFault} one other (sym (schedule_again one valid) ∙ ap schedule_at e ∙ schedule_again other sound)

@@ -25,10 +25,8 @@ module _ {A : Type 0} (item : List (List ℕ) → Result A LineFault) where
 
   past_first : (k m : ℕ) (first : Result A LineFault) (rest : Result (List A) (ℕ × LineFault)) (r : Result A LineFault)
       → (on_line k first >>= λ x. more_items rest m r >>= λ xs. Ok (x ∷ xs)) ≡ more_items (on_line k first >>= λ x. rest >>= λ xs. Ok (x ∷ xs)) m r
-  past_first k m (Err f) rest r = refl
-  past_first k m (Ok x) (Err e) r = refl
   past_first k m (Ok x) (Ok xs) (Ok y) = refl
-  past_first k m (Ok x) (Ok xs) (Err f) = refl
+  past_first k m _ _ _ = refl
 
   items_more : (k : ℕ) (lines : List (List ℕ)) (line : List ℕ)
       → items_at item k ((lines ++ line ∷ []) ++ [] ∷ []) ≡ more_items (items_at item k (lines ++ [] ∷ [])) (k + length lines) (item (words_of line))
@@ -49,9 +47,8 @@ module _ {A : Type 0} (item : List (List ℕ) → Result A LineFault) where
 
   past_last : (k m : ℕ) (first : Result A LineFault) (rest : Result (List A) (ℕ × LineFault))
       → (on_line k first >>= λ x. last_items rest m >>= λ xs. Ok (x ∷ xs)) ≡ last_items (on_line k first >>= λ x. rest >>= λ xs. Ok (x ∷ xs)) m
-  past_last k m (Err f) rest = refl
-  past_last k m (Ok x) (Err e) = refl
   past_last k m (Ok x) (Ok xs) = refl
+  past_last k m _ _ = refl
 
   items_last : (k : ℕ) (lines : List (List ℕ)) (rest : List ℕ) → 0 < length rest
       → items_at item k (lines ++ rest ∷ []) ≡ last_items (items_at item k (lines ++ [] ∷ [])) (k + length lines)

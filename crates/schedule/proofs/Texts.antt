@@ -13,6 +13,9 @@ use Rattle.schedule.proofs.Places.{bind_ok, ok_is, taken}
 use Rattle.schedule.proofs.Joins.{ArePlain, words_of-join, parts_of-line}
 use Rattle.schedule.proofs.Items.{items_at-cut}
 use Rattle.schedule.proofs.Wholes.{text_at-cut}
+use Rattle.std.proofs.Common.{IfOk}
+use Rattle.schedule.specs.declared.fault.TextFault.{TextFault}
+use Rattle.schedule.specs.Texts.{Gives}
 
 -- reading and spelling that belong together
 pub record IsCodec (A : Type 0) (read : List (List ℕ) → Result A LineFault) (words : A → List (List ℕ)) (Valid : A → Type 0) : Type 0 where
@@ -98,3 +101,15 @@ module _ {H A : Type 0} (head : List (List ℕ) → Result H LineFault) (head_wo
       let one : head (words_of (join_with_byte 32 (head_words h))) ≡ Ok h = ap head (words_of-join (head_words h) (head_codec.plain h valid)) ∙ head_codec.again h valid in
       text_at-cut head item (spelled_text h xs) (join_with_byte 32 (head_words h)) (flat_map (λ x. line_of (words x)) xs) cut
       ∙ rw (one, items_again (item h) words (Valid h) (codec h valid) 2 xs all) refl
+
+-- reading and spelling whole texts that belong together: what the calls promise of what reading gives
+module _ {S : Type 0} (read : List ℕ → Result S (ℕ × LineFault)) (spelled : S → List ℕ) (Valid : S → Type 0) where
+  pub is_found : ((text : List ℕ) (x : S) → read text ≡ Ok x → (text ≡ spelled x) × Valid x) → (text : List ℕ) (r : Result S TextFault) → Gives (λ x. x) r (read text) → IfOk r (λ x. (text ≡ spelled x) × Valid x)
+  is_found takes text (Ok x) given = takes text x given
+  is_found takes text (Err e) given = tt
+
+  pub is_only : ((x : S) → Valid x → read (spelled x) ≡ Ok x) → (text : List ℕ) (r : Result S TextFault) → Gives (λ x. x) r (read text) → (x : S) → Valid x → text ≡ spelled x → Gives (λ y. y) r (Ok x)
+  is_only again text r given x valid e = subst (λ (y : Result S (ℕ × LineFault)). Gives (λ z. z) r y) (ap read e ∙ again x valid) given
+
+  pub spelled_once : ((x : S) → Valid x → read (spelled x) ≡ Ok x) → (one other : S) → Valid one → Valid other → spelled one ≡ spelled other → one ≡ other
+  spelled_once again one other valid sound e = ok_is {E = ℕ × LineFault} one other (sym (again one valid) ∙ ap read e ∙ again other sound)

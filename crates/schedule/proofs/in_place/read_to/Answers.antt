@@ -1,4 +1,4 @@
-use Rattle.std.proofs.Common.{◌≡◌, ◌∙◌, ap}
+use Rattle.std.proofs.Common.{◌∙◌, ap}
 use Rattle.schedule.specs.Commands.{line_at}
 use Rattle.schedule.specs.Texts.{items_at, parts_of}
 use Rattle.schedule.proofs.InPlace.{behind_front}

@@ -1,5 +1,7 @@
-use Rattle.schedule.proofs.Schedules.{schedule_takes, schedule_again, schedule_only}
+use Rattle.schedule.proofs.Schedules.{schedule_takes, schedule_again}
 use Rattle.schedule.proofs.laws.one_spelling.Goals as goal
+use Rattle.schedule.proofs.Texts.{spelled_once}
+use Rattle.schedule.specs.Schedules.{schedule_at, spelling, IsScheduled}
 
 pub returns-clause-again : goal.returns-clause-again
 returns-clause-again c = schedule_again
@@ -8,4 +10,4 @@ pub returns-clause-takes : goal.returns-clause-takes
 returns-clause-takes c = schedule_takes
 
 pub returns-clause-only : goal.returns-clause-only
-returns-clause-only c = schedule_only
+returns-clause-only c = spelled_once schedule_at spelling IsScheduled schedule_again

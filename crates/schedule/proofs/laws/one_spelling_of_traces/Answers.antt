@@ -1,5 +1,7 @@
-use Rattle.schedule.proofs.Traces.{trace_takes, trace_again, trace_only}
+use Rattle.schedule.proofs.Traces.{trace_takes, trace_again}
 use Rattle.schedule.proofs.laws.one_spelling_of_traces.Goals as goal
+use Rattle.schedule.proofs.Texts.{spelled_once}
+use Rattle.schedule.specs.Traces.{trace_spelling, IsTraced, trace_at}
 
 pub returns-clause-again : goal.returns-clause-again
 returns-clause-again c = trace_again
@@ -8,4 +10,4 @@ pub returns-clause-takes : goal.returns-clause-takes
 returns-clause-takes c = trace_takes
 
 pub returns-clause-only : goal.returns-clause-only
-returns-clause-only c = trace_only
+returns-clause-only c = spelled_once trace_at trace_spelling IsTraced trace_again

@@ -1,23 +1,9 @@
 -- The answer of a trace that was judged to its end.
 use Rattle.std.proofs.Common.{◌≡◌, ℕ, ◌+◌, ◌<◌, List, [], ◌∷◌, ◌++◌, length, Option, Some, None, Result, Ok, Err, Bool, true, refl, sym, ap, subst, ◌∙◌}
-use Rattle.rmecore.specs.declared.refusal.Refusal.{Refusal}
-use Rattle.redomail.specs.declared.deed.Deed.{Deed}
-use Rattle.judge.specs.Table.{empty}
-use Rattle.judge.specs.Kept.{Kept}
-use Rattle.schedule.specs.declared.fault.LineFault.{LineFault}
-use Rattle.schedule.specs.declared.hearing.Hearing.{Hearing}
-use Rattle.schedule.specs.declared.replay_fault.ReplayFault.{ReplayFault}
-use Rattle.schedule.specs.declared.replay_fault.ReplayFault.TheVariants.{Text, Read, OutOfMemory}
-use Rattle.schedule.specs.declared.verdict.Verdict.{Verdict}
-use Rattle.schedule.specs.declared.stage.Stage.{Stage}
+use Rattle.schedule.proofs.Common.{Refusal, Deed, Kept, empty, LineFault, Hearing, ReplayFault, Text, Read, OutOfMemory, Stage, TraceHead, Verdict, deed_at, opened, parts_of, text_at, trace_head_at}
+use Rattle.schedule.proofs.Common.{Stands, trace_answer, answer_of, judged_of, judge_refusal, numbered, JudgesTrace}
 use Rattle.schedule.specs.declared.stage.Stage.TheVariants as stages
-use Rattle.schedule.specs.declared.trace.TraceHead.{TraceHead}
 use Rattle.schedule.specs.Numbers.{number_of}
-use Rattle.schedule.specs.Deeds.{deed_at}
-use Rattle.schedule.specs.Traces.{trace_head_at}
-use Rattle.schedule.specs.Hearings.{opened}
-use Rattle.schedule.specs.Trials.{Stands, trace_answer, answer_of, judged_of, judge_refusal, numbered, JudgesTrace}
-use Rattle.schedule.specs.Texts.{parts_of, text_at}
 use Rattle.schedule.proofs.Closing.{ruled_on}
 use Rattle.schedule.proofs.Staging.{none_last, none_empty, fine_last, faulty_last}
 

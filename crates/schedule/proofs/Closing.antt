@@ -1,21 +1,8 @@
 -- The end of a report, and the whole.
-use Rattle.std.proofs.Common.{◌≡◌, ℕ, ◌+◌, ◌-◌, ◌^◌, min, List, [], ◌++◌, Option, Some, None, Err, refl, sym, ap, subst, ◌∙◌, append_assoc, ◌⊎◌, inl, inr}
-use Rattle.std.proofs.lemmas.List.{append-nil}
-use Rattle.rmecore.specs.declared.refusal.Refusal.{Refusal}
-use Rattle.rmeworld.specs.declared.image.Image.{Image}
-use Rattle.judge.specs.Table.{State}
-use Rattle.judge.specs.Stands.{Keeps}
-use Rattle.judge.specs.Kept.{Kept}
-use Rattle.redomail.specs.declared.deed.Deed.{Deed}
-use Rattle.schedule.specs.declared.hearing.Hearing.{Hearing}
-use Rattle.schedule.specs.declared.verdict.Verdict.{Verdict}
-use Rattle.schedule.specs.declared.replay_fault.ReplayFault.{ReplayFault}
-use Rattle.schedule.specs.declared.replay_fault.ReplayFault.TheVariants.{Refused, Write, OutOfMemory, Text, Read}
-use Rattle.schedule.specs.Runs.{Part, deeds_of}
-use Rattle.schedule.specs.Verdicts.{verdict_on}
-use Rattle.schedule.specs.Reports.{told_text, owns_text, words_of_verdict, verdict_line, IsEnd}
-use Rattle.schedule.specs.Hearings.{opened, bench, with_more, heard_with, Hears}
-use Rattle.schedule.specs.Plays.{Tape, Writes, Begins, BreaksOff, Ends, IsRefused}
+use Rattle.std.proofs.Common.{◌≡◌, ℕ, ◌+◌, ◌-◌, ◌^◌, min, List, [], ◌++◌, Option, Some, None, Err, refl, sym, ap, subst, ◌∙◌, append_assoc, ◌⊎◌, inl, inr, append-nil}
+use Rattle.schedule.proofs.Common.{Refusal, Deed, Kept, Keeps, State, Image, Hearing, ReplayFault, Text, Read, OutOfMemory, Refused, Write, Verdict, opened, bench, with_more, heard_with, Hears, Tape}
+use Rattle.schedule.proofs.Common.{Writes, BreaksOff, Ends, IsRefused, told_text, owns_text, words_of_verdict, verdict_line, IsEnd, Part, deeds_of, verdict_on}
+use Rattle.schedule.specs.Plays.{Begins}
 use Rattle.schedule.specs.Replays.{IsAll, Reported, CutShort, Closes}
 use Rattle.schedule.proofs.Heard.{no_more}
 use Rattle.schedule.proofs.Playing.{begins_further, begins_wider, breaks_further, breaks_wider, breaks_nothing, none_behind, line_some}

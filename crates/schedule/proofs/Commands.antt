@@ -1,15 +1,10 @@
 -- The lines of a schedule: what is read is spelled so, and what is spelled so is read.
-use Rattle.std.proofs.Common.{◌≡◌, ℕ, Bool, true, false, cond, eqb, List, [], ◌∷◌, map, drop, Ok, refl, sym, ap, ◌∙◌, arith, inl, inr, lit<}
-use Rattle.std.specs.Prelude.{codes}
-use Rattle.std.specs.Fmt.{decimal}
-use Rattle.std.proofs.lemmas.Bool.{ne_eqb, cases_eq}
+use Rattle.std.proofs.Common.{◌≡◌, ℕ, Bool, true, false, cond, eqb, List, [], ◌∷◌, map, drop, Ok, refl, sym, ap, ◌∙◌, arith, inl, inr, lit<, codes, ne_eqb}
+use Rattle.schedule.proofs.Common.{cases_eq, decimal, Line, Start, Step, Crash, words_of_line, IsLine, commands_by_name, places, line_with, line_at, Shape, Number, any, many, has_fixed, numbers_at}
+use Rattle.schedule.proofs.Common.{is_nil, item_after}
 use Rattle.schedule.specs.declared.command.Command.{Command}
 use Rattle.schedule.specs.declared.command.Command.TheVariants as commands
 use Rattle.rmeworld.specs.declared.call.Call.TheVariants as calls
-use Rattle.schedule.specs.declared.line.Line.{Line}
-use Rattle.schedule.specs.declared.line.Line.TheVariants.{Start, Step, Crash}
-use Rattle.schedule.specs.Words.{Shape, Number, any, many, has_fixed, numbers_at, is_nil, item_after}
-use Rattle.schedule.specs.Commands.{words_of_line, IsLine, commands_by_name, places, line_with, line_at}
 use Rattle.schedule.proofs.Joins.{ArePlain, decimal_above, decimals_plain}
 use Rattle.schedule.proofs.Forms.{Says, item_takes, one, two, three, reads}
 use Rattle.schedule.proofs.Places.{Fits, AreNarrow, number_again, numbers_again, many_narrow, many_fixed, many_from, many_fit}

@@ -1,9 +1,6 @@
 -- Pieces of a text.
 use Rattle.std.proofs.Common.{◌≡◌, ℕ, ◌<◌, ◌≤◌, false, eqb, List, [], ◌∷◌, ◌++◌, length, refl, sym, ap, ◌∙◌, length-append, arith, inl, inr}
-use Rattle.std.specs.List.{onto_first}
-use Rattle.std.proofs.lemmas.Bool.{cases_Bool}
-use Rattle.std.proofs.lemmas.List.Splits.{slice_split-cons_yes, slice_split-cons_no, length-slice_split}
-use Rattle.schedule.specs.Texts.{parts_of}
+use Rattle.schedule.proofs.Common.{cases_Bool, slice_split-cons_yes, slice_split-cons_no, length-slice_split, onto_first, parts_of}
 use Rattle.std.proofs.lemmas.List.Sums.{count_by-le-length}
 
 tail_same : (x : ℕ) (parts : List (List ℕ)) (xs : List ℕ) → 0 < length parts → onto_first x parts ≡ (x ∷ xs) ∷ [] → parts ≡ xs ∷ []

@@ -1,14 +1,7 @@
 -- The deed lines at the front of a text.
-use Rattle.std.proofs.Common.{◌≡◌, ℕ, ◌+◌, ◌<◌, List, [], ◌∷◌, ◌++◌, length, map, take, sym, ap, ◌∙◌, append_assoc, arith}
-use Rattle.std.specs.Prelude.{codes, slice_set}
-use Rattle.std.specs.List.{join_with_byte}
-use Rattle.std.specs.Fmt.{decimal}
-use Rattle.std.proofs.lemmas.Grind.{common_steps, flat_map-append}
-use Rattle.std.proofs.lemmas.List.{append-nil}
+use Rattle.std.proofs.Common.{◌≡◌, ℕ, ◌+◌, ◌<◌, List, [], ◌∷◌, ◌++◌, length, map, take, sym, ap, ◌∙◌, append_assoc, arith, codes, slice_set, append-nil}
+use Rattle.schedule.proofs.Common.{common_steps, flat_map-append, decimal, join_with_byte, words_of_deed, line_of, spaced}
 use Rattle.redomail.specs.declared.deed.Deed.TheVariants.{Commit, Show}
-use Rattle.schedule.specs.Words.{spaced}
-use Rattle.schedule.specs.Texts.{line_of}
-use Rattle.schedule.specs.Deeds.{words_of_deed}
 use Rattle.schedule.proofs.Spaced.{join_spaced}
 
 -- ---- the numbers of a message

@@ -1,15 +1,11 @@
 -- The deed lines: what is read is spelled so, and what is spelled so is read.
-use Rattle.std.proofs.Common.{◌≡◌, ℕ, ◌^◌, ◌<◌, true, List, [], ◌∷◌, length, map, drop, Ok, refl, sym, ap, ◌∙◌, arith, lit<}
-use Rattle.std.specs.Prelude.{codes}
-use Rattle.std.specs.List.{AllByRecursion}
-use Rattle.std.specs.Fmt.{decimal}
+use Rattle.std.proofs.Common.{◌≡◌, ℕ, ◌^◌, ◌<◌, true, List, [], ◌∷◌, length, map, drop, Ok, refl, sym, ap, ◌∙◌, arith, lit<, codes}
+use Rattle.schedule.proofs.Common.{decimal, AllByRecursion, Deed, deed_at, words_of_deed, IsDeed, deeds_by_name, deed_with, Shape, any, many, has_fixed, numbers_at, item_after}
 use Rattle.rmecore.specs.declared.outer.Outer.TheVariants as outers
-use Rattle.redomail.specs.declared.deed.Deed.{Deed}
 use Rattle.redomail.specs.declared.deed.Deed.TheVariants as deeds
 use Rattle.schedule.specs.declared.deed.DeedWord.{DeedWord}
 use Rattle.schedule.specs.declared.deed.DeedWord.TheVariants as names
-use Rattle.schedule.specs.Words.{Shape, any, many, has_fixed, numbers_at, item_after}
-use Rattle.schedule.specs.Deeds.{words_of_deed, IsDeed, deeds_by_name, places, deed_with, deed_at}
+use Rattle.schedule.specs.Deeds.{places}
 use Rattle.schedule.proofs.Forms.{Says, item_takes, one, reads}
 use Rattle.schedule.proofs.Joins.{ArePlain, decimal_above, decimals_plain}
 use Rattle.schedule.proofs.Places.{Fits, AreNarrow, numbers_again, many_narrow, many_fixed, many_from, many_fit}

@@ -1,19 +1,7 @@
 -- Lines that a judge hears from the front of a text.
-use Rattle.std.proofs.Common.{◌≡◌, ℕ, ◌+◌, ◌-◌, ◌^◌, min, List, [], ◌∷◌, ◌++◌, Ok, refl, sym, ap, subst, ◌∙◌, append_assoc, arith, length-append}
-use Rattle.std.proofs.lemmas.List.{append-nil}
-use Rattle.redomail.specs.declared.deed.Deed.{Deed}
-use Rattle.judge.specs.Kept.{Kept}
-use Rattle.schedule.specs.declared.hearing.Hearing.{Hearing}
-use Rattle.schedule.specs.declared.trace.TraceHead.{TraceHead}
-use Rattle.schedule.specs.declared.stage.Stage.{Stage}
+use Rattle.std.proofs.Common.{◌≡◌, ℕ, ◌+◌, ◌-◌, ◌^◌, min, List, [], ◌∷◌, ◌++◌, Ok, refl, sym, ap, subst, ◌∙◌, append_assoc, arith, length-append, append-nil}
+use Rattle.schedule.proofs.Common.{Deed, Kept, Hearing, Stage, TraceHead, deed_at, Begins, opened, bench, Hears, parts_of, trace_head_at, Stands, Fed, words_of}
 use Rattle.schedule.specs.declared.stage.Stage.TheVariants as stages
-use Rattle.schedule.specs.Deeds.{deed_at}
-use Rattle.schedule.specs.Words.{words_of}
-use Rattle.schedule.specs.Texts.{parts_of}
-use Rattle.schedule.specs.Traces.{trace_head_at}
-use Rattle.schedule.specs.Trials.{Stands, Fed}
-use Rattle.schedule.specs.Hearings.{bench, opened, Hears}
-use Rattle.schedule.specs.Fronts.{Begins}
 use Rattle.schedule.proofs.Heard.{hears_both}
 use Rattle.schedule.proofs.Staging.{more_reads}
 

@@ -1,9 +1,6 @@
 -- Lines whose first word names their places: what is read is spelled so.
 use Rattle.std.proofs.Common.{◌≡◌, ℕ, ◌-◌, ◌^◌, ◌<◌, true, List, [], ◌∷◌, drop, Option, Some, None, Ok, refl, sym, ap, subst, ◌∙◌, arith, lit<}
-use Rattle.std.specs.List.{AllByRecursion}
-use Rattle.std.specs.Fmt.{decimal}
-use Rattle.schedule.specs.declared.fault.LineFault.{LineFault}
-use Rattle.schedule.specs.Words.{Shape, any, has_fixed, numbers_at, number_in, first_of, named, item_after, item_named, item_at}
+use Rattle.schedule.proofs.Common.{decimal, AllByRecursion, LineFault, Shape, any, has_fixed, numbers_at, first_of, named, item_named, item_at, item_after, number_in}
 use Rattle.schedule.proofs.Places.{bind_ok, ok_is, spelled, Fits, AreNarrow, number_again, numbers_take, named_is}
 
 -- what is made of numbers that fit its places

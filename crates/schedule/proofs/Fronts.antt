@@ -1,20 +1,9 @@
 -- What a text begins with.
-use Rattle.std.proofs.Common.{◌≡◌, ℕ, ◌+◌, ◌-◌, ◌*◌, ◌/◌, ◌%◌, ◌^◌, ◌<◌, ◌≤◌, true, false, eqb, List, [], ◌∷◌, ◌++◌, refl, sym, ap, ◌∙◌, append_assoc, arith}
-use Rattle.std.specs.Prelude.{codes}
-use Rattle.std.specs.List.{join_with_byte}
-use Rattle.std.specs.Char.{is_ascii_digit}
-use Rattle.std.specs.Fmt.{decimal}
-use Rattle.std.proofs.lemmas.Bool.{ne_eqb}
-use Rattle.std.proofs.lemmas.Fmt.{decimal_digit, decimal_step}
-use Rattle.schedule.specs.declared.line.Line.TheVariants.{Step}
-use Rattle.schedule.specs.Commands.{words_of_line, line_at}
-use Rattle.schedule.specs.Texts.{line_of, parts_of}
-use Rattle.schedule.specs.Fronts.{Begins}
+use Rattle.std.proofs.Common.{◌≡◌, ℕ, ◌+◌, ◌-◌, ◌*◌, ◌/◌, ◌%◌, ◌^◌, ◌<◌, ◌≤◌, true, false, eqb, List, [], ◌∷◌, ◌++◌, Result, refl, sym, ap, ◌∙◌, append_assoc, arith, codes, ne_eqb}
+use Rattle.schedule.proofs.Common.{decimal_digit, decimal_step, is_ascii_digit, decimal, join_with_byte, LineFault, Step, words_of_line, line_at, Begins, parts_of, line_of}
 use Rattle.schedule.proofs.Joins.{words_of-join, parts_of-line}
-use Rattle.std.proofs.Common.{Result}
 use Rattle.schedule.proofs.Commands.{line_codec}
 use Rattle.schedule.proofs.Texts.{IsCodec}
-use Rattle.schedule.specs.declared.fault.LineFault.{LineFault}
 
 pub first_digit : (text after : List ℕ) (byte : ℕ) → is_ascii_digit byte ≡ true → text ≡ byte ∷ after → text ≡ decimal (byte - 48) ++ after
 first_digit text after byte digit is =

@@ -1,15 +1,7 @@
 -- Where a text is not replayed at all.
 use Rattle.std.proofs.Common.{◌≡◌, ℕ, Option, Some, None, Result, Ok, Err, refl, ◌∙◌, ◌⊎◌, inl, inr}
-use Rattle.rmecore.specs.declared.refusal.Refusal.{Refusal}
+use Rattle.schedule.proofs.Common.{Refusal, number_of, cause, new_refusal, LineFault, OutOfMemory, Tape, Scheduled, Silent, header_fault, layout_of, OfSchedule, OfText}
 use Rattle.rmecore.specs.declared.refusal.Refusal.TheVariants as refusals
-use Rattle.rmecore.specs.Refused.{number_of}
-use Rattle.rmecore.specs.Simulated.{cause}
-use Rattle.schedule.specs.declared.fault.LineFault.{LineFault}
-use Rattle.schedule.specs.declared.replay_fault.ReplayFault.TheVariants.{OutOfMemory}
-use Rattle.schedule.specs.Schedules.{Scheduled}
-use Rattle.schedule.specs.Plays.{Tape}
-use Rattle.schedule.specs.Wholes.{Silent, header_fault, layout_of, OfSchedule, OfText}
-use Rattle.rmeworld.specs.WorldState.{new_refusal}
 
 pub silent : (t : Tape) → Silent t t
 silent t = record { taken = refl; fine = refl }

@@ -1,17 +1,7 @@
 -- Deeds that are heard one after another.
-use Rattle.std.proofs.Common.{◌≡◌, ℕ, List, [], ◌∷◌, ◌++◌, Result, Ok, Err, refl, sym, ap, subst, ◌∙◌, append_assoc}
-use Rattle.std.proofs.lemmas.List.{append-nil}
-use Rattle.rmecore.specs.declared.fault.Fault.{Fault}
-use Rattle.redomail.specs.declared.deed.Deed.{Deed}
-use Rattle.judge.specs.Table.{State, judged, after}
-use Rattle.judge.specs.Kept.{Kept}
-use Rattle.judge.specs.Stands.{Keeps}
-use Rattle.schedule.specs.declared.hearing.Hearing.{Hearing}
-use Rattle.schedule.specs.declared.verdict.Verdict.{Verdict}
-use Rattle.schedule.specs.declared.verdict.Verdict.TheVariants.{Fine, Against}
-use Rattle.rmecore.specs.Simulated.{one_more}
-use Rattle.schedule.specs.Verdicts.{ruled, verdict_from}
-use Rattle.schedule.specs.Hearings.{opened, Bench, bench, with_more, if_allowed, heard, heard_with, Hears}
+use Rattle.std.proofs.Common.{◌≡◌, ℕ, List, [], ◌∷◌, ◌++◌, Result, Ok, Err, refl, sym, ap, subst, ◌∙◌, append_assoc, append-nil}
+use Rattle.schedule.proofs.Common.{Fault, one_more, Deed, Kept, Keeps, State, judged, after, Hearing, Verdict, Fine, Against, opened, bench, with_more, heard_with, Hears, Bench, if_allowed, heard}
+use Rattle.schedule.proofs.Common.{ruled, verdict_from}
 
 pub no_more : (v : Verdict) (k : ℕ) (s : State) → with_more v k s [] ≡ v
 no_more Fine k s = refl

@@ -1,18 +1,8 @@
 -- Lines that are read where they stand.
-use Rattle.std.proofs.Common.{◌≡◌, ℕ, ◌+◌, ◌-◌, ◌<◌, ◌≤◌, false, eqb, List, [], ◌∷◌, ◌++◌, length, drop, Result, Ok, Err, refl, sym, ap, ◌∙◌, append_assoc, arith, length-append}
-use Rattle.std.proofs.lemmas.Bool.{ne_eqb}
+use Rattle.std.proofs.Common.{◌≡◌, ℕ, ◌+◌, ◌-◌, ◌<◌, ◌≤◌, false, eqb, List, [], ◌∷◌, ◌++◌, length, drop, Result, Ok, Err, refl, sym, ap, ◌∙◌, append_assoc, arith, length-append, ne_eqb}
+use Rattle.schedule.proofs.Common.{LineFault, NoNewline, TextFault, Head, Line, line_at, Begins, Scheduled, head_at, schedule_at, scheduled_with, parts_of, Fails, text_at, items_at, words_of, ◌>>=◌}
 use Rattle.std.proofs.Math.Seq.{drop-append_seam}
-use Rattle.schedule.specs.declared.fault.LineFault.{LineFault}
-use Rattle.schedule.specs.declared.fault.LineFault.TheVariants.{NoNewline}
-use Rattle.schedule.specs.declared.fault.TextFault.{TextFault}
 use Rattle.schedule.specs.declared.fault.TextFault.TheVariants as faults
-use Rattle.schedule.specs.declared.head.Head.{Head}
-use Rattle.schedule.specs.declared.line.Line.{Line}
-use Rattle.schedule.specs.Words.{words_of, ◌>>=◌}
-use Rattle.schedule.specs.Commands.{line_at}
-use Rattle.schedule.specs.Schedules.{Scheduled, head_at, schedule_at, scheduled_with}
-use Rattle.schedule.specs.Texts.{parts_of, items_at, text_at, Fails}
-use Rattle.schedule.specs.Fronts.{Begins}
 use Rattle.schedule.proofs.Items.{items_at-cut}
 use Rattle.schedule.proofs.Places.{bind_ok, ok_is}
 

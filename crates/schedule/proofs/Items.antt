@@ -1,12 +1,6 @@
 -- Reading lines one after the other, as a loop does.
-use Rattle.std.proofs.Common.{◌≡◌, ℕ, ◌+◌, ◌<◌, false, eqb, List, [], ◌∷◌, ◌++◌, length, Result, Ok, Err, refl, sym, ap, ◌∙◌, append_assoc, arith}
-use Rattle.std.proofs.lemmas.Bool.{ne_eqb}
-use Rattle.std.proofs.lemmas.List.{append-nil}
-use Rattle.std.proofs.lemmas.List.Splits.{length-slice_split}
-use Rattle.schedule.specs.declared.fault.LineFault.{LineFault}
-use Rattle.schedule.specs.declared.fault.LineFault.TheVariants.{NoNewline}
-use Rattle.schedule.specs.Words.{words_of, ◌>>=◌}
-use Rattle.schedule.specs.Texts.{parts_of, on_line, items_at}
+use Rattle.std.proofs.Common.{◌≡◌, ℕ, ◌+◌, ◌<◌, false, eqb, List, [], ◌∷◌, ◌++◌, length, Result, Ok, Err, refl, sym, ap, ◌∙◌, append_assoc, arith, ne_eqb, append-nil}
+use Rattle.schedule.proofs.Common.{length-slice_split, LineFault, NoNewline, parts_of, on_line, items_at, words_of, ◌>>=◌}
 
 module _ {A : Type 0} (item : List (List ℕ) → Result A LineFault) where
   -- what was read before, and what is still read

@@ -1,13 +1,7 @@
 -- Words joined by spaces are cut into themselves, and lines likewise.
-use Rattle.std.proofs.Common.{◌≡◌, ℕ, ◌^◌, ◌<◌, leb, Bool, true, false, ltb, eqb, List, [], ◌∷◌, ◌++◌, map, refl, ap, ◌∙◌, append_assoc, arith}
-use Rattle.std.specs.List.{slice_split, onto_first, join_with_byte, list_all, AllByRecursion}
-use Rattle.std.specs.Char.{is_ascii_digit}
-use Rattle.std.specs.Fmt.{decimal}
-use Rattle.std.proofs.lemmas.Bool.{and_parts, and_from, ltb-true, lt-ltb, ne_eqb, eq-eqb, leb-true}
-use Rattle.std.proofs.lemmas.Fmt.{digits_decimal}
-use Rattle.std.proofs.lemmas.List.Splits.{slice_split-cons_no}
-use Rattle.schedule.specs.Words.{words_of}
-use Rattle.schedule.specs.Texts.{line_of, parts_of}
+use Rattle.std.proofs.Common.{◌≡◌, ℕ, ◌^◌, ◌<◌, leb, Bool, true, false, ltb, eqb, List, [], ◌∷◌, ◌++◌, map, refl, ap, ◌∙◌, append_assoc, arith, ltb-true, lt-ltb, ne_eqb, eq-eqb, leb-true}
+use Rattle.schedule.proofs.Common.{and_parts, and_from, digits_decimal, slice_split-cons_no, is_ascii_digit, decimal, slice_split, onto_first, join_with_byte, AllByRecursion, list_all, parts_of}
+use Rattle.schedule.proofs.Common.{line_of, words_of}
 use Rattle.schedule.proofs.Numbers.{own}
 
 -- bytes above b

@@ -1,14 +1,8 @@
 -- When there is a judge of a trace.
 use Rattle.std.proofs.Common.{◌≡◌, ℕ, ◌<◌, ◌≤◌, ◌&&◌, Bool, true, false, nat_lt, nat_le, [], ◌⊎◌, inl, inr, Some, None, refl, sym, ap, subst, ◌∙◌, arith}
-use Rattle.rmecore.specs.declared.refusal.Refusal.{Refusal}
+use Rattle.schedule.proofs.Common.{Fault, Refusal, number_of, Kept, Keeps, StandsAfter, State, judge_refusal, numbered}
 use Rattle.rmecore.specs.declared.refusal.Refusal.TheVariants.{BadProcs, BadCap, OutOfMemory}
-use Rattle.rmecore.specs.Refused.{number_of}
-use Rattle.judge.specs.Table.{State}
-use Rattle.judge.specs.Kept.{Kept}
-use Rattle.judge.specs.Stands.{Keeps, StandsAfter}
-use Rattle.rmecore.specs.declared.fault.Fault.{Fault}
 use Rattle.schedule.proofs.Places.{ok_is}
-use Rattle.schedule.specs.Trials.{judge_refusal, numbered}
 
 abbrev few : ℕ → Bool
 few procs = nat_lt 0 procs && nat_le procs 64

@@ -1,13 +1,6 @@
 -- What each call of a machine keeps, beside what was told, the run of a schedule keeps.
-use Rattle.std.proofs.Common.{◌≡◌, ℕ, zero, suc, ◌+◌, false, is_some, List, [], ◌∷◌, ◌++◌, Option, Some, None, refl, sym, subst, inl, inr, append_assoc}
-use Rattle.std.proofs.lemmas.Bool.{cases_Bool}
-use Rattle.std.proofs.lemmas.List.{append-nil}
-use Rattle.rmecore.specs.declared.refusal.Refusal.{Refusal}
-use Rattle.rmeworld.specs.declared.call.Call.{Call}
-use Rattle.rmeworld.specs.declared.stepped.Stepped.{Stepped}
-use Rattle.schedule.specs.declared.line.Line.{Line}
-use Rattle.schedule.specs.declared.line.Line.TheVariants.{Start, Step, Crash}
-use Rattle.schedule.specs.Runs.{Told, Did, told_of, Behaviour, Part, steps, unless, followed, line_on, run_on}
+use Rattle.std.proofs.Common.{◌≡◌, ℕ, zero, suc, ◌+◌, false, is_some, List, [], ◌∷◌, ◌++◌, Option, Some, None, refl, sym, subst, inl, inr, append_assoc, append-nil}
+use Rattle.schedule.proofs.Common.{cases_Bool, Refusal, Call, Stepped, Line, Start, Step, Crash, Part, Told, Did, told_of, Behaviour, unless, followed, steps, line_on, run_on}
 
 accepted : (o : Option Refusal) → is_some o ≡ false → o ≡ None
 accepted None e = refl

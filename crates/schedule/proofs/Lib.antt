@@ -1,3 +1,4 @@
+pub mod Common
 pub mod Cuts
 pub mod Ranges
 pub mod Numbers

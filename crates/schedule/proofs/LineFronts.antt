@@ -1,12 +1,7 @@
 -- The lines of a schedule at the front of a text, but those of steps.
-use Rattle.std.proofs.Common.{◌≡◌, ℕ, List, ◌∷◌, ◌++◌, sym, ap, ◌∙◌}
-use Rattle.std.specs.Prelude.{codes}
-use Rattle.std.specs.Fmt.{decimal}
+use Rattle.std.proofs.Common.{◌≡◌, ℕ, List, ◌∷◌, ◌++◌, sym, ap, ◌∙◌, codes}
+use Rattle.schedule.proofs.Common.{decimal, Start, words_of_line, line_of, spaced}
 use Rattle.rmeworld.specs.declared.call.Call.TheVariants as calls
-use Rattle.schedule.specs.declared.line.Line.TheVariants.{Start}
-use Rattle.schedule.specs.Words.{spaced}
-use Rattle.schedule.specs.Texts.{line_of}
-use Rattle.schedule.specs.Commands.{words_of_line}
 use Rattle.schedule.proofs.DeedFronts.{before_end, message, message_is, ended}
 
 pub append_line : (p seq : ℕ) (v rest text value end after : List ℕ) → rest ≡ 32 ∷ text → text ≡ decimal seq ++ value → value ≡ spaced v ++ end → end ≡ 10 ∷ after

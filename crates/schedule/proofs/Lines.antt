@@ -1,9 +1,6 @@
 -- Reading the words of a line.
 use Rattle.std.proofs.Common.{◌≡◌, ℕ, suc, ◌+◌, ◌-◌, ◌^◌, ◌<◌, ◌==◌, false, List, [], ◌∷◌, ◌++◌, length, drop, Result, Ok, Err, refl, sym, ap, ◌∙◌, append_assoc, arith}
-use Rattle.std.proofs.lemmas.List.Splits.{length-slice_split}
-use Rattle.schedule.specs.declared.fault.LineFault.{LineFault}
-use Rattle.schedule.specs.declared.fault.LineFault.TheVariants.{TrailingText}
-use Rattle.schedule.specs.Words.{words_of, first_of, number_in, numbers_at, many, is_nil, ◌>>=◌}
+use Rattle.schedule.proofs.Common.{length-slice_split, LineFault, TrailingText, many, numbers_at, is_nil, words_of, first_of, ◌>>=◌, number_in}
 
 -- a line has a word, which may be empty
 some_word : (ws : List (List ℕ)) → 0 < length ws → (is_nil ws ≡ false) × (numbers_at [] ws ≡ Err TrailingText)

@@ -1,15 +1,9 @@
 -- Places of a line: the numbers that are read are those that are spelled, and those that are spelled are read.
-use Rattle.std.proofs.Common.{◌≡◌, ℕ, zero, suc, ◌^◌, ◌<◌, ◌≤◌, ◌==◌, Bool, true, false, cond, ltb, eqb, not, ◌||◌, List, [], ◌∷◌, length, get_or, map, drop, Option, Some, None, Result, Ok, Err, refl, sym, ap, subst, ◌∙◌, arith, inl, inr, ⊎_elim, lit<}
-use Rattle.std.specs.List.{AllByRecursion}
+use Rattle.std.proofs.Common.{◌≡◌, ℕ, zero, suc, ◌^◌, ◌<◌, ◌≤◌, ◌==◌, Bool, true, false, cond, ltb, eqb, not, ◌||◌, List, [], ◌∷◌, length, get_or, map, drop, Option, Some, None, Result, Ok, Err, refl, sym, ap, subst, ◌∙◌, arith, inl, inr, ⊎_elim, lit<, eqb-true, ltb-false, ltb-true, le-ltb, lt-ltb, ne_eqb}
+use Rattle.schedule.proofs.Common.{cases_eq, cases_Bool, and_parts, and_from, or_cases, or_left, or_right, not-true, not-false, not_from_false, cond-true, cond-false, decimal_digit, digits_decimal}
+use Rattle.schedule.proofs.Common.{decimal-digits_value, decimal_nonempty, digits_value-decimal, first_decimal, bytes_eq-Decides, decimal, AllByRecursion, digits_value, LineFault, BadNumber, TooBig}
+use Rattle.schedule.proofs.Common.{Shape, Number, many, has_fixed, numbers_at, first_of, named, ◌>>=◌, Fixed, is_numeral, number_in}
 use Rattle.std.specs.Str.{bytes_eq}
-use Rattle.std.specs.Str.Parse.{digits_value}
-use Rattle.std.specs.Fmt.{decimal}
-use Rattle.std.proofs.lemmas.Bool.{and_parts, and_from, or_cases, or_left, or_right, eqb-true, ltb-false, ltb-true, le-ltb, lt-ltb, not-true, not-false, ne_eqb, not_from_false, cases_eq, cases_Bool, cond-true, cond-false}
-use Rattle.std.proofs.lemmas.Fmt.{decimal-digits_value, decimal_nonempty, digits_decimal, digits_value-decimal, first_decimal, decimal_digit}
-use Rattle.std.proofs.lemmas.Slice.Eq.{bytes_eq-Decides}
-use Rattle.schedule.specs.declared.fault.LineFault.{LineFault}
-use Rattle.schedule.specs.declared.fault.LineFault.TheVariants.{BadNumber, TooBig}
-use Rattle.schedule.specs.Words.{Shape, Fixed, Number, many, first_of, is_numeral, number_in, numbers_at, has_fixed, named, ◌>>=◌}
 use Rattle.schedule.proofs.Numbers.{own}
 
 -- ---- results

@@ -1,29 +1,15 @@
 -- Parts of a run that are played one after another.
-use Rattle.std.proofs.Common.{◌≡◌, ℕ, suc, true, false, is_some, if◌then◌else◌, ◌+◌, List, [], ◌∷◌, ◌++◌, length, Option, Some, None, Result, Ok, Err, OnOk, IfErr, refl, sym, ap, ◌∙◌, subst, append_assoc, ◌⊎◌, inl, inr, arith}
-use Rattle.std.proofs.lemmas.List.{append-nil, length-append}
-use Rattle.std.specs.Prelude.{codes}
-use Rattle.std.specs.List.{join_with_byte}
-use Rattle.std.specs.Fmt.{decimal}
+use Rattle.std.proofs.Common.{◌≡◌, ℕ, suc, true, false, is_some, if◌then◌else◌, ◌+◌, List, [], ◌∷◌, ◌++◌, length, Option, Some, None, Result, Ok, Err, OnOk, IfErr, refl, sym, ap, ◌∙◌, subst, append_assoc, ◌⊎◌, inl, inr, arith, append-nil, length-append, codes}
+use Rattle.schedule.proofs.Common.{decimal, join_with_byte, Refusal, number_of, Deed, Answer, Call, Stepped, Line, Start, Step, Crash, words_of_deed, Hears, Bench, Tape, Writes, BreaksOff, Ends}
+use Rattle.schedule.proofs.Common.{IsRefused, halted, halt_of, Halts, Tells, Stops, IsRefusal, Plays, fault_at, told_text, told_line, Part, deeds_of, Told, Did, told_of, Behaviour, unless, followed}
+use Rattle.schedule.proofs.Common.{Answered, did, answered, steps, line_on, run_on, line_of}
 use Rattle.std.proofs.lemmas.List.Concat.{flat_map-append}
-use Rattle.rmecore.specs.declared.refusal.Refusal.{Refusal}
 use Rattle.rmecore.specs.declared.refusal.Refusal.TheVariants as refusals
-use Rattle.rmecore.specs.Refused.{number_of}
-use Rattle.redomail.specs.declared.deed.Deed.{Deed}
-use Rattle.rmeworld.specs.declared.answer.Answer.{Answer}
-use Rattle.rmeworld.specs.declared.stepped.Stepped.{Stepped}
 use Rattle.schedule.specs.declared.halt.Halt.{Halt}
 use Rattle.schedule.specs.declared.halt.Halt.TheVariants.{Refused, Write, OutOfMemory}
-use Rattle.rmeworld.specs.declared.call.Call.{Call}
-use Rattle.schedule.specs.declared.line.Line.{Line}
-use Rattle.schedule.specs.declared.line.Line.TheVariants.{Start, Step, Crash}
-use Rattle.schedule.specs.Runs.{Told, Did, Answered, did, answered, told_of, deeds_of, Behaviour, Part, steps, unless, followed, line_on, run_on}
-use Rattle.schedule.specs.Reports.{told_line, told_text}
-use Rattle.schedule.specs.Texts.{line_of}
-use Rattle.schedule.specs.Deeds.{words_of_deed}
 use Rattle.schedule.specs.Answers.{words_of_answer}
-use Rattle.schedule.specs.Hearings.{Bench, Hears}
 use Rattle.schedule.proofs.Heard.{hears_none, hears_both}
-use Rattle.schedule.specs.Plays.{Tape, Writes, Begins, BreaksOff, halted, halt_of, Halts, Tells, Stops, IsRefusal, IsRefused, Plays, Ends, fault_at}
+use Rattle.schedule.specs.Plays.{Begins}
 
 answer_is_no_deed : (p : ℕ) (answer : Option Answer) → deeds_of (answered p answer) ≡ []
 answer_is_no_deed p None = refl

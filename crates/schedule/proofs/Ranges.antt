@@ -1,6 +1,6 @@
 -- What holds of each element of a list, by recursion.
 use Rattle.std.proofs.Common.{ℕ, suc, ◌<◌, List, [], ◌∷◌, length, slice_index, arith}
-use Rattle.std.specs.List.{AllByRecursion}
+use Rattle.schedule.proofs.Common.{AllByRecursion}
 
 pub by_recursion : (P : ℕ → Type 0) (xs : List ℕ) → ((k : ℕ) → k < length xs → P (slice_index xs k)) → AllByRecursion P xs
 by_recursion P [] all = tt

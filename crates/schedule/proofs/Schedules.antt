@@ -1,15 +1,11 @@
 -- A schedule's text: what is read is spelled so, and what is spelled so is read.
 use Rattle.std.proofs.Common.{◌≡◌, ℕ, List, [], ◌∷◌, ◌++◌, arith, Ok, refl, ap, subst}
-use Rattle.schedule.specs.declared.fault.LineFault.{LineFault}
-use Rattle.schedule.specs.declared.head.Head.{Head}
-use Rattle.schedule.specs.Commands.{words_of_line, IsLine, line_at}
-use Rattle.schedule.specs.Texts.{parts_of, text_at}
-use Rattle.schedule.specs.Schedules.{Scheduled, words_of_head, head_of, sizes_of, schedule_form, head_with, spelling, IsHead, IsScheduled, head_at, scheduled_with, schedule_at}
+use Rattle.schedule.proofs.Common.{LineFault, Head, words_of_line, IsLine, line_at, IsHeader, Scheduled, head_at, schedule_at, scheduled_with, words_of_head, head_of, sizes_of, schedule_form}
+use Rattle.schedule.proofs.Common.{head_with, spelling, IsHead, IsScheduled, parts_of, text_at}
 use Rattle.schedule.proofs.Places.{bind_ok, ok_is}
-use Rattle.schedule.specs.Headers.{IsHeader}
+use Rattle.schedule.proofs.Commands.{line_codec}
 use Rattle.schedule.proofs.Heads.{of_width, last_width, header_takes, header_again, header_plain}
 use Rattle.schedule.proofs.Texts.{IsCodec, text_takes, text_again}
-use Rattle.schedule.proofs.Commands.{line_codec}
 
 -- a header's numbers are its sizes and, unless it is 1, its width
 made : (ss : List ℕ) (w : ℕ) → IsHeader schedule_form ss w → (sizes_of (head_with (ss ++ of_width w)) ≡ ss) × ((head_with (ss ++ of_width w)).width ≡ w)

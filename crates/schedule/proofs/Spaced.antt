@@ -1,11 +1,6 @@
 -- Numbers as words with a space before each.
-use Rattle.std.proofs.Common.{◌≡◌, ℕ, ◌+◌, ◌<◌, List, [], ◌∷◌, ◌++◌, map, sym, ap, ◌∙◌, append_assoc}
-use Rattle.std.specs.List.{join_with_byte}
-use Rattle.std.specs.Fmt.{decimal}
-use Rattle.std.proofs.lemmas.Fmt.{decimal_digit}
-use Rattle.std.proofs.lemmas.List.{append-nil}
-use Rattle.std.proofs.lemmas.List.Concat.{flat_map-cons}
-use Rattle.schedule.specs.Words.{spaced}
+use Rattle.std.proofs.Common.{◌≡◌, ℕ, ◌+◌, ◌<◌, List, [], ◌∷◌, ◌++◌, map, sym, ap, ◌∙◌, append_assoc, append-nil}
+use Rattle.schedule.proofs.Common.{decimal_digit, flat_map-cons, decimal, join_with_byte, spaced}
 
 pub join_spaced : (w : List ℕ) (v : List ℕ) → join_with_byte 32 (w ∷ map decimal v) ≡ w ++ spaced v
 join_spaced w [] = sym (append-nil w)

@@ -1,10 +1,6 @@
 -- Reading a trace line by line gives what reading it whole gives.
-use Rattle.std.proofs.Common.{◌≡◌, ℕ, ◌+◌, ◌<◌, false, eqb, List, [], ◌∷◌, ◌++◌, length, Result, Ok, Err, refl, sym, ap, ◌∙◌, arith, length-append}
-use Rattle.std.proofs.lemmas.Bool.{ne_eqb}
-use Rattle.schedule.specs.declared.fault.LineFault.{LineFault}
-use Rattle.schedule.specs.declared.fault.LineFault.TheVariants.{NoHeader, NoNewline}
-use Rattle.schedule.specs.Words.{words_of, ◌>>=◌}
-use Rattle.schedule.specs.Texts.{on_line, items_at, text_at}
+use Rattle.std.proofs.Common.{◌≡◌, ℕ, ◌+◌, ◌<◌, false, eqb, List, [], ◌∷◌, ◌++◌, length, Result, Ok, Err, refl, sym, ap, ◌∙◌, arith, length-append, ne_eqb}
+use Rattle.schedule.proofs.Common.{LineFault, NoHeader, NoNewline, on_line, text_at, items_at, words_of, ◌>>=◌}
 use Rattle.schedule.proofs.Places.{ok_is}
 use Rattle.schedule.proofs.Items.{items_at-cons}
 use Rattle.schedule.proofs.Wholes.{text_at-cons}

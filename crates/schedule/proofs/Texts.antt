@@ -1,21 +1,11 @@
 -- A whole text: what is read is spelled so, and what is spelled so is read.
-use Rattle.std.proofs.Common.{◌≡◌, ℕ, ◌+◌, ◌==◌, Bool, true, false, cond, List, [], ◌∷◌, ◌++◌, length, Result, Ok, Err, refl, sym, ap, subst, ◌∙◌, append_assoc}
-use Rattle.std.specs.List.{join_with_byte, flat_map, AllByRecursion}
-use Rattle.std.proofs.lemmas.Bool.{eqb-true}
-use Rattle.std.proofs.lemmas.List.{nil_from_length}
-use Rattle.std.proofs.lemmas.List.Concat.{flat_map-cons}
-use Rattle.std.proofs.lemmas.List.Splits.{join_with_byte-slice_split}
-use Rattle.schedule.specs.declared.fault.LineFault.{LineFault}
-use Rattle.schedule.specs.declared.fault.LineFault.TheVariants.{NoNewline}
-use Rattle.schedule.specs.Words.{words_of, ◌>>=◌}
-use Rattle.schedule.specs.Texts.{line_of, parts_of, on_line, items_at, text_at}
+use Rattle.std.proofs.Common.{◌≡◌, ℕ, ◌+◌, ◌==◌, Bool, true, false, cond, List, [], ◌∷◌, ◌++◌, length, Result, Ok, Err, IfOk, refl, sym, ap, subst, ◌∙◌, append_assoc, eqb-true}
+use Rattle.schedule.proofs.Common.{nil_from_length, flat_map-cons, join_with_byte-slice_split, join_with_byte, AllByRecursion, flat_map, LineFault, NoNewline, TextFault, parts_of, line_of, on_line}
+use Rattle.schedule.proofs.Common.{Gives, text_at, items_at, words_of, ◌>>=◌}
 use Rattle.schedule.proofs.Places.{bind_ok, ok_is, taken}
 use Rattle.schedule.proofs.Joins.{ArePlain, words_of-join, parts_of-line}
 use Rattle.schedule.proofs.Items.{items_at-cut}
 use Rattle.schedule.proofs.Wholes.{text_at-cut}
-use Rattle.std.proofs.Common.{IfOk}
-use Rattle.schedule.specs.declared.fault.TextFault.{TextFault}
-use Rattle.schedule.specs.Texts.{Gives}
 
 -- reading and spelling that belong together
 pub record IsCodec (A : Type 0) (read : List (List ℕ) → Result A LineFault) (words : A → List (List ℕ)) (Valid : A → Type 0) : Type 0 where

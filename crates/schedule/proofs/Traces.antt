@@ -1,15 +1,11 @@
 -- A trace's text: what is read is spelled so, and what is spelled so is read.
 use Rattle.std.proofs.Common.{◌≡◌, ℕ, List, [], ◌∷◌, ◌++◌, arith, Ok, refl, ap, subst}
-use Rattle.schedule.specs.declared.fault.LineFault.{LineFault}
-use Rattle.schedule.specs.declared.trace.TraceHead.{TraceHead}
-use Rattle.schedule.specs.Deeds.{words_of_deed, IsDeed, deed_at}
-use Rattle.schedule.specs.Texts.{parts_of, text_at}
-use Rattle.schedule.specs.Traces.{Traced, words_of_trace_head, trace_head_of, trace_sizes, trace_form, trace_head_with, trace_spelling, IsTraceHead, IsTraced, trace_head_at, traced_with, trace_at}
+use Rattle.schedule.proofs.Common.{LineFault, TraceHead, deed_at, words_of_deed, IsDeed, IsHeader, parts_of, text_at, trace_head_at, Traced, words_of_trace_head, trace_head_of, trace_sizes}
+use Rattle.schedule.proofs.Common.{trace_form, trace_head_with, trace_spelling, IsTraceHead, IsTraced, traced_with, trace_at}
 use Rattle.schedule.proofs.Places.{bind_ok, ok_is}
-use Rattle.schedule.specs.Headers.{IsHeader}
+use Rattle.schedule.proofs.Deeds.{deed_codec}
 use Rattle.schedule.proofs.Heads.{of_width, last_width, header_takes, header_again, header_plain}
 use Rattle.schedule.proofs.Texts.{IsCodec, text_takes, text_again}
-use Rattle.schedule.proofs.Deeds.{deed_codec}
 
 -- a header's numbers are its sizes and, unless it is 1, its width
 made : (ss : List ℕ) (w : ℕ) → IsHeader trace_form ss w → (trace_sizes (trace_head_with (ss ++ of_width w)) ≡ ss) × ((trace_head_with (ss ++ of_width w)).width ≡ w)

@@ -1,49 +1,33 @@
 -- The run of a schedule on a world follows a story from where the world began, and so its deeds are legal.
-use Rattle.std.proofs.Common.{◌≡◌, ℕ, List, [], ◌∷◌, ◌++◌, map, Option, Some, None, Result, Ok, Err, IfOk, refl, sym, ap, ◌∙◌, subst, inl, append_assoc}
-use Rattle.std.proofs.lemmas.List.{append-nil}
+use Rattle.std.proofs.Common.{◌≡◌, ℕ, List, [], ◌∷◌, ◌++◌, map, Option, Some, None, Result, Ok, Err, IfOk, refl, sym, ap, ◌∙◌, subst, inl, append_assoc, append-nil}
+use Rattle.schedule.proofs.Common.{Fault, Refusal, one_more, Deed, empty, State, judged, Answer, Image, Stepped, new_refusal, WorldState, stand_at, spot_at, scene_of, Takes, new_world, image_world}
+use Rattle.schedule.proofs.Common.{Line, ReplayFault, Verdict, Fine, Tape, Part, deeds_of, Told, Did, told_of, did, answered, run_on, verdict_on, ruled, verdict_from, world_behaviour}
 use Rattle.rmecore.specs.Machine.{kind_of}
 use Rattle.rmecore.specs.declared.access.Access.{Access}
-use Rattle.rmecore.specs.declared.fault.Fault.{Fault}
-use Rattle.rmecore.specs.declared.refusal.Refusal.{Refusal}
-use Rattle.redomail.specs.declared.deed.Deed.{Deed}
 use Rattle.redomail.specs.Layout.{size}
-use Rattle.redomail.specs.declared.layout.Layout.{Layout}
 use Rattle.judge.specs.Legal.{and_then, judged_all, Leads}
 use Rattle.judge.specs.Starts.{state_of}
-use Rattle.judge.specs.Table.{State, empty, judged}
 use Rattle.judge.specs.declared.start.Start.{Start}
-use Rattle.rmeworld.specs.declared.image.Image.{Image}
-use Rattle.rmeworld.specs.ImageRules.{layout_of, IsLawfulImage}
 use Rattle.rmeworld.specs.ImageStart.{IsStartOf}
 use Rattle.rmeworld.specs.Reached.{IsOrigin, IsWorld}
 use Rattle.rmeworld.specs.Answered.{answer_at}
 use Rattle.rmeworld.specs.CallWalk.{answer_to}
-use Rattle.rmeworld.specs.declared.answer.Answer.{Answer}
-use Rattle.rmeworld.specs.declared.stepped.Stepped.{Stepped}
 use Rattle.rmeworld.specs.Replayed.{started, stepped, stepped_if, advanced, advanced_if, crashed, crash_deed, happening, value_of, list_of}
 use Rattle.rmeworld.specs.Spot.{Happening, who}
 use Rattle.rmeworld.specs.Stand.{next_access}
 use Rattle.rmeworld.specs.World.{Scene, at_first, Can, onward, Story, last_scene, event_deeds, deeds}
-use Rattle.rmeworld.specs.WorldState.{WorldState, stand_at, spot_at, scene_of, Takes, new_world, new_refusal, image_world}
 use Rattle.rmeworld.proofs.Beginning.{follows_new, follows_image, follows_legal, image_origin}
 use Rattle.rmeworld.proofs.Following.{Follows, below_if, start_is, step_is, follows_started, follows_advanced, follows_crashed}
 use Rattle.rmeworld.proofs.FromImages.{image_scene}
-use Rattle.schedule.specs.declared.line.Line.{Line}
-use Rattle.schedule.specs.declared.replay_fault.ReplayFault.{ReplayFault}
-use Rattle.schedule.specs.declared.verdict.Verdict.{Verdict}
-use Rattle.schedule.specs.declared.verdict.Verdict.TheVariants.{Fine}
 use Rattle.rmeworld.proofs.StoryGrows.{story_more, last_more}
 use Rattle.rmeworld.proofs.Worlds.{new_scene}
 use Rattle.rmeworld.proofs.WorldSteps.{step_takes, crash_takes}
-use Rattle.schedule.specs.Plays.{Tape}
 use Rattle.schedule.specs.Replays.{Replays}
-use Rattle.schedule.specs.Runs.{Told, Did, did, answered, told_of, Part, deeds_of, run_on}
-use Rattle.rmecore.specs.Simulated.{one_more}
 use Rattle.schedule.specs.Stories.{first_scene, told_at, told_in, IsStory}
-use Rattle.schedule.specs.Verdicts.{ruled, verdict_from, verdict_on}
-use Rattle.schedule.specs.Wholes.{world_behaviour}
 use Rattle.schedule.proofs.Kept.{IsKept, run_keeps}
 use Rattle.schedule.proofs.Playing.{deeds_told, deeds_append}
+use Rattle.redomail.specs.declared.layout.Layout.{Layout}
+use Rattle.rmeworld.specs.ImageRules.{layout_of, IsLawfulImage}
 
 -- what is legal has no deed that the judge refuses
 pub legal_is_fine : (k : ℕ) (s t : State) (deeds : List Deed) → Leads s deeds t → verdict_from k s deeds ≡ Fine

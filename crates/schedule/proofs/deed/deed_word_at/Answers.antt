@@ -1,7 +1,6 @@
 -- A word whose length and bytes are those of a name is that name.
-use Rattle.std.proofs.Common.{refl, arith}
-use Rattle.std.specs.Prelude.{codes}
-use Rattle.std.proofs.lemmas.Slice.Eq.{text_from_reads}
+use Rattle.std.proofs.Common.{refl, arith, codes}
+use Rattle.schedule.proofs.Common.{text_from_reads}
 use Rattle.schedule.proofs.deed.deed_word_at.Goals as goal
 
 pub returns-in-reenter : goal.returns-in-reenter

@@ -1,6 +1,6 @@
 use Rattle.std.proofs.Common.{◌≡◌, Some, drop, arith}
-use Rattle.schedule.specs.Words.{words_of, first_of, named}
-use Rattle.schedule.specs.Deeds.{deeds_by_name, places, deed_with}
+use Rattle.schedule.proofs.Common.{deeds_by_name, deed_with, words_of, first_of, named}
+use Rattle.schedule.specs.Deeds.{places}
 use Rattle.schedule.proofs.Forms.{item_at-named}
 use Rattle.schedule.proofs.deed.read_deed.Goals as goal
 

@@ -1,9 +1,9 @@
 use Rattle.std.proofs.Common.{◌≡◌, ◌++◌, subst}
+use Rattle.schedule.proofs.Common.{lead}
 use Rattle.schedule.specs.declared.deed.DeedWord.TheVariants as names
-use Rattle.schedule.specs.Fronts.{lead}
-use Rattle.schedule.proofs.deed_front.first_deed.Goals as goal
 use Rattle.schedule.proofs.Deeds.{deed_codec}
 use Rattle.schedule.proofs.Fronts.{short_begins, long_begins}
+use Rattle.schedule.proofs.deed_front.first_deed.Goals as goal
 
 pub returns-in-Some : goal.returns-in-Some
 returns-in-Some c =

@@ -1,5 +1,5 @@
 use Rattle.std.proofs.Common.{◌≡◌, ◌<◌, ◌++◌, length}
-use Rattle.std.specs.Fmt.{decimal}
+use Rattle.schedule.proofs.Common.{decimal}
 use Rattle.schedule.proofs.front.number.Given as goal
 
 abbrev pub invariant-loop-byte : goal.invariant-loop-byte

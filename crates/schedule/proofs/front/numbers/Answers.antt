@@ -1,5 +1,5 @@
 use Rattle.std.proofs.Common.{◌∙◌, arith}
-use Rattle.std.proofs.Math.ListN.{length-set}
+use Rattle.schedule.proofs.Common.{length-set}
 use Rattle.schedule.proofs.DeedFronts.{value_grows}
 use Rattle.schedule.proofs.front.numbers.Goals as goal
 

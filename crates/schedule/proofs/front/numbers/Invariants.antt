@@ -1,5 +1,5 @@
 use Rattle.std.proofs.Common.{◌≡◌, ◌++◌, take, length}
-use Rattle.schedule.specs.Words.{spaced}
+use Rattle.schedule.proofs.Common.{spaced}
 use Rattle.schedule.proofs.front.numbers.Given as goal
 
 abbrev pub invariant-loop-j : goal.invariant-loop-j

@@ -1,4 +1,4 @@
-use Rattle.schedule.specs.declared.line.Line.TheVariants.{Step}
+use Rattle.schedule.proofs.Common.{Step}
 use Rattle.schedule.proofs.in_place.behind_next.Goals as goal
 
 pub returns-in-Some-clause-read : goal.returns-in-Some-clause-read

@@ -1,5 +1,5 @@
 use Rattle.std.proofs.Common.{arith}
-use Rattle.schedule.specs.Commands.{line_at}
+use Rattle.schedule.proofs.Common.{line_at}
 use Rattle.schedule.proofs.InPlace.{shorter, goes_first, goes_on, goes_wrong, goes_to_end}
 use Rattle.schedule.proofs.in_place.check_lines.Goals as goal
 

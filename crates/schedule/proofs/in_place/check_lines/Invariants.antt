@@ -1,6 +1,5 @@
 use Rattle.std.proofs.Common.{◌+◌, ◌≤◌, length}
-use Rattle.schedule.specs.Commands.{line_at}
-use Rattle.schedule.specs.Texts.{items_at, parts_of}
+use Rattle.schedule.proofs.Common.{line_at, parts_of, items_at}
 use Rattle.schedule.proofs.InPlace.{GoesOn}
 use Rattle.schedule.proofs.in_place.check_lines.Given as goal
 

@@ -1,4 +1,4 @@
-use Rattle.schedule.specs.Commands.{line_at}
+use Rattle.schedule.proofs.Common.{line_at}
 use Rattle.schedule.proofs.InPlace.{cut_begins, cut_fails, uncut_fails}
 use Rattle.schedule.proofs.in_place.line_by_words.Goals as goal
 

@@ -1,7 +1,5 @@
 use Rattle.std.proofs.Common.{◌++◌, ◌∷◌, [], ◌∙◌, sym, append_assoc, length, ap, length-append, arith}
-use Rattle.std.proofs.lemmas.Result.{err_from_is_err_and}
-use Rattle.schedule.specs.Commands.{line_at}
-use Rattle.schedule.specs.Schedules.{head_at}
+use Rattle.schedule.proofs.Common.{err_from_is_err_and, line_at, head_at}
 use Rattle.schedule.proofs.Wholes.{text_at-empty, text_at-uncut, text_read, head_fails, items_fail}
 use Rattle.schedule.proofs.InPlace.{is_right, is_wrong, fails_so}
 use Rattle.schedule.proofs.in_place.read.Goals as goal

@@ -1,6 +1,4 @@
-use Rattle.std.proofs.Common.{◌∷◌, length, ap, sym, ◌∙◌, arith}
-use Rattle.std.proofs.lemmas.Bool.{eqb-true}
-use Rattle.std.proofs.lemmas.List.{length-append}
+use Rattle.std.proofs.Common.{◌∷◌, length, ap, sym, ◌∙◌, arith, eqb-true, length-append}
 use Rattle.schedule.proofs.Items.{items_go_on, items_stop, items_break, items_end}
 use Rattle.schedule.proofs.item.items.Goals as goal
 

@@ -1,5 +1,5 @@
 use Rattle.std.proofs.Common.{◌≡◌, ◌+◌, ◌≤◌, length}
-use Rattle.schedule.specs.Texts.{items_at, parts_of}
+use Rattle.schedule.proofs.Common.{parts_of, items_at}
 use Rattle.schedule.proofs.Items.{with_items}
 use Rattle.schedule.proofs.item.items.Given as goal
 

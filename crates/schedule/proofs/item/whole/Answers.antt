@@ -1,5 +1,5 @@
 use Rattle.std.proofs.Common.{arith}
-use Rattle.std.proofs.lemmas.Result.{err_from_is_err_and}
+use Rattle.schedule.proofs.Common.{err_from_is_err_and}
 use Rattle.schedule.proofs.Wholes.{text_at-empty, text_at-uncut, text_read, head_fails, items_fail}
 use Rattle.schedule.proofs.item.whole.Goals as goal
 

@@ -1,5 +1,5 @@
 use Rattle.std.proofs.Common.{◌≡◌, ◌++◌, drop}
-use Rattle.schedule.specs.Reports.{messages_text}
+use Rattle.schedule.proofs.Common.{messages_text}
 use Rattle.schedule.proofs.last_words.put_messages.Given as goal
 
 abbrev pub invariant-loop-message : goal.invariant-loop-message

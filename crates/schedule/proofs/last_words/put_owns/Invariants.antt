@@ -1,5 +1,5 @@
 use Rattle.std.proofs.Common.{◌≡◌, ◌++◌, drop}
-use Rattle.schedule.specs.Reports.{owns_text}
+use Rattle.schedule.proofs.Common.{owns_text}
 use Rattle.schedule.proofs.last_words.put_owns.Given as goal
 
 abbrev pub invariant-loop-own : goal.invariant-loop-own

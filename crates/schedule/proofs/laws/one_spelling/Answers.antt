@@ -1,7 +1,7 @@
+use Rattle.schedule.proofs.Common.{schedule_at, spelling, IsScheduled}
 use Rattle.schedule.proofs.Schedules.{schedule_takes, schedule_again}
-use Rattle.schedule.proofs.laws.one_spelling.Goals as goal
 use Rattle.schedule.proofs.Texts.{spelled_once}
-use Rattle.schedule.specs.Schedules.{schedule_at, spelling, IsScheduled}
+use Rattle.schedule.proofs.laws.one_spelling.Goals as goal
 
 pub returns-clause-again : goal.returns-clause-again
 returns-clause-again c = schedule_again

@@ -1,7 +1,7 @@
+use Rattle.schedule.proofs.Common.{trace_spelling, IsTraced, trace_at}
 use Rattle.schedule.proofs.Traces.{trace_takes, trace_again}
-use Rattle.schedule.proofs.laws.one_spelling_of_traces.Goals as goal
 use Rattle.schedule.proofs.Texts.{spelled_once}
-use Rattle.schedule.specs.Traces.{trace_spelling, IsTraced, trace_at}
+use Rattle.schedule.proofs.laws.one_spelling_of_traces.Goals as goal
 
 pub returns-clause-again : goal.returns-clause-again
 returns-clause-again c = trace_again

@@ -1,9 +1,9 @@
 use Rattle.std.proofs.Common.{◌≡◌, ◌++◌, subst}
+use Rattle.schedule.proofs.Common.{opening}
 use Rattle.schedule.specs.declared.command.Command.TheVariants as commands
-use Rattle.schedule.specs.Fronts.{opening}
-use Rattle.schedule.proofs.line_front.first_line.Goals as goal
 use Rattle.schedule.proofs.Commands.{line_codec}
 use Rattle.schedule.proofs.Fronts.{short_begins, long_begins}
+use Rattle.schedule.proofs.line_front.first_line.Goals as goal
 
 pub returns-in-Some : goal.returns-in-Some
 returns-in-Some c =

@@ -1,5 +1,5 @@
 use Rattle.std.proofs.Common.{◌≡◌, get_or, true, arith}
-use Rattle.std.specs.Char.{is_ascii_digit}
+use Rattle.schedule.proofs.Common.{is_ascii_digit}
 use Rattle.schedule.proofs.Numbers.{short_step}
 use Rattle.schedule.proofs.number.short_value.Goals as goal
 

@@ -1,7 +1,5 @@
 use Rattle.std.proofs.Common.{◌≡◌, take, true}
-use Rattle.std.specs.List.{list_all}
-use Rattle.std.specs.Char.{is_ascii_digit}
-use Rattle.std.specs.Str.Parse.{digits_value}
+use Rattle.schedule.proofs.Common.{is_ascii_digit, list_all, digits_value}
 use Rattle.schedule.proofs.number.short_value.Given as goal
 
 abbrev pub invariant-loop-byte : goal.invariant-loop-byte

@@ -1,6 +1,5 @@
 use Rattle.std.proofs.Common.{arith}
-use Rattle.std.proofs.lemmas.Grind.{common_steps}
-use Rattle.std.proofs.lemmas.Str.Parse.{digit_at}
+use Rattle.schedule.proofs.Common.{common_steps, digit_at}
 use Rattle.schedule.proofs.Numbers.{value_step, value_over}
 use Rattle.schedule.proofs.number.value_of.Goals as goal
 

@@ -1,5 +1,5 @@
 use Rattle.std.proofs.Common.{◌≡◌, ℕ, List, ◌∷◌, [], ◌++◌, refl, sym, ap, ◌∙◌, append_assoc, arith, length, length-append}
-use Rattle.schedule.specs.Texts.{parts_of}
+use Rattle.schedule.proofs.Common.{parts_of}
 use Rattle.schedule.proofs.Cutting.{parts_of-append}
 use Rattle.schedule.proofs.pieces.feed.Goals as goal
 

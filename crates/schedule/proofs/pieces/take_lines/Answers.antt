@@ -1,5 +1,4 @@
-use Rattle.std.proofs.Common.{◌≡◌, ◌+◌, ◌≤◌, ◌^◌, List, ℕ, [], ◌∷◌, ◌++◌, take, length, sym, ap, ◌∙◌, append_assoc, arith}
-use Rattle.std.proofs.lemmas.List.{length-append, length-take}
+use Rattle.std.proofs.Common.{◌≡◌, ◌+◌, ◌≤◌, ◌^◌, List, ℕ, [], ◌∷◌, ◌++◌, take, length, sym, ap, ◌∙◌, append_assoc, arith, length-append, length-take}
 use Rattle.schedule.proofs.Cutting.{parts_of-pieces}
 use Rattle.schedule.proofs.pieces.take_lines.Goals as goal
 

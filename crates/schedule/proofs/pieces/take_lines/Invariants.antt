@@ -1,5 +1,5 @@
 use Rattle.std.proofs.Common.{◌≡◌, ℕ, List, ◌∷◌, [], ◌++◌, ◌≤◌, ◌^◌, length}
-use Rattle.schedule.specs.Texts.{parts_of}
+use Rattle.schedule.proofs.Common.{parts_of}
 use Rattle.schedule.proofs.pieces.take_lines.Given as goal
 
 abbrev pub invariant-loop : goal.invariant-loop

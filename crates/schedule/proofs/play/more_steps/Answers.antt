@@ -1,8 +1,5 @@
-use Rattle.std.proofs.Common.{◌≡◌, suc, ◌+◌, ◌-◌, ◌++◌, None, [], Err, refl, sym, ap, ◌∙◌, arith}
-use Rattle.std.proofs.lemmas.List.{append-nil}
-use Rattle.std.proofs.lemmas.Result.{err_from_is_err_and}
-use Rattle.schedule.specs.Plays.{halted}
-use Rattle.schedule.specs.Runs.{told_of}
+use Rattle.std.proofs.Common.{◌≡◌, suc, ◌+◌, ◌-◌, ◌++◌, None, [], Err, refl, sym, ap, ◌∙◌, arith, append-nil}
+use Rattle.schedule.proofs.Common.{err_from_is_err_and, halted, told_of}
 use Rattle.schedule.proofs.Playing.{unnumbered, played_none, played_more, halts_here, halts_further, still_there, step_more, step_silent, step_last, step_begun, step_refused, steps_none, is_refused, never_stops, plays_all}
 use Rattle.schedule.proofs.play.more_steps.Goals as goal
 

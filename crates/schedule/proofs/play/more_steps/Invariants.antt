@@ -1,7 +1,5 @@
 use Rattle.std.proofs.Common.{◌≡◌, ◌-◌, List, ◌++◌}
-use Rattle.schedule.specs.Hearings.{bench}
-use Rattle.schedule.specs.Plays.{tape}
-use Rattle.schedule.specs.Runs.{Told, behaviour, steps}
+use Rattle.schedule.proofs.Common.{bench, tape, Told, behaviour, steps}
 use Rattle.schedule.proofs.Playing.{Played}
 use Rattle.schedule.proofs.play.more_steps.Given as goal
 

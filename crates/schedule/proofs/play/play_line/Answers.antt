@@ -1,7 +1,5 @@
 use Rattle.std.proofs.Common.{Err, refl, ap, inr}
-use Rattle.std.proofs.lemmas.Result.{err_from_is_err_and}
-use Rattle.schedule.specs.Hearings.{bench}
-use Rattle.schedule.specs.Plays.{tape}
+use Rattle.schedule.proofs.Common.{err_from_is_err_and, bench, tape}
 use Rattle.schedule.proofs.Playing.{played_none, unless_halts, start_part, step_part, crash_part}
 use Rattle.schedule.proofs.play.play_line.Goals as goal
 

@@ -1,7 +1,5 @@
-use Rattle.std.proofs.Common.{◌≡◌, ◌+◌, ◌∷◌, ◌++◌, drop, [], refl, sym, ap, ◌∙◌, arith}
-use Rattle.std.proofs.lemmas.List.{drop_more, length-drop, nil_from_length}
-use Rattle.schedule.specs.Hearings.{bench}
-use Rattle.schedule.specs.Runs.{line_on, behaviour}
+use Rattle.std.proofs.Common.{◌≡◌, ◌+◌, ◌∷◌, ◌++◌, drop, [], refl, sym, ap, ◌∙◌, arith, length-drop}
+use Rattle.schedule.proofs.Common.{nil_from_length, drop_more, bench, behaviour, line_on}
 use Rattle.schedule.proofs.Playing.{played_none, played_more, runs_begin, runs_more, runs_halt, runs_end}
 use Rattle.schedule.proofs.play.play_lines.Goals as goal
 

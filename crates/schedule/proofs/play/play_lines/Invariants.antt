@@ -1,7 +1,5 @@
 use Rattle.std.proofs.Common.{◌≡◌, ◌+◌, List, drop}
-use Rattle.schedule.specs.Hearings.{bench}
-use Rattle.schedule.specs.Plays.{tape}
-use Rattle.schedule.specs.Runs.{Told, behaviour, run_on}
+use Rattle.schedule.proofs.Common.{bench, tape, Told, behaviour, run_on}
 use Rattle.schedule.proofs.Playing.{Played, RunsOn}
 use Rattle.schedule.proofs.play.play_lines.Given as goal
 

@@ -1,6 +1,5 @@
 use Rattle.std.proofs.Common.{◌∷◌, [], Err, refl, sym, ap}
-use Rattle.std.proofs.lemmas.Result.{err_from_is_err_and}
-use Rattle.schedule.specs.Runs.{Did}
+use Rattle.schedule.proofs.Common.{err_from_is_err_and, Did}
 use Rattle.schedule.proofs.Playing.{told_some, unless_halts, plays_told}
 use Rattle.schedule.proofs.play.take_crash.Goals as goal
 

@@ -1,5 +1,5 @@
 use Rattle.std.proofs.Common.{◌≡◌, suc, ◌-◌, [], refl, ◌∙◌, arith}
-use Rattle.schedule.specs.Hearings.{bench}
+use Rattle.schedule.proofs.Common.{bench}
 use Rattle.schedule.proofs.Playing.{played_none, step_silent, steps_none, plays_all, plays_then}
 use Rattle.schedule.proofs.play.take_steps.Goals as goal
 

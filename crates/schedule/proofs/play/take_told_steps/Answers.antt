@@ -1,9 +1,5 @@
-use Rattle.std.proofs.Common.{◌≡◌, suc, ◌-◌, [], Err, refl, sym, ap, ◌∙◌, arith}
-use Rattle.std.proofs.lemmas.List.{append-nil}
-use Rattle.std.proofs.lemmas.Result.{err_from_is_err_and}
-use Rattle.schedule.specs.Hearings.{bench}
-use Rattle.schedule.specs.Reports.{told_text}
-use Rattle.schedule.specs.Runs.{told_of}
+use Rattle.std.proofs.Common.{◌≡◌, suc, ◌-◌, [], Err, refl, sym, ap, ◌∙◌, arith, append-nil}
+use Rattle.schedule.proofs.Common.{err_from_is_err_and, bench, told_text, told_of}
 use Rattle.schedule.proofs.Playing.{played_none, played_more, append_none, told_append, deed_some, refusal_halts, halts_further, never_stops, told_is, left_is, step_more, step_last, step_begun, step_refused, steps_none, plays_all, plays_then}
 use Rattle.schedule.proofs.play.take_told_steps.Goals as goal
 

@@ -1,6 +1,5 @@
 use Rattle.std.proofs.Common.{refl}
-use Rattle.std.proofs.lemmas.Result.{err_from_is_err_and}
-use Rattle.schedule.specs.declared.line.Line.TheVariants.{Step}
+use Rattle.schedule.proofs.Common.{err_from_is_err_and, Step}
 use Rattle.schedule.proofs.Playing.{step_part}
 use Rattle.schedule.proofs.play_in_place.play_first.Goals as goal
 

@@ -1,4 +1,4 @@
-use Rattle.schedule.specs.Commands.{line_at}
+use Rattle.schedule.proofs.Common.{line_at}
 use Rattle.schedule.proofs.InPlace.{never_fails}
 use Rattle.schedule.proofs.play_in_place.play_next.Goals as goal
 

@@ -1,7 +1,5 @@
 use Rattle.std.proofs.Common.{◌++◌, [], arith}
-use Rattle.schedule.specs.Commands.{line_at}
-use Rattle.schedule.specs.Hearings.{bench}
-use Rattle.schedule.specs.Runs.{line_on, behaviour}
+use Rattle.schedule.proofs.Common.{line_at, bench, behaviour, line_on}
 use Rattle.schedule.proofs.InPlace.{shorter, reads_on, reads_nothing}
 use Rattle.schedule.proofs.Playing.{played_none, played_more, runs_begin, runs_more, runs_halt, runs_end}
 use Rattle.schedule.proofs.play_in_place.play_text.Goals as goal

@@ -1,10 +1,5 @@
 use Rattle.std.proofs.Common.{◌≡◌, ◌+◌, ◌≤◌, List, Ok, length}
-use Rattle.schedule.specs.declared.line.Line.{Line}
-use Rattle.schedule.specs.Commands.{line_at}
-use Rattle.schedule.specs.Texts.{items_at, parts_of}
-use Rattle.schedule.specs.Hearings.{bench}
-use Rattle.schedule.specs.Plays.{tape}
-use Rattle.schedule.specs.Runs.{Told, behaviour, run_on}
+use Rattle.schedule.proofs.Common.{Line, line_at, bench, tape, Told, behaviour, run_on, parts_of, items_at}
 use Rattle.schedule.proofs.Playing.{Played, RunsOn}
 use Rattle.schedule.proofs.play_in_place.play_text.Given as goal
 

@@ -1,6 +1,5 @@
 use Rattle.std.proofs.Common.{◌≡◌, Some, drop, arith}
-use Rattle.schedule.specs.Words.{words_of, first_of, named}
-use Rattle.schedule.specs.Commands.{commands_by_name, places, line_with}
+use Rattle.schedule.proofs.Common.{commands_by_name, places, line_with, words_of, first_of, named}
 use Rattle.schedule.proofs.Forms.{item_at-named}
 use Rattle.schedule.proofs.reading.read_line.Goals as goal
 

@@ -1,5 +1,5 @@
 use Rattle.std.proofs.Common.{ap, ◌∙◌}
-use Rattle.std.proofs.lemmas.Result.{err_from_is_err_and}
+use Rattle.schedule.proofs.Common.{err_from_is_err_and}
 use Rattle.schedule.proofs.Closing.{settled, no_image, cut_end, reported, ruled_on}
 use Rattle.schedule.proofs.replay_text.replay_in_place.Goals as goal
 

@@ -1,9 +1,5 @@
 use Rattle.std.proofs.Common.{inl}
-use Rattle.judge.specs.Table.{empty}
-use Rattle.rmeworld.specs.WorldState.{new_refusal}
-use Rattle.schedule.specs.Plays.{tape}
-use Rattle.schedule.specs.Schedules.{scheduled_with}
-use Rattle.schedule.specs.Wholes.{layout_of}
+use Rattle.schedule.proofs.Common.{empty, new_refusal, tape, scheduled_with, layout_of}
 use Rattle.schedule.proofs.Heading.{header_refused, no_memory}
 use Rattle.schedule.proofs.Judging.{stands_first}
 use Rattle.schedule.proofs.replay_text.replay_new.Goals as goal

@@ -1,5 +1,4 @@
-use Rattle.schedule.specs.Plays.{tape}
-use Rattle.schedule.specs.Schedules.{schedule_at}
+use Rattle.schedule.proofs.Common.{tape, schedule_at}
 use Rattle.schedule.proofs.Heading.{no_memory_at_all}
 use Rattle.schedule.proofs.replay_text.replay_text.Goals as goal
 

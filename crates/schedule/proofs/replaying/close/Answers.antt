@@ -1,5 +1,4 @@
-use Rattle.std.proofs.lemmas.Result.{err_from_is_err_and}
-use Rattle.schedule.specs.Plays.{tape}
+use Rattle.schedule.proofs.Common.{err_from_is_err_and, tape}
 use Rattle.schedule.proofs.Closing.{closes_nothing}
 use Rattle.schedule.proofs.replaying.close.Goals as goal
 

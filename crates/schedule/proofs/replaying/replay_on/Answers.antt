@@ -1,6 +1,5 @@
 use Rattle.std.proofs.Common.{ap, subst, ◌∙◌}
-use Rattle.std.proofs.lemmas.Result.{err_from_is_err_and}
-use Rattle.schedule.specs.Plays.{IsRefused, IsOver}
+use Rattle.schedule.proofs.Common.{err_from_is_err_and, IsRefused, IsOver}
 use Rattle.schedule.proofs.Closing.{settled, still_refused, never_refused, cut_end, reported, ruled_on}
 use Rattle.schedule.proofs.Heard.{stands_heard}
 use Rattle.schedule.proofs.replaying.replay_on.Goals as goal

@@ -1,7 +1,7 @@
-use Rattle.schedule.proofs.schedule.read_schedule.Goals as goal
+use Rattle.schedule.proofs.Common.{schedule_at, spelling, IsScheduled}
 use Rattle.schedule.proofs.Schedules.{schedule_takes, schedule_again}
 use Rattle.schedule.proofs.Texts.{is_found, is_only}
-use Rattle.schedule.specs.Schedules.{schedule_at, spelling, IsScheduled}
+use Rattle.schedule.proofs.schedule.read_schedule.Goals as goal
 
 pub returns-clause-found : goal.returns-clause-found
 returns-clause-found c = is_found schedule_at spelling IsScheduled schedule_takes c.args.text.now c.schedule_of.result c.schedule_of.ensures

@@ -1,5 +1,5 @@
 use Rattle.std.proofs.Common.{◌≡◌, Ok, refl}
-use Rattle.schedule.specs.Schedules.{schedule_at, scheduled_with}
+use Rattle.schedule.proofs.Common.{schedule_at, scheduled_with}
 use Rattle.schedule.proofs.Schedules.{schedule_takes}
 use Rattle.schedule.proofs.schedule.schedule_of.Goals as goal
 

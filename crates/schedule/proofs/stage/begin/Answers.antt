@@ -1,8 +1,5 @@
 use Rattle.std.proofs.Common.{[], Err, sym, ap, ◌∙◌, lit<}
-use Rattle.judge.specs.Table.{empty}
-use Rattle.schedule.specs.Deeds.{deed_at}
-use Rattle.schedule.specs.Traces.{trace_head_at}
-use Rattle.schedule.specs.Hearings.{bench, opened}
+use Rattle.schedule.proofs.Common.{empty, deed_at, opened, bench, trace_head_at}
 use Rattle.schedule.proofs.Heard.{hears_none}
 use Rattle.schedule.proofs.Judging.{none_refused, is_refused, stands_first}
 use Rattle.schedule.proofs.Staging.{first_fails, first_reads}

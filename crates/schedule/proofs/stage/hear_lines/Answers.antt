@@ -1,5 +1,5 @@
 use Rattle.std.proofs.Common.{arith}
-use Rattle.schedule.specs.Deeds.{deed_at}
+use Rattle.schedule.proofs.Common.{deed_at}
 use Rattle.schedule.specs.declared.stage.Stage.TheVariants as stages
 use Rattle.schedule.proofs.Fed.{fed_none, fed_more}
 use Rattle.schedule.proofs.InPlace.{shorter}

@@ -1,6 +1,6 @@
 use Rattle.std.proofs.Common.{◌≤◌, length}
+use Rattle.schedule.proofs.Common.{Fed}
 use Rattle.schedule.specs.declared.stage.Stage.TheVariants as stages
-use Rattle.schedule.specs.Trials.{Fed}
 use Rattle.schedule.proofs.stage.hear_lines.Given as goal
 
 abbrev pub invariant-loop-deed : goal.invariant-loop-deed

@@ -1,7 +1,7 @@
-use Rattle.schedule.proofs.trace.read_trace.Goals as goal
+use Rattle.schedule.proofs.Common.{trace_spelling, IsTraced, trace_at}
 use Rattle.schedule.proofs.Texts.{is_found, is_only}
 use Rattle.schedule.proofs.Traces.{trace_takes, trace_again}
-use Rattle.schedule.specs.Traces.{trace_spelling, IsTraced, trace_at}
+use Rattle.schedule.proofs.trace.read_trace.Goals as goal
 
 pub returns-clause-found : goal.returns-clause-found
 returns-clause-found c = is_found trace_at trace_spelling IsTraced trace_takes c.args.text.now c.trace_of.result c.trace_of.ensures

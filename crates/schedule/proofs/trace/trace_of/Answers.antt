@@ -1,5 +1,5 @@
 use Rattle.std.proofs.Common.{◌≡◌, Ok, refl}
-use Rattle.schedule.specs.Traces.{trace_at, traced_with}
+use Rattle.schedule.proofs.Common.{traced_with, trace_at}
 use Rattle.schedule.proofs.Traces.{trace_takes}
 use Rattle.schedule.proofs.trace.trace_of.Goals as goal
 

@@ -1,6 +1,5 @@
 use Rattle.std.proofs.Common.{◌≡◌, ◌+◌, ◌<◌, ◌^◌, [], length, refl, ap, ◌∙◌, arith, length-append}
-use Rattle.schedule.specs.Texts.{parts_of}
-use Rattle.schedule.specs.Trials.{trace_answer}
+use Rattle.schedule.proofs.Common.{parts_of, trace_answer}
 use Rattle.schedule.proofs.Cutting.{lines-few}
 use Rattle.schedule.proofs.Answering.{judges, is_of_text}
 use Rattle.schedule.proofs.trial.judge_trace.Goals as goal

@@ -1,5 +1,5 @@
 use Rattle.std.proofs.Common.{◌≡◌, ◌++◌, take}
-use Rattle.schedule.specs.Words.{spaced}
+use Rattle.schedule.proofs.Common.{spaced}
 use Rattle.schedule.proofs.writing.put_body.Given as goal
 
 abbrev pub invariant-loop-word : goal.invariant-loop-word

@@ -1,5 +1,5 @@
 use Rattle.std.proofs.Common.{append_assoc, rules}
-use Rattle.std.specs.Fmt.{decimal}
+use Rattle.schedule.proofs.Common.{decimal}
 use Rattle.schedule.proofs.Spaced.{join_spaced}
 use Rattle.schedule.proofs.writing.put_placed.Goals as goal
 

@@ -1,8 +1,5 @@
 use Rattle.std.proofs.Common.{◌≡◌, ◌++◌, take}
-use Rattle.std.specs.List.{flat_map}
-use Rattle.schedule.specs.Commands.{words_of_line}
-use Rattle.schedule.specs.Schedules.{words_of_head, head_of}
-use Rattle.schedule.specs.Texts.{line_of}
+use Rattle.schedule.proofs.Common.{flat_map, words_of_line, words_of_head, head_of, line_of}
 use Rattle.schedule.proofs.writing.write_schedule.Given as goal
 
 abbrev pub invariant-loop-line : goal.invariant-loop-line

@@ -1,4 +1,4 @@
-use Rattle.schedule.specs.Runs.{told_of}
+use Rattle.schedule.proofs.Common.{told_of}
 use Rattle.schedule.proofs.Playing.{deeds_told, tells}
 use Rattle.schedule.proofs.clerk.Clerk.record_all.Goals as goal
 

@@ -1,6 +1,5 @@
-use Rattle.std.proofs.Common.{◌≡◌, ◌+◌, ◌-◌, length, arith}
+use Rattle.std.proofs.Common.{◌≡◌, ◌+◌, ◌-◌, length, arith, take_at, length-take}
 use Rattle.std.proofs.Math.Seq.{take-add}
-use Rattle.std.proofs.lemmas.List.{take_at, length-take}
 use Rattle.schedule.proofs.device.TextSource.read.Goals as goal
 
 pub returns-else-ends-clause-given : goal.returns-else-ends-clause-given

@@ -1,6 +1,5 @@
 use Rattle.std.proofs.Common.{refl, arith}
-use Rattle.schedule.specs.declared.hearing.Hearing.{Hearing}
-use Rattle.schedule.specs.declared.verdict.Verdict.TheVariants.{Against}
+use Rattle.schedule.proofs.Common.{Hearing, Against}
 use Rattle.schedule.proofs.Heard.{hears_allowed, hears_refused}
 use Rattle.schedule.proofs.hearing.Hearing.ask.Goals as goal
 

@@ -1,9 +1,6 @@
 use Rattle.std.proofs.Common.{◌∷◌, ◌++◌, [], sym, subst, arith, length-append}
+use Rattle.schedule.proofs.Common.{deed_at, opened, bench, trace_head_at, Stands}
 use Rattle.schedule.specs.declared.stage.Stage.TheVariants as stages
-use Rattle.schedule.specs.Deeds.{deed_at}
-use Rattle.schedule.specs.Traces.{trace_head_at}
-use Rattle.schedule.specs.Trials.{Stands}
-use Rattle.schedule.specs.Hearings.{bench, opened}
 use Rattle.schedule.proofs.Heard.{hears_both}
 use Rattle.schedule.proofs.Staging.{more_reads, more_fails, more_faulty}
 use Rattle.schedule.proofs.stage.Stage.take.Goals as goal

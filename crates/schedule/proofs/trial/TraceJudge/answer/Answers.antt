@@ -1,6 +1,5 @@
 use Rattle.std.proofs.Common.{◌≡◌, ◌<◌, [], length, sym, ap, subst, ◌∙◌, arith}
-use Rattle.std.proofs.lemmas.List.{nil_from_length}
-use Rattle.schedule.specs.Trials.{Trial, Stands}
+use Rattle.schedule.proofs.Common.{nil_from_length, Stands, Trial}
 use Rattle.schedule.proofs.Answering.{ended_first, ended_judging, cut_faulty, cut_fine}
 use Rattle.schedule.proofs.trial.TraceJudge.answer.Goals as goal
 

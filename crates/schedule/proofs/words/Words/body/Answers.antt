@@ -1,9 +1,5 @@
-use Rattle.std.proofs.Common.{◌≡◌, ◌+◌, ◌<◌, ◌∷◌, [], ◌++◌, take, length, ◌∙◌, arith}
-use Rattle.std.specs.Prelude.{slice_set}
-use Rattle.std.proofs.Math.ListN.{length-set}
-use Rattle.std.proofs.lemmas.Grind.{common_steps}
-use Rattle.std.proofs.lemmas.Result.{err_from_is_err_and}
-use Rattle.schedule.specs.Words.{numbers_at, many}
+use Rattle.std.proofs.Common.{◌≡◌, ◌+◌, ◌<◌, ◌∷◌, [], ◌++◌, take, length, ◌∙◌, arith, slice_set}
+use Rattle.schedule.proofs.Common.{length-set, common_steps, err_from_is_err_and, many, numbers_at}
 use Rattle.schedule.proofs.Lines.{goes_on, stops}
 use Rattle.schedule.proofs.words.Words.body.Goals as goal
 

@@ -1,5 +1,5 @@
 use Rattle.std.proofs.Common.{◌≡◌, ◌-◌, take, length}
-use Rattle.schedule.specs.Words.{numbers_at, many}
+use Rattle.schedule.proofs.Common.{many, numbers_at}
 use Rattle.schedule.proofs.Lines.{with_front}
 use Rattle.schedule.proofs.words.Words.body.Given as goal
 

@@ -18,3 +18,4 @@ pub mod Stands
 pub mod Endings
 pub mod Owns
 pub mod Feeding
+pub mod Wants

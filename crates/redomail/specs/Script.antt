@@ -1,5 +1,5 @@
 -- What a call does to the data words: a script of gets and puts.
-use Rattle.std.specs.Prelude.{ℕ, zero, suc, ◌+◌, List, [], ◌∷◌, ◌++◌}
+use Rattle.std.specs.Prelude.{ℕ, zero, suc, ◌+◌, List, [], ◌∷◌, ◌++◌, Option, Some, None}
 use Rattle.redomail.specs.declared.reply.Reply.{Reply}
 use Rattle.redomail.specs.declared.next.Next.{Next}
 use Rattle.redomail.specs.declared.next.Next.TheVariants as want
@@ -16,6 +16,11 @@ abbrev pub head : Script Reply → Next
 head (Get i next) = want.Get i
 head (Put i v rest) = want.Put i v
 head (Done reply) = want.Done reply
+
+-- the reply of who wants nothing more
+abbrev pub reply_in : Next → Option Reply
+reply_in (want.Done reply) = Some reply
+reply_in _ = None
 
 -- what is left of it once it was given this word
 abbrev pub tail : {A : Type 0} → Script A → ℕ → Script A

@@ -51,3 +51,8 @@ stage_after l (stage.PutBoard i v) word = stage.Ended reply.Done
 stage_after l stage.PutRuined word = stage.Ended reply.Done
 stage_after l stage.AskRuined word = stage.Ended (reply.Ruined (word == 1))
 stage_after l (stage.Ended answer) word = stage.Ended answer
+
+-- it is not one of those at which a record is stored
+abbrev pub StoresNothing : Stage → Type 0
+StoresNothing (stage.Write entry step answer) = ⊥
+StoresNothing _ = Unit {0}

@@ -5,11 +5,12 @@ ghost use Rattle.redomail.specs.Jobs.{FitsStage};
 ghost use Rattle.redomail.specs.Layout.{IsLayout};
 ghost use Rattle.redomail.specs.Refusals.{refused as refusal_of};
 ghost use Rattle.redomail.specs.Runs.{StepKept};
-ghost use Rattle.redomail.specs.Script.{head, tail};
+ghost use Rattle.redomail.specs.Script.{head, tail, reply_in};
 ghost use Rattle.redomail.specs.Tasks.{script};
 
 use crate::layout::Layout;
 use crate::next::Next;
+use crate::reply::Reply;
 use crate::stage::Stage;
 use crate::task::Task;
 use rmecore::Refusal;
@@ -72,13 +73,21 @@ impl Job {
         self.stage.next(self.layout, self.sender)
     }
 
+    /// The reply, where it wants nothing more. It is what `next` answers then.
+    #[inline(always)]
+    pub fn reply(&self) -> Option<Reply>
+        ensures { result ≡ reply_in (head (left self.now)) }
+    {
+        self.stage.reply()
+    }
+
     /// Goes on: after a `Get` with the word that was read, after a `Put` with any value. After `Done` it changes nothing.
     pub fn feed(&mut self, value: u64)
         ensures left { left self.new ≡ tail (left self.old) value }
         ensures kept { StepKept (left self.old) value (left self.new) }
         ensures exact { self.new ≡ fed self.old value }
     {
-        self.stage = self.stage.after(self.layout, self.sender, value);
+        self.stage.go_on(self.layout, self.sender, value);
     }
 
     /// The sizes of its mailbox.

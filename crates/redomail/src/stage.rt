@@ -4,8 +4,8 @@ ghost use Rattle.std.specs.Prelude.{◌≡◌, ℕ, ◌<◌, ◌+◌, ◌↔◌,
 ghost use Rattle.redomail.specs.Layout.{IsLayout};
 ghost use Rattle.redomail.specs.Jobs.{FitsStage, left_at};
 ghost use Rattle.redomail.specs.Refusals.{refused};
-ghost use Rattle.redomail.specs.Script.{head, tail};
-ghost use Rattle.redomail.specs.Stages.{first_stage, stage_after, read_stage, decided_stage};
+ghost use Rattle.redomail.specs.Script.{head, tail, reply_in};
+ghost use Rattle.redomail.specs.Stages.{first_stage, stage_after, read_stage, decided_stage, StoresNothing};
 ghost use Rattle.redomail.specs.Tasks.{script, decided as decided_by};
 
 use crate::layout::{ARMED, CLOSED, COUNT, Layout, RECORD, RUINED};
@@ -116,11 +116,35 @@ impl Stage {
         }
     }
 
-    /// The stage after this one, given the word that was asked for.
-    pub(crate) fn after(&self, layout: Layout, sender: u64, word: u64) -> Stage
+    /// Goes on, given the word that was asked for. A record that is stored stays in its place.
+    #[inline(always)]
+    pub(crate) fn go_on(&mut self, layout: Layout, sender: u64, word: u64)
+        requires lawful { IsLayout layout }
+        requires below { sender < layout.procs }
+        requires fits { FitsStage layout self.old }
+        ensures left { left_at layout sender self.new ≡ tail (left_at layout sender self.old) word }
+        ensures exact { self.new ≡ stage_after layout self.old word }
+        ensures fits { FitsStage layout self.new }
+    {
+        match self {
+            Stage::Write(_, step, reply) => {
+                if *step + 1 < 8 + 2 * layout.width {
+                    *step += 1;
+                } else {
+                    let reply = *reply;
+                    *self = Stage::Ended(reply);
+                }
+            }
+            _ => *self = self.after(layout, sender, word),
+        }
+    }
+
+    // The stage after one that stores nothing, given the word that was asked for.
+    fn after(&self, layout: Layout, sender: u64, word: u64) -> Stage
         requires lawful { IsLayout layout }
         requires below { sender < layout.procs }
         requires fits { FitsStage layout self.now }
+        requires asks { StoresNothing self.now }
         ensures left { left_at layout sender result ≡ tail (left_at layout sender self.now) word }
         ensures exact { result ≡ stage_after layout self.now word }
         ensures fits { FitsStage layout result }
@@ -136,13 +160,7 @@ impl Stage {
             Stage::AskAt => Stage::AskSeq(word),
             Stage::AskSeq(at) => Stage::AskValue(at, word, [0; 8], 0),
             Stage::AskValue(at, seq, words, read) => read_on(layout, at, seq, words, read, word),
-            Stage::Write(record, step, reply) => {
-                if step + 1 < 8 + 2 * layout.width {
-                    Stage::Write(record, step + 1, reply)
-                } else {
-                    Stage::Ended(reply)
-                }
-            }
+            Stage::Write(..) => unreachable!(),
             Stage::AskOpen if word == 1 => Stage::Ended(Reply::AlreadyClosed),
             Stage::AskOpen => Stage::PutClosed,
             Stage::PutClosed => Stage::Ended(Reply::ClosedNow),
@@ -150,6 +168,17 @@ impl Stage {
             Stage::PutBoard(..) | Stage::PutRuined => Stage::Ended(Reply::Done),
             Stage::AskRuined => Stage::Ended(Reply::Ruined(word == 1)),
             Stage::Ended(reply) => Stage::Ended(reply),
+        }
+    }
+
+    /// The reply, where nothing more is wanted.
+    #[inline(always)]
+    pub(crate) fn reply(&self) -> Option<Reply>
+        ensures { (l : Layout) (p : ℕ) → FitsStage l self.now → result ≡ reply_in (head (left_at l p self.now)) }
+    {
+        match self {
+            Stage::Ended(reply) => Some(*reply),
+            _ => None,
         }
     }
 }

@@ -7,5 +7,5 @@ pub returns-clause-kept : goal.returns-clause-kept
 returns-clause-kept c =
     let j = c.self.inside in
     let x = c.args.value in
-    subst (λ job. StepKept (left job) x (left_at j.layout j.sender c.after-self-inside.result)) c.self.view_is
-    (subst (StepKept (left_at j.layout j.sender j.stage) x) (sym c.after-self-inside.ensures.left) (step_kept (left_at j.layout j.sender j.stage) x))
+    subst (λ job. StepKept (left job) x (left_at j.layout j.sender c.go_on.new.self)) c.self.view_is
+    (subst (StepKept (left_at j.layout j.sender j.stage) x) (sym c.go_on.ensures.left) (step_kept (left_at j.layout j.sender j.stage) x))

@@ -1,15 +1,31 @@
 -- A record that is being stored has a step left at each step but its last.
-use Rattle.std.proofs.Common.{◌≡◌, ℕ, true, nat_lt, subst, sym, zero, suc, ◌+◌, ◌*◌, ◌<◌, List, [], ◌∷◌, length, drop, arith, lt-ltb}
-use Rattle.rmeworld.proofs.Common.{Layout, Record, Reply, Write, Pending, left, fed, Script, Done, puts, stage_after, store_steps, length-store_steps, HasStep}
+use Rattle.std.proofs.Common.{◌≡◌, ℕ, true, nat_lt, subst, sym, ◌+◌, ◌*◌, ◌<◌, Option, None, IfSome, length, drop, refl, arith}
+use Rattle.redomail.specs.declared.layout.Layout.{Layout}
+use Rattle.redomail.specs.declared.record.Record.{Record}
+use Rattle.redomail.specs.declared.reply.Reply.{Reply}
+use Rattle.std.proofs.lemmas.Bool.{lt-ltb}
+use Rattle.redomail.specs.declared.stage.Stage.TheVariants.{Write}
+use Rattle.redomail.specs.Left.{Pending, left, fed}
 use Rattle.redomail.specs.Jobs.{left_at}
+use Rattle.redomail.specs.Stages.{stage_after}
+use Rattle.redomail.specs.Script.{Script, Get as Asks, Put as Writes, Done, head, reply_in, puts}
+use Rattle.redomail.specs.Tasks.{store_steps}
+use Rattle.redomail.proofs.Wants.{store_wants}
+use Rattle.rmeworld.specs.Errands.{HasStep}
 
-puts_left : (xs : List (ℕ × ℕ)) (k : ℕ) (e : Script Reply) → k < length xs → HasStep (puts (drop k xs) e)
-puts_left [] k e h = absurd (omega arith)
-puts_left (x ∷ xs) zero e h = tt
-puts_left (x ∷ xs) (suc k) e h = puts_left xs k e (omega arith)
+-- a script that has no reply has a step left, and one that has a reply is done
+pub goes_on : (e : Script Reply) (r : Option Reply) → r ≡ reply_in (head e) → r ≡ None → HasStep e
+goes_on (Asks i next) r is none = tt
+goes_on (Writes i v rest) r is none = tt
+goes_on (Done reply) r is none = absurd (cc)
+
+pub replied : (e : Script Reply) (r : Option Reply) → r ≡ reply_in (head e) → IfSome r (λ reply. e ≡ Done reply)
+replied (Asks i next) r is = rw is tt
+replied (Writes i v rest) r is = rw is tt
+replied (Done reply) r is = rw is refl
 
 pub store_left : (l : Layout) (p : ℕ) (r : Record) (k : ℕ) (e : Script Reply) → k < 8 + 2 * length r.value → HasStep (puts (drop k (store_steps l p r)) e)
-store_left l p r k e h = let n = length-store_steps l p r in puts_left (store_steps l p r) k e (omega arith)
+store_left l p r k e h = goes_on _ None (sym (store_wants l p r k e h)) refl
 
 write_on : (l : Layout) (p : ℕ) (r : Record) (k : ℕ) (a : Reply) (word : ℕ) → length r.value ≡ l.width → k + 1 < 8 + 2 * l.width → HasStep (left_at l p (stage_after l (Write r k a) word))
 write_on l p r k a word wide h =

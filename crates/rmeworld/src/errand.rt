@@ -40,11 +40,15 @@ pub(crate) fn check_next(errand: &mut Errand, layout: Layout, index: u64, checks
     }
 }
 
-/// Whether a job is likely to have a step left once it is fed. Any answer is right.
+/// Whether the next step of a job is likely to be no deed, with a step left behind it. Any answer is right.
 #[inline(always)]
 pub(crate) fn may_go_on(job: &Job) -> bool {
     match job.seam_stage() {
-        Stage::AskClosed(..) | Stage::AskCount(..) | Stage::AskLast(..) | Stage::Write(..) => true,
+        Stage::AskClosed(..) | Stage::AskCount(..) | Stage::AskLast(..) => true,
+        Stage::Write(record, step, _) => {
+            let width = record.value.width();
+            step != 2 + width && step < 6 + 2 * width
+        }
         _ => false,
     }
 }

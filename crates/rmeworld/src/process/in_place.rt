@@ -20,10 +20,7 @@ fn reply_of(job: &Job) -> Option<Reply>
     ensures done { IfSome result (λ reply. left job.now ≡ Done reply) }
     ensures goes_on { result ≡ None → HasStep (left job.now) }
 {
-    match job.next() {
-        Next::Done(reply) => Some(reply),
-        Next::Get(_) | Next::Put(..) => None,
-    }
+    job.reply()
 }
 
 impl Process {

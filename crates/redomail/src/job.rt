@@ -82,6 +82,7 @@ impl Job {
     }
 
     /// Goes on: after a `Get` with the word that was read, after a `Put` with any value. After `Done` it changes nothing.
+    #[inline(always)]
     pub fn feed(&mut self, value: u64)
         ensures left { left self.new ≡ tail (left self.old) value }
         ensures kept { StepKept (left self.old) value (left self.new) }

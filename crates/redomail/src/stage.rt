@@ -135,11 +135,26 @@ impl Stage {
                     *self = Stage::Ended(reply);
                 }
             }
-            _ => *self = self.after(layout, sender, word),
+            _ => self.ask_on(layout, sender, word),
         }
     }
 
+    // Goes on from a stage that stores nothing, to a stage of another size.
+    #[inline(never)]
+    fn ask_on(&mut self, layout: Layout, sender: u64, word: u64)
+        requires lawful { IsLayout layout }
+        requires below { sender < layout.procs }
+        requires fits { FitsStage layout self.old }
+        requires asks { StoresNothing self.old }
+        ensures left { left_at layout sender self.new ≡ tail (left_at layout sender self.old) word }
+        ensures exact { self.new ≡ stage_after layout self.old word }
+        ensures fits { FitsStage layout self.new }
+    {
+        *self = self.after(layout, sender, word);
+    }
+
     // The stage after one that stores nothing, given the word that was asked for.
+    #[inline(always)]
     fn after(&self, layout: Layout, sender: u64, word: u64) -> Stage
         requires lawful { IsLayout layout }
         requires below { sender < layout.procs }

@@ -100,15 +100,20 @@ fn behind_step(text: &[u8]) -> Option<&[u8]>
     }
 }
 
-/// The one byte that stands where a line of one step names its process, and what stands behind that line.
+/// The one byte that stands where a line of one step names its process, and what stands behind that line. The first four bytes
+/// are read as one number.
 #[inline(always)]
 fn short_step(text: &[u8]) -> Option<(u8, &[u8])>
     ensures { IfSome result (λ read. text.now ≡ codes "step " ++ (read.0 ∷ (10 ∷ read.1.now))) }
 {
-    match text {
-        [b's', b't', b'e', b'p', b' ', name, b'\n', rest @ ..] => Some((*name, rest)),
-        _ => None,
+    let [s, t, e, p, space, name, end, rest @ ..] = text else {
+        return None;
+    };
+    let word = u32::from_le_bytes([*s, *t, *e, *p]);
+    if word != u32::from_le_bytes(*b"step") || *space != b' ' || *end != b'\n' {
+        return None;
     }
+    Some((*name, rest))
 }
 
 /// Who takes the one step that the first line of a text asks for, where one digit names it, and what stands behind that

@@ -29,9 +29,18 @@ pub fn make(
     match made {
         Move::Step(p) => walk(world, judge, sights, p),
         Move::Start(p, Due::Lock) => start(world, sights, p, Due::Lock, Call::Lock),
-        Move::Start(p, due) => start(world, sights, p, due, due.call()),
+        Move::Start(p, due) => take_up(world, sights, p, due),
         Move::Crash(p) => crash(world, judge, sights, p),
     }
+}
+
+/// Starts a call that may carry a message. It stands apart, since the room for one is emptied whatever the call.
+#[inline(never)]
+fn take_up(world: &mut VariantWorld, sights: &mut Sights, p: u64, due: Due) -> Option<Made>
+    ensures ends { IfSome result (λ m. (variant : VariantOf) (schedule : Scheduled) (judge : Kept) → IsPlayed variant schedule world.old judge → Ends variant (with_line schedule (line_by (Move.Start p due))) world.new judge m) }
+    ensures same { result ≡ None → world.new ≡ world.old }
+{
+    start(world, sights, p, due, due.call())
 }
 
 /// Starts a call, of which the judge hears nothing.
@@ -94,7 +103,7 @@ fn crash(world: &mut VariantWorld, judge: &mut Judge, sights: &mut Sights, p: u6
 {
     match world.take_crash(p) {
         Ok(deed) => {
-            let made = tell(judge, deed);
+            let made = tell(judge, &deed);
             sights.crashed(p);
             Some(made)
         }

@@ -16,10 +16,10 @@ use rmeworld::memory::deed_of;
 
 /// Tells the judge a deed.
 #[inline(always)]
-pub fn tell(judge: &mut Judge, deed: Deed) -> Made
-    ensures { (history : List DeedOf) → StandsAfter (empty 3 64) history judge.old → Told history (Some deed) judge.new result }
+pub fn tell(judge: &mut Judge, deed: &Deed) -> Made
+    ensures { (history : List DeedOf) → StandsAfter (empty 3 64) history judge.old → Told history (Some deed.now) judge.new result }
 {
-    if judge.feed(deed).is_err() {
+    if judge.feed_from(deed).is_err() {
         return Made::Caught;
     }
     Made::On
@@ -42,7 +42,7 @@ pub fn tell_step(
 {
     match (outer, access) {
         (None, Access::Load(..)) => Made::On,
-        (Some(outer), _) => tell(judge, Deed::Outer(*outer)),
+        (Some(outer), _) => tell(judge, &Deed::Outer(*outer)),
         _ => tell_deed(judge, layout, p, cells, access, outer),
     }
 }
@@ -63,7 +63,7 @@ fn tell_deed(
     ensures one { list_of (the_deed (or_else outer.now (mail_by layout.now p (words_of cells.now) access.now))) ≡ or_else outer.now (mail_by layout.now p (words_of cells.now) access.now) }
 {
     match deed_of(*layout, p, cells, *access, *outer) {
-        Some(deed) => tell(judge, deed),
+        Some(deed) => tell(judge, &deed),
         None => Made::On,
     }
 }

@@ -5,6 +5,6 @@ use Rattle.crashlab.proofs.round.make.Goals as goal
 
 pub returns-in-Start-clause-ends : goal.returns-in-Start-clause-ends
 returns-in-Start-clause-ends c =
-    then_ends c.start-in-Start.result
-    (λ m ends. λ variant schedule played. subst (λ made. Ends variant (with_line schedule (line_by made)) c.start-in-Start.new.world c.args.judge.now m) (sym c.in-Start.is) (ends variant schedule c.args.judge.now played))
-    c.start-in-Start.ensures.ends
+    then_ends c.take_up.result
+    (λ m ends. λ variant schedule played. subst (λ made. Ends variant (with_line schedule (line_by made)) c.take_up.new.world c.args.judge.now m) (sym c.in-Start.is) (ends variant schedule c.args.judge.now played))
+    c.take_up.ensures.ends

@@ -1,7 +1,8 @@
 -- Which step a variant's process takes next, by its definition alone; and the variant that changes nothing.
-use Rattle.std.proofs.Common.{◌≡◌, ℕ, ◌<◌, Bool, true, false, ◌==◌, if◌then◌else◌, [], ◌∷◌, Some, None, refl, sym, ap, ◌∙◌, subst}
-use Rattle.rmecore.specs.Place.{Place, Reread, Door, Wait, next}
+use Rattle.std.proofs.Common.{◌≡◌, ℕ, ◌<◌, Bool, true, false, ◌==◌, if◌then◌else◌, [], ◌∷◌, Option, Some, None, refl, sym, ap, ◌∙◌, subst}
+use Rattle.rmecore.specs.Place.{Place, next}
 use Rattle.rmecore.specs.Machine.{access}
+use Rattle.rmecore.specs.declared.access.Access.{Access}
 use Rattle.rmecore.specs.declared.access.Access.TheVariants.{Load, Store}
 use Rattle.rmecore.specs.declared.kind.Kind.TheVariants.{Get as Gets, Put as Puts}
 use Rattle.rmecore.specs.declared.word.Word.TheVariants.{Data as DataAt}
@@ -11,6 +12,8 @@ use Rattle.redomail.specs.Layout.{last_at}
 use Rattle.redomail.specs.Script.{Script, Get as Asks, Put as Writes, Done}
 use Rattle.rmeworld.specs.declared.call.Call.{Call}
 use Rattle.rmeworld.specs.declared.call.Call.TheVariants.{Lock, Consistent}
+use Rattle.rmeworld.specs.declared.errand.Errand.{Errand as Chore}
+use Rattle.rmeworld.specs.declared.errand.Errand.TheVariants.{Free as IsFree, Asking, Doing as Does}
 use Rattle.rmeworld.specs.declared.why.Why.TheVariants.{Mending}
 use Rattle.rmeworld.specs.Errands.{errand_of}
 use Rattle.rmeworld.specs.Spot.{Errand, Free, Doing, Spot, Happening, Begins, Falls, Moves, Glances, next_spot, begun_from, outer}
@@ -24,50 +27,38 @@ use Rattle.crashlab.specs.declared.variant.Variant.TheVariants.{Right, NoLook, N
 use Rattle.crashlab.specs.Variants.{variant_access}
 use Rattle.crashlab.specs.VariantScripts.{raised, counting_up, leaving_out}
 use Rattle.crashlab.specs.VariantSpots.{beside, variant_begun, variant_spot, variant_outer, variant_access_by, variant_access_at}
-use Rattle.crashlab.specs.VariantStands.{unlooked, changed_errand, changed_access, access_beside, is_put}
+use Rattle.crashlab.specs.VariantStands.{changed_errand, changed_access, weighed, dropping_access, access_beside, is_put}
 use Rattle.crashlab.specs.VariantWorlds.{VariantState, stand_at, access_at}
 use Rattle.crashlab.specs.VariantRuns.{IsRun, spot_at}
-use Rattle.crashlab.proofs.Steady.{Steady}
-use Rattle.crashlab.proofs.Rows.{after_next, nothing_changed}
-use Rattle.crashlab.proofs.Looks.{FitsLook}
+use Rattle.crashlab.proofs.Steady.{Steady, nothing_changed}
+use Rattle.crashlab.proofs.Rows.{MayGo, after_next}
+use Rattle.crashlab.proofs.Waits.{weighs, unweighed}
 use Rattle.crashlab.proofs.Repairs.{mends_of}
-use Rattle.crashlab.proofs.VariantRuns.{Way, is_fit}
+use Rattle.crashlab.proofs.VariantRuns.{FitsChange, is_fit}
 
 abbrev Chosen : Variant → Detour → Change → Stand → Errand → Type 0
-Chosen variant d change s e = changed_access change (access_by s.limit s.index s.lock e) ≡ variant_access_by variant s.limit s.index (unlooked variant s.lock) (changed_errand change s.layout s.index e) d
+Chosen variant d change s e = changed_access change (access_by s.limit s.index s.lock e) ≡ variant_access_by variant s.limit s.index s.lock (changed_errand change s.layout s.index e) d
+
+-- where no script is changed
+unchanged : (variant : Variant) (d : Detour) (s : Stand) (o : Option Access) → o ≡ variant_access_by variant s.limit s.index s.lock (errand_of s.errand) d → o ≡ variant_access_by variant s.limit s.index s.lock (changed_errand Nothing s.layout s.index (errand_of s.errand)) d
+unchanged variant d s o is = is ∙ (λ i. variant_access_by variant s.limit s.index s.lock (sym (nothing_changed s.layout s.index (errand_of s.errand)) i) d)
 
 -- where the variant takes what the lock would take
-plainly : (variant : Variant) (d : Detour) (s : Stand) → unlooked variant s.lock ≡ s.lock → variant_access variant s.limit s.index s.lock d ≡ access s.limit s.index s.lock → Chosen variant d Nothing s (errand_of s.errand)
-plainly variant d s looks same =
-    by (errand_of s.errand)
-    ∙ (λ i. variant_access_by variant s.limit s.index (sym looks i) (sym (nothing_changed s.layout s.index (errand_of s.errand)) i) d)
+plainly : (variant : Variant) (d : Detour) (s : Stand) → variant_access variant s.limit s.index s.lock d ≡ access s.limit s.index s.lock → Chosen variant d Nothing s (errand_of s.errand)
+plainly variant d s same = unchanged variant d s _ (by (errand_of s.errand))
   where
     by : (e : Errand) → access_by s.limit s.index s.lock e ≡ variant_access_by variant s.limit s.index s.lock e d
     by Free = sym same
     by (Doing why rest) = refl
 
-weighs_first : (limit p : ℕ) (s : Place) → FitsLook s → access limit p s ≡ variant_access NoLook limit p (unlooked NoLook s) Straight
-weighs_first limit p (Wait k (j ∷ js) (Some i)) h = let same : j ≡ i = cc in ap (λ x. variant_access NoLook limit p (Wait k (x ∷ js) None) Straight) (sym same)
-weighs_first limit p (Wait k [] (Some i)) h = cc
-weighs_first limit p (Wait k (j ∷ js) None) h = cc
-weighs_first limit p (Wait k [] None) h = refl
-weighs_first limit p (Reread c []) h = refl
-weighs_first limit p (Reread c (x ∷ [])) h = refl
-weighs_first limit p (Reread c (x ∷ k ∷ [])) h = refl
-weighs_first limit p (Reread c (x ∷ k ∷ i ∷ more)) h = refl
-weighs_first limit p (Door [] m) h = refl
-weighs_first limit p (Door (j ∷ js) m) h = refl
-weighs_first limit p _ h = refl
+looks_next : (s : Stand) (e : Errand) → weighed (access_by s.limit s.index s.lock e) ≡ variant_access_by NoLook s.limit s.index s.lock e Straight
+looks_next s Free = weighs s.limit s.index s.lock
+looks_next s (Doing why x) = unweighed s.limit s.index s.lock why x
 
-looks_chosen : (s : Stand) → FitsLook s.lock → Chosen NoLook Straight Nothing s (errand_of s.errand)
-looks_chosen s h =
-    by (errand_of s.errand) ∙ (λ i. variant_access_by NoLook s.limit s.index (unlooked NoLook s.lock) (sym (nothing_changed s.layout s.index (errand_of s.errand)) i) Straight)
-  where
-    by : (e : Errand) → access_by s.limit s.index s.lock e ≡ variant_access_by NoLook s.limit s.index (unlooked NoLook s.lock) e Straight
-    by Free = weighs_first s.limit s.index s.lock h
-    by (Doing why (Asks i rest)) = refl
-    by (Doing why (Writes i v rest)) = refl
-    by (Doing why (Done r)) = refl
+drops_next : (s : Stand) (e : Chore) → dropping_access (record s { errand = e }) e ≡ variant_access_by ExitOnCrash s.limit s.index s.lock (errand_of e) Dropping
+drops_next s IsFree = refl
+drops_next s (Asking job) = refl
+drops_next s (Does why job) = refl
 
 counts_next : (s : Stand) (e : Script Reply) → Chosen CountUp Straight Counts s (Doing Mending e)
 counts_next s (Asks i rest) = refl
@@ -84,29 +75,31 @@ skips_next s (Asks i rest) other = refl
 skips_next s (Writes i v rest) other = ap (λ y. access_by s.limit s.index s.lock (Doing Mending (if y then rest else Writes i v (leaving_out (last_at s.layout s.index) rest)))) (sym other)
 skips_next s (Done r) other = refl
 
-chosen : (variant : Variant) (d : Detour) (change : Change) (s : Stand) → Steady s → Way variant d change s → access_beside s change d ≡ variant_access_by variant s.limit s.index (unlooked variant s.lock) (changed_errand change s.layout s.index (errand_of s.errand)) d
-chosen Right Straight Nothing s h way = plainly Right Straight s refl refl
-chosen NoLook Straight Nothing s h way = looks_chosen s way
-chosen NoTies Straight Nothing s h way = plainly NoTies Straight s refl refl
-chosen Renumber Straight Nothing s h way = plainly Renumber Straight s refl refl
-chosen Renumber (Over k) Nothing s h way = plainly Renumber (Over k) s refl refl
-chosen Renumber Dropping Nothing s h way = absurd way
-chosen ExitOnCrash Straight Nothing s h way = plainly ExitOnCrash Straight s refl refl
-chosen ExitOnCrash Dropping Nothing s h way =
-    subst (λ (u : Stand). access_beside u Nothing Dropping ≡ variant_access_by ExitOnCrash u.limit u.index (unlooked ExitOnCrash u.lock) (changed_errand Nothing u.layout u.index (errand_of u.errand)) Dropping) (sym way.is) refl
-chosen ExitOnCrash (Over k) Nothing s h way = absurd way
-chosen CountUp Straight Nothing s h way = plainly CountUp Straight s refl refl
-chosen CountUp Straight Counts s h way = let m = mends_of s 0 h way in subst (Chosen CountUp Straight Counts s) (sym m.at) (counts_next s m.script)
-chosen CountUp Straight (Counted n) s h way = subst (Chosen CountUp Straight (Counted n) s) (sym way.at) refl
-chosen CountUp Straight LeavesOut s h way = absurd way
-chosen LastSkipped Straight Nothing s h way = plainly LastSkipped Straight s refl refl
-chosen LastSkipped Straight LeavesOut s h way =
-    let m = mends_of s 0 h way.0 in
-    let other : is_put (last_at s.layout s.index) (access_by s.limit s.index s.lock (Doing Mending m.script)) ≡ false = ap (λ x. is_put (last_at s.layout s.index) (access_by s.limit s.index s.lock x)) (sym m.at) ∙ way.1 in
+chosen : (variant : Variant) (d : Detour) (change : Change) (s : Stand) → Steady s → MayGo variant d → FitsChange variant change s → access_beside variant d change s ≡ variant_access_by variant s.limit s.index s.lock (changed_errand change s.layout s.index (errand_of s.errand)) d
+chosen Right Straight Nothing s h may fits = plainly Right Straight s refl
+chosen NoLook Straight Nothing s h may fits = unchanged NoLook Straight s _ (looks_next s (errand_of s.errand))
+chosen NoTies Straight Nothing s h may fits = plainly NoTies Straight s refl
+chosen Renumber Straight Nothing s h may fits = plainly Renumber Straight s refl
+chosen Renumber (Over k) Nothing s h may fits = plainly Renumber (Over k) s refl
+chosen ExitOnCrash Straight Nothing s h may fits = plainly ExitOnCrash Straight s refl
+chosen ExitOnCrash Dropping Nothing s h may fits = unchanged ExitOnCrash Dropping s _ (drops_next s s.errand)
+chosen CountUp Straight Nothing s h may fits = plainly CountUp Straight s refl
+chosen CountUp Straight Counts s h may fits = let m = mends_of s 0 h fits in subst (Chosen CountUp Straight Counts s) (sym m.at) (counts_next s m.script)
+chosen CountUp Straight (Counted n) s h may fits = subst (Chosen CountUp Straight (Counted n) s) (sym fits.at) refl
+chosen CountUp Straight LeavesOut s h may fits = absurd fits
+chosen LastSkipped Straight Nothing s h may fits = plainly LastSkipped Straight s refl
+chosen LastSkipped Straight LeavesOut s h may fits =
+    let m = mends_of s 0 h fits.0 in
+    let other : is_put (last_at s.layout s.index) (access_by s.limit s.index s.lock (Doing Mending m.script)) ≡ false = ap (λ x. is_put (last_at s.layout s.index) (access_by s.limit s.index s.lock x)) (sym m.at) ∙ fits.1 in
     subst (Chosen LastSkipped Straight LeavesOut s) (sym m.at) (skips_next s m.script other)
-chosen LastSkipped Straight Counts s h way = absurd way
-chosen LastSkipped Straight (Counted n) s h way = absurd way
-chosen variant d change s h way = absurd way
+chosen LastSkipped Straight Counts s h may fits = absurd fits
+chosen LastSkipped Straight (Counted n) s h may fits = absurd fits
+chosen Renumber Dropping change s h may fits = absurd may
+chosen ExitOnCrash (Over k) change s h may fits = absurd may
+chosen variant Straight change s h may fits = absurd fits
+chosen Renumber d change s h may fits = absurd fits
+chosen ExitOnCrash d change s h may fits = absurd fits
+chosen variant d change s h may fits = absurd may
 
 pub a_choice : (s : VariantState) (p : ℕ) → IsRun s → p < s.layout.procs → access_at s p ≡ variant_access_at s.variant s.limit p (spot_at s p)
 a_choice s p run below =
@@ -114,7 +107,7 @@ a_choice s p run below =
     let t = stand_at s.processes p in
     let seat = h.seated.seats p below in
     let fit = h.each p below in
-    chosen t.variant t.detour t.change t.stand fit.0 fit.1 ∙ (λ i. variant_access_at (seat.0 i) (seat.2 i) (seat.3 i) (spot_at s p))
+    chosen t.variant t.detour t.change t.stand fit.steady fit.detour fit.change ∙ (λ i. variant_access_at (seat.0 i) (seat.2 i) (seat.3 i) (spot_at s p))
 
 -- the lock itself
 

@@ -1,9 +1,8 @@
 pub mod Seats
 pub mod Rests
 pub mod Steady
-pub mod Starts
 pub mod Rows
-pub mod Looks
+pub mod Waits
 pub mod Detours
 pub mod Repairs
 pub mod Skips

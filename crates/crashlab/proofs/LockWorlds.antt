@@ -77,7 +77,7 @@ pub plain_outcome : (t : VariantStand) (v : ℕ) → IsPlain t → variant_outco
 plain_outcome t v plain = ap (λ variant. outcome_beside variant t.detour t v) plain.variant
 
 pub plain_access : (t : VariantStand) → IsPlain t → variant_next_access t ≡ next_access t.stand
-plain_access t plain = λ i. access_beside t.stand (plain.change i) (plain.detour i)
+plain_access t plain = ap (λ variant. access_beside variant t.detour t.change t.stand) plain.variant
 
 pub still_plain : (t : VariantStand) (v : ℕ) → IsPlain t → IsPlain (variant_stepped t v)
 still_plain t v plain = subst IsPlain (sym (plain_stepped t v plain)) (record { variant = plain.variant; detour = plain.detour; change = plain.change })

@@ -1,8 +1,8 @@
 -- Processes whose repair is changed: one that counts up from the count that stands, and one that leaves out the last number.
 use Rattle.std.proofs.Common.{◌≡◌, ℕ, Bool, true, false, ◌&&◌, ◌==◌, if◌then◌else◌, Option, Some, None, IfSome, refl, sym, ap, ◌∙◌, subst, eqb-true}
 use Rattle.std.proofs.lemmas.Bool.{cond_both}
-use Rattle.rmecore.specs.Place.{Place, Inside}
-use Rattle.rmecore.specs.Machine.{access, kind_of, word_of, carried}
+use Rattle.rmecore.specs.Place.{Inside}
+use Rattle.rmecore.specs.Machine.{kind_of, word_of, carried}
 use Rattle.rmecore.specs.declared.access.Access.{Access}
 use Rattle.rmecore.specs.declared.access.Access.TheVariants.{Load, Store}
 use Rattle.rmecore.specs.declared.kind.Kind.TheVariants.{Get as Gets, Put as Puts}
@@ -10,17 +10,21 @@ use Rattle.rmecore.specs.declared.word.Word.TheVariants.{Data as DataAt}
 use Rattle.rmecore.proofs.Invariant.{eqb_self}
 use Rattle.redomail.specs.declared.reply.Reply.{Reply}
 use Rattle.redomail.specs.declared.reply.Reply.TheVariants.{Ruined}
+use Rattle.redomail.specs.Jobs.{FitsStage}
+use Rattle.redomail.specs.Layout.{IsLayout}
 use Rattle.redomail.specs.Left.{Pending, left, fed}
 use Rattle.redomail.specs.Script.{Script, Get as Asks, Put as Writes, Done, tail}
+use Rattle.redomail.proofs.Feeding.{left_after}
 use Rattle.rmeworld.specs.declared.answer.Answer.{Answer}
 use Rattle.rmeworld.specs.declared.errand.Errand.{Errand as Chore}
 use Rattle.rmeworld.specs.declared.errand.Errand.TheVariants.{Free as IsFree, Asking, Doing as Does}
 use Rattle.rmeworld.specs.declared.outcome.Outcome.{Outcome}
-use Rattle.rmeworld.specs.declared.why.Why.TheVariants.{Checking, Ruining, Mending, Working}
+use Rattle.rmeworld.specs.declared.why.Why.TheVariants.{Mending}
 use Rattle.rmeworld.specs.Answered.{by_script, answer_by, done_by}
-use Rattle.rmeworld.specs.Errands.{errand_of, HasStep}
+use Rattle.rmeworld.specs.Errands.{errand_of, HasStep, Held}
 use Rattle.rmeworld.specs.Spot.{Errand, Free, Doing, only_spot, settled, outer_by, end_mended, end_barred}
 use Rattle.rmeworld.specs.Stand.{Stand, spot_of, access_by, next_access, outcome, stepped, job_left}
+use Rattle.rmeworld.proofs.Ordered.{FitsChore}
 use Rattle.crashlab.specs.declared.change.Change.{Change}
 use Rattle.crashlab.specs.declared.change.Change.TheVariants.{Nothing, LeavesOut, Counts, Counted}
 use Rattle.crashlab.specs.declared.detour.Detour.TheVariants.{Straight}
@@ -28,11 +32,10 @@ use Rattle.crashlab.specs.declared.variant.Variant.{Variant}
 use Rattle.crashlab.specs.declared.variant.Variant.TheVariants.{CountUp}
 use Rattle.crashlab.specs.VariantScripts.{raised, counting_up}
 use Rattle.crashlab.specs.VariantSpots.{beside, variant_moved, variant_outer_by, variant_answer_by, variant_done_by}
-use Rattle.crashlab.specs.VariantStands.{VariantStand, variant_spot_of, unlooked, changed_script, changed_errand, changed_access, is_put, unless_answered, silent, plain_outcome, variant_stepped}
+use Rattle.crashlab.specs.VariantStands.{VariantStand, variant_spot_of, changed_script, changed_errand, changed_access, is_put, unless_answered, silent, plain_outcome, variant_stepped}
 use Rattle.crashlab.proofs.Seats.{step_stays}
-use Rattle.crashlab.proofs.Starts.{changed_spot}
-use Rattle.crashlab.proofs.Steady.{FitsJob, FitsChore, Steady, job_fed, job_stays_fit, step_steady}
-use Rattle.crashlab.proofs.Rows.{IsRow, process_of, Follows, all, lock_row}
+use Rattle.crashlab.proofs.Steady.{Steady, step_steady, changed_spot}
+use Rattle.crashlab.proofs.Rows.{IsRow, process_of, Follows, plain_goes}
 
 -- with no change left it goes the lock's way
 
@@ -44,9 +47,7 @@ abbrev pub Unchanged : Variant → Stand → ℕ → Change → Type 0
 Unchanged variant s v change = IfSome (next_access s) (IsRow variant s (variant_spot_of (process_of variant s Straight Nothing)) (variant_spot_of (process_of variant (stepped s v) Straight change)) (plain_outcome s v) v)
 
 pub count_plain : (s : Stand) (v : ℕ) → Steady s → Follows (process_of CountUp s Straight Nothing) v
-count_plain s v h =
-    subst (Unchanged CountUp s v) (sym (nothing_stays (plain_outcome s v).answer))
-    (lock_row CountUp s v v h (λ t. refl) (λ _. all (access s.limit s.index s.lock) _ (λ a. (refl, refl, refl))) (λ why rest e. refl))
+count_plain s v h = subst (Unchanged CountUp s v) (sym (nothing_stays (plain_outcome s v).answer)) (plain_goes CountUp s v h tt (λ a. (refl, refl, refl))).row
 
 -- A process that mends: its script, and the job that the next step leaves.
 
@@ -61,7 +62,6 @@ pub record Mends (s : Stand) (v : ℕ) : Type 0 where
   pub step : HasStep script
   pub inside : s.lock ≡ Inside
   pub job : Pending
-  pub fits : FitsJob job
   pub told : HasStep (tail script v) → left job ≡ tail script v
   pub is : stepped s v ≡ job_left s Mending job (tail script v)
 
@@ -78,36 +78,32 @@ asked_told : (job : Pending) (x : Bool) → HasStep (if x then Done (Ruined true
 asked_told job true h = absurd h
 asked_told job false h = refl
 
-mends_by : (s : Stand) (e : Chore) (v : ℕ) → FitsChore e s.lock → IsMending e → Mends (record s { errand = e }) v
-mends_by s IsFree v h k = absurd k
-mends_by s (Asking job) v h k =
-    record {
-      script = Asks 0 (λ x. if x == 1 then Done (Ruined true) else left job);
-      at = refl;
-      step = tt;
-      inside = h.0.0;
-      job = job;
-      fits = h.1;
-      told = asked_told job (v == 1);
-      is = asked_left (record s { errand = Asking job }) job (v == 1) h.0.0 h.0.1;
-    }
-mends_by s (Does Mending job) v h k =
-    record {
-      script = left job;
-      at = refl;
-      step = h.0.1;
-      inside = h.0.0;
-      job = fed job v;
-      fits = job_stays_fit job v h.1;
-      told = λ _. job_fed job v h.1;
-      is = ap (job_left (record s { errand = Does Mending job }) Mending (fed job v)) (job_fed job v h.1);
-    }
-mends_by s (Does Checking job) v h k = absurd k
-mends_by s (Does Ruining job) v h k = absurd k
-mends_by s (Does (Working task) job) v h k = absurd k
-
 pub mends_of : (s : Stand) (v : ℕ) → Steady s → IsMending s.errand → Mends s v
-mends_of s v h k = mends_by s s.errand v h.chore k
+mends_of s v h k = by s.errand h.ordered.held h.ordered.fits k
+  where
+    by : (e : Chore) → Held e s.lock → FitsChore s.layout e → IsMending e → Mends (record s { errand = e }) v
+    by (Asking job) held fits k =
+        record {
+          script = Asks 0 (λ x. if x == 1 then Done (Ruined true) else left job);
+          at = refl;
+          step = tt;
+          inside = held.0;
+          job = job;
+          told = asked_told job (v == 1);
+          is = asked_left (record s { errand = Asking job }) job (v == 1) held.0 held.1;
+        }
+    by (Does Mending job) held fits k =
+        let fed_is : left (fed job v) ≡ tail (left job) v = left_after job.layout (subst IsLayout (sym fits.0) h.layout) job.sender job.stage v (subst (λ l. FitsStage l job.stage) (sym fits.0) fits.1) in
+        record {
+          script = left job;
+          at = refl;
+          step = held.1;
+          inside = held.0;
+          job = fed job v;
+          told = λ _. fed_is;
+          is = ap (job_left (record s { errand = Does Mending job }) Mending (fed job v)) fed_is;
+        }
+    by _ held fits k = absurd k
 
 -- where a step of it leads, by what is left of its script
 
@@ -116,24 +112,24 @@ stands b c (Asks i rest) h = refl
 stands b c (Writes i v rest) h = refl
 stands b c (Done reply) h = absurd h
 
-settles : (variant : Variant) (change : Change) (s : Stand) (job : Pending) (e : Script Reply) → ((t : Place) → unlooked variant t ≡ t) → s.lock ≡ Inside → (HasStep e → left job ≡ e) → ((r : Reply) → changed_script change s.layout s.index (Done r) ≡ Done r)
+settles : (change : Change) (s : Stand) (job : Pending) (e : Script Reply) → s.lock ≡ Inside → (HasStep e → left job ≡ e) → ((r : Reply) → changed_script change s.layout s.index (Done r) ≡ Done r)
     → (HasStep e → HasStep (changed_script change s.layout s.index e))
-    → settled s.mended s.barred Mending (changed_script change s.layout s.index e) ≡ changed_spot variant (unless_answered (by_script Mending s.mended e) change) s.layout s.index (spot_of (job_left s Mending job e))
-settles variant change s job (Done r) looks inside told done step =
-    ap (settled s.mended s.barred Mending) (done r) ∙ (λ i. record { lock = sym (looks Inside) i; mended = end_mended Mending s.mended r; barred = end_barred Mending s.barred r; errand = Free })
-settles variant change s job (Asks i rest) looks inside told done step =
+    → settled s.mended s.barred Mending (changed_script change s.layout s.index e) ≡ changed_spot (unless_answered (by_script Mending s.mended e) change) s.layout s.index (spot_of (job_left s Mending job e))
+settles change s job (Done r) inside told done step =
+    ap (settled s.mended s.barred Mending) (done r)
+settles change s job (Asks i rest) inside told done step =
     stands s.mended s.barred (changed_script change s.layout s.index (Asks i rest)) (step tt)
-    ∙ (λ k. record { lock = (sym inside ∙ sym (looks s.lock)) k; mended = s.mended; barred = s.barred; errand = Doing Mending (changed_script change s.layout s.index (sym (told tt) k)) })
-settles variant change s job (Writes i v rest) looks inside told done step =
+    ∙ (λ k. record { lock = sym inside k; mended = s.mended; barred = s.barred; errand = Doing Mending (changed_script change s.layout s.index (sym (told tt) k)) })
+settles change s job (Writes i v rest) inside told done step =
     stands s.mended s.barred (changed_script change s.layout s.index (Writes i v rest)) (step tt)
-    ∙ (λ k. record { lock = (sym inside ∙ sym (looks s.lock)) k; mended = s.mended; barred = s.barred; errand = Doing Mending (changed_script change s.layout s.index (sym (told tt) k)) })
+    ∙ (λ k. record { lock = sym inside k; mended = s.mended; barred = s.barred; errand = Doing Mending (changed_script change s.layout s.index (sym (told tt) k)) })
 
-pub lands : (variant : Variant) (change : Change) (s : Stand) (v : ℕ) (job : Pending) (e : Script Reply) (o : Option Answer) → ((t : Place) → unlooked variant t ≡ t) → ((r : Reply) → changed_script change s.layout s.index (Done r) ≡ Done r)
+pub lands : (variant : Variant) (change : Change) (s : Stand) (v : ℕ) (job : Pending) (e : Script Reply) (o : Option Answer) → ((r : Reply) → changed_script change s.layout s.index (Done r) ≡ Done r)
     → (HasStep e → HasStep (changed_script change s.layout s.index e)) → s.lock ≡ Inside → (HasStep e → left job ≡ e) → stepped s v ≡ job_left s Mending job e → o ≡ by_script Mending s.mended e
     → Some (record { spot = settled s.mended s.barred Mending (changed_script change s.layout s.index e); detour = Straight }) ≡ Some (variant_spot_of (process_of variant (stepped s v) Straight (unless_answered o change)))
-lands variant change s v job e o looks done step inside told is answer =
-    ap (λ y. Some (record { spot = y; detour = Straight })) (settles variant change s job e looks inside told done step)
-    ∙ (λ i. Some (record { spot = changed_spot variant (unless_answered (sym answer i) change) (same_layout i) (same_index i) (spot_of (sym is i)); detour = Straight }))
+lands variant change s v job e o done step inside told is answer =
+    ap (λ y. Some (record { spot = y; detour = Straight })) (settles change s job e inside told done step)
+    ∙ (λ i. Some (record { spot = changed_spot (unless_answered (sym answer i) change) (same_layout i) (same_index i) (spot_of (sym is i)); detour = Straight }))
   where
     same_layout : s.layout ≡ (stepped s v).layout
     same_layout = sym (step_stays s v).layout
@@ -142,9 +138,9 @@ lands variant change s v job e o looks done step inside told is answer =
     same_index = sym (step_stays s v).index
 
 -- behind a step of a changed script comes what is left of it, as it was
-pub plain_lands : (variant : Variant) (s : Stand) (v : ℕ) (job : Pending) (e : Script Reply) (o : Option Answer) → ((t : Place) → unlooked variant t ≡ t) → s.lock ≡ Inside → (HasStep e → left job ≡ e) → stepped s v ≡ job_left s Mending job e → o ≡ by_script Mending s.mended e
+pub plain_lands : (variant : Variant) (s : Stand) (v : ℕ) (job : Pending) (e : Script Reply) (o : Option Answer) → s.lock ≡ Inside → (HasStep e → left job ≡ e) → stepped s v ≡ job_left s Mending job e → o ≡ by_script Mending s.mended e
     → Some (record { spot = settled s.mended s.barred Mending e; detour = Straight }) ≡ Some (variant_spot_of (process_of variant (stepped s v) Straight (unless_answered o Nothing)))
-plain_lands variant s v job e o looks inside told is answer = lands variant Nothing s v job e o looks (λ r. refl) (λ h. h) inside told is answer
+plain_lands variant s v job e o inside told is answer = lands variant Nothing s v job e o (λ r. refl) (λ h. h) inside told is answer
 
 -- what the outcome of a step of a script is
 pub outcome_is : (s : Stand) (e : Script Reply) (a : Access) (v : ℕ) → errand_of s.errand ≡ Doing Mending e → ((outcome s (Some a) v).progress.outer ≡ None) × ((outcome s (Some a) v).answer ≡ by_script Mending s.mended (tail e (carried a v))) × ((outcome s (Some a) v).progress.done ≡ None)
@@ -167,7 +163,7 @@ count_answer b cap (Done r) = refl
 
 count_lands : (s : Stand) (v : ℕ) (job : Pending) (e : Script Reply) (o : Option Answer) → s.lock ≡ Inside → (HasStep e → left job ≡ e) → stepped s v ≡ job_left s Mending job e → o ≡ by_script Mending s.mended e
     → Some (record { spot = settled s.mended s.barred Mending (counting_up s.layout.cap e); detour = Straight }) ≡ Some (variant_spot_of (process_of CountUp (stepped s v) Straight (unless_answered o Counts)))
-count_lands s v job e o inside told is answer = lands CountUp Counts s v job e o (λ t. refl) (λ r. refl) (count_step s.layout.cap e) inside told is answer
+count_lands s v job e o inside told is answer = lands CountUp Counts s v job e o (λ r. refl) (count_step s.layout.cap e) inside told is answer
 
 -- with this put, or get, as the next step
 abbrev CountAfter : Stand → ℕ → Bool → Option Access → VariantStand
@@ -240,7 +236,7 @@ counted_row s n v h fits =
     let told : HasStep fits.rest → left m.job ≡ fits.rest = subst (λ f. HasStep (tail f v) → left m.job ≡ tail f v) e m.told in
     let is : stepped s v ≡ job_left s Mending m.job fits.rest = subst (λ f. stepped s v ≡ job_left s Mending m.job (tail f v)) e m.is in
     subst (CountedGoal s n v) (sym fits.at) (
-      ap (λ y. beside Straight (only_spot y (settled s.mended s.barred Mending fits.rest))) (allowed_put 2 n) ∙ plain_lands CountUp s v m.job fits.rest (outcome s (Some (Store Puts (DataAt 2) fits.value)) v).answer (λ t. refl) m.inside told is out.1,
+      ap (λ y. beside Straight (only_spot y (settled s.mended s.barred Mending fits.rest))) (allowed_put 2 n) ∙ plain_lands CountUp s v m.job fits.rest (outcome s (Some (Store Puts (DataAt 2) fits.value)) v).answer m.inside told is out.1,
       sym out.0,
       sym out.1,
       sym out.2,
@@ -258,11 +254,6 @@ FitsCount LeavesOut s = ⊥
 pub answered : (b : Bool) (r : Reply) (change : Change) → unless_answered (by_script Mending b (Done r)) change ≡ Nothing
 answered b (Ruined ruined) change = refl
 answered b _ change = refl
-
-pub mends_on : (s : Stand) (job : Pending) (e : Script Reply) → HasStep e → IsMending (job_left s Mending job e).errand
-mends_on s job (Asks i rest) h = tt
-mends_on s job (Writes i x rest) h = tt
-mends_on s job (Done r) h = absurd h
 
 goes_on_fit : (s : Stand) (job : Pending) (b : Bool) (e : Script Reply) → FitsCount (unless_answered (by_script Mending b e) Counts) (job_left s Mending job e)
 goes_on_fit s job b (Asks i rest) = tt

@@ -3,11 +3,12 @@ use Rattle.std.proofs.Common.{◌≡◌, ◌≢◌, ℕ, ◌<◌, ◌==◌, ◌�
 use Rattle.std.proofs.lemmas.Bool.{cases_eq, cond_both}
 use Rattle.std.proofs.lemmas.List.{get_or-set_same, get_or-set_other, get_or_default, length-set}
 use Rattle.rmecore.specs.declared.access.Access.{Access}
-use Rattle.rmecore.specs.declared.kind.Kind.TheVariants.{Take as Takes, Shut as Shuts, Look as Looks}
+use Rattle.rmecore.specs.declared.kind.Kind.{Kind}
+use Rattle.rmecore.specs.declared.kind.Kind.TheVariants.{Take as Takes, Shut as Shuts}
 use Rattle.rmecore.specs.declared.own.Own.{Own}
 use Rattle.rmecore.specs.declared.refusal.Refusal.{Refusal}
-use Rattle.rmecore.specs.Machine.{word_of}
-use Rattle.rmecore.specs.Named.{own_call}
+use Rattle.rmecore.specs.Machine.{kind_of, word_of}
+use Rattle.rmecore.specs.Place.{Place}
 use Rattle.rmecore.specs.declared.word.Word.{Word}
 use Rattle.redomail.specs.declared.layout.Layout.{Layout}
 use Rattle.redomail.specs.declared.reply.Reply.{Reply}
@@ -19,14 +20,14 @@ use Rattle.rmeworld.specs.declared.errand.Errand.{Errand as Chore}
 use Rattle.rmeworld.specs.declared.errand.Errand.TheVariants.{Free as IsFree, Asking, Doing as Does}
 use Rattle.rmeworld.specs.declared.why.Why.{Why}
 use Rattle.rmeworld.specs.declared.why.Why.TheVariants.{Mending}
-use Rattle.rmeworld.specs.Stand.{Stand, crashed, next_access, stepped, stepped_by, job_left, started, InWords}
+use Rattle.rmeworld.specs.Stand.{Stand, next_access, stepped, stepped_by, job_left, started, InWords}
 use Rattle.crashlab.specs.declared.change.Change.{Change}
 use Rattle.crashlab.specs.declared.change.Change.TheVariants.{Nothing, LeavesOut, Counts, Counted}
 use Rattle.crashlab.specs.declared.detour.Detour.{Detour}
 use Rattle.crashlab.specs.declared.detour.Detour.TheVariants.{Straight, Dropping, Over}
 use Rattle.crashlab.specs.declared.variant.Variant.{Variant}
-use Rattle.crashlab.specs.declared.variant.Variant.TheVariants.{Right, NoLook, NoTies, Renumber, ExitOnCrash, CountUp, LastSkipped}
-use Rattle.crashlab.specs.VariantStands.{VariantStand, variant_stepped, stepped_beside, variant_started, is_of, reread_as, past_look, untied, scans_over, scanned_again, finds_inside, call_again, gone_out, is_put, counted_up, last_put_next, left_out}
+use Rattle.crashlab.specs.declared.variant.Variant.TheVariants.{Right, CountUp, LastSkipped}
+use Rattle.crashlab.specs.VariantStands.{VariantStand, variant_stepped, stepped_beside, variant_started, changed_row, outside_at, led, by_row, over_by, over_way, part_beside, is_put, counted_up, last_put_next, left_out}
 use Rattle.crashlab.specs.VariantWorlds.{VariantState, stand_at, HasSeat, IsSeated}
 
 -- the process at p, where p is one of n
@@ -84,7 +85,7 @@ steps_stay s (Does why job) v = job_stays s why (fed job v) (left (fed job v))
 pub step_stays : (s : Stand) (v : ℕ) → SameSeat s (stepped s v)
 step_stays s v = steps_stay s s.errand v
 
-start_stays : (s : Stand) (c : Call) → SameSeat s (started s c)
+pub start_stays : (s : Stand) (c : Call) → SameSeat s (started s c)
 start_stays s call.Lock = (same_by refl refl refl)
 start_stays s call.Recover = (same_by refl refl refl)
 start_stays s call.Withdraw = (same_by refl refl refl)
@@ -95,24 +96,31 @@ start_stays s call.Close = (same_by refl refl refl)
 start_stays s (call.Get i) = (same_by refl refl refl)
 start_stays s (call.Put i v) = (same_by refl refl refl)
 
-reread_stays : (s : Stand) (call : Call) (c k i : ℕ) → SameSeat s (reread_as s call c k i)
-reread_stays s call c k i = then_same (then_same (then_same (then_same (same_by refl refl refl) (start_stays (crashed s) call)) (step_stays _ c)) (step_stays _ k)) (step_stays _ i)
+led_stays : (s : VariantStand) (t : Place) (d : Detour) → SameVariant s (led s t d)
+led_stays s t Straight = with_seat refl (same_by refl refl refl)
+led_stays s t _ = with_seat refl (same_by refl refl refl)
 
-past_stays : (s t : Stand) → SameSeat s t → SameSeat s (past_look t)
-past_stays s t h = cond_both (is_of Looks (next_access t)) (stepped t 0) t (SameSeat s) (λ _. then_same h (step_stays t 0)) (λ _. h)
+row_stays : (s : VariantStand) (v : ℕ) (o : Option (Place × Detour)) → SameVariant s (by_row s o v)
+row_stays s v None = with_seat refl (step_stays s.stand v)
+row_stays s v (Some to) = led_stays s to.0 to.1
 
-scans_stay : (s : VariantStand) (t : Stand) → SameSeat s.stand t → (o : Option ℕ) → SameVariant s (scans_over s t o)
-scans_stay s t h None = (with_seat refl (h))
-scans_stay s t h (Some k) = (with_seat refl (then_same h (reread_stays t call.Lock 1 0 0)))
+outside_stays : (s t : Stand) (place : Place) → SameSeat s t → SameSeat s (outside_at t place)
+outside_stays s t place h = same_by h.layout h.limit h.index
 
-again_stays : (s : VariantStand) (k v : ℕ) → SameVariant s (scanned_again s k v)
-again_stays s k v =
-    cond_both (is_of Shuts (next_access s.stand)) _ _ (SameVariant s) (λ _. (with_seat refl (reread_stays s.stand call.Lock 0 k 0)))
-    (λ _. cond_both (is_of Takes (next_access s.stand)) _ _ (SameVariant s) (λ _. (with_seat refl (step_stays s.stand v))) (λ _. (with_seat refl (step_stays s.stand v))))
+over_stays : (s : VariantStand) (k v : ℕ) (o : Option Access) → SameVariant s (over_way s k o v)
+over_stays s k v None = with_seat refl (same_by refl refl refl)
+over_stays s k v (Some a) = by (kind_of a)
+  where
+    by : (kind : Kind) → SameVariant s (over_by s k kind v)
+    by Shuts = with_seat refl (same_by refl refl refl)
+    by Takes = with_seat refl (outside_stays s.stand (stepped s.stand v) _ (step_stays s.stand v))
+    by _ = with_seat refl (outside_stays s.stand (stepped s.stand v) _ (step_stays s.stand v))
 
-out_stays : (s : VariantStand) (v : ℕ) → SameVariant s (gone_out s v)
-out_stays s v =
-    cond_both (finds_inside s.stand v) _ _ (SameVariant s) (λ _. (with_seat refl (reread_stays s.stand (call_again (own_call s.stand.lock)) 0 0 1))) (λ _. (with_seat refl (step_stays s.stand v)))
+part_stays : (e : Chore) (d : Detour) (s : VariantStand) (v : ℕ) → SameVariant s (part_beside e d s v)
+part_stays IsFree Straight s v = row_stays s v (changed_row s.variant s.stand v)
+part_stays IsFree (Over k) s v = over_stays s k v (next_access s.stand)
+part_stays IsFree Dropping s v = with_seat refl (same_by refl refl refl)
+part_stays _ d s v = with_seat refl (step_stays s.stand v)
 
 count_stays : (s : VariantStand) (change : Change) (v : ℕ) → SameVariant s (counted_up s change v)
 count_stays s Counts v = cond_both (is_put 2 (next_access s.stand)) _ _ (SameVariant s) (λ _. (with_seat refl ((same_by refl refl refl)))) (λ _. (with_seat refl (step_stays s.stand v)))
@@ -128,17 +136,10 @@ leave_stays s Counts v = (with_seat refl (step_stays s.stand v))
 leave_stays s (Counted n) v = (with_seat refl (step_stays s.stand v))
 
 beside_stays : (variant : Variant) (d : Detour) (s : VariantStand) (v : ℕ) → SameVariant s (stepped_beside variant d s v)
-beside_stays NoLook d s v = (with_seat refl (past_stays s.stand (stepped s.stand v) (step_stays s.stand v)))
-beside_stays NoTies d s v = (with_seat refl (step_stays s.stand (untied s.stand v)))
-beside_stays Renumber (Over k) s v = again_stays s k v
-beside_stays Renumber Straight s v = scans_stay s (stepped s.stand v) (step_stays s.stand v) _
-beside_stays Renumber Dropping s v = scans_stay s (stepped s.stand v) (step_stays s.stand v) _
-beside_stays ExitOnCrash Dropping s v = (with_seat refl ((same_by refl refl refl)))
-beside_stays ExitOnCrash Straight s v = out_stays s v
-beside_stays ExitOnCrash (Over k) s v = out_stays s v
+beside_stays Right d s v = with_seat refl (step_stays s.stand v)
 beside_stays CountUp d s v = count_stays s s.change v
 beside_stays LastSkipped d s v = leave_stays s s.change v
-beside_stays Right d s v = (with_seat refl (step_stays s.stand v))
+beside_stays _ d s v = part_stays s.stand.errand d s v
 
 pub variant_step_stays : (s : VariantStand) (v : ℕ) → SameVariant s (variant_stepped s v)
 variant_step_stays s v = beside_stays s.variant s.detour s v

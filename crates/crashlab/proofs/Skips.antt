@@ -1,7 +1,7 @@
 -- A process whose repair leaves out its last number: where that put comes next, it is passed over.
 use Rattle.std.proofs.Common.{◌≡◌, ℕ, Bool, true, false, ◌==◌, if◌then◌else◌, Option, Some, None, IfSome, refl, sym, ap, ◌∙◌, subst}
 use Rattle.rmecore.specs.Place.{Place, Inside}
-use Rattle.rmecore.specs.Machine.{access, kind_of, word_of, carried}
+use Rattle.rmecore.specs.Machine.{kind_of, word_of, carried}
 use Rattle.rmecore.specs.declared.access.Access.{Access}
 use Rattle.rmecore.specs.declared.access.Access.TheVariants.{Load, Store}
 use Rattle.rmecore.specs.declared.kind.Kind.TheVariants.{Get as Gets, Put as Puts}
@@ -26,15 +26,13 @@ use Rattle.crashlab.specs.VariantScripts.{leaving_out}
 use Rattle.crashlab.specs.VariantSpots.{beside, variant_moved, variant_outer_by, variant_answer_by, variant_done_by}
 use Rattle.crashlab.specs.VariantStands.{VariantStand, variant_spot_of, changed_errand, unless_answered, is_put, plain_outcome, last_put_next, variant_stepped}
 use Rattle.crashlab.proofs.Steady.{Steady, step_steady}
-use Rattle.crashlab.proofs.Rows.{process_of, Follows, all, lock_row}
+use Rattle.crashlab.proofs.Rows.{process_of, Follows, plain_goes}
 use Rattle.crashlab.proofs.Repairs.{Unchanged, nothing_stays, IsMending, Mends, mends_of, lands, plain_lands, outcome_is, allowed_put, same_script, answered}
 
 -- with no change left it goes the lock's way
 
 skip_plain : (s : Stand) (v : ℕ) → Steady s → Follows (process_of LastSkipped s Straight Nothing) v
-skip_plain s v h =
-    subst (Unchanged LastSkipped s v) (sym (nothing_stays (plain_outcome s v).answer))
-    (lock_row LastSkipped s v v h (λ t. refl) (λ _. all (access s.limit s.index s.lock) _ (λ a. (refl, refl, refl))) (λ why rest e. refl))
+skip_plain s v h = subst (Unchanged LastSkipped s v) (sym (nothing_stays (plain_outcome s v).answer)) (plain_goes LastSkipped s v h tt (λ a. (refl, refl, refl))).row
 
 abbrev last_of : Stand → ℕ
 last_of s = last_at s.layout s.index
@@ -80,7 +78,7 @@ skip_past s v job j x rest out here h inside told is =
     let out' = outcome_is t (Writes j x rest) (Store Puts (DataAt j) x) 0 at in
     let next : next_access t ≡ Some (Store Puts (DataAt j) x) = ap (λ e. access_by t.limit t.index t.lock e) at in
     let skipped : leaving_out (last_of s) (Writes j x rest) ≡ rest = ap (λ y. if y then rest else Writes j x (leaving_out (last_of s) rest)) here in (
-      (λ i. Some (record { spot = settled (sym mended i) (sym barred i) Mending (skipped i); detour = Straight })) ∙ plain_lands LastSkipped t 0 m.job rest (by_script Mending t.mended rest) (λ u. refl) m.inside told' is' refl
+      (λ i. Some (record { spot = settled (sym mended i) (sym barred i) Mending (skipped i); detour = Straight })) ∙ plain_lands LastSkipped t 0 m.job rest (by_script Mending t.mended rest) m.inside told' is' refl
           ∙ ap (λ change. Some (variant_spot_of (process_of LastSkipped (stepped t 0) Straight change))) (nothing_stays (by_script Mending t.mended rest)),
       sym (ap (λ o. (outcome t o 0).progress.outer) next ∙ out'.0),
       ap (by_script Mending s.mended) skipped ∙ ap (λ b. by_script Mending b rest) (sym mended) ∙ sym (ap (λ o. (outcome t o 0).answer) next ∙ out'.1),
@@ -89,7 +87,7 @@ skip_past s v job j x rest out here h inside told is =
 
 lands_on : (s : Stand) (v : ℕ) (job : Pending) (e : Script Reply) (out : Outcome) → is_put (last_of s) (access_by s.limit s.index Inside (Doing Mending e)) ≡ false → s.lock ≡ Inside → (HasStep e → left job ≡ e) → stepped s v ≡ job_left s Mending job e → out.progress.outer ≡ None → out.answer ≡ by_script Mending s.mended e → out.progress.done ≡ None → Lands s v e false out
 lands_on s v job e out other inside told is outer answer done = (
-  lands LastSkipped LeavesOut s v job e out.answer (λ t. refl) (λ r. refl) (leave_step (last_of s) s.limit s.index Inside e other) inside told is answer,
+  lands LastSkipped LeavesOut s v job e out.answer (λ r. refl) (leave_step (last_of s) s.limit s.index Inside e other) inside told is answer,
   sym outer,
   leave_answer (last_of s) s.limit s.index Inside s.mended e other ∙ sym answer,
   sym done,

@@ -1,182 +1,129 @@
 -- In every run of a world of a variant each process goes by the variant's definition.
 use Rattle.std.proofs.Common.{◌≡◌, ℕ, ◌+◌, ◌<◌, nat_lt, if◌then◌else◌, Bool, true, false, List, [], ◌∷◌, slice_set, Option, Some, None, IfSome, refl, sym, ap, ◌∙◌, subst}
-use Rattle.std.proofs.lemmas.Bool.{cond_both, ltb-true}
+use Rattle.std.proofs.lemmas.Bool.{ltb-true}
 use Rattle.std.proofs.lemmas.List.{get_or-set_same}
-use Rattle.rmecore.specs.Place.{Rest, Dead, Door, Unmarking}
 use Rattle.rmecore.specs.Machine.{kind_of, word_of, carried}
 use Rattle.rmecore.specs.declared.access.Access.{Access}
-use Rattle.rmecore.specs.declared.core_call.CoreCall.{CoreCall}
 use Rattle.rmecore.specs.declared.refusal.Refusal.{Refusal}
 use Rattle.rmecore.specs.declared.refusal.Refusal.TheVariants.{NoSuchProcess}
 use Rattle.redomail.specs.declared.layout.Layout.{Layout}
 use Rattle.redomail.specs.Layout.{IsLayout}
 use Rattle.rmeworld.specs.declared.call.Call.{Call}
-use Rattle.rmeworld.specs.declared.call.Call.TheVariants.{Lock, Unlock, Consistent, Recover, Append, Close, Get, Put, Withdraw}
-use Rattle.rmeworld.specs.declared.errand.Errand.TheVariants.{Free as IsFree}
+use Rattle.rmeworld.specs.declared.call.Call.TheVariants.{Consistent}
 use Rattle.rmeworld.specs.Acts.{Act, Starts, Steps, Crashes, unless}
-use Rattle.rmeworld.specs.Errands.{errand_of}
 use Rattle.rmeworld.specs.Refused.{start_refusal as spot_refusal}
-use Rattle.rmeworld.specs.Spot.{Free, at_rest, Begins, Falls, Moves}
-use Rattle.rmeworld.specs.Stand.{Stand, IsSize, spot_of, crashed as stand_crashed, started as stand_started, stepped as stand_stepped, resting, happening}
+use Rattle.rmeworld.specs.Spot.{at_rest, Begins, Falls, Moves}
+use Rattle.rmeworld.specs.Stand.{Stand, IsSize, spot_of, started as stand_started, happening}
+use Rattle.rmeworld.proofs.Ordered.{ordered_rest, ordered_crashed}
 use Rattle.crashlab.specs.declared.change.Change.{Change}
-use Rattle.crashlab.specs.declared.change.Change.TheVariants.{Nothing}
+use Rattle.crashlab.specs.declared.change.Change.TheVariants.{Nothing, LeavesOut, Counts, Counted}
 use Rattle.crashlab.specs.declared.detour.Detour.{Detour}
-use Rattle.crashlab.specs.declared.detour.Detour.TheVariants.{Straight, Dropping, Over}
+use Rattle.crashlab.specs.declared.detour.Detour.TheVariants.{Straight}
 use Rattle.crashlab.specs.declared.variant.Variant.{Variant}
 use Rattle.crashlab.specs.declared.variant.Variant.TheVariants.{Right, NoLook, NoTies, Renumber, ExitOnCrash, CountUp, LastSkipped}
-use Rattle.crashlab.specs.VariantSpots.{beside, variant_begun, variant_spot, variant_outer, variant_answer_at, variant_done_at}
-use Rattle.crashlab.specs.VariantStands.{VariantStand, variant_resting, variant_crashed, variant_spot_of, unlooked, changed_errand, variant_next_access, variant_stepped, variant_outcome, change_of, variant_started}
+use Rattle.crashlab.specs.VariantSpots.{beside, variant_spot, variant_outer, variant_answer_at, variant_done_at}
+use Rattle.crashlab.specs.VariantStands.{VariantStand, variant_resting, variant_crashed, variant_spot_of, variant_next_access, variant_stepped, variant_outcome, change_of, variant_started}
 use Rattle.crashlab.specs.VariantWorlds.{VariantState, stand_at, HasSeat, IsSeated, new_world, start_refusal, started, access_at, unless_step, found_by, stepped, stepped_if, advanced_if, advanced, crashed}
 use Rattle.crashlab.specs.VariantRuns.{acted, run_of, IsRun, spot_at, move}
 use Rattle.rmeworld.proofs.WorldSteps.{words_by_length, cells_by_length}
 use Rattle.crashlab.proofs.Seats.{seated, set_each, variant_step_stays, variant_start_stays, seat_stays, with_seat, same_by}
 use Rattle.crashlab.proofs.Rests.{rest_at, seated_new}
-use Rattle.crashlab.proofs.Steady.{Steady}
-use Rattle.crashlab.proofs.Starts.{unlooked_same, changed_spot, start_free, start_steady, start_goes}
-use Rattle.crashlab.proofs.Rows.{IsRow, process_of, Follows, right_row, ties_row}
-use Rattle.crashlab.proofs.Looks.{FitsLook, looks_row, looks_fit, looks_steady}
-use Rattle.crashlab.proofs.Detours.{out_stand, FitsDetour, renumber_row, exit_row, renumber_stays, exit_stays}
+use Rattle.crashlab.proofs.Steady.{Steady, start_steady, changed_spot, start_goes}
+use Rattle.crashlab.proofs.Rows.{IsRow, process_of, Follows, MayGo, Walks, plain_goes}
+use Rattle.crashlab.proofs.Waits.{looks_go, ties_go}
+use Rattle.crashlab.proofs.Detours.{renumber_goes, exit_goes}
 use Rattle.crashlab.proofs.Repairs.{FitsCount, count_row, count_stays}
 use Rattle.crashlab.proofs.Skips.{FitsLeave, skip_row, skip_stays}
-use Rattle.crashlab.proofs.Steady.{step_steady}
 
 -- where a process of the variant may stand
 
-abbrev pub Way : Variant → Detour → Change → Stand → Type 0
-Way Right Straight Nothing s = Unit {0}
-Way NoLook Straight Nothing s = FitsLook s.lock
-Way NoTies Straight Nothing s = Unit {0}
-Way Renumber d Nothing s = FitsDetour Renumber d s
-Way ExitOnCrash d Nothing s = FitsDetour ExitOnCrash d s
-Way CountUp Straight change s = FitsCount change s
-Way LastSkipped Straight change s = FitsLeave change s
-Way variant d change s = ⊥
+abbrev pub FitsChange : Variant → Change → Stand → Type 0
+FitsChange CountUp change s = FitsCount change s
+FitsChange LastSkipped change s = FitsLeave change s
+FitsChange variant Nothing s = Unit {0}
+FitsChange variant change s = ⊥
 
-abbrev pub Fits : VariantStand → Type 0
-Fits t = Steady t.stand × Way t.variant t.detour t.change t.stand
+pub record Fits (t : VariantStand) : Type 0 where
+  pub steady : Steady t.stand
+  pub detour : MayGo t.variant t.detour
+  pub change : FitsChange t.variant t.change t.stand
 
 -- each step is the definition's, and leaves it so
 
-follows : (variant : Variant) (d : Detour) (change : Change) (s : Stand) (v : ℕ) → Steady s → Way variant d change s → Follows (process_of variant s d change) v
-follows Right Straight Nothing s v h way = right_row s v h
-follows NoLook Straight Nothing s v h way = looks_row s v h way
-follows NoTies Straight Nothing s v h way = ties_row s v h
-follows Renumber d Nothing s v h way = renumber_row s d v h way
-follows ExitOnCrash d Nothing s v h way = exit_row s d v h way
-follows CountUp Straight change s v h way = count_row s change v h way
-follows LastSkipped Straight change s v h way = skip_row s change v h way
-follows variant d change s v h way = absurd way
+record IsTaken (t : VariantStand) (v : ℕ) : Type 0 where
+  pub row : Follows t v
+  pub fits : Fits (variant_stepped t v)
 
-on_detour : (variant : Variant) (u : VariantStand) → u.variant ≡ variant → u.change ≡ Nothing → Steady u.stand → Way variant u.detour Nothing u.stand → Fits u
-on_detour variant u is change h way = (h, subst (λ x. Way x u.detour u.change u.stand) (sym is) (subst (λ x. Way variant u.detour x u.stand) (sym change) way))
+fits_as : (variant : Variant) (u : VariantStand) → u.variant ≡ variant → Steady u.stand → MayGo variant u.detour → FitsChange variant u.change u.stand → Fits u
+fits_as variant u is steady detour change = record { steady = steady; detour = subst (λ x. MayGo x u.detour) (sym is) detour; change = subst (λ x. FitsChange x u.change u.stand) (sym is) change }
 
-on_change : (variant : Variant) (u : VariantStand) → u.variant ≡ variant → u.detour ≡ Straight → Steady u.stand → Way variant Straight u.change u.stand → Fits u
-on_change variant u is detour h way = (h, subst (λ x. Way x u.detour u.change u.stand) (sym is) (subst (λ x. Way variant x u.change u.stand) (sym detour) way))
+unchanged : (variant : Variant) (s : Stand) (d : Detour) (v : ℕ) → ((t : Stand) → FitsChange variant Nothing t) → Walks variant s d v → IsTaken (process_of variant s d Nothing) v
+unchanged variant s d v none g =
+    let u = variant_stepped (process_of variant s d Nothing) v in
+    record { row = g.row; fits = fits_as variant u (variant_step_stays (process_of variant s d Nothing) v).variant g.steady g.detour (subst (λ x. FitsChange variant x u.stand) (sym g.change) (none u.stand)) }
 
-stays : (variant : Variant) (d : Detour) (change : Change) (s : Stand) (v : ℕ) → Steady s → Way variant d change s → Fits (variant_stepped (process_of variant s d change) v)
-stays Right Straight Nothing s v h way = (step_steady s v h, tt)
-stays NoLook Straight Nothing s v h way = (looks_steady (stand_stepped s v) (step_steady s v h), looks_fit s v h way)
-stays NoTies Straight Nothing s v h way = (step_steady s _ h, tt)
-stays Renumber d Nothing s v h way = let u = renumber_stays s d v h way in on_detour Renumber _ (variant_step_stays (process_of Renumber s d Nothing) v).variant u.2 u.0 u.1
-stays ExitOnCrash d Nothing s v h way = let u = exit_stays s d v h way in on_detour ExitOnCrash _ (variant_step_stays (process_of ExitOnCrash s d Nothing) v).variant u.2 u.0 u.1
-stays CountUp Straight change s v h way = let u = count_stays s change v h way in on_change CountUp _ (variant_step_stays (process_of CountUp s Straight change) v).variant u.2 u.0 u.1
-stays LastSkipped Straight change s v h way = let u = skip_stays s change v h way in on_change LastSkipped _ (variant_step_stays (process_of LastSkipped s Straight change) v).variant u.2 u.0 u.1
-stays variant d change s v h way = absurd way
+abbrev Left : Variant → VariantStand → Type 0
+Left variant u = Steady u.stand × FitsChange variant u.change u.stand × (u.detour ≡ Straight)
+
+repairs : (variant : Variant) (s : Stand) (change : Change) (v : ℕ) → MayGo variant Straight → Follows (process_of variant s Straight change) v
+    → Left variant (variant_stepped (process_of variant s Straight change) v) → IsTaken (process_of variant s Straight change) v
+repairs variant s change v may row left =
+    record { row = row; fits = fits_as variant (variant_stepped (process_of variant s Straight change) v) (variant_step_stays (process_of variant s Straight change) v).variant left.0 (subst (MayGo variant) (sym left.2) may) left.1 }
+
+taken : (variant : Variant) (d : Detour) (change : Change) (s : Stand) (v : ℕ) → Steady s → MayGo variant d → FitsChange variant change s → IsTaken (process_of variant s d change) v
+taken Right Straight Nothing s v h may fits = unchanged Right s Straight v (λ _. tt) (plain_goes Right s v h tt (λ a. (refl, refl, refl)))
+taken NoLook Straight Nothing s v h may fits = unchanged NoLook s Straight v (λ _. tt) (looks_go s v h)
+taken NoTies Straight Nothing s v h may fits = unchanged NoTies s Straight v (λ _. tt) (ties_go s v h)
+taken Renumber d Nothing s v h may fits = unchanged Renumber s d v (λ _. tt) (renumber_goes s d v h may)
+taken ExitOnCrash d Nothing s v h may fits = unchanged ExitOnCrash s d v (λ _. tt) (exit_goes s d v h may)
+taken CountUp Straight change s v h may fits = repairs CountUp s change v tt (count_row s change v h fits) (count_stays s change v h fits)
+taken LastSkipped Straight change s v h may fits = repairs LastSkipped s change v tt (skip_row s change v h fits) (skip_stays s change v h fits)
+taken Renumber d LeavesOut s v h may fits = absurd fits
+taken Renumber d Counts s v h may fits = absurd fits
+taken Renumber d (Counted n) s v h may fits = absurd fits
+taken ExitOnCrash d LeavesOut s v h may fits = absurd fits
+taken ExitOnCrash d Counts s v h may fits = absurd fits
+taken ExitOnCrash d (Counted n) s v h may fits = absurd fits
+taken variant Straight change s v h may fits = absurd fits
+taken variant d change s v h may fits = absurd may
 
 -- a start
 
-no_start : (l : Layout) (limit p : ℕ) (unread : List ℕ) (m : ℕ) (c : Call) → spot_refusal l (spot_of (out_stand l limit p (Door unread m))) c ≡ None → ⊥
-no_start l limit p unread m Lock h = cc
-no_start l limit p unread m Recover h = cc
-no_start l limit p unread m Withdraw h = cc
-no_start l limit p unread m Unlock h = cc
-no_start l limit p unread m Consistent h = cc
-no_start l limit p unread m (Append seq value) h = cc
-no_start l limit p unread m Close h = cc
-no_start l limit p unread m (Get i) h = cc
-no_start l limit p unread m (Put i v) h = cc
-
-no_drop : (l : Layout) (limit p : ℕ) (d : CoreCall) (c : Call) → spot_refusal l (spot_of (out_stand l limit p (Unmarking d))) c ≡ None → ⊥
-no_drop l limit p d Lock h = cc
-no_drop l limit p d Recover h = cc
-no_drop l limit p d Withdraw h = cc
-no_drop l limit p d Unlock h = cc
-no_drop l limit p d Consistent h = cc
-no_drop l limit p d (Append seq value) h = cc
-no_drop l limit p d Close h = cc
-no_drop l limit p d (Get i) h = cc
-no_drop l limit p d (Put i v) h = cc
-
-look_started : (s : Stand) (c : Call) → FitsLook s.lock → FitsLook (stand_started s c).lock
-look_started s Lock h = tt
-look_started s Recover h = tt
-look_started s Withdraw h = tt
-look_started s Unlock h = cond_both s.mended _ _ (λ (t : Stand). FitsLook t.lock) (λ _. tt) (λ _. h)
-look_started s Consistent h = h
-look_started s (Append seq value) h = h
-look_started s Close h = h
-look_started s (Get i) h = h
-look_started s (Put i v) h = h
-
-count_started : (s : Stand) (c : Call) → FitsCount (change_of CountUp c) (stand_started s c)
-count_started s Consistent = tt
-count_started s Lock = tt
-count_started s _ = tt
-
-skip_started : (s : Stand) (c : Call) → FitsLeave (change_of LastSkipped c) (stand_started s c)
-skip_started s Consistent = (tt, refl)
-skip_started s Lock = tt
-skip_started s _ = tt
-
-way_started : (variant : Variant) (d : Detour) (change : Change) (s : Stand) (c : Call) → Way variant d change s → spot_refusal s.layout (spot_of s) c ≡ None → Way variant d (change_of variant c) (stand_started s c)
-way_started Right Straight Nothing s c way r = tt
-way_started NoLook Straight Nothing s c way r = look_started s c way
-way_started NoTies Straight Nothing s c way r = tt
-way_started Renumber Straight Nothing s c way r = tt
-way_started Renumber (Over k) Nothing s c way r = absurd (no_start s.layout s.limit s.index way.unread way.greatest c (subst (λ u. spot_refusal u.layout (spot_of u) c ≡ None) way.is r))
-way_started Renumber Dropping Nothing s c way r = absurd way
-way_started ExitOnCrash Straight Nothing s c way r = tt
-way_started ExitOnCrash (Over k) Nothing s c way r = absurd way
-way_started ExitOnCrash Dropping Nothing s c way r = absurd (no_drop s.layout s.limit s.index way.call c (subst (λ u. spot_refusal u.layout (spot_of u) c ≡ None) way.is r))
-way_started CountUp Straight change s c way r = count_started s c
-way_started LastSkipped Straight change s c way r = skip_started s c
-way_started variant d change s c way r = absurd way
+started_change : (variant : Variant) (s : Stand) (c : Call) → FitsChange variant (change_of variant c) (stand_started s c)
+started_change CountUp s Consistent = tt
+started_change CountUp s _ = tt
+started_change LastSkipped s Consistent = (tt, refl)
+started_change LastSkipped s _ = tt
+started_change _ s Consistent = tt
+started_change _ s _ = tt
 
 started_fits : (t : VariantStand) (c : Call) → Fits t → spot_refusal t.stand.layout (spot_of t.stand) c ≡ None → Fits (variant_started t c)
-started_fits t c h r = (start_steady t.stand c h.0 r, way_started t.variant t.detour t.change t.stand c h.1 r)
+started_fits t c h r = record { steady = start_steady t.stand c h.steady r; detour = h.detour; change = started_change t.variant t.stand c }
 
 at_its_start : (t : VariantStand) (c : Call) → Fits t → spot_refusal t.stand.layout (spot_of t.stand) c ≡ None
     → variant_spot t.variant t.stand.layout t.stand.limit (variant_spot_of t) (Begins t.stand.index c) ≡ Some (variant_spot_of (variant_started t c))
 at_its_start t c h r =
-    let s : Stand = t.stand in
-    let free : s.errand ≡ IsFree = start_free s c h.0 r in
-    ap (λ e. beside t.detour (variant_begun t.variant s.layout s.index (unlooked t.variant s.lock) s.mended (changed_errand t.change s.layout s.index (errand_of e)) c)) free
-    ∙ ap (λ e. beside t.detour (variant_begun t.variant s.layout s.index (unlooked t.variant s.lock) s.mended (errand_of e) c)) (sym free)
-    ∙ ap (beside t.detour) (start_goes t.variant s c h.0 r)
-    ∙ same_seat
-  where
-    same_seat : Some (record { spot = changed_spot t.variant (change_of t.variant c) t.stand.layout t.stand.index (spot_of (stand_started t.stand c)); detour = t.detour }) ≡ Some (variant_spot_of (variant_started t c))
-    same_seat = λ i. Some (record { spot = changed_spot t.variant (change_of t.variant c) (sym (variant_start_stays t c).seat.layout i) (sym (variant_start_stays t c).seat.index i) (spot_of (stand_started t.stand c)); detour = t.detour })
+    let seat = (variant_start_stays t c).seat in
+    ap (beside t.detour) (start_goes t.variant t.stand t.change c h.steady r)
+    ∙ (λ i. Some (record { spot = changed_spot (change_of t.variant c) (sym seat.layout i) (sym seat.index i) (spot_of (stand_started t.stand c)); detour = t.detour }))
 
 -- rest, and a crash
 
-way_still : (variant : Variant) (s : Stand) → FitsLook s.lock → Way variant Straight Nothing s
-way_still Right s h = tt
-way_still NoLook s h = h
-way_still NoTies s h = tt
-way_still Renumber s h = tt
-way_still ExitOnCrash s h = tt
-way_still CountUp s h = tt
-way_still LastSkipped s h = tt
+may_straight : (variant : Variant) → MayGo variant Straight
+may_straight Renumber = tt
+may_straight ExitOnCrash = tt
+may_straight _ = tt
+
+no_change : (variant : Variant) (s : Stand) → FitsChange variant Nothing s
+no_change CountUp s = tt
+no_change LastSkipped s = tt
+no_change _ s = tt
 
 crashed_fits : (t : VariantStand) → Fits t → Fits (variant_crashed t)
-crashed_fits t h = (record { layout = h.0.layout; chore = tt }, way_still t.variant (stand_crashed t.stand) tt)
+crashed_fits t h = record { steady = record { layout = h.steady.layout; ordered = ordered_crashed t.stand }; detour = may_straight t.variant; change = no_change t.variant _ }
 
 resting_fits : (variant : Variant) (l : Layout) (limit p : ℕ) → IsLayout l → Fits (variant_resting variant l limit p)
-resting_fits variant l limit p lawful = (record { layout = lawful; chore = tt }, way_still variant (resting l limit p) tt)
-
-at_its_crash : (t : VariantStand) → variant_spot t.variant t.stand.layout t.stand.limit (variant_spot_of t) (Falls t.stand.index) ≡ Some (variant_spot_of (variant_crashed t))
-at_its_crash t = ap (λ u. Some (record { spot = record { lock = u; mended = true; barred = false; errand = Free }; detour = Straight })) (sym (unlooked_same t.variant Dead refl))
+resting_fits variant l limit p lawful = record { steady = record { layout = lawful; ordered = ordered_rest l limit p }; detour = may_straight variant; change = no_change variant _ }
 
 -- of a whole world
 
@@ -209,7 +156,7 @@ step_fit s p true e (Some a) h =
     let fit = h.each p below in
     record {
       seated = seated s _ _ p u h.seated (words_by_length s.words a) (cells_by_length s.cells a) below (seat_stays t u (variant_step_stays t (found_by s a)) (h.seated.seats p below));
-      each = set_each (λ _. Fits) s p u h.seated.processes_each (stays t.variant t.detour t.change t.stand (found_by s a) fit.0 fit.1) below h.each;
+      each = set_each (λ _. Fits) s p u h.seated.processes_each (taken t.variant t.detour t.change t.stand (found_by s a) fit.steady fit.detour fit.change).fits below h.each;
     }
 
 crash_fit : (s : VariantState) (p : ℕ) (x : Bool) → nat_lt p s.layout.procs ≡ x → IsFit s → IsFit (unless (if x then None else Some NoSuchProcess) s (crashed s p))
@@ -239,7 +186,7 @@ is_fit s run = subst IsFit run.is (run_fit (new_world s.variant s.layout s.limit
 step_row : (s : VariantState) (p : ℕ) (a : Access) (t : VariantStand) → Fits t → variant_next_access t ≡ Some a → IsRow t.variant t.stand (variant_spot_of t) (variant_spot_of (variant_stepped t (found_by s a))) (variant_outcome t (found_by s a)) (found_by s a) a
 step_row s p a t h e =
     let v : ℕ = found_by s a in
-    subst (λ o. IfSome o (IsRow t.variant t.stand (variant_spot_of t) (variant_spot_of (variant_stepped t v)) (variant_outcome t v) v)) e (follows t.variant t.detour t.change t.stand v h.0 h.1)
+    subst (λ o. IfSome o (IsRow t.variant t.stand (variant_spot_of t) (variant_spot_of (variant_stepped t v)) (variant_outcome t v) v)) e (taken t.variant t.detour t.change t.stand v h.steady h.detour h.change).row
 
 moved_here : (s : VariantState) (p : ℕ) (t : VariantStand) → IsFit s → p < s.layout.procs → spot_at (record s { processes = slice_set s.processes p t }) p ≡ variant_spot_of t
 moved_here s p t h below = ap variant_spot_of (get_or-set_same s.processes p t _ (rw h.seated.processes_each below))
@@ -291,8 +238,7 @@ a_crash s p run below =
     let h = is_fit s run in
     let t : VariantStand = stand_at s.processes p in
     let seat = h.seated.seats p below in
-    (λ i. variant_spot (sym seat.0 i) (sym seat.1 i) (sym seat.2 i) (spot_at s p) (Falls (sym seat.3 i))) ∙ at_its_crash t ∙ ap (λ x. Some x) (sym (moved_here s p (variant_crashed t) h below))
+    (λ i. variant_spot (sym seat.0 i) (sym seat.1 i) (sym seat.2 i) (spot_at s p) (Falls (sym seat.3 i))) ∙ ap (λ x. Some x) (sym (moved_here s p (variant_crashed t) h below))
 
 pub a_rest : (variant : Variant) (l : Layout) (limit p : ℕ) → p < l.procs → spot_at (new_world variant l limit) p ≡ record { spot = at_rest; detour = Straight }
-a_rest variant l limit p below =
-    ap variant_spot_of (rest_at variant l limit 0 l.procs p below) ∙ ap (λ u. record { spot = record { lock = u; mended = true; barred = false; errand = Free }; detour = Straight }) (unlooked_same variant Rest refl)
+a_rest variant l limit p below = ap variant_spot_of (rest_at variant l limit 0 l.procs p below)

@@ -1,17 +1,14 @@
 -- What contracts see of one process of a variant, and what its machine does next: the world's process, with what the
 -- variant changes.
-use Rattle.std.specs.Prelude.{◌≡◌, ℕ, Bool, true, false, ◌==◌, ◌&&◌, if◌then◌else◌, Option, Some, None, unwrap_or}
-use Rattle.rmecore.specs.Place.{Place, Wait}
-use Rattle.rmecore.specs.Named.{own_number, own_call}
+use Rattle.std.specs.Prelude.{◌≡◌, ℕ, zero, suc, Bool, true, false, ◌||◌, ◌==◌, if◌then◌else◌, [], ◌∷◌, Option, Some, None}
+use Rattle.rmecore.specs.Place.{Place, Reread, Door, Wait, Unmarking, without, others, is_before}
+use Rattle.rmecore.specs.Machine.{kind_of}
 use Rattle.rmecore.specs.declared.access.Access.{Access}
 use Rattle.rmecore.specs.declared.access.Access.TheVariants.{Load, Store}
-use Rattle.rmecore.specs.declared.core_call.CoreCall.{CoreCall}
 use Rattle.rmecore.specs.declared.core_call.CoreCall.TheVariants as core
 use Rattle.rmecore.specs.declared.kind.Kind.{Kind}
-use Rattle.rmecore.specs.declared.kind.Kind.TheVariants.{Reread as Rereads, Take as Takes, Shut as Shuts, Look as Looks, Weigh as Weighs, Drop as Drops, Get as Gets, Put as Puts}
-use Rattle.rmecore.specs.declared.outer.Outer.{Outer}
-use Rattle.rmecore.specs.declared.outer.Outer.TheVariants.{Reenter}
-use Rattle.rmecore.specs.declared.word.Word.TheVariants.{Number as NumberOf, Data as DataAt}
+use Rattle.rmecore.specs.declared.kind.Kind.TheVariants.{Take as Takes, Shut as Shuts, Look as Looks, Weigh as Weighs, Drop as Drops, Get as Gets, Put as Puts}
+use Rattle.rmecore.specs.declared.word.Word.TheVariants.{Choosing as ChoosingOf, Number as NumberOf, Data as DataAt}
 use Rattle.redomail.specs.declared.layout.Layout.{Layout}
 use Rattle.redomail.specs.declared.reply.Reply.{Reply}
 use Rattle.redomail.specs.Layout.{last_at}
@@ -19,6 +16,8 @@ use Rattle.redomail.specs.Script.{Script, Put as Writes}
 use Rattle.rmeworld.specs.declared.answer.Answer.{Answer}
 use Rattle.rmeworld.specs.declared.call.Call.{Call}
 use Rattle.rmeworld.specs.declared.call.Call.TheVariants as call
+use Rattle.rmeworld.specs.declared.errand.Errand.{Errand as Chore}
+use Rattle.rmeworld.specs.declared.errand.Errand.TheVariants.{Free as IsFree}
 use Rattle.rmeworld.specs.declared.outcome.Outcome.{Outcome}
 use Rattle.rmeworld.specs.declared.why.Why.TheVariants.{Mending}
 use Rattle.rmeworld.specs.Spot.{Errand, Doing}
@@ -30,6 +29,7 @@ use Rattle.crashlab.specs.declared.detour.Detour.{Detour}
 use Rattle.crashlab.specs.declared.detour.Detour.TheVariants.{Straight, Dropping, Over}
 use Rattle.crashlab.specs.declared.variant.Variant.{Variant}
 use Rattle.crashlab.specs.declared.variant.Variant.TheVariants.{Right, NoLook, NoTies, Renumber, ExitOnCrash, CountUp, LastSkipped}
+use Rattle.crashlab.specs.Variants.{lock_or_recover}
 use Rattle.crashlab.specs.VariantScripts.{leaving_out, raised, counting_up}
 use Rattle.crashlab.specs.VariantSpots.{VariantSpot}
 
@@ -54,11 +54,6 @@ variant_crashed s = record { variant = s.variant; stand = crashed s.stand; detou
 
 -- where the variant's process stands, as its definition has it
 
--- without a look nobody was looked at
-abbrev pub unlooked : Variant → Place → Place
-unlooked NoLook (Wait k unpassed looked) = Wait k unpassed None
-unlooked _ place = place
-
 abbrev pub changed_script : Change → Layout → ℕ → Script Reply → Script Reply
 changed_script Nothing l p script = script
 changed_script LeavesOut l p script = leaving_out (last_at l p) script
@@ -73,7 +68,7 @@ changed_errand change l p errand = errand
 abbrev pub variant_spot_of : VariantStand → VariantSpot
 variant_spot_of s =
     record {
-      spot = record { lock = unlooked s.variant s.stand.lock; mended = s.stand.mended; barred = s.stand.barred; errand = changed_errand s.change s.stand.layout s.stand.index (errand_of s.stand.errand) };
+      spot = record { lock = s.stand.lock; mended = s.stand.mended; barred = s.stand.barred; errand = changed_errand s.change s.stand.layout s.stand.index (errand_of s.stand.errand) };
       detour = s.detour;
     }
 
@@ -85,73 +80,90 @@ changed_access Counts (Some (Store Puts (DataAt i) v)) = if i == 2 then Some (Lo
 changed_access (Counted count) (Some (Store Puts (DataAt i) v)) = if i == 2 then Some (Store Puts (DataAt 2) count) else Some (Store Puts (DataAt i) v)
 changed_access _ a = a
 
-abbrev pub access_beside : Stand → Change → Detour → Option Access
-access_beside s change Dropping = Some (Store Drops (NumberOf s.index) 0)
-access_beside s change _ = changed_access change (next_access s)
+-- no look: a weigh, where the lock would look
+abbrev pub weighed : Option Access → Option Access
+weighed (Some (Load Looks (ChoosingOf j))) = Some (Load Weighs (NumberOf j))
+weighed a = a
+
+-- exit on crash: a drop, off any script
+abbrev pub dropping_access : Stand → Chore → Option Access
+dropping_access s IsFree = Some (Store Drops (NumberOf s.index) 0)
+dropping_access s _ = next_access s
+
+abbrev pub access_beside : Variant → Detour → Change → Stand → Option Access
+access_beside NoLook d change s = weighed (next_access s)
+access_beside ExitOnCrash Dropping change s = dropping_access s s.errand
+access_beside CountUp d change s = changed_access change (next_access s)
+access_beside _ d change s = next_access s
 
 abbrev pub variant_next_access : VariantStand → Option Access
-variant_next_access s = access_beside s.stand s.change s.detour
+variant_next_access s = access_beside s.variant s.detour s.change s.stand
 
-abbrev pub is_of : Kind → Option Access → Bool
-is_of Rereads (Some (Load Rereads word)) = true
-is_of Looks (Some (Load Looks word)) = true
-is_of Weighs (Some (Load Weighs word)) = true
-is_of Takes (Some (Store Takes word v)) = true
-is_of Shuts (Some (Store Shuts word v)) = true
-is_of _ _ = false
+-- The rows that are changed of the lock's part: where the step leads that comes next, and on which detour.
 
--- the rereads of a call over again, with these words
-abbrev pub reread_as : Stand → Call → ℕ → ℕ → ℕ → Stand
-reread_as s call c k i = stepped (stepped (stepped (started (crashed s) call) c) k) i
+-- no look: who would look weighs, and goes past or stays
+abbrev pub weighing_row : ℕ → Place → Option Access → ℕ → Option (Place × Detour)
+weighing_row p (Wait k unpassed looked) (Some (Load Looks (ChoosingOf j))) v = Some (if (v == 0) || is_before k p v j then Wait k (without j unpassed) None else Wait k unpassed looked, Straight)
+weighing_row p place a v = None
 
--- no look: where one comes next it reads 0
-abbrev pub past_look : Stand → Stand
-past_look s = if is_of Looks (next_access s) then stepped s 0 else s
+-- no ties: who weighs an equal number goes past
+abbrev pub tied_row : Place → Option Access → ℕ → Option (Place × Detour)
+tied_row (Wait k unpassed looked) (Some (Load Weighs (NumberOf j))) v = if k == v then Some (Wait k (without j unpassed) None, Straight) else None
+tied_row place a v = None
 
--- no ties: an equal number counts as none
-abbrev pub is_tie : Stand → ℕ → Bool
-is_tie s v = is_of Weighs (next_access s) && (unwrap_or (own_number s.lock) 0 == v)
+-- renumber: a lock whose third reread finds a number taken in the doorway scans again
+abbrev pub taken_row : ℕ → ℕ → Place → Option (Place × Detour)
+taken_row n p (Reread core.Lock (suc c ∷ suc k ∷ [])) = Some (Door (others n p) 0, Over (suc k))
+taken_row n p place = None
 
-abbrev pub untied : Stand → ℕ → ℕ
-untied s v = if is_tie s v then 0 else v
+-- exit on crash: whom the third reread finds inside drops the number and goes on as one that it finds leaving
+abbrev pub inside_row : Place → ℕ → Option (Place × Detour)
+inside_row (Reread call (zero ∷ suc k ∷ [])) (suc i) = Some (Unmarking (lock_or_recover call), Dropping)
+inside_row place v = None
 
--- renumber: the number with which a lock is about to shut
-abbrev pub shutting_by : Option CoreCall → Bool → Option ℕ → Option ℕ
-shutting_by (Some core.Lock) true number = number
-shutting_by _ _ _ = None
+abbrev pub changed_row : Variant → Stand → ℕ → Option (Place × Detour)
+changed_row NoLook s v = weighing_row s.index s.lock (next_access s) v
+changed_row NoTies s v = tied_row s.lock (next_access s) v
+changed_row Renumber s v = taken_row s.layout.procs s.index s.lock
+changed_row ExitOnCrash s v = inside_row s.lock v
+changed_row _ s v = None
 
-abbrev pub shutting : Stand → Option ℕ
-shutting s = shutting_by (own_call s.lock) (is_of Shuts (next_access s)) (own_number s.lock)
+-- outside the section, with nothing to be mended
+abbrev pub outside_at : Stand → Place → Stand
+outside_at s t = record s { lock = t; mended = true; barred = false; errand = IsFree }
 
-abbrev pub scans_over : VariantStand → Stand → Option ℕ → VariantStand
-scans_over s t None = record s { stand = t }
-scans_over s t (Some k) = record s { stand = reread_as t call.Lock 1 0 0; detour = Over k }
+abbrev pub led : VariantStand → Place → Detour → VariantStand
+led s t Straight = record s { stand = record s.stand { lock = t } }
+led s t d = record s { stand = outside_at s.stand t; detour = d }
 
-abbrev pub number_found : VariantStand → ℕ → VariantStand
-number_found s v = scans_over s (stepped s.stand v) (if is_of Rereads (next_access s.stand) then shutting (stepped s.stand v) else None)
+abbrev pub by_row : VariantStand → Option (Place × Detour) → ℕ → VariantStand
+by_row s None v = record s { stand = stepped s.stand v }
+by_row s (Some to) v = led s to.0 to.1
 
-abbrev pub scanned_again : VariantStand → ℕ → ℕ → VariantStand
-scanned_again s k v =
-    if is_of Shuts (next_access s.stand) then record s { stand = reread_as s.stand call.Lock 0 k 0; detour = Straight }
-    else if is_of Takes (next_access s.stand) then record s { stand = stepped s.stand v; detour = Straight }
-    else record s { stand = stepped s.stand v }
+-- a step of the lock's on a detour, which stays outside
+abbrev pub beside_way : VariantStand → Detour → ℕ → VariantStand
+beside_way s d v = record s { stand = outside_at (stepped s.stand v) (stepped s.stand v).lock; detour = d }
 
--- exit on crash: whom the third reread finds inside goes on as one that it finds leaving
-abbrev pub is_reentry : Option Outer → Bool
-is_reentry (Some (Reenter p)) = true
-is_reentry _ = false
+-- renumber: a scan that finds no number left waits with the one that stands. A take ends the detour
+abbrev pub over_by : VariantStand → ℕ → Kind → ℕ → VariantStand
+over_by s k Shuts v = record s { stand = outside_at s.stand (Wait k (others s.stand.layout.procs s.stand.index) None); detour = Straight }
+over_by s k Takes v = beside_way s Straight v
+over_by s k kind v = beside_way s (Over k) v
 
-abbrev pub finds_inside : Stand → ℕ → Bool
-finds_inside s v = is_reentry (outcome s (next_access s) v).progress.outer
+abbrev pub over_way : VariantStand → ℕ → Option Access → ℕ → VariantStand
+over_way s k None v = s
+over_way s k (Some a) v = over_by s k (kind_of a) v
 
-abbrev pub call_again : Option CoreCall → Call
-call_again (Some core.Lock) = call.Lock
-call_again _ = call.Recover
+-- a step of the lock's part. Who drops its number stays where it is
+abbrev pub lock_beside : Detour → VariantStand → ℕ → VariantStand
+lock_beside Straight s v = by_row s (changed_row s.variant s.stand v) v
+lock_beside (Over k) s v = over_way s k (next_access s.stand) v
+lock_beside Dropping s v = record s { stand = outside_at s.stand s.stand.lock; detour = Straight }
 
-abbrev pub gone_out : VariantStand → ℕ → VariantStand
-gone_out s v =
-    if finds_inside s.stand v then record s { stand = reread_as s.stand (call_again (own_call s.stand.lock)) 0 0 1; detour = Dropping }
-    else record s { stand = stepped s.stand v }
+-- a script's step is the world's
+abbrev pub part_beside : Chore → Detour → VariantStand → ℕ → VariantStand
+part_beside IsFree d s v = lock_beside d s v
+part_beside _ d s v = record s { stand = stepped s.stand v }
 
 -- a repair that is changed, until it is changed or answered
 abbrev pub is_put : ℕ → Option Access → Bool
@@ -180,15 +192,10 @@ left_out s change v = going_on s Nothing v
 
 -- after the next step, with the value that it read
 abbrev pub stepped_beside : Variant → Detour → VariantStand → ℕ → VariantStand
-stepped_beside NoLook d s v = record s { stand = past_look (stepped s.stand v) }
-stepped_beside NoTies d s v = record s { stand = stepped s.stand (untied s.stand v) }
-stepped_beside Renumber (Over k) s v = scanned_again s k v
-stepped_beside Renumber d s v = number_found s v
-stepped_beside ExitOnCrash Dropping s v = record s { detour = Straight }
-stepped_beside ExitOnCrash d s v = gone_out s v
+stepped_beside Right d s v = record s { stand = stepped s.stand v }
 stepped_beside CountUp d s v = counted_up s s.change v
 stepped_beside LastSkipped d s v = left_out s s.change v
-stepped_beside Right d s v = record s { stand = stepped s.stand v }
+stepped_beside _ d s v = part_beside s.stand.errand d s v
 
 abbrev pub variant_stepped : VariantStand → ℕ → VariantStand
 variant_stepped s v = stepped_beside s.variant s.detour s v
@@ -208,23 +215,37 @@ abbrev pub leaving_outcome : VariantStand → Change → ℕ → Outcome
 leaving_outcome s LeavesOut v = if last_put_next (stepped s.stand v) then plain_outcome (stepped s.stand v) 0 else plain_outcome s.stand v
 leaving_outcome s _ v = plain_outcome s.stand v
 
+-- a step by a changed row is nothing for others, nor is one on a detour
+abbrev pub unless_changed : Option (Place × Detour) → Outcome → Outcome
+unless_changed None told = told
+unless_changed (Some to) told = silent
+
+abbrev pub lock_outcome : Detour → VariantStand → ℕ → Outcome
+lock_outcome Straight s v = unless_changed (changed_row s.variant s.stand v) (plain_outcome s.stand v)
+lock_outcome _ s v = silent
+
+abbrev pub part_outcome : Chore → Detour → VariantStand → ℕ → Outcome
+part_outcome IsFree d s v = lock_outcome d s v
+part_outcome _ d s v = plain_outcome s.stand v
+
 abbrev pub outcome_beside : Variant → Detour → VariantStand → ℕ → Outcome
-outcome_beside NoTies d s v = plain_outcome s.stand (untied s.stand v)
-outcome_beside Renumber (Over k) s v = silent
-outcome_beside ExitOnCrash Dropping s v = silent
-outcome_beside ExitOnCrash d s v = if finds_inside s.stand v then silent else plain_outcome s.stand v
+outcome_beside Right d s v = plain_outcome s.stand v
 outcome_beside CountUp d s v = counting_outcome s s.change v
 outcome_beside LastSkipped d s v = leaving_outcome s s.change v
-outcome_beside _ d s v = plain_outcome s.stand v
+outcome_beside _ d s v = part_outcome s.stand.errand d s v
 
 abbrev pub variant_outcome : VariantStand → ℕ → Outcome
 variant_outcome s v = outcome_beside s.variant s.detour s v
 
 -- after a start that is not refused
+abbrev pub repair_change : Variant → Change
+repair_change CountUp = Counts
+repair_change LastSkipped = LeavesOut
+repair_change _ = Nothing
+
 abbrev pub change_of : Variant → Call → Change
-change_of CountUp call.Consistent = Counts
-change_of LastSkipped call.Consistent = LeavesOut
-change_of _ _ = Nothing
+change_of variant call.Consistent = repair_change variant
+change_of variant _ = Nothing
 
 abbrev pub variant_started : VariantStand → Call → VariantStand
 variant_started s call = record s { stand = started s.stand call; change = change_of s.variant call }

@@ -46,9 +46,9 @@ no_ties n limit p place kind word v = next n limit p place kind word v
 -- renumber: a lock that finds a number taken in the doorway scans again and takes a new one. Where the numbers are spent
 -- it waits with the number that stands
 abbrev pub renumber : ℕ → ℕ → ℕ → Place → Detour → Kind → Word → ℕ → Option (Place × Detour)
-renumber n limit p (Reread Lock (suc c ∷ suc k ∷ [])) Straight Rereads (InsideOf q) v = only_at (q == p) (Door (others n p) 0, Over (suc k))
 renumber n limit p place (Over k) Takes word v = and_detour Straight (next n limit p place Takes word v)
 renumber n limit p place (Over k) Shuts word v = instead (next n limit p place Shuts word v) (Wait k (others n p) None, Straight)
+renumber n limit p (Reread Lock (suc c ∷ suc k ∷ [])) Straight Rereads (InsideOf q) v = only_at (q == p) (Door (others n p) 0, Over (suc k))
 renumber n limit p place detour kind word v = and_detour detour (next n limit p place kind word v)
 
 abbrev pub lock_or_recover : CoreCall → CoreCall
@@ -58,9 +58,9 @@ lock_or_recover _ = Recover
 -- exit on crash: a lock or recover that finds the process inside drops the number, and then goes on as one that has found
 -- it leaving
 abbrev pub exit_on_crash : ℕ → ℕ → ℕ → Place → Detour → Kind → Word → ℕ → Option (Place × Detour)
-exit_on_crash n limit p (Reread call (zero ∷ suc k ∷ [])) Straight Rereads (InsideOf q) (suc i) = only_at (q == p) (Unmarking (lock_or_recover call), Dropping)
 exit_on_crash n limit p place Dropping Drops (NumberOf q) v = only_at ((q == p) && (v == 0)) (place, Straight)
 exit_on_crash n limit p place Dropping Marks word v = None
+exit_on_crash n limit p (Reread call (zero ∷ suc k ∷ [])) Straight Rereads (InsideOf q) (suc i) = only_at (q == p) (Unmarking (lock_or_recover call), Dropping)
 exit_on_crash n limit p place detour kind word v = and_detour detour (next n limit p place kind word v)
 
 -- the place after one step of process p of this variant, as `next` gives that of the lock
@@ -73,15 +73,17 @@ variant_next _ n limit p place detour kind word v = and_detour detour (next n li
 
 -- the deed of a step: none on a detour, nor where the exit of one that was found inside begins
 abbrev pub variant_deed : Variant → ℕ → Place → Detour → Kind → ℕ → Option Outer
-variant_deed ExitOnCrash p (Reread call seen) detour kind v = None
+variant_deed variant p place Dropping kind v = None
+variant_deed variant p place (Over k) kind v = None
+variant_deed ExitOnCrash p (Reread call seen) Straight kind v = None
 variant_deed variant p place Straight kind v = step_deed p place kind v
-variant_deed variant p place detour kind v = None
 
 -- the answer of the lock's part at this step: none on a detour, nor where that exit begins
 abbrev pub variant_answer : Variant → Place → Detour → Kind → ℕ → Option CoreDone
+variant_answer variant place Dropping kind v = None
+variant_answer variant place (Over k) kind v = None
 variant_answer ExitOnCrash (Reread call (zero ∷ suc k ∷ [])) Straight Rereads (suc i) = None
 variant_answer variant place Straight kind v = answer place kind v
-variant_answer variant place detour kind v = None
 
 -- the step that comes next. A scan takes the first of its list
 abbrev pub variant_access : Variant → ℕ → ℕ → Place → Detour → Option Access

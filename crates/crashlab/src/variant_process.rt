@@ -1,17 +1,21 @@
 //! What one process of a variant does, as a machine over its private memory alone: the world's process, with what the
 //! variant changes.
 
-ghost use Rattle.std.specs.Prelude.{◌≡◌, ◌<◌, ◌⊎◌, if◌then◌else◌, ◌↔◌, false, IsTrue, OnOk, OnErr, IfErr, IsErrOf, IfSome, Some, None};
+ghost use Rattle.std.specs.Prelude.{◌≡◌, ◌<◌, ◌↔◌, false, IsTrue, OnOk, OnErr, IfErr, IsErrOf, IfSome, Some, None};
 ghost use Rattle.crashlab.specs.VariantScripts.{raised as raised_to};
-ghost use Rattle.crashlab.specs.VariantStands.{change_of, is_put, shutting as shutting_of, reread_as};
+ghost use Rattle.crashlab.specs.VariantStands.{change_of, is_put};
+
+mod lock_rows;
 
 use crate::change::Change;
 use crate::detour::Detour;
 use crate::variant::Variant;
 use crate::variant_memory::VariantMemory;
+use lock_rows::errand_of;
 use redomail::Layout;
 use redomail::layout::COUNT;
-use rmecore::{Access, CoreCall, Kind, Outer, Progress, Refusal, Scan, Word};
+use rmecore::{Access, Kind, Progress, Refusal, Scan, Word};
+use rmeworld::errand::Errand;
 use rmeworld::{Answer, Call, Outcome, Process};
 use std::marker::Model;
 
@@ -112,9 +116,11 @@ impl VariantProcess {
         ensures allowed { IsPlain self.now → IfSome result (IsAllowed self.now.stand) }
         ensures own { IsPlain self.now → IfSome result (StoresOwn self.now.stand.index) }
     {
-        match (self.detour, self.change) {
-            (Detour::Straight, Change::Nothing) => self.process.next(),
-            _ => self.next_otherwise(),
+        match self.variant {
+            Variant::NoLook | Variant::ExitOnCrash | Variant::CountUp => self.next_otherwise(),
+            Variant::Right | Variant::NoTies | Variant::Renumber | Variant::LastSkipped => {
+                self.process.next()
+            }
         }
     }
 
@@ -126,16 +132,25 @@ impl VariantProcess {
         ensures allowed { IsPlain self.now → IfSome result (IsAllowed self.now.stand) }
         ensures own { IsPlain self.now → IfSome result (StoresOwn self.now.stand.index) }
     {
-        if self.detour == Detour::Dropping {
-            return Some(Access::Store(Kind::Drop, Word::Number(self.process.index()), 0));
-        }
-        match (self.change, self.process.next()) {
-            (Change::Counts, Some(Access::Store(Kind::Put, Word::Data(COUNT), _))) => {
-                Some(Access::Load(Kind::Get, Word::Data(COUNT)))
+        match (self.variant, self.process.next()) {
+            (Variant::NoLook, Some(Access::Load(Kind::Look, Word::Choosing(j)))) => {
+                Some(Access::Load(Kind::Weigh, Word::Number(j)))
             }
-            (Change::Counted(count), Some(Access::Store(Kind::Put, Word::Data(COUNT), _))) => {
-                Some(Access::Store(Kind::Put, Word::Data(COUNT), count))
-            }
+            (Variant::ExitOnCrash, next) => match (self.detour, errand_of(&self.process)) {
+                (Detour::Dropping, Errand::Free) => {
+                    Some(Access::Store(Kind::Drop, Word::Number(self.process.index()), 0))
+                }
+                _ => next,
+            },
+            (Variant::CountUp, next) => match (self.change, next) {
+                (Change::Counts, Some(Access::Store(Kind::Put, Word::Data(COUNT), _))) => {
+                    Some(Access::Load(Kind::Get, Word::Data(COUNT)))
+                }
+                (Change::Counted(count), Some(Access::Store(Kind::Put, Word::Data(COUNT), _))) => {
+                    Some(Access::Store(Kind::Put, Word::Data(COUNT), count))
+                }
+                (_, next) => next,
+            },
             (_, next) => next,
         }
     }
@@ -268,103 +283,20 @@ impl VariantProcess {
         ensures outcome { result ≡ variant_outcome self.old value }
         ensures plain { IsPlain self.old → spot_of self.new.stand ≡ spot_after self.old.stand (next_access self.old.stand) value }
     {
-        match (self.variant, self.detour) {
-            (Variant::Right, _) => self.process.feed(value),
-            (Variant::NoLook, _) => self.weigh_alone(value),
-            (Variant::NoTies, _) => self.pass_ties(value),
-            (Variant::Renumber, Detour::Over(number)) => self.scan_again(number, value),
-            (Variant::Renumber, _) => self.find_number(value),
-            (Variant::ExitOnCrash, Detour::Dropping) => {
-                self.detour = Detour::Straight;
-                SILENT
-            }
-            (Variant::ExitOnCrash, _) => self.go_out(value),
-            (Variant::CountUp, _) => self.count_up(value),
-            (Variant::LastSkipped, _) => self.leave_out(value),
+        match self.variant {
+            Variant::Right => self.process.feed(value),
+            Variant::NoLook => self.feed_by_rows(value),
+            Variant::NoTies => self.feed_by_rows(value),
+            Variant::Renumber => self.feed_by_rows(value),
+            Variant::ExitOnCrash => self.feed_by_rows(value),
+            Variant::CountUp => self.count_up(value),
+            Variant::LastSkipped => self.leave_out(value),
         }
     }
 }
 
 impl VariantProcess {
-    ghost use Rattle.crashlab.specs.VariantStands.{past_look, untied, scanned_again, number_found, gone_out, finds_inside, counted_up, left_out, silent, plain_outcome, counting_outcome, leaving_outcome};
-    ghost use Rattle.rmeworld.specs.Stand.{stepped};
-
-    /// A step of one that doesn't look: each look that would come next is passed over.
-    fn weigh_alone(&mut self, value: u64) -> Outcome
-        ensures exact { self.new ≡ record self.old { stand = past_look (stepped self.old.stand value) } }
-        ensures outcome { result ≡ plain_outcome self.old.stand value }
-    {
-        let outcome = self.process.feed(value);
-        if let Some(Access::Load(Kind::Look, _)) = self.process.next() {
-            self.process.feed(0);
-        }
-        outcome
-    }
-
-    /// A step of one that goes past an equal number, as if it were none.
-    fn pass_ties(&mut self, value: u64) -> Outcome
-        ensures exact { self.new ≡ record self.old { stand = stepped self.old.stand (untied self.old.stand value) } }
-        ensures outcome { result ≡ plain_outcome self.old.stand (untied self.old.stand value) }
-    {
-        let weighs = matches!(self.process.next(), Some(Access::Load(Kind::Weigh, _)));
-        let ties = weighs && self.process.number().unwrap_or(0) == value;
-        self.process.feed(if ties { 0 } else { value })
-    }
-
-    /// A step of one that scans again where its third reread finds a number taken.
-    fn find_number(&mut self, value: u64) -> Outcome
-        ensures exact { self.new ≡ number_found self.old value }
-        ensures outcome { result ≡ plain_outcome self.old.stand value }
-    {
-        let rereads = matches!(self.process.next(), Some(Access::Load(Kind::Reread, _)));
-        let outcome = self.process.feed(value);
-        if rereads {
-            if let Some(number) = shutting(&self.process) {
-                reread(&mut self.process, Call::Lock, 1, 0, 0);
-                self.detour = Detour::Over(number);
-            }
-        }
-        outcome
-    }
-
-    /// A step of one that scans again, beside a number that stands.
-    fn scan_again(&mut self, number: u64, value: u64) -> Outcome
-        ensures exact { self.new ≡ scanned_again self.old number value }
-        ensures outcome { result ≡ silent }
-    {
-        match self.process.next() {
-            Some(Access::Store(Kind::Shut, _, _)) => {
-                reread(&mut self.process, Call::Lock, 0, number, 0);
-                self.detour = Detour::Straight;
-            }
-            Some(Access::Store(Kind::Take, _, _)) => {
-                self.process.feed(value);
-                self.detour = Detour::Straight;
-            }
-            _ => {
-                self.process.feed(value);
-            }
-        }
-        SILENT
-    }
-
-    /// A step of one that leaves where its third reread finds it inside.
-    fn go_out(&mut self, value: u64) -> Outcome
-        ensures exact { self.new ≡ gone_out self.old value }
-        ensures outcome { result ≡ (if finds_inside self.old.stand value then silent else plain_outcome self.old.stand value) }
-    {
-        let outlook = self.process.outlook(value);
-        if let Some(Outer::Reenter(_)) = outlook.progress.outer {
-            let call = match self.process.call() {
-                Some(CoreCall::Lock) => Call::Lock,
-                _ => Call::Recover,
-            };
-            reread(&mut self.process, call, 0, 0, 1);
-            self.detour = Detour::Dropping;
-            return SILENT;
-        }
-        self.process.feed(value)
-    }
+    ghost use Rattle.crashlab.specs.VariantStands.{counted_up, left_out, plain_outcome, counting_outcome, leaving_outcome};
 
     /// A step of one whose repair counts up from the count that stands.
     fn count_up(&mut self, value: u64) -> Outcome
@@ -440,26 +372,4 @@ fn puts(access: Option<Access>, i: u64) -> bool
         Some(Access::Store(Kind::Put, Word::Data(j), _)) => j == i,
         _ => false,
     }
-}
-
-/// The number with which a lock is about to shut.
-fn shutting(process: &Process) -> Option<u64>
-    ensures { result ≡ shutting_of process.now }
-{
-    match (process.call(), process.next()) {
-        (Some(CoreCall::Lock), Some(Access::Store(Kind::Shut, _, _))) => process.number(),
-        _ => None,
-    }
-}
-
-/// The rereads of a call over again, as if they read these words.
-fn reread(process: &mut Process, call: Call, choosing: u64, number: u64, inside: u64)
-    requires { (call ≡ Call.Lock) ⊎ (call ≡ Call.Recover) }
-    ensures { process.new ≡ reread_as process.old call choosing number inside }
-{
-    process.crash();
-    let _ = process.start(call);
-    process.feed(choosing);
-    process.feed(number);
-    process.feed(inside);
 }

@@ -1,0 +1,258 @@
+//! The rows that a variant changes of the lock's part: the table, and the steps by it.
+
+ghost use Rattle.std.specs.Prelude.{◌≡◌, ◌<◌, ◌+◌, ◌==◌, ◌||◌, ℕ, false, Some, None, IfSome};
+ghost use Rattle.rmecore.specs.Place.{is_before};
+ghost use Rattle.rmecore.specs.Machine.{place_of};
+ghost use Rattle.crashlab.specs.Variants.{lock_or_recover as lock_or_recover_of};
+ghost use Rattle.rmeworld.specs.declared.errand.Errand.TheVariants.{Free};
+ghost use Rattle.rmeworld.specs.Stand.{next_access, stepped};
+ghost use Rattle.crashlab.specs.VariantStands.{changed_row as row_of, weighing_row as weighing_row_of, tied_row as tied_row_of, taken_row as taken_row_of, inside_row as inside_row_of, outside_at};
+
+use crate::detour::Detour;
+use crate::variant::Variant;
+use crate::variant_process::{SILENT, VariantProcess};
+use rmecore::{Access, CoreCall, Kind, Stage, Word};
+use rmeworld::errand::Errand;
+use rmeworld::{Outcome, PrivateMemory, Process};
+
+/// What a process has to do with the data words.
+pub(super) fn errand_of(process: &Process) -> Errand
+    ensures { result ≡ process.now.errand }
+{
+    process.seam_memory().errand
+}
+
+/// Where the lock's part of a process stands.
+fn stage_of(process: &Process) -> Stage
+    ensures { place_of process.now.layout.procs process.now.index result ≡ process.now.lock }
+{
+    process.seam_memory().stage
+}
+
+/// Puts a process outside the section, with nothing to be mended.
+fn stand_outside(process: &mut Process, to: Stage)
+    ensures { process.new ≡ outside_at process.old (place_of process.old.layout.procs process.old.index to) }
+{
+    let _ = process.seam_set(&PrivateMemory {
+        stage: to,
+        mended: true,
+        barred: false,
+        errand: Errand::Free,
+    });
+}
+
+/// Takes the lock's step, and stays outside.
+fn feed_outside(process: &mut Process, value: u64)
+    ensures { process.new ≡ outside_at (stepped process.old value) (stepped process.old value).lock }
+{
+    process.feed(value);
+    let stage = stage_of(process);
+    stand_outside(process, stage);
+}
+
+/// Whether a waiter goes past process j, whose number was read.
+fn passes(number: u64, index: u64, value: u64, j: u64) -> bool
+    ensures { result ≡ ((value == 0) || is_before number index value j) }
+{
+    value == 0 || (number, index) < (value, j)
+}
+
+/// Where a waiter stands that has gone past process j of so many, and so past all before it.
+fn past(procs: u64, number: u64, j: u64) -> Stage
+    requires { j < procs }
+    ensures { result ≡ Stage.Wait number (j + 1) false }
+{
+    prove!(j < procs);
+    Stage::Wait {
+        number,
+        next: j + 1,
+        looked: false,
+    }
+}
+
+/// No look: who would look weighs, and goes past or stays.
+fn weighing_row(process: &Process, value: u64) -> Option<(Stage, Detour)>
+    requires { process.now.errand ≡ Free }
+    ensures some { IfSome result (λ r. weighing_row_of process.now.index process.now.lock (next_access process.now) value ≡ Some (place_of process.now.layout.procs process.now.index r.0, r.1)) }
+    ensures none { result ≡ None → weighing_row_of process.now.index process.now.lock (next_access process.now) value ≡ None }
+{
+    let stage = stage_of(process);
+    let Stage::Wait { number, .. } = stage else {
+        return None;
+    };
+    let Some(Access::Load(Kind::Look, Word::Choosing(j))) = process.next() else {
+        return None;
+    };
+    if !passes(number, process.index(), value, j) {
+        return Some((stage, Detour::Straight));
+    }
+    let past = past(process.layout().procs, number, j);
+    Some((past, Detour::Straight))
+}
+
+/// No ties: who weighs an equal number goes past.
+fn tied_row(process: &Process, value: u64) -> Option<(Stage, Detour)>
+    requires { process.now.errand ≡ Free }
+    ensures some { IfSome result (λ r. tied_row_of process.now.lock (next_access process.now) value ≡ Some (place_of process.now.layout.procs process.now.index r.0, r.1)) }
+    ensures none { result ≡ None → tied_row_of process.now.lock (next_access process.now) value ≡ None }
+{
+    let Stage::Wait { number, .. } = stage_of(process) else {
+        return None;
+    };
+    let Some(Access::Load(Kind::Weigh, Word::Number(j))) = process.next() else {
+        return None;
+    };
+    if number != value {
+        return None;
+    }
+    let past = past(process.layout().procs, number, j);
+    Some((past, Detour::Straight))
+}
+
+/// Renumber: a lock whose third reread finds a number taken in the doorway scans again.
+fn taken_row(stage: Stage) -> Option<(Stage, Detour)>
+    ensures some { IfSome result (λ r. (n p : ℕ) → taken_row_of n p (place_of n p stage) ≡ Some (place_of n p r.0, r.1)) }
+    ensures none { result ≡ None → (n p : ℕ) → taken_row_of n p (place_of n p stage) ≡ None }
+{
+    match stage {
+        Stage::ReadingInside {
+            call: CoreCall::Lock,
+            choosing,
+            number,
+        } => {
+            if choosing == 0 || number == 0 {
+                return None;
+            }
+            Some((Stage::DOORWAY, Detour::Over(number)))
+        }
+        _ => None,
+    }
+}
+
+/// Exit on crash: whom the third reread finds inside drops the number, and goes on as one that it finds leaving.
+fn inside_row(stage: Stage, value: u64) -> Option<(Stage, Detour)>
+    ensures some { IfSome result (λ r. (n p : ℕ) → inside_row_of (place_of n p stage) value ≡ Some (place_of n p r.0, r.1)) }
+    ensures none { result ≡ None → (n p : ℕ) → inside_row_of (place_of n p stage) value ≡ None }
+{
+    match stage {
+        Stage::ReadingInside {
+            call,
+            choosing,
+            number,
+        } => {
+            if choosing != 0 || number == 0 || value == 0 {
+                return None;
+            }
+            let call = lock_or_recover(call);
+            Some((Stage::Unmarking { call }, Detour::Dropping))
+        }
+        _ => None,
+    }
+}
+
+/// A lock, or else a recover.
+fn lock_or_recover(call: CoreCall) -> CoreCall
+    ensures { result ≡ lock_or_recover_of call }
+{
+    match call {
+        CoreCall::Lock => CoreCall::Lock,
+        _ => CoreCall::Recover,
+    }
+}
+
+impl VariantProcess {
+    ghost use Rattle.crashlab.specs.VariantStands.{unless_changed, plain_outcome, led, by_row, over_way, part_beside, part_outcome, silent};
+
+    /// A step of one that has rows of its own.
+    pub(super) fn feed_by_rows(&mut self, value: u64) -> Outcome
+        ensures exact { self.new ≡ part_beside self.old.stand.errand self.old.detour self.old value }
+        ensures outcome { result ≡ part_outcome self.old.stand.errand self.old.detour self.old value }
+    {
+        match (errand_of(&self.process), self.detour) {
+            (Errand::Asking(_), _) => self.process.feed(value),
+            (Errand::Doing(..), _) => self.process.feed(value),
+            (Errand::Free, Detour::Straight) => self.go_by_row(value),
+            (Errand::Free, Detour::Over(number)) => {
+                self.scan_again(number, value);
+                SILENT
+            }
+            (Errand::Free, Detour::Dropping) => {
+                let stage = stage_of(&self.process);
+                stand_outside(&mut self.process, stage);
+                self.detour = Detour::Straight;
+                SILENT
+            }
+        }
+    }
+
+    /// A step off any detour: by a row that the variant changes, or by the lock's.
+    fn go_by_row(&mut self, value: u64) -> Outcome
+        requires { self.old.stand.errand ≡ Free }
+        ensures exact { self.new ≡ by_row self.old (row_of self.old.variant self.old.stand value) value }
+        ensures outcome { result ≡ unless_changed (row_of self.old.variant self.old.stand value) (plain_outcome self.old.stand value) }
+    {
+        match self.row(value) {
+            Some((to, detour)) => {
+                self.go(to, detour);
+                SILENT
+            }
+            None => self.process.feed(value),
+        }
+    }
+
+    /// Where a row that the variant changes leads, if the next step is one.
+    fn row(&self, value: u64) -> Option<(Stage, Detour)>
+        requires { self.now.stand.errand ≡ Free }
+        ensures some { IfSome result (λ r. row_of self.now.variant self.now.stand value ≡ Some (place_of self.now.stand.layout.procs self.now.stand.index r.0, r.1)) }
+        ensures none { result ≡ None → row_of self.now.variant self.now.stand value ≡ None }
+    {
+        match self.variant {
+            Variant::NoLook => weighing_row(&self.process, value),
+            Variant::NoTies => tied_row(&self.process, value),
+            Variant::Renumber => taken_row(stage_of(&self.process)),
+            Variant::ExitOnCrash => inside_row(stage_of(&self.process), value),
+            _ => None,
+        }
+    }
+
+    /// Goes where a row leads.
+    fn go(&mut self, to: Stage, detour: Detour)
+        requires { self.old.stand.errand ≡ Free }
+        ensures { self.new ≡ led self.old (place_of self.old.stand.layout.procs self.old.stand.index to) detour }
+    {
+        match detour {
+            Detour::Straight => self.process.seam_stand(to),
+            Detour::Dropping => {
+                stand_outside(&mut self.process, to);
+                self.detour = Detour::Dropping;
+            }
+            Detour::Over(number) => {
+                stand_outside(&mut self.process, to);
+                self.detour = Detour::Over(number);
+            }
+        }
+    }
+
+    /// A step of one that scans again, beside a number that stands. Where no number is left it waits with that one.
+    fn scan_again(&mut self, number: u64, value: u64)
+        ensures { self.new ≡ over_way self.old number (next_access self.old.stand) value }
+    {
+        let Some(access) = self.process.next() else {
+            return;
+        };
+        match access.kind() {
+            Kind::Shut => {
+                stand_outside(&mut self.process, Stage::waiting(number));
+                self.detour = Detour::Straight;
+            }
+            Kind::Take => {
+                feed_outside(&mut self.process, value);
+                self.detour = Detour::Straight;
+            }
+            _ => {
+                feed_outside(&mut self.process, value);
+                self.detour = Detour::Over(number);
+            }
+        }
+    }
+}

@@ -1,35 +1,14 @@
 -- Which step a variant's process takes next, by its definition alone; and the variant that changes nothing.
-use Rattle.std.proofs.Common.{◌≡◌, ℕ, ◌<◌, Bool, true, false, ◌==◌, if◌then◌else◌, [], ◌∷◌, Option, Some, None, refl, sym, ap, ◌∙◌, subst}
-use Rattle.rmecore.specs.Place.{Place, next}
-use Rattle.rmecore.specs.Machine.{access}
-use Rattle.rmecore.specs.declared.access.Access.{Access}
-use Rattle.rmecore.specs.declared.access.Access.TheVariants.{Load, Store}
-use Rattle.rmecore.specs.declared.kind.Kind.TheVariants.{Get as Gets, Put as Puts}
-use Rattle.rmecore.specs.declared.word.Word.TheVariants.{Data as DataAt}
-use Rattle.redomail.specs.declared.layout.Layout.{Layout}
-use Rattle.redomail.specs.declared.reply.Reply.{Reply}
-use Rattle.redomail.specs.Layout.{last_at}
-use Rattle.redomail.specs.Script.{Script, Get as Asks, Put as Writes, Done}
-use Rattle.rmeworld.specs.declared.call.Call.{Call}
-use Rattle.rmeworld.specs.declared.call.Call.TheVariants.{Lock, Consistent}
-use Rattle.rmeworld.specs.declared.errand.Errand.{Errand as Chore}
-use Rattle.rmeworld.specs.declared.errand.Errand.TheVariants.{Free as IsFree, Asking, Doing as Does}
-use Rattle.rmeworld.specs.declared.why.Why.TheVariants.{Mending}
-use Rattle.rmeworld.specs.Errands.{errand_of}
-use Rattle.rmeworld.specs.Spot.{Errand, Free, Doing, Spot, Happening, Begins, Falls, Moves, Glances, next_spot, begun_from, outer}
-use Rattle.rmeworld.specs.Stand.{Stand, access_by}
-use Rattle.crashlab.specs.declared.change.Change.{Change}
-use Rattle.crashlab.specs.declared.change.Change.TheVariants.{Nothing, LeavesOut, Counts, Counted}
-use Rattle.crashlab.specs.declared.detour.Detour.{Detour}
-use Rattle.crashlab.specs.declared.detour.Detour.TheVariants.{Straight, Dropping, Over}
-use Rattle.crashlab.specs.declared.variant.Variant.{Variant}
-use Rattle.crashlab.specs.declared.variant.Variant.TheVariants.{Right, NoLook, NoTies, Renumber, ExitOnCrash, CountUp, LastSkipped}
-use Rattle.crashlab.specs.Variants.{variant_access}
-use Rattle.crashlab.specs.VariantScripts.{raised, counting_up, leaving_out}
-use Rattle.crashlab.specs.VariantSpots.{beside, variant_begun, variant_spot, variant_outer, variant_access_by, variant_access_at}
-use Rattle.crashlab.specs.VariantStands.{changed_errand, changed_access, weighed, dropping_access, access_beside, is_put}
-use Rattle.crashlab.specs.VariantWorlds.{VariantState, stand_at, access_at}
-use Rattle.crashlab.specs.VariantRuns.{IsRun, spot_at}
+use Rattle.std.proofs.Common.{◌≡◌, ℕ, ◌<◌, Bool, true, false, ◌==◌, if◌then◌else◌, [], ◌∷◌, Option, Some, refl, sym, ap, ◌∙◌, subst}
+use Rattle.crashlab.proofs.Common.{Access, Load, Store, Gets, Puts, Data as DataAt, access, Place, next, Layout, Reply, last_at, Script, Get as Asks, Put as Writes, Done, Call, Consistent}
+use Rattle.crashlab.proofs.Common.{Errand as Chore, Free as IsFree, Asking, Does, Mending, errand_of, Doing, Spot, Happening, Begins, Falls, Moves, next_spot, begun_from, Stand, access_by, Change}
+use Rattle.crashlab.proofs.Common.{Nothing, LeavesOut, Counts, Counted, Detour, Straight, Dropping, Over, Variant, Right, NoLook, NoTies, Renumber, ExitOnCrash, CountUp, LastSkipped, IsRun, spot_at}
+use Rattle.crashlab.proofs.Common.{raised, counting_up, leaving_out, beside, variant_begun, variant_spot, variant_outer, changed_errand, changed_access, weighed, access_beside, is_put, VariantState}
+use Rattle.crashlab.proofs.Common.{stand_at, access_at, variant_access}
+use Rattle.rmeworld.specs.declared.call.Call.TheVariants.{Lock}
+use Rattle.rmeworld.specs.Spot.{Errand, Free, Glances, outer}
+use Rattle.crashlab.specs.VariantSpots.{variant_access_by, variant_access_at}
+use Rattle.crashlab.specs.VariantStands.{dropping_access}
 use Rattle.crashlab.proofs.Steady.{Steady, nothing_changed}
 use Rattle.crashlab.proofs.Rows.{MayGo, after_next}
 use Rattle.crashlab.proofs.Waits.{weighs, unweighed}

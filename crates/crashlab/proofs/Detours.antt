@@ -1,28 +1,16 @@
 -- Processes that leave the lock's way: one that takes a new number, and one that goes out where a crash left it inside.
 use Rattle.std.proofs.Common.{◌≡◌, ℕ, zero, suc, Bool, [], ◌∷◌, Option, Some, None, IsSome, IfSome, unwrap_or, refl, sym, ap, ◌∙◌}
-use Rattle.rmecore.specs.Place.{Place, Reread, Wait, others, next}
-use Rattle.rmecore.specs.Machine.{access, kind_of, word_of, carried, after_access}
-use Rattle.rmecore.specs.declared.access.Access.{Access}
+use Rattle.crashlab.proofs.Common.{Access, Kind, Take as Takes, Shut as Shuts, Word, access, kind_of, word_of, carried, Place, next, Reread, Wait, eqb_self, Layout, left, Errand as Chore}
+use Rattle.crashlab.proofs.Common.{Free as IsFree, Asking, Does, Mending, Stand, Nothing, Detour, Straight, Dropping, Over, Renumber, ExitOnCrash, at_variant, VariantStand, variant_spot_of}
+use Rattle.crashlab.proofs.Common.{outside_at, over_by, over_way, silent, and_detour}
+use Rattle.rmecore.specs.Place.{others}
+use Rattle.rmecore.specs.Machine.{after_access}
 use Rattle.rmecore.specs.declared.core_call.CoreCall.TheVariants as core
-use Rattle.rmecore.specs.declared.kind.Kind.{Kind}
-use Rattle.rmecore.specs.declared.kind.Kind.TheVariants.{Take as Takes, Shut as Shuts}
-use Rattle.rmecore.specs.declared.word.Word.{Word}
 use Rattle.rmecore.proofs.Accesses.{all_allowed}
-use Rattle.rmecore.proofs.Invariant.{eqb_self}
-use Rattle.redomail.specs.declared.layout.Layout.{Layout}
-use Rattle.redomail.specs.Left.{left}
-use Rattle.rmeworld.specs.declared.errand.Errand.{Errand as Chore}
-use Rattle.rmeworld.specs.declared.errand.Errand.TheVariants.{Free as IsFree, Asking, Doing as Does}
-use Rattle.rmeworld.specs.declared.why.Why.TheVariants.{Mending}
-use Rattle.rmeworld.specs.Stand.{Stand, standing, stepped}
+use Rattle.rmeworld.specs.Stand.{standing, stepped}
 use Rattle.rmeworld.proofs.Scanned.{IsScanned}
-use Rattle.crashlab.specs.declared.change.Change.TheVariants.{Nothing}
-use Rattle.crashlab.specs.declared.detour.Detour.{Detour}
-use Rattle.crashlab.specs.declared.detour.Detour.TheVariants.{Straight, Dropping, Over}
-use Rattle.crashlab.specs.declared.variant.Variant.TheVariants.{Renumber, ExitOnCrash}
-use Rattle.crashlab.specs.Variants.{and_detour, instead, renumber}
-use Rattle.crashlab.specs.VariantSpots.{outside, at_variant}
-use Rattle.crashlab.specs.VariantStands.{VariantStand, variant_spot_of, outside_at, over_by, over_way, silent}
+use Rattle.crashlab.specs.Variants.{instead, renumber}
+use Rattle.crashlab.specs.VariantSpots.{outside}
 use Rattle.crashlab.proofs.Steady.{Steady, step_steady}
 use Rattle.crashlab.proofs.Rows.{process_of, MayGo, Goes, Walks, Agrees, all, free_stand, script_goes, lock_goes}
 

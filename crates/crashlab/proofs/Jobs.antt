@@ -1,10 +1,6 @@
 -- The next step of a job, where nothing is changed of the process.
-use Rattle.std.proofs.Common.{◌≡◌, ◌<◌, ℕ, Some, None, ap, ◌∙◌}
-use Rattle.std.proofs.lemmas.Bool.{lt-ltb}
-use Rattle.rmecore.specs.declared.access.Access.{Access}
-use Rattle.rmeworld.specs.InPlace.{Works}
-use Rattle.crashlab.specs.VariantStands.{IsPlain}
-use Rattle.crashlab.specs.VariantWorlds.{VariantState, stand_at, advance_refusal, unless_step, access_at}
+use Rattle.std.proofs.Common.{◌≡◌, ◌<◌, ℕ, Some, None, ap, ◌∙◌, lt-ltb}
+use Rattle.crashlab.proofs.Common.{Access, Works, IsPlain, VariantState, stand_at, access_at, advance_refusal, unless_step}
 use Rattle.crashlab.proofs.LockWorlds.{plain_access}
 
 module _ (s : VariantState) (p : ℕ) (a : Access) (plain : IsPlain (stand_at s.processes p)) (works : Works (stand_at s.processes p).stand a) where

@@ -1,3 +1,4 @@
+pub mod Common
 pub mod Seats
 pub mod Rests
 pub mod Steady

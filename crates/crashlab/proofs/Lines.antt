@@ -1,27 +1,18 @@
 -- One more line of a hunt.
 use Rattle.std.proofs.Common.{◌≡◌, ℕ, Bool, true, false, List, [], ◌∷◌, ◌++◌, Option, Some, None, Result, Ok, Err, IfSome, is_err, MatchResult, refl, sym, ap, ◌∙◌, subst, append-nil, append_assoc, arith}
-use Rattle.std.proofs.lemmas.Bool.{cond_both}
+use Rattle.crashlab.proofs.Common.{cond_both, Access, Deed, IsLayout, StandsAfter, empty, Call, list_of, Start, Scheduled, On, Variant, Ends, Told, with_line, first_world, deeds_of_lines, IsPlayed}
+use Rattle.crashlab.proofs.Common.{IsLockWorld, VariantState, access_at, advance_refusal, start_refusal, stepped, advanced, advanced_if, crash_deed, crashed}
 use Rattle.rmecore.specs.declared.fault.Fault.{Fault}
-use Rattle.redomail.specs.declared.deed.Deed.{Deed}
-use Rattle.judge.specs.Table.{empty}
 use Rattle.judge.specs.Legal.{judged_all}
 use Rattle.judge.specs.Kept.{Kept}
-use Rattle.judge.specs.Stands.{StandsAfter}
-use Rattle.rmeworld.specs.declared.call.Call.{Call}
-use Rattle.rmeworld.specs.Replayed.{list_of}
 use Rattle.schedule.specs.declared.line.Line.{Line}
-use Rattle.schedule.specs.declared.line.Line.TheVariants.{Start, Step, Crash}
-use Rattle.schedule.specs.Schedules.{Scheduled}
-use Rattle.crashlab.specs.declared.variant.Variant.{Variant}
-use Rattle.crashlab.specs.Hunts.{hunt_layout, first_world, is_answered, after_steps, after_line, after_lines, deeds_of_steps, deeds_of_line, deeds_of_lines, Unless, MaySteps, MayLine, MayLines, IsOfHunt, IsFound, IsPlayed}
+use Rattle.schedule.specs.declared.line.Line.TheVariants.{Step, Crash}
+use Rattle.crashlab.specs.Hunts.{hunt_layout, is_answered, after_steps, after_line, after_lines, deeds_of_steps, deeds_of_line, Unless, MaySteps, MayLine, MayLines, IsOfHunt, IsFound}
 use Rattle.crashlab.specs.declared.moves.Made.{Made}
-use Rattle.crashlab.specs.declared.moves.Made.TheVariants.{On, Caught}
-use Rattle.crashlab.specs.Found.{Ends, Told, IsCaught, IsRefused, with_line}
-use Rattle.crashlab.specs.LockWorlds.{IsLockWorld}
-use Rattle.redomail.specs.Layout.{IsLayout}
-use Rattle.rmecore.specs.declared.access.Access.{Access}
+use Rattle.crashlab.specs.declared.moves.Made.TheVariants.{Caught}
+use Rattle.crashlab.specs.Found.{IsCaught, IsRefused}
 use Rattle.rmeworld.specs.Law.{EveryStoryIsLegal}
-use Rattle.crashlab.specs.VariantWorlds.{VariantState, start_refusal, started, advance_refusal, access_at, stepped, advanced, advanced_if, crash_refusal, crash_deed, crashed}
+use Rattle.crashlab.specs.VariantWorlds.{started, crash_refusal}
 
 after_more : (s : VariantState) (lines : List Line) (line : Line) → after_lines s (lines ++ line ∷ []) ≡ after_line (after_lines s lines) line
 after_more s [] line = refl

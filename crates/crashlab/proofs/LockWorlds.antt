@@ -1,28 +1,22 @@
 -- What the variant that is the lock does is what the world does.
 use Rattle.std.proofs.Common.{◌≡◌, ℕ, zero, suc, ◌+◌, ◌<◌, List, [], ◌∷◌, ◌++◌, map, slice_set, Some, Result, Ok, Err, OnOk, refl, sym, ap, ◌∙◌, subst}
-use Rattle.std.proofs.lemmas.List.{map-set, length-map, length-replicate}
+use Rattle.crashlab.proofs.Common.{Nothing, Consistent, length-replicate, Access, Own, Refusal, zeros, Deed, Layout, words_of, Call, Outcome, mail_by, or_else, words_by, cells_by, Happening, Begins, Falls, next_spot}
+use Rattle.crashlab.proofs.Common.{Stand, spot_of, IsSize, next_access, outcome, started as stand_started, spot_after, IsAllowed, StoresOwn, Right, IsLockWorld, access_beside, VariantStand, IsPlain}
+use Rattle.crashlab.proofs.Common.{variant_resting, variant_crashed, variant_next_access, variant_stepped, stepped_beside, variant_outcome, variant_started, change_of, VariantState, stand_at}
+use Rattle.crashlab.proofs.Common.{crash_deed, crashed, IsSeated, at_rest_from, new_world, found_by}
+use Rattle.std.proofs.lemmas.List.{map-set, length-map}
 use Rattle.std.proofs.Math.ListN.{get_or-map}
-use Rattle.rmecore.specs.Simulated.{zeros, fresh}
-use Rattle.rmecore.specs.declared.access.Access.{Access}
-use Rattle.rmecore.specs.declared.own.Own.{Own}
-use Rattle.rmecore.specs.declared.refusal.Refusal.{Refusal}
-use Rattle.redomail.specs.declared.deed.Deed.{Deed}
-use Rattle.redomail.specs.declared.layout.Layout.{Layout}
-use Rattle.redomail.specs.Layout.{words_of}
-use Rattle.rmeworld.specs.declared.call.Call.{Call}
-use Rattle.rmeworld.specs.Replayed.{mail_by, or_else, words_by, cells_by, advanced_by as world_advanced, crashed as world_crashed, happening}
-use Rattle.rmeworld.specs.Spot.{Happening, Begins, Falls, next_spot}
-use Rattle.rmeworld.specs.Stand.{Stand, spot_of, IsSize, resting, next_access, outcome, stepped as stand_stepped, started as stand_started, crashed as stand_crashed, spot_after, IsAllowed, StoresOwn}
+use Rattle.rmecore.specs.Simulated.{fresh}
+use Rattle.rmeworld.specs.Replayed.{advanced_by as world_advanced, crashed as world_crashed, happening}
+use Rattle.rmeworld.specs.Stand.{resting, stepped as stand_stepped, crashed as stand_crashed}
 use Rattle.rmeworld.specs.World.{at_first, Can, onward, Story, last_scene, deeds, event_deeds}
-use Rattle.rmeworld.specs.declared.outcome.Outcome.{Outcome}
 use Rattle.rmeworld.specs.WorldState.{WorldState, scene_of, stand_at as world_stand, IsSeated as IsWorldSeated, Takes, at_rest_from as world_rest, new_world as world_new}
 use Rattle.rmeworld.proofs.StoryGrows.{story_more, last_more, deeds_more}
 use Rattle.rmeworld.proofs.WorldSteps.{IsStep, step_takes, start_takes, crash_takes}
 use Rattle.rmeworld.proofs.Worlds.{new_scene, deeds_are}
-use Rattle.crashlab.specs.declared.variant.Variant.TheVariants.{Right}
-use Rattle.crashlab.specs.LockWorlds.{as_world, IsLockWorld}
-use Rattle.crashlab.specs.VariantStands.{VariantStand, IsPlain, variant_resting, variant_crashed, variant_next_access, access_beside, variant_stepped, stepped_beside, variant_outcome, outcome_beside, variant_started, change_of}
-use Rattle.crashlab.specs.VariantWorlds.{VariantState, stand_at, IsSeated, at_rest_from, new_world, found_by, started, advanced_by, crashed, crash_deed}
+use Rattle.crashlab.specs.LockWorlds.{as_world}
+use Rattle.crashlab.specs.VariantStands.{outcome_beside}
+use Rattle.crashlab.specs.VariantWorlds.{started, advanced_by}
 use Rattle.crashlab.proofs.Rests.{seated_new, rest_at}
 use Rattle.crashlab.proofs.Seats.{set_each}
 
@@ -82,8 +76,12 @@ plain_access t plain = ap (λ variant. access_beside variant t.detour t.change t
 pub still_plain : (t : VariantStand) (v : ℕ) → IsPlain t → IsPlain (variant_stepped t v)
 still_plain t v plain = subst IsPlain (sym (plain_stepped t v plain)) (record { variant = plain.variant; detour = plain.detour; change = plain.change })
 
+no_change : (c : Call) → change_of Right c ≡ Nothing
+no_change Consistent = refl
+no_change _ = refl
+
 start_plain : (t : VariantStand) (c : Call) → IsPlain t → IsPlain (variant_started t c)
-start_plain t c plain = record { variant = plain.variant; detour = plain.detour; change = ap (λ variant. change_of variant c) plain.variant }
+start_plain t c plain = record { variant = plain.variant; detour = plain.detour; change = ap (λ variant. change_of variant c) plain.variant ∙ no_change c }
 
 -- a new world
 

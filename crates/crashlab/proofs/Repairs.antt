@@ -1,38 +1,17 @@
 -- Processes whose repair is changed: one that counts up from the count that stands, and one that leaves out the last number.
 use Rattle.std.proofs.Common.{◌≡◌, ℕ, Bool, true, false, ◌&&◌, ◌==◌, if◌then◌else◌, Option, Some, None, IfSome, refl, sym, ap, ◌∙◌, subst, eqb-true}
-use Rattle.std.proofs.lemmas.Bool.{cond_both}
-use Rattle.rmecore.specs.Place.{Inside}
-use Rattle.rmecore.specs.Machine.{kind_of, word_of, carried}
-use Rattle.rmecore.specs.declared.access.Access.{Access}
-use Rattle.rmecore.specs.declared.access.Access.TheVariants.{Load, Store}
-use Rattle.rmecore.specs.declared.kind.Kind.TheVariants.{Get as Gets, Put as Puts}
-use Rattle.rmecore.specs.declared.word.Word.TheVariants.{Data as DataAt}
-use Rattle.rmecore.proofs.Invariant.{eqb_self}
-use Rattle.redomail.specs.declared.reply.Reply.{Reply}
+use Rattle.crashlab.proofs.Common.{cond_both, Access, Load, Store, Gets, Puts, Data as DataAt, kind_of, word_of, carried, Inside, eqb_self, Reply, IsLayout, left, Pending, fed, Script, Get as Asks}
+use Rattle.crashlab.proofs.Common.{Put as Writes, Done, tail, Answer, Errand as Chore, Free as IsFree, Asking, Does, Outcome, Mending, by_script, answer_by, done_by, errand_of, HasStep, Doing}
+use Rattle.crashlab.proofs.Common.{only_spot, settled, outer_by, Stand, access_by, spot_of, next_access, outcome, job_left, Change, Nothing, LeavesOut, Counts, Counted, Straight, Variant, CountUp}
+use Rattle.crashlab.proofs.Common.{raised, counting_up, beside, variant_moved, variant_outer_by, variant_answer_by, variant_done_by, changed_errand, changed_access, is_put, VariantStand}
+use Rattle.crashlab.proofs.Common.{variant_spot_of, silent, variant_stepped, changed_script, unless_answered, plain_outcome}
 use Rattle.redomail.specs.declared.reply.Reply.TheVariants.{Ruined}
 use Rattle.redomail.specs.Jobs.{FitsStage}
-use Rattle.redomail.specs.Layout.{IsLayout}
-use Rattle.redomail.specs.Left.{Pending, left, fed}
-use Rattle.redomail.specs.Script.{Script, Get as Asks, Put as Writes, Done, tail}
 use Rattle.redomail.proofs.Feeding.{left_after}
-use Rattle.rmeworld.specs.declared.answer.Answer.{Answer}
-use Rattle.rmeworld.specs.declared.errand.Errand.{Errand as Chore}
-use Rattle.rmeworld.specs.declared.errand.Errand.TheVariants.{Free as IsFree, Asking, Doing as Does}
-use Rattle.rmeworld.specs.declared.outcome.Outcome.{Outcome}
-use Rattle.rmeworld.specs.declared.why.Why.TheVariants.{Mending}
-use Rattle.rmeworld.specs.Answered.{by_script, answer_by, done_by}
-use Rattle.rmeworld.specs.Errands.{errand_of, HasStep, Held}
-use Rattle.rmeworld.specs.Spot.{Errand, Free, Doing, only_spot, settled, outer_by, end_mended, end_barred}
-use Rattle.rmeworld.specs.Stand.{Stand, spot_of, access_by, next_access, outcome, stepped, job_left}
+use Rattle.rmeworld.specs.Errands.{Held}
+use Rattle.rmeworld.specs.Spot.{Errand}
+use Rattle.rmeworld.specs.Stand.{stepped}
 use Rattle.rmeworld.proofs.Ordered.{FitsChore}
-use Rattle.crashlab.specs.declared.change.Change.{Change}
-use Rattle.crashlab.specs.declared.change.Change.TheVariants.{Nothing, LeavesOut, Counts, Counted}
-use Rattle.crashlab.specs.declared.detour.Detour.TheVariants.{Straight}
-use Rattle.crashlab.specs.declared.variant.Variant.{Variant}
-use Rattle.crashlab.specs.declared.variant.Variant.TheVariants.{CountUp}
-use Rattle.crashlab.specs.VariantScripts.{raised, counting_up}
-use Rattle.crashlab.specs.VariantSpots.{beside, variant_moved, variant_outer_by, variant_answer_by, variant_done_by}
-use Rattle.crashlab.specs.VariantStands.{VariantStand, variant_spot_of, changed_script, changed_errand, changed_access, is_put, unless_answered, silent, plain_outcome, variant_stepped}
 use Rattle.crashlab.proofs.Seats.{step_stays}
 use Rattle.crashlab.proofs.Steady.{Steady, step_steady, changed_spot}
 use Rattle.crashlab.proofs.Rows.{IsRow, process_of, Follows, plain_goes}

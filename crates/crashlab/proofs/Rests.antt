@@ -1,13 +1,6 @@
 -- The processes of a new world of a variant.
 use Rattle.std.proofs.Common.{◌≡◌, ℕ, zero, suc, ◌+◌, ◌<◌, [], ◌∷◌, ◌++◌, length, refl, sym, ap, ◌∙◌, subst, arith}
-use Rattle.std.proofs.lemmas.List.{length-replicate}
-use Rattle.rmecore.specs.Simulated.{zeros}
-use Rattle.redomail.specs.declared.layout.Layout.{Layout}
-use Rattle.redomail.specs.Layout.{size}
-use Rattle.rmeworld.specs.Stand.{IsSize}
-use Rattle.crashlab.specs.declared.variant.Variant.{Variant}
-use Rattle.crashlab.specs.VariantStands.{variant_resting}
-use Rattle.crashlab.specs.VariantWorlds.{stand_at, HasSeat, IsSeated, at_rest_from, new_world}
+use Rattle.crashlab.proofs.Common.{length-replicate, zeros, Layout, size, IsSize, Variant, variant_resting, stand_at, IsSeated, at_rest_from, new_world, HasSeat}
 
 -- one more of them stands at the end
 pub rest_more : (variant : Variant) (l : Layout) (limit p n : ℕ) → at_rest_from variant l limit p n ++ variant_resting variant l limit (p + n) ∷ [] ≡ at_rest_from variant l limit p (suc n)

@@ -1,32 +1,17 @@
 -- A step of a variant's process: what is to be shown of it, and that it is so where its definition has the lock's row.
-use Rattle.std.proofs.Common.{◌≡◌, ℕ, Bool, true, false, Option, Some, None, IfSome, refl, sym, ap, ◌∙◌, subst}
+use Rattle.std.proofs.Common.{◌≡◌, ℕ, Bool, Option, Some, None, IfSome, refl, sym, ap, ◌∙◌, subst}
+use Rattle.crashlab.proofs.Common.{Access, access, kind_of, word_of, carried, Place, next, Layout, Reply, left, Script, Errand as Chore, Free as IsFree, Asking, Does, Outcome, Why, Mending, answer_by}
+use Rattle.crashlab.proofs.Common.{done_by, errand_of, Doing, next_spot, outer_by, Stand, access_by, spot_of, next_access, outcome, happening, Change, Nothing, Detour, Straight, Dropping, Over}
+use Rattle.crashlab.proofs.Common.{Variant, Renumber, ExitOnCrash, beside, variant_spot, variant_outer, at_variant, variant_moved, variant_outer_by, variant_answer_by, variant_done_by}
+use Rattle.crashlab.proofs.Common.{variant_answer_at, variant_done_at, VariantStand, variant_spot_of, variant_next_access, variant_stepped, variant_outcome, plain_outcome, and_detour}
 use Rattle.std.proofs.lemmas.Option.{IfSome_then}
-use Rattle.rmecore.specs.Place.{Place, next}
 use Rattle.rmecore.specs.World.{step_deed}
-use Rattle.rmecore.specs.Machine.{access, kind_of, word_of, carried, answer}
-use Rattle.rmecore.specs.declared.access.Access.{Access}
-use Rattle.redomail.specs.declared.layout.Layout.{Layout}
-use Rattle.redomail.specs.declared.reply.Reply.{Reply}
-use Rattle.redomail.specs.Left.{left}
-use Rattle.redomail.specs.Script.{Script}
-use Rattle.rmeworld.specs.declared.errand.Errand.{Errand as Chore}
-use Rattle.rmeworld.specs.declared.errand.Errand.TheVariants.{Free as IsFree, Asking, Doing as Does}
-use Rattle.rmeworld.specs.declared.outcome.Outcome.{Outcome}
-use Rattle.rmeworld.specs.declared.why.Why.{Why}
-use Rattle.rmeworld.specs.declared.why.Why.TheVariants.{Mending}
-use Rattle.rmeworld.specs.Answered.{by_lock, answer_by, done_by}
-use Rattle.rmeworld.specs.Errands.{errand_of}
-use Rattle.rmeworld.specs.Spot.{Errand, Doing, next_spot, moved_by, at_lock, outer_by}
-use Rattle.rmeworld.specs.Stand.{Stand, spot_of, access_by, next_access, happening, outcome, stepped}
-use Rattle.crashlab.specs.declared.change.Change.{Change}
-use Rattle.crashlab.specs.declared.change.Change.TheVariants.{Nothing}
-use Rattle.crashlab.specs.declared.detour.Detour.{Detour}
-use Rattle.crashlab.specs.declared.detour.Detour.TheVariants.{Straight, Dropping, Over}
-use Rattle.crashlab.specs.declared.variant.Variant.{Variant}
-use Rattle.crashlab.specs.declared.variant.Variant.TheVariants.{Renumber, ExitOnCrash}
-use Rattle.crashlab.specs.Variants.{and_detour, variant_next, variant_deed, variant_answer}
-use Rattle.crashlab.specs.VariantSpots.{VariantSpot, beside, at_variant, variant_moved, variant_spot, variant_outer_by, variant_outer, variant_answer_by, variant_answer_at, variant_done_by, variant_done_at}
-use Rattle.crashlab.specs.VariantStands.{VariantStand, variant_spot_of, plain_outcome, variant_next_access, variant_stepped, variant_outcome}
+use Rattle.rmecore.specs.Machine.{answer}
+use Rattle.rmeworld.specs.Answered.{by_lock}
+use Rattle.rmeworld.specs.Spot.{Errand, moved_by, at_lock}
+use Rattle.rmeworld.specs.Stand.{stepped}
+use Rattle.crashlab.specs.Variants.{variant_next, variant_deed, variant_answer}
+use Rattle.crashlab.specs.VariantSpots.{VariantSpot}
 use Rattle.crashlab.proofs.Steady.{Steady, step_goes, step_steady, nothing_changed}
 
 -- the definition's step leads from the one spot to the other, and this is its outcome

@@ -1,16 +1,9 @@
 -- The next step of a scan, where nothing is changed of the process.
-use Rattle.std.proofs.Common.{◌≡◌, ◌<◌, ℕ, [], Option, Some, None, sym, ap, ◌∙◌, subst}
-use Rattle.std.proofs.lemmas.Bool.{lt-ltb}
-use Rattle.rmecore.specs.declared.access.Access.{Access}
+use Rattle.std.proofs.Common.{◌≡◌, ◌<◌, ℕ, [], Option, Some, None, sym, ap, ◌∙◌, subst, lt-ltb}
+use Rattle.crashlab.proofs.Common.{Access, words_of, Outcome, GoesOn, mail_by, or_else, the_deed, outcome, IsPlain, VariantState, stand_at, access_at, advance_refusal, unless_step, stepped, found_by}
+use Rattle.crashlab.proofs.Common.{outcome_of, deeds_of, stepped_if}
 use Rattle.rmecore.specs.declared.scan.Scan.{Scan}
-use Rattle.redomail.specs.Layout.{words_of}
-use Rattle.rmeworld.specs.Advancing.{GoesOn}
-use Rattle.rmeworld.specs.Replayed.{mail_by, or_else, the_deed}
-use Rattle.rmeworld.specs.Stand.{outcome}
-use Rattle.rmeworld.specs.declared.outcome.Outcome.{Outcome}
 use Rattle.rmeworld.proofs.Advancing.{scan_is_quiet, scan_ends_nothing}
-use Rattle.crashlab.specs.VariantStands.{IsPlain}
-use Rattle.crashlab.specs.VariantWorlds.{VariantState, stand_at, advance_refusal, unless_step, access_at, found_by, outcome_of, deeds_of, stepped, stepped_if}
 use Rattle.crashlab.proofs.LockWorlds.{plain_access, plain_outcome}
 
 module _ (s : VariantState) (p : ℕ) (scan : Scan) (a : Access) (plain : IsPlain (stand_at s.processes p)) (goes : GoesOn (stand_at s.processes p).stand scan a) where

@@ -1,34 +1,14 @@
 -- A world of a variant stays seated.
-use Rattle.std.proofs.Common.{◌≡◌, ◌≢◌, ℕ, ◌<◌, ◌==◌, ◌⊎◌, List, length, slice_index_or, slice_set, Option, Some, None, IfSome, Result, Ok, Err, OnOk, OnErr, refl, sym, ap, ◌∙◌, subst, inl, inr}
-use Rattle.std.proofs.lemmas.Bool.{cases_eq, cond_both}
-use Rattle.std.proofs.lemmas.List.{get_or-set_same, get_or-set_other, get_or_default, length-set}
-use Rattle.rmecore.specs.declared.access.Access.{Access}
-use Rattle.rmecore.specs.declared.kind.Kind.{Kind}
-use Rattle.rmecore.specs.declared.kind.Kind.TheVariants.{Take as Takes, Shut as Shuts}
-use Rattle.rmecore.specs.declared.own.Own.{Own}
-use Rattle.rmecore.specs.declared.refusal.Refusal.{Refusal}
-use Rattle.rmecore.specs.Machine.{kind_of, word_of}
-use Rattle.rmecore.specs.Place.{Place}
-use Rattle.rmecore.specs.declared.word.Word.{Word}
-use Rattle.redomail.specs.declared.layout.Layout.{Layout}
-use Rattle.redomail.specs.declared.reply.Reply.{Reply}
-use Rattle.redomail.specs.Left.{Pending, left, fed}
-use Rattle.redomail.specs.Script.{Script, Get as Asks, Put as Writes, Done}
-use Rattle.rmeworld.specs.declared.call.Call.{Call}
+use Rattle.std.proofs.Common.{◌≡◌, ◌≢◌, ℕ, ◌<◌, ◌==◌, ◌⊎◌, List, length, slice_index_or, slice_set, Option, Some, None, IfSome, Result, Ok, Err, OnOk, OnErr, refl, sym, ap, ◌∙◌, subst, inl, inr, get_or-set_same, get_or-set_other, length-set}
+use Rattle.crashlab.proofs.Common.{cond_both, Access, Kind, Take as Takes, Shut as Shuts, Own, Refusal, Word, kind_of, word_of, Place, Layout, Reply, left, Pending, fed, Script, Get as Asks}
+use Rattle.crashlab.proofs.Common.{Put as Writes, Done, Call, Errand as Chore, Free as IsFree, Asking, Does, Why, Mending, Stand, next_access, started, job_left, InWords, Change, Nothing, LeavesOut}
+use Rattle.crashlab.proofs.Common.{Counts, Counted, Detour, Straight, Dropping, Over, Variant, Right, CountUp, LastSkipped, is_put, VariantStand, outside_at, over_by, over_way, variant_stepped}
+use Rattle.crashlab.proofs.Common.{stepped_beside, variant_started, by_row, last_put_next, VariantState, stand_at, IsSeated, HasSeat}
+use Rattle.std.proofs.lemmas.Bool.{cases_eq}
+use Rattle.std.proofs.lemmas.List.{get_or_default}
 use Rattle.rmeworld.specs.declared.call.Call.TheVariants as call
-use Rattle.rmeworld.specs.declared.errand.Errand.{Errand as Chore}
-use Rattle.rmeworld.specs.declared.errand.Errand.TheVariants.{Free as IsFree, Asking, Doing as Does}
-use Rattle.rmeworld.specs.declared.why.Why.{Why}
-use Rattle.rmeworld.specs.declared.why.Why.TheVariants.{Mending}
-use Rattle.rmeworld.specs.Stand.{Stand, next_access, stepped, stepped_by, job_left, started, InWords}
-use Rattle.crashlab.specs.declared.change.Change.{Change}
-use Rattle.crashlab.specs.declared.change.Change.TheVariants.{Nothing, LeavesOut, Counts, Counted}
-use Rattle.crashlab.specs.declared.detour.Detour.{Detour}
-use Rattle.crashlab.specs.declared.detour.Detour.TheVariants.{Straight, Dropping, Over}
-use Rattle.crashlab.specs.declared.variant.Variant.{Variant}
-use Rattle.crashlab.specs.declared.variant.Variant.TheVariants.{Right, CountUp, LastSkipped}
-use Rattle.crashlab.specs.VariantStands.{VariantStand, variant_stepped, stepped_beside, variant_started, changed_row, outside_at, led, by_row, over_by, over_way, part_beside, is_put, counted_up, last_put_next, left_out}
-use Rattle.crashlab.specs.VariantWorlds.{VariantState, stand_at, HasSeat, IsSeated}
+use Rattle.rmeworld.specs.Stand.{stepped, stepped_by}
+use Rattle.crashlab.specs.VariantStands.{changed_row, led, part_beside, counted_up, left_out}
 
 -- the process at p, where p is one of n
 pub stand_here : (processes : List VariantStand) (p n : ℕ) (s : VariantStand) → s ≡ slice_index_or processes p s → p < n → length processes ≡ n → stand_at processes p ≡ s

@@ -1,30 +1,11 @@
 -- A process whose repair leaves out its last number: where that put comes next, it is passed over.
 use Rattle.std.proofs.Common.{◌≡◌, ℕ, Bool, true, false, ◌==◌, if◌then◌else◌, Option, Some, None, IfSome, refl, sym, ap, ◌∙◌, subst}
-use Rattle.rmecore.specs.Place.{Place, Inside}
-use Rattle.rmecore.specs.Machine.{kind_of, word_of, carried}
-use Rattle.rmecore.specs.declared.access.Access.{Access}
-use Rattle.rmecore.specs.declared.access.Access.TheVariants.{Load, Store}
-use Rattle.rmecore.specs.declared.kind.Kind.TheVariants.{Get as Gets, Put as Puts}
-use Rattle.rmecore.specs.declared.word.Word.TheVariants.{Data as DataAt}
-use Rattle.rmecore.proofs.Invariant.{eqb_self}
-use Rattle.redomail.specs.declared.reply.Reply.{Reply}
-use Rattle.redomail.specs.Layout.{last_at}
-use Rattle.redomail.specs.Left.{Pending, left}
-use Rattle.redomail.specs.Script.{Script, Get as Asks, Put as Writes, Done, tail}
-use Rattle.rmeworld.specs.declared.answer.Answer.{Answer}
-use Rattle.rmeworld.specs.declared.outcome.Outcome.{Outcome}
-use Rattle.rmeworld.specs.declared.why.Why.TheVariants.{Mending}
-use Rattle.rmeworld.specs.Answered.{by_script}
-use Rattle.rmeworld.specs.Errands.{errand_of, HasStep}
-use Rattle.rmeworld.specs.Spot.{Errand, Doing, only_spot, settled}
-use Rattle.rmeworld.specs.Stand.{Stand, access_by, next_access, outcome, stepped, job_left}
-use Rattle.crashlab.specs.declared.change.Change.{Change}
-use Rattle.crashlab.specs.declared.change.Change.TheVariants.{Nothing, LeavesOut, Counts, Counted}
-use Rattle.crashlab.specs.declared.detour.Detour.TheVariants.{Straight}
-use Rattle.crashlab.specs.declared.variant.Variant.TheVariants.{LastSkipped}
-use Rattle.crashlab.specs.VariantScripts.{leaving_out}
-use Rattle.crashlab.specs.VariantSpots.{beside, variant_moved, variant_outer_by, variant_answer_by, variant_done_by}
-use Rattle.crashlab.specs.VariantStands.{VariantStand, variant_spot_of, changed_errand, unless_answered, is_put, plain_outcome, last_put_next, variant_stepped}
+use Rattle.crashlab.proofs.Common.{Access, Load, Store, Gets, Puts, Data as DataAt, kind_of, word_of, carried, Place, Inside, eqb_self, Reply, last_at, left, Pending, Script, Get as Asks}
+use Rattle.crashlab.proofs.Common.{Put as Writes, Done, tail, Answer, Outcome, Mending, by_script, errand_of, HasStep, Doing, only_spot, settled, Stand, access_by, next_access, outcome, job_left}
+use Rattle.crashlab.proofs.Common.{Change, Nothing, LeavesOut, Counts, Counted, Straight, LastSkipped, leaving_out, beside, variant_moved, variant_outer_by, variant_answer_by, variant_done_by}
+use Rattle.crashlab.proofs.Common.{changed_errand, is_put, VariantStand, variant_spot_of, variant_stepped, unless_answered, plain_outcome, last_put_next}
+use Rattle.rmeworld.specs.Spot.{Errand}
+use Rattle.rmeworld.specs.Stand.{stepped}
 use Rattle.crashlab.proofs.Steady.{Steady, step_steady}
 use Rattle.crashlab.proofs.Rows.{process_of, Follows, plain_goes}
 use Rattle.crashlab.proofs.Repairs.{Unchanged, nothing_stays, IsMending, Mends, mends_of, lands, plain_lands, outcome_is, allowed_put, same_script, answered}

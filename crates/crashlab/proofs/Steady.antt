@@ -1,26 +1,13 @@
 -- One process of a world over its stand alone: each step and each start of its machine is the definition's.
 use Rattle.std.proofs.Common.{◌≡◌, ℕ, Bool, true, false, Option, Some, None, IsSome, IfSome, unwrap_or, refl, sym, ap, ◌∙◌, subst}
-use Rattle.rmecore.specs.Place.{Place, Inside}
-use Rattle.rmecore.specs.declared.access.Access.{Access}
-use Rattle.redomail.specs.declared.layout.Layout.{Layout}
-use Rattle.redomail.specs.Layout.{IsLayout}
+use Rattle.crashlab.proofs.Common.{Access, Place, Inside, Layout, IsLayout, Call, Consistent, Mending, errand_of, Doing, Spot, next_spot, begun_from, Stand, spot_of, next_access, started, spot_after}
+use Rattle.crashlab.proofs.Common.{IsAllowed, happening, Change, Nothing, Variant, CountUp, LastSkipped, variant_begun, changed_errand, change_of, changed_script}
 use Rattle.redomail.specs.Tasks.{consistent}
-use Rattle.rmeworld.specs.declared.call.Call.{Call}
-use Rattle.rmeworld.specs.declared.call.Call.TheVariants.{Consistent}
-use Rattle.rmeworld.specs.declared.why.Why.{Why}
-use Rattle.rmeworld.specs.declared.why.Why.TheVariants.{Checking, Ruining, Mending, Working}
-use Rattle.rmeworld.specs.Errands.{errand_of}
 use Rattle.rmeworld.specs.Refused.{start_refusal}
-use Rattle.rmeworld.specs.Spot.{Errand, Spot, Free, Doing, next_spot, begun_from}
-use Rattle.rmeworld.specs.Stand.{Stand, spot_of, next_access, spot_after, happening, IsAllowed, stepped, started}
+use Rattle.rmeworld.specs.Spot.{Errand, Free}
+use Rattle.rmeworld.specs.Stand.{stepped}
 use Rattle.rmeworld.proofs.Ordered.{IsOrdered, goes, allowed, ordered_stepped, begins}
-use Rattle.crashlab.specs.declared.change.Change.{Change}
-use Rattle.crashlab.specs.declared.change.Change.TheVariants.{Nothing}
-use Rattle.crashlab.specs.declared.variant.Variant.{Variant}
-use Rattle.crashlab.specs.declared.variant.Variant.TheVariants.{CountUp, LastSkipped}
 use Rattle.crashlab.specs.VariantScripts.{variant_consistent}
-use Rattle.crashlab.specs.VariantSpots.{variant_begun}
-use Rattle.crashlab.specs.VariantStands.{change_of, changed_script, changed_errand}
 use Rattle.crashlab.proofs.Seats.{step_stays, start_stays}
 
 pub record Steady (s : Stand) : Type 0 where

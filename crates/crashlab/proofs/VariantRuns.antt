@@ -1,30 +1,17 @@
 -- In every run of a world of a variant each process goes by the variant's definition.
-use Rattle.std.proofs.Common.{◌≡◌, ℕ, ◌+◌, ◌<◌, nat_lt, if◌then◌else◌, Bool, true, false, List, [], ◌∷◌, slice_set, Option, Some, None, IfSome, refl, sym, ap, ◌∙◌, subst}
-use Rattle.std.proofs.lemmas.Bool.{ltb-true}
-use Rattle.std.proofs.lemmas.List.{get_or-set_same}
-use Rattle.rmecore.specs.Machine.{kind_of, word_of, carried}
-use Rattle.rmecore.specs.declared.access.Access.{Access}
-use Rattle.rmecore.specs.declared.refusal.Refusal.{Refusal}
+use Rattle.std.proofs.Common.{◌≡◌, ℕ, ◌+◌, ◌<◌, nat_lt, if◌then◌else◌, Bool, true, false, List, [], ◌∷◌, slice_set, Option, Some, None, IfSome, refl, sym, ap, ◌∙◌, subst, ltb-true, get_or-set_same}
+use Rattle.crashlab.proofs.Common.{Access, Refusal, kind_of, word_of, carried, Layout, IsLayout, Call, Consistent, Begins, Falls, Moves, Stand, spot_of, IsSize, started as stand_started, happening}
+use Rattle.crashlab.proofs.Common.{Change, Nothing, LeavesOut, Counts, Counted, Detour, Straight, Variant, Right, NoLook, NoTies, Renumber, ExitOnCrash, CountUp, LastSkipped, IsRun, spot_at, beside}
+use Rattle.crashlab.proofs.Common.{variant_spot, variant_outer, variant_answer_at, variant_done_at, VariantStand, variant_spot_of, variant_resting, variant_crashed, variant_next_access}
+use Rattle.crashlab.proofs.Common.{variant_stepped, variant_outcome, variant_started, change_of, VariantState, stand_at, access_at, unless_step, start_refusal, stepped, advanced, advanced_if, crashed}
+use Rattle.crashlab.proofs.Common.{IsSeated, new_world, found_by, HasSeat, stepped_if}
 use Rattle.rmecore.specs.declared.refusal.Refusal.TheVariants.{NoSuchProcess}
-use Rattle.redomail.specs.declared.layout.Layout.{Layout}
-use Rattle.redomail.specs.Layout.{IsLayout}
-use Rattle.rmeworld.specs.declared.call.Call.{Call}
-use Rattle.rmeworld.specs.declared.call.Call.TheVariants.{Consistent}
 use Rattle.rmeworld.specs.Acts.{Act, Starts, Steps, Crashes, unless}
 use Rattle.rmeworld.specs.Refused.{start_refusal as spot_refusal}
-use Rattle.rmeworld.specs.Spot.{at_rest, Begins, Falls, Moves}
-use Rattle.rmeworld.specs.Stand.{Stand, IsSize, spot_of, started as stand_started, happening}
+use Rattle.rmeworld.specs.Spot.{at_rest}
 use Rattle.rmeworld.proofs.Ordered.{ordered_rest, ordered_crashed}
-use Rattle.crashlab.specs.declared.change.Change.{Change}
-use Rattle.crashlab.specs.declared.change.Change.TheVariants.{Nothing, LeavesOut, Counts, Counted}
-use Rattle.crashlab.specs.declared.detour.Detour.{Detour}
-use Rattle.crashlab.specs.declared.detour.Detour.TheVariants.{Straight}
-use Rattle.crashlab.specs.declared.variant.Variant.{Variant}
-use Rattle.crashlab.specs.declared.variant.Variant.TheVariants.{Right, NoLook, NoTies, Renumber, ExitOnCrash, CountUp, LastSkipped}
-use Rattle.crashlab.specs.VariantSpots.{beside, variant_spot, variant_outer, variant_answer_at, variant_done_at}
-use Rattle.crashlab.specs.VariantStands.{VariantStand, variant_resting, variant_crashed, variant_spot_of, variant_next_access, variant_stepped, variant_outcome, change_of, variant_started}
-use Rattle.crashlab.specs.VariantWorlds.{VariantState, stand_at, HasSeat, IsSeated, new_world, start_refusal, started, access_at, unless_step, found_by, stepped, stepped_if, advanced_if, advanced, crashed}
-use Rattle.crashlab.specs.VariantRuns.{acted, run_of, IsRun, spot_at, move}
+use Rattle.crashlab.specs.VariantWorlds.{started}
+use Rattle.crashlab.specs.VariantRuns.{acted, run_of, move}
 use Rattle.rmeworld.proofs.WorldSteps.{words_by_length, cells_by_length}
 use Rattle.crashlab.proofs.Seats.{seated, set_each, variant_step_stays, variant_start_stays, seat_stays, with_seat, same_by}
 use Rattle.crashlab.proofs.Rests.{rest_at, seated_new}

@@ -1,32 +1,13 @@
 -- Waiters that go by a row of the variant's: one that doesn't look, and one that goes past an equal number.
-use Rattle.std.proofs.Common.{◌≡◌, ℕ, ◌+◌, Bool, true, false, ◌||◌, ◌==◌, nat_lt, if◌then◌else◌, List, [], ◌∷◌, Option, Some, None, IfSome, refl, sym, ap, ◌∙◌, subst}
-use Rattle.std.proofs.lemmas.Bool.{cond_both}
-use Rattle.rmecore.specs.Place.{Place, Reread, Door, Wait, without, above, is_before}
-use Rattle.rmecore.specs.Machine.{first, place_of, access}
-use Rattle.rmecore.specs.declared.access.Access.{Access}
-use Rattle.rmecore.specs.declared.access.Access.TheVariants.{Load}
-use Rattle.rmecore.specs.declared.kind.Kind.TheVariants.{Look as Looks, Weigh as Weighs}
+use Rattle.std.proofs.Common.{◌≡◌, ℕ, ◌+◌, Bool, true, false, ◌||◌, ◌==◌, nat_lt, if◌then◌else◌, List, [], ◌∷◌, Option, Some, None, refl, sym, ap, ◌∙◌, subst}
+use Rattle.crashlab.proofs.Common.{cond_both, Access, Load, Look as Looks, Weigh as Weighs, Choosing as ChoosingOf, Number as NumberOf, access, place_of, Place, Reread, Wait, is_before, eqb_self}
+use Rattle.crashlab.proofs.Common.{Layout, Reply, left, Script, Get as Asks, Put as Writes, Done, Errand as Chore, Free as IsFree, Asking, Does, Why, Mending, errand_of, Doing, Stand, access_by}
+use Rattle.crashlab.proofs.Common.{next_access, Nothing, Detour, Straight, NoLook, NoTies, weighed, silent, variant_stepped, plain_outcome, by_row, variant_access}
+use Rattle.rmecore.specs.Place.{Door, without, above}
+use Rattle.rmecore.specs.Machine.{first}
 use Rattle.rmecore.specs.declared.stage.Stage.TheVariants.{Wait as AtWait}
-use Rattle.rmecore.specs.declared.word.Word.TheVariants.{Choosing as ChoosingOf, Number as NumberOf}
-use Rattle.rmecore.proofs.Invariant.{eqb_self}
 use Rattle.rmecore.proofs.Scans.{above_first, without-first}
-use Rattle.redomail.specs.declared.layout.Layout.{Layout}
-use Rattle.redomail.specs.declared.reply.Reply.{Reply}
-use Rattle.redomail.specs.Left.{left}
-use Rattle.redomail.specs.Script.{Script, Get as Asks, Put as Writes, Done}
-use Rattle.rmeworld.specs.declared.errand.Errand.{Errand as Chore}
-use Rattle.rmeworld.specs.declared.errand.Errand.TheVariants.{Free as IsFree, Asking, Doing as Does}
-use Rattle.rmeworld.specs.declared.why.Why.{Why}
-use Rattle.rmeworld.specs.declared.why.Why.TheVariants.{Mending}
-use Rattle.rmeworld.specs.Spot.{Doing}
-use Rattle.rmeworld.specs.Errands.{errand_of}
-use Rattle.rmeworld.specs.Stand.{Stand, access_by, next_access}
-use Rattle.crashlab.specs.declared.change.Change.TheVariants.{Nothing}
-use Rattle.crashlab.specs.declared.detour.Detour.{Detour}
-use Rattle.crashlab.specs.declared.detour.Detour.TheVariants.{Straight}
-use Rattle.crashlab.specs.declared.variant.Variant.TheVariants.{NoLook, NoTies}
-use Rattle.crashlab.specs.Variants.{variant_access}
-use Rattle.crashlab.specs.VariantStands.{weighed, weighing_row, tied_row, by_row, unless_changed, silent, plain_outcome, variant_stepped}
+use Rattle.crashlab.specs.VariantStands.{weighing_row, tied_row, unless_changed}
 use Rattle.crashlab.proofs.Steady.{Steady}
 use Rattle.crashlab.proofs.Rows.{process_of, Goes, Walks, Agrees, all, free_stand, script_goes, lock_goes}
 

@@ -1,7 +1,5 @@
 use Rattle.std.proofs.Common.{Some, refl, subst}
-use Rattle.redomail.specs.declared.deed.Deed.{Deed}
-use Rattle.crashlab.specs.Found.{Told}
-use Rattle.crashlab.specs.Hunts.{first_world, deeds_of_lines}
+use Rattle.crashlab.proofs.Common.{Deed, Told, first_world, deeds_of_lines}
 use Rattle.crashlab.proofs.Lines.{crash_ends}
 use Rattle.crashlab.proofs.round.crash.Goals as goal
 

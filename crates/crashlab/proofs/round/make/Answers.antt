@@ -1,5 +1,5 @@
 use Rattle.std.proofs.Common.{sym, subst}
-use Rattle.crashlab.specs.Found.{Ends, line_by, with_line}
+use Rattle.crashlab.proofs.Common.{Ends, with_line, line_by}
 use Rattle.crashlab.proofs.Lines.{then_ends}
 use Rattle.crashlab.proofs.round.make.Goals as goal
 

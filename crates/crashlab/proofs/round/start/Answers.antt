@@ -1,10 +1,5 @@
 use Rattle.std.proofs.Common.{ap, sym, subst, append-nil}
-use Rattle.judge.specs.Stands.{StandsAfter}
-use Rattle.judge.specs.Table.{empty}
-use Rattle.schedule.specs.declared.line.Line.TheVariants.{Start}
-use Rattle.crashlab.specs.Found.{with_line}
-use Rattle.crashlab.specs.Hunts.{first_world, deeds_of_lines}
-use Rattle.crashlab.specs.declared.moves.Made.TheVariants.{On}
+use Rattle.crashlab.proofs.Common.{StandsAfter, empty, Start, On, with_line, first_world, deeds_of_lines}
 use Rattle.crashlab.proofs.Lines.{start_ends}
 use Rattle.crashlab.proofs.round.start.Goals as goal
 

@@ -1,9 +1,5 @@
 use Rattle.std.proofs.Common.{None, refl, sym, subst, append-nil}
-use Rattle.judge.specs.Stands.{StandsAfter}
-use Rattle.judge.specs.Table.{empty}
-use Rattle.crashlab.specs.Hunts.{first_world, deeds_of_lines}
-use Rattle.crashlab.specs.LockWorlds.{IsLockWorld}
-use Rattle.crashlab.specs.declared.moves.Made.TheVariants.{On}
+use Rattle.crashlab.proofs.Common.{StandsAfter, empty, On, first_world, deeds_of_lines, IsLockWorld}
 use Rattle.crashlab.proofs.Lines.{step_ends}
 use Rattle.crashlab.proofs.round.walk.Goals as goal
 

@@ -1,5 +1,5 @@
 use Rattle.std.proofs.Common.{◌≡◌}
-use Rattle.crashlab.specs.VariantWorlds.{at_rest_from}
+use Rattle.crashlab.proofs.Common.{at_rest_from}
 use Rattle.crashlab.proofs.variant_world.all_at_rest.Given as goal
 
 abbrev pub invariant-loop-index : goal.invariant-loop-index

@@ -1,5 +1,5 @@
 use Rattle.std.proofs.Common.{ap}
-use Rattle.rmeworld.specs.Stand.{Stand}
+use Rattle.crashlab.proofs.Common.{Stand}
 use Rattle.crashlab.proofs.variant_process.lock_rows.errand_of.Goals as goal
 
 pub returns : goal.returns

@@ -1,6 +1,5 @@
 use Rattle.std.proofs.Common.{ap, ◌∙◌}
-use Rattle.rmeworld.specs.Stand.{Stand}
-use Rattle.crashlab.specs.VariantStands.{outside_at}
+use Rattle.crashlab.proofs.Common.{Stand, outside_at}
 use Rattle.crashlab.proofs.variant_process.lock_rows.feed_outside.Goals as goal
 
 pub returns : goal.returns

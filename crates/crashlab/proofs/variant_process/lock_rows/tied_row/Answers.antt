@@ -1,11 +1,5 @@
 use Rattle.std.proofs.Common.{◌≡◌, Some, sym, ap, ◌∙◌, eq-eqb}
-use Rattle.rmecore.specs.Machine.{place_of}
-use Rattle.rmecore.specs.declared.access.Access.TheVariants.{Load}
-use Rattle.rmecore.specs.declared.kind.Kind.TheVariants.{Weigh}
-use Rattle.rmecore.specs.declared.stage.Stage.{Stage}
-use Rattle.rmecore.specs.declared.word.Word.TheVariants.{Number}
-use Rattle.rmeworld.specs.Stand.{next_access}
-use Rattle.crashlab.specs.declared.detour.Detour.TheVariants.{Straight}
+use Rattle.crashlab.proofs.Common.{Load, Weigh, Stage, Number, place_of, next_access, Straight}
 use Rattle.crashlab.proofs.Waits.{ties_past}
 use Rattle.crashlab.proofs.variant_process.lock_rows.tied_row.Goals as goal
 

@@ -1,12 +1,5 @@
 use Rattle.std.proofs.Common.{◌≡◌, ℕ, ◌==◌, ◌||◌, true, Some, sym, ap, ◌∙◌}
-use Rattle.rmecore.specs.Machine.{place_of}
-use Rattle.rmecore.specs.Place.{is_before}
-use Rattle.rmecore.specs.declared.access.Access.TheVariants.{Load}
-use Rattle.rmecore.specs.declared.kind.Kind.TheVariants.{Look}
-use Rattle.rmecore.specs.declared.stage.Stage.{Stage}
-use Rattle.rmecore.specs.declared.word.Word.TheVariants.{Choosing}
-use Rattle.rmeworld.specs.Stand.{next_access}
-use Rattle.crashlab.specs.declared.detour.Detour.TheVariants.{Straight}
+use Rattle.crashlab.proofs.Common.{Load, Look, Stage, Choosing, place_of, is_before, next_access, Straight}
 use Rattle.crashlab.proofs.Waits.{weighs_past}
 use Rattle.crashlab.proofs.variant_process.lock_rows.weighing_row.Goals as goal
 

@@ -1,18 +1,8 @@
 use Rattle.std.proofs.Common.{◌≡◌, ◌<◌, ◌++◌, List, length, take, drop, slice_set, None, sym, ap, ◌∙◌, subst}
-use Rattle.rmecore.proofs.CoreSteps.{refill}
-use Rattle.rmecore.specs.Machine.{word_of, quiet}
-use Rattle.rmecore.specs.Simulated.{own_at}
-use Rattle.redomail.specs.declared.deed.Deed.{Deed}
-use Rattle.redomail.specs.Layout.{words_of}
-use Rattle.rmeworld.specs.declared.outcome.Outcome.{Outcome}
-use Rattle.rmeworld.specs.InPlace.{Works}
-use Rattle.rmeworld.specs.Replayed.{words_by, cells_by, mail_by, or_else, list_of, the_deed}
-use Rattle.rmeworld.specs.Stand.{InWords, IsAllowed, StoresOwn}
-use Rattle.rmeworld.specs.World.{reading_of}
-use Rattle.crashlab.specs.Found.{Told}
-use Rattle.crashlab.specs.LockWorlds.{IsLockWorld}
-use Rattle.crashlab.specs.VariantStands.{VariantStand, IsPlain, variant_next_access, variant_stepped, variant_outcome}
-use Rattle.crashlab.specs.VariantWorlds.{VariantState, stand_at, found_by, outcome_of, advance_refusal, stepped, stepped_if, advanced, advanced_if}
+use Rattle.crashlab.proofs.Common.{word_of, own_at, refill, Deed, words_of, Outcome, Works, list_of, mail_by, or_else, words_by, cells_by, the_deed, IsAllowed, StoresOwn, InWords, reading_of, Told}
+use Rattle.crashlab.proofs.Common.{IsLockWorld, VariantStand, IsPlain, variant_next_access, variant_stepped, variant_outcome, VariantState, stand_at, advance_refusal, stepped, advanced, advanced_if}
+use Rattle.crashlab.proofs.Common.{found_by, outcome_of, stepped_if}
+use Rattle.rmecore.specs.Machine.{quiet}
 use Rattle.crashlab.proofs.Jobs.{job_next, job_accepted}
 use Rattle.crashlab.proofs.LockWorlds.{Stepped, step_made}
 use Rattle.crashlab.proofs.Seats.{stand_here, SameVariant, seated, seat_here, seat_stays, variant_step_stays}

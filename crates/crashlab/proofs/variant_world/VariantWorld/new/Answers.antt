@@ -1,11 +1,6 @@
-use Rattle.std.proofs.Common.{[], ◌≡◌, replicate, sym, ap, ◌∙◌, subst, rules, arith}
-use Rattle.rmecore.specs.Simulated.{zeros}
-use Rattle.redomail.specs.declared.layout.Layout.{Layout}
-use Rattle.redomail.specs.Layout.{size}
-use Rattle.rmeworld.specs.Stand.{IsSize}
+use Rattle.std.proofs.Common.{[], ◌≡◌, replicate, sym, ap, ◌∙◌, subst, rules}
+use Rattle.crashlab.proofs.Common.{zeros, Layout, size, IsSize, IsLockWorld, IsSeated, new_world}
 use Rattle.rmeworld.proofs.Worlds.{size_held}
-use Rattle.crashlab.specs.VariantWorlds.{IsSeated, new_world}
-use Rattle.crashlab.specs.LockWorlds.{IsLockWorld}
 use Rattle.crashlab.proofs.LockWorlds.{lock_new}
 use Rattle.crashlab.proofs.Rests.{seated_new}
 use Rattle.crashlab.proofs.variant_world.VariantWorld.new.Goals as goal

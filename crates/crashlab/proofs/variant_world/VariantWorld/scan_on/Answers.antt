@@ -1,17 +1,7 @@
-use Rattle.std.proofs.Common.{◌≡◌, ◌<◌, [], length, slice_set, refl, sym, ap, ◌∙◌, subst, None}
-use Rattle.std.proofs.lemmas.List.{append-nil}
-use Rattle.rmecore.specs.Machine.{word_of}
-use Rattle.rmecore.specs.Simulated.{own_at}
-use Rattle.redomail.specs.Layout.{words_of}
-use Rattle.rmeworld.specs.Advancing.{GoesOn}
-use Rattle.rmeworld.specs.Replayed.{mail_by, or_else}
-use Rattle.rmeworld.specs.Stand.{InWords, IsAllowed, StoresOwn}
-use Rattle.rmeworld.specs.World.{reading_of}
-use Rattle.rmeworld.specs.declared.outcome.Outcome.{Outcome}
+use Rattle.std.proofs.Common.{◌≡◌, ◌<◌, [], length, slice_set, refl, sym, ap, ◌∙◌, subst, None, append-nil}
+use Rattle.crashlab.proofs.Common.{word_of, own_at, words_of, Outcome, GoesOn, mail_by, or_else, IsAllowed, StoresOwn, InWords, reading_of, IsLockWorld, VariantStand, IsPlain, variant_next_access}
+use Rattle.crashlab.proofs.Common.{variant_stepped, variant_outcome, VariantState, stand_at, advance_refusal, stepped, advanced, advanced_if, found_by, outcome_of}
 use Rattle.rmeworld.proofs.Advancing.{load_leaves}
-use Rattle.crashlab.specs.LockWorlds.{IsLockWorld}
-use Rattle.crashlab.specs.VariantStands.{VariantStand, IsPlain, variant_next_access, variant_stepped, variant_outcome}
-use Rattle.crashlab.specs.VariantWorlds.{VariantState, stand_at, found_by, outcome_of, advance_refusal, stepped, advanced, advanced_if}
 use Rattle.crashlab.proofs.LockWorlds.{Stepped, step_made}
 use Rattle.crashlab.proofs.Scans.{scan_next, scan_deeds, scan_tells, accepted}
 use Rattle.crashlab.proofs.Seats.{stand_here, SameVariant, seated, seat_here, seat_stays, variant_step_stays}

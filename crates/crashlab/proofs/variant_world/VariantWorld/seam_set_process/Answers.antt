@@ -1,6 +1,5 @@
-use Rattle.std.proofs.Common.{refl, sym, subst}
-use Rattle.std.proofs.lemmas.List.{length-set}
-use Rattle.crashlab.specs.VariantWorlds.{VariantState, HasSeat}
+use Rattle.std.proofs.Common.{refl, sym, subst, length-set}
+use Rattle.crashlab.proofs.Common.{VariantState, HasSeat}
 use Rattle.crashlab.proofs.Seats.{seated, seat_here}
 use Rattle.crashlab.proofs.variant_world.VariantWorld.seam_set_process.Goals as goal
 

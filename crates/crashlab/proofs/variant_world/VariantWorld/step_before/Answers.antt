@@ -1,15 +1,6 @@
 use Rattle.std.proofs.Common.{◌≡◌, ◌++◌, length, take, drop, List, Some, IfSome, refl, sym, ap, ◌∙◌, subst}
-use Rattle.rmecore.proofs.CoreSteps.{refill}
-use Rattle.crashlab.specs.VariantWorlds.{VariantState, stand_at, found_by, outcome_of, stepped, stepped_if}
-use Rattle.crashlab.specs.Found.{Told}
-use Rattle.rmecore.specs.Simulated.{own_at}
-use Rattle.redomail.specs.Layout.{words_of}
-use Rattle.rmeworld.specs.Replayed.{words_by, cells_by, mail_by, or_else, list_of, the_deed}
-use Rattle.redomail.specs.declared.deed.Deed.{Deed}
-use Rattle.rmeworld.specs.Stand.{IsAllowed, StoresOwn}
-use Rattle.rmeworld.specs.World.{reading_of}
-use Rattle.crashlab.specs.LockWorlds.{IsLockWorld}
-use Rattle.crashlab.specs.VariantStands.{VariantStand, IsPlain, variant_next_access, variant_outcome}
+use Rattle.crashlab.proofs.Common.{own_at, refill, Deed, words_of, list_of, mail_by, or_else, words_by, cells_by, the_deed, IsAllowed, StoresOwn, reading_of, Told, IsLockWorld, VariantStand, IsPlain}
+use Rattle.crashlab.proofs.Common.{variant_next_access, variant_outcome, VariantState, stand_at, stepped, found_by, outcome_of, stepped_if}
 use Rattle.crashlab.proofs.LockWorlds.{Stepped, step_made}
 use Rattle.crashlab.proofs.Seats.{stand_here, SameVariant, seated, seat_here, seat_stays, variant_step_stays, in_words}
 use Rattle.crashlab.proofs.variant_world.VariantWorld.step_before.Goals as goal

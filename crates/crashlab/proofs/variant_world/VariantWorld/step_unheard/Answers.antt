@@ -1,16 +1,6 @@
-use Rattle.std.proofs.Common.{◌≡◌, ◌++◌, [], Some, None, IfSome, length, take, drop, slice_set, refl, sym, ap, ◌∙◌, subst}
-use Rattle.std.proofs.lemmas.Bool.{lt-ltb}
-use Rattle.std.proofs.lemmas.List.{append-nil}
-use Rattle.rmecore.proofs.CoreSteps.{refill}
-use Rattle.rmecore.specs.Simulated.{own_at}
-use Rattle.redomail.specs.Layout.{words_of}
-use Rattle.rmeworld.specs.Replayed.{words_by, cells_by, mail_by, or_else, the_deed}
-use Rattle.rmeworld.specs.Stand.{IsAllowed, StoresOwn}
-use Rattle.rmeworld.specs.World.{reading_of}
-use Rattle.rmeworld.specs.declared.outcome.Outcome.{Outcome}
-use Rattle.crashlab.specs.LockWorlds.{IsLockWorld}
-use Rattle.crashlab.specs.VariantStands.{VariantStand, variant_next_access, variant_stepped, variant_outcome}
-use Rattle.crashlab.specs.VariantWorlds.{VariantState, stand_at, found_by, outcome_of, deeds_of, advance_refusal, unless_step, stepped, stepped_if, advanced, advanced_if}
+use Rattle.std.proofs.Common.{◌≡◌, ◌++◌, [], Some, None, IfSome, length, take, drop, slice_set, refl, sym, ap, ◌∙◌, subst, lt-ltb, append-nil}
+use Rattle.crashlab.proofs.Common.{own_at, refill, words_of, Outcome, mail_by, or_else, words_by, cells_by, the_deed, IsAllowed, StoresOwn, reading_of, IsLockWorld, VariantStand, variant_next_access}
+use Rattle.crashlab.proofs.Common.{variant_stepped, variant_outcome, VariantState, stand_at, advance_refusal, unless_step, stepped, advanced, advanced_if, found_by, outcome_of, deeds_of, stepped_if}
 use Rattle.crashlab.proofs.LockWorlds.{Stepped, step_made}
 use Rattle.crashlab.proofs.Seats.{stand_here, SameVariant, seated, seat_here, seat_stays, variant_step_stays, in_words}
 use Rattle.crashlab.proofs.variant_world.VariantWorld.step_unheard.Goals as goal

@@ -1,6 +1,5 @@
 use Rattle.std.proofs.Common.{refl, sym, subst}
-use Rattle.crashlab.specs.VariantWorlds.{VariantState, HasSeat}
-use Rattle.crashlab.specs.LockWorlds.{IsLockWorld}
+use Rattle.crashlab.proofs.Common.{IsLockWorld, VariantState, HasSeat}
 use Rattle.crashlab.proofs.LockWorlds.{crash_made}
 use Rattle.crashlab.proofs.Seats.{stand_here, seated, seat_here}
 use Rattle.crashlab.proofs.variant_world.VariantWorld.take_crash.Goals as goal

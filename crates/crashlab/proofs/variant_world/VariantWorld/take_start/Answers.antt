@@ -1,6 +1,5 @@
 use Rattle.std.proofs.Common.{refl, sym, subst}
-use Rattle.crashlab.specs.VariantWorlds.{VariantState}
-use Rattle.crashlab.specs.LockWorlds.{IsLockWorld}
+use Rattle.crashlab.proofs.Common.{IsLockWorld, VariantState}
 use Rattle.crashlab.proofs.LockWorlds.{on_ok, start_made}
 use Rattle.crashlab.proofs.Seats.{stand_here, seated, seat_here, start_keeps}
 use Rattle.crashlab.proofs.variant_world.VariantWorld.take_start.Goals as goal

@@ -1,13 +1,6 @@
 use Rattle.std.proofs.Common.{◌≡◌, ◌++◌, length, take, drop, IfSome, refl, sym, ap, ◌∙◌, subst}
-use Rattle.rmecore.proofs.CoreSteps.{refill}
-use Rattle.crashlab.specs.VariantWorlds.{VariantState, stand_at}
-use Rattle.rmecore.specs.Simulated.{own_at}
-use Rattle.redomail.specs.Layout.{words_of}
-use Rattle.rmeworld.specs.Replayed.{words_by, cells_by, mail_by, or_else, list_of}
-use Rattle.rmeworld.specs.Stand.{IsAllowed, StoresOwn}
-use Rattle.rmeworld.specs.World.{reading_of}
-use Rattle.crashlab.specs.LockWorlds.{IsLockWorld}
-use Rattle.crashlab.specs.VariantStands.{VariantStand, IsPlain, variant_next_access}
+use Rattle.crashlab.proofs.Common.{own_at, refill, words_of, list_of, mail_by, or_else, words_by, cells_by, IsAllowed, StoresOwn, reading_of, IsLockWorld, VariantStand, IsPlain, variant_next_access}
+use Rattle.crashlab.proofs.Common.{VariantState, stand_at}
 use Rattle.crashlab.proofs.LockWorlds.{Stepped, step_made}
 use Rattle.crashlab.proofs.Seats.{stand_here, SameVariant, seated, seat_here, seat_stays, variant_step_stays, in_words}
 use Rattle.crashlab.proofs.variant_world.VariantWorld.take_step.Goals as goal

@@ -1,0 +1,59 @@
+-- The names that two or more proof files of this crate cite, passed on from one place. Declares nothing.
+pub use Rattle.std.proofs.lemmas.Bool.{cond_both}
+pub use Rattle.std.proofs.lemmas.List.{length-replicate}
+pub use Rattle.rmecore.specs.declared.access.Access.{Access}
+pub use Rattle.rmecore.specs.declared.access.Access.TheVariants.{Load, Store}
+pub use Rattle.rmecore.specs.declared.kind.Kind.{Kind}
+pub use Rattle.rmecore.specs.declared.kind.Kind.TheVariants.{Get as Gets, Put as Puts, Take, Shut, Look, Weigh}
+pub use Rattle.rmecore.specs.declared.own.Own.{Own}
+pub use Rattle.rmecore.specs.declared.refusal.Refusal.{Refusal}
+pub use Rattle.rmecore.specs.declared.stage.Stage.{Stage}
+pub use Rattle.rmecore.specs.declared.word.Word.{Word}
+pub use Rattle.rmecore.specs.declared.word.Word.TheVariants.{Data, Choosing, Number}
+pub use Rattle.rmecore.specs.Machine.{access, kind_of, word_of, carried, place_of}
+pub use Rattle.rmecore.specs.Place.{Place, next, Reread, Wait, Inside, is_before}
+pub use Rattle.rmecore.specs.Simulated.{zeros, own_at}
+pub use Rattle.rmecore.proofs.CoreSteps.{refill}
+pub use Rattle.rmecore.proofs.Invariant.{eqb_self}
+pub use Rattle.redomail.specs.declared.deed.Deed.{Deed}
+pub use Rattle.redomail.specs.declared.layout.Layout.{Layout}
+pub use Rattle.redomail.specs.declared.reply.Reply.{Reply}
+pub use Rattle.redomail.specs.Layout.{last_at, IsLayout, words_of, size}
+pub use Rattle.redomail.specs.Left.{left, Pending, fed}
+pub use Rattle.redomail.specs.Script.{Script, Get, Put, Done, tail}
+pub use Rattle.judge.specs.Stands.{StandsAfter}
+pub use Rattle.judge.specs.Table.{empty}
+pub use Rattle.rmeworld.specs.declared.answer.Answer.{Answer}
+pub use Rattle.rmeworld.specs.declared.call.Call.{Call}
+pub use Rattle.rmeworld.specs.declared.call.Call.TheVariants.{Consistent}
+pub use Rattle.rmeworld.specs.declared.errand.Errand.{Errand}
+pub use Rattle.rmeworld.specs.declared.errand.Errand.TheVariants.{Free, Asking, Doing as Does}
+pub use Rattle.rmeworld.specs.declared.outcome.Outcome.{Outcome}
+pub use Rattle.rmeworld.specs.declared.why.Why.{Why}
+pub use Rattle.rmeworld.specs.declared.why.Why.TheVariants.{Mending}
+pub use Rattle.rmeworld.specs.Advancing.{GoesOn}
+pub use Rattle.rmeworld.specs.Answered.{by_script, answer_by, done_by}
+pub use Rattle.rmeworld.specs.Errands.{errand_of, HasStep}
+pub use Rattle.rmeworld.specs.InPlace.{Works}
+pub use Rattle.rmeworld.specs.Replayed.{list_of, mail_by, or_else, words_by, cells_by, the_deed}
+pub use Rattle.rmeworld.specs.Spot.{Doing, Spot, Happening, Begins, Falls, Moves, next_spot, begun_from, only_spot, settled, outer_by}
+pub use Rattle.rmeworld.specs.Stand.{Stand, access_by, spot_of, IsSize, next_access, outcome, started, spot_after, IsAllowed, StoresOwn, job_left, happening, InWords}
+pub use Rattle.rmeworld.specs.World.{reading_of}
+pub use Rattle.schedule.specs.declared.line.Line.TheVariants.{Start}
+pub use Rattle.schedule.specs.Schedules.{Scheduled}
+pub use Rattle.crashlab.specs.declared.change.Change.{Change}
+pub use Rattle.crashlab.specs.declared.change.Change.TheVariants.{Nothing, LeavesOut, Counts, Counted}
+pub use Rattle.crashlab.specs.declared.detour.Detour.{Detour}
+pub use Rattle.crashlab.specs.declared.detour.Detour.TheVariants.{Straight, Dropping, Over}
+pub use Rattle.crashlab.specs.declared.moves.Made.TheVariants.{On}
+pub use Rattle.crashlab.specs.declared.variant.Variant.{Variant}
+pub use Rattle.crashlab.specs.declared.variant.Variant.TheVariants.{Right, NoLook, NoTies, Renumber, ExitOnCrash, CountUp, LastSkipped}
+pub use Rattle.crashlab.specs.Found.{Ends, Told, with_line, line_by}
+pub use Rattle.crashlab.specs.Hunts.{first_world, deeds_of_lines, IsPlayed}
+pub use Rattle.crashlab.specs.LockWorlds.{IsLockWorld}
+pub use Rattle.crashlab.specs.VariantRuns.{IsRun, spot_at}
+pub use Rattle.crashlab.specs.VariantScripts.{raised, counting_up, leaving_out}
+pub use Rattle.crashlab.specs.VariantSpots.{beside, variant_begun, variant_spot, variant_outer, at_variant, variant_moved, variant_outer_by, variant_answer_by, variant_done_by, variant_answer_at, variant_done_at}
+pub use Rattle.crashlab.specs.VariantStands.{changed_errand, changed_access, weighed, access_beside, is_put, VariantStand, variant_spot_of, outside_at, over_by, over_way, silent, IsPlain, variant_resting, variant_crashed, variant_next_access, variant_stepped, stepped_beside, variant_outcome, variant_started, change_of, changed_script, unless_answered, plain_outcome, by_row, last_put_next}
+pub use Rattle.crashlab.specs.VariantWorlds.{VariantState, stand_at, access_at, advance_refusal, unless_step, start_refusal, stepped, advanced, advanced_if, crash_deed, crashed, IsSeated, at_rest_from, new_world, found_by, HasSeat, outcome_of, deeds_of, stepped_if}
+pub use Rattle.crashlab.specs.Variants.{variant_access, and_detour}

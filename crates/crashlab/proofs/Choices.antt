@@ -1,5 +1,5 @@
 -- Which step a variant's process takes next, by its definition alone; and the variant that changes nothing.
-use Rattle.std.proofs.Common.{◌≡◌, ℕ, ◌<◌, Bool, true, false, ◌==◌, if◌then◌else◌, [], ◌∷◌, Option, Some, refl, sym, ap, ◌∙◌, subst}
+use Rattle.std.proofs.Common.{◌≡◌, ℕ, ◌<◌, Bool, true, false, ◌==◌, if◌then◌else◌, Option, Some, refl, sym, ap, ◌∙◌, subst}
 use Rattle.crashlab.proofs.Common.{Access, Load, Store, Gets, Puts, Data as DataAt, access, Place, next, Layout, Reply, last_at, Script, Get as Asks, Put as Writes, Done, Call, Consistent}
 use Rattle.crashlab.proofs.Common.{Errand as Chore, Free as IsFree, Asking, Does, Mending, errand_of, Doing, Spot, Happening, Begins, Falls, Moves, next_spot, begun_from, Stand, access_by, Change}
 use Rattle.crashlab.proofs.Common.{Nothing, LeavesOut, Counts, Counted, Detour, Straight, Dropping, Over, Variant, Right, NoLook, NoTies, Renumber, ExitOnCrash, CountUp, LastSkipped, IsRun, spot_at}

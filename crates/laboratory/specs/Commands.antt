@@ -51,7 +51,7 @@ pub record TellsTrace (old new : Reading) (before now : Tape) (end : Result Endi
   pub outcome_is : outcome end ≡ outcome_told (trace_answer (parts_of text))
   pub line : Writes before now (line_told (trace_answer (parts_of text)))
 
--- a device, memory or a member of a lab failed
+-- a device, memory or a member of a lab failed, or a search came to too many states
 abbrev pub IsBroken : Result Ending Fault → Type 0
 IsBroken end = status_ended end ≡ 3
 

@@ -1,4 +1,5 @@
--- Exit statuses: 0 is fine, 1 a verdict against, 2 a fault of the input, 3 one of a device, of memory or of a member.
+-- Exit statuses: 0 is fine, 1 a verdict against, 2 a fault of the input, 3 one of a device, of memory or of a member, or too many
+-- states in a search.
 use Rattle.std.specs.Prelude.{ℕ, Option, Some, None, Result, Ok, Err}
 use Rattle.crashlab.specs.declared.hunt_fault.HuntFault.{HuntFault}
 use Rattle.crashlab.specs.declared.hunt_fault.HuntFault.TheVariants as of_hunt
@@ -21,7 +22,7 @@ use Rattle.laboratory.specs.declared.folder.FileFault.TheVariants as of_file
 use Rattle.laboratory.specs.declared.fault.Fault.{Fault}
 use Rattle.laboratory.specs.declared.fault.Fault.TheVariants.{Text, Refused, Image, BadSize, Read, Write, OutOfMemory, Member, TooManyStates}
 
--- 3 for a fault of a device, of memory or of a member, 2 for one of the input
+-- 3 for a fault of a device, of memory or of a member, and for too many states in a search; 2 for one of the input
 abbrev pub status_of : Fault → ℕ
 status_of Read = 3
 status_of Write = 3

@@ -38,7 +38,8 @@ pub enum Fault {
 impl Fault {
     ghost use Rattle.laboratory.specs.Statuses.{status_of};
 
-    /// The exit status: 2 for a fault of the input, 3 for one of a device, of memory or of a member.
+    /// The exit status: 2 for a fault of the input, 3 for one of a device, of memory or of a member, and for too many states
+    /// in a search.
     pub fn status(self) -> u8
         ensures told { result ≡ status_of self }
         ensures least { 2 ≤ result }

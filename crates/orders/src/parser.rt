@@ -5,7 +5,7 @@ use std::alloc::{AllocError, Global};
 
 const STATUSES: &str =
     "Exit status: 0 fine, 1 a verdict against, a schedule found, or a message twice or out of order, 2 a fault of the \
-input, 3 a fault of a device, of memory or of a member.";
+input, 3 a fault of a device, of memory or of a member, or too many states in `explore`.";
 
 const REPLAY_HELP: &str =
     "In: a schedule, as `rme 1 procs 2 limit 10 cap 1`, then lines such as `lock 0`, `step 0 5`, \

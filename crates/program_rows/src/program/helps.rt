@@ -22,7 +22,7 @@ Options:
   -h, --help     Print help
   -V, --version  Print version
 
-Exit status: 0 fine, 1 a verdict against, a schedule found, or a message twice or out of order, 2 a fault of the input, 3 a fault of a device, of memory or of a member.
+Exit status: 0 fine, 1 a verdict against, a schedule found, or a message twice or out of order, 2 a fault of the input, 3 a fault of a device, of memory or of a member, or too many states in `explore`.
 ";
 
 const REPLAY: &str = "Runs a schedule of steps and crashes, and prints its report

@@ -91,8 +91,8 @@ pub fn histories_are_legal()
     ensures later { (i : Image) (s : Start) (acts : List Act) → IsLawfulImage i → IsStartOf i s → (t : State) × Leads (state_of s) (run_of (image_world i) acts).history t }
 {}
 
-/// Only a process that is inside puts a data word. So from its Enter on, crashes and re-entries or not, no other puts one
-/// until it leaves.
+/// In a story from all words 0, behind an Enter of a process and with no Leave and no Quit of that process since: each put of
+/// a data word since then is that process's own, also where it crashed and came in again meanwhile.
 pub fn only_holders_put()
     ensures { OnlyHoldersPut }
 {}

@@ -22,14 +22,14 @@ use std::sync::Wait;
 
 impl Member {
     /// Stores a message with this number, from 1, unless the process is blocked once more than it was given turns
-    /// (docs/mailbox.md, Append; its lock is docs/model.md, Lock). Where it answers Stored or Already, the message is shown.
-    /// Full, Closed and OutOfOrder tell what held of the mailbox at one moment of the call. The first two stay so; after
-    /// OutOfOrder send the number that comes next of this sender.
+    /// (docs/mailbox.md, Append; its lock is docs/model.md, Lock). Where it answers Stored, the message is shown; where Already,
+    /// the one that was stored under this number before. Full, Closed and OutOfOrder tell what held of the mailbox at one
+    /// moment of the call. The first two stay so; after OutOfOrder send the number that comes next of this sender.
     ///
     /// `BadWidth`: the value has not as many words as the arena's values; send one that has. `AlreadyIn`: the process is in the
     /// section; unlock first. `Crashed`: the message may be stored or not; send it again with the same number, which answers
     /// Already where it is. `NotYet`: the process still waits, with its place kept; send again to wait on, or `withdraw`.
-    /// `NumbersSpent`: another held the last number, this call has stored nothing; send again once it has left.
+    /// `NumbersSpent`: another held the last number, this call has stored nothing; send again once the other has left.
     /// `NotRecoverable` (POSIX: ENOTRECOVERABLE): the lock is ruined, this call has stored nothing, and nobody will store any
     /// more; `read_from` still reads.
     pub fn append_within<C: CrashPlan>(
@@ -67,8 +67,9 @@ impl Member {
     ///
     /// `AlreadyIn`: the process is in the section; unlock first. `Crashed`: the mailbox may be closed or not; close it again,
     /// which answers AlreadyClosed where it is. `NotYet`: the process still waits, with its place kept; close again to wait on,
-    /// or `withdraw`. `NumbersSpent`: another held the last number, the mailbox is as it was; close again once it has left.
-    /// `NotRecoverable` (POSIX: ENOTRECOVERABLE): the lock is ruined, and nobody will store any more.
+    /// or `withdraw`. `NumbersSpent`: another held the last number, this call has closed nothing; close again once the other has
+    /// left. `NotRecoverable` (POSIX: ENOTRECOVERABLE): the lock is ruined, this call has closed nothing, and nobody will store
+    /// any more; `read_from` still reads.
     pub fn close_within<C: CrashPlan>(
         &mut self,
         plan: &mut C,
@@ -86,9 +87,8 @@ impl Member {
         self.runner.mail_within(plan, &Call::Close, turns)
     }
 
-    /// Stores a message with this number, from 1, and waits for as long as it has to (docs/mailbox.md, Append). Where it answers
-    /// Stored or Already, the message is shown; Full, Closed and OutOfOrder tell what held of the mailbox at one moment of the
-    /// call.
+    /// Stores a message with this number, from 1, and waits for as long as it has to (docs/mailbox.md, Append). Its answers are
+    /// those of `append_within`.
     ///
     /// `BadWidth`, `AlreadyIn`, `Crashed`, `NumbersSpent` and `NotRecoverable` as at `append_within`; never `NotYet`.
     pub fn append<R: Wait, C: CrashPlan>(

@@ -107,8 +107,8 @@ impl Member {
         self.runner.read_from(alloc, place)
     }
 
-    /// Leaves the section (POSIX: `pthread_mutex_unlock`). A holder that came in again and has not mended ruins the lock for
-    /// good, as there an unlock without `pthread_mutex_consistent` does.
+    /// Leaves the section (POSIX: `pthread_mutex_unlock`; docs/model.md, Unlock). A holder that came in again and has not mended
+    /// ruins the lock for good, as there an unlock without `pthread_mutex_consistent` does.
     ///
     /// `NotOwner` (POSIX: EPERM): the process isn't in the section, or crashed there; lock first. `Crashed`: it may have left
     /// or not; a `recover` tells (`Inside`, `Left` or `Idle`), and a lock goes on from either.
@@ -152,8 +152,8 @@ impl Member {
     /// Reads a word of the board, 0 to 3, as a holder: what the run's last `put` there has put, 0 where there is none. That
     /// `put` is the caller's own where it has made one since it entered, crashes between or not (docs/mailbox.md, BoardGet).
     ///
-    /// `NotOwner`: the process isn't in the section, or crashed there; lock first. `BadIndex`: there is no such word.
-    /// `Crashed`: lock again, which answers `OwnerDied`.
+    /// `NotOwner`: the process isn't in the section, or crashed there; lock first. `BadIndex`: there is no such word; take one
+    /// from 0 to 3. `Crashed`: lock again, which answers `OwnerDied`, or `NotRecoverable` where the lock is ruined.
     pub fn get<C: CrashPlan>(&mut self, i: u64, plan: &mut C) -> Result<u64, LockFault>
         ensures accepted { OnOk result (refusal_now self.old (Call.Get i) ≡ None) }
         ensures served { IfOk result (λ v. (mine : List TakenStep) × Served (began self.old (Call.Get i)) (Call.Get i) (Answer.Mail (Reply.Word v) ∷ []) 0 self.new mine × Calm (length mine + 1) (C.asked plan.old) (C.asked plan.new) (C.fallen plan.old) (C.fallen plan.new)) }
@@ -173,8 +173,9 @@ impl Member {
 
     /// Writes a word of the board, 0 to 3, as a holder (docs/mailbox.md, BoardPut).
     ///
-    /// `NotOwner`: the process isn't in the section, or crashed there; lock first. `BadIndex`: there is no such word.
-    /// `Crashed`: the word may be written or not; lock again, which answers `OwnerDied`, read it, and write it again.
+    /// `NotOwner`: the process isn't in the section, or crashed there; lock first. `BadIndex`: there is no such word; take one
+    /// from 0 to 3. `Crashed`: the word may be written or not; lock again, which answers `OwnerDied`, read it, and write it
+    /// again; or it answers `NotRecoverable`, where the lock is ruined.
     pub fn put<C: CrashPlan>(&mut self, i: u64, value: u64, plan: &mut C) -> Result<(), LockFault>
         ensures accepted { OnOk result (refusal_now self.old (Call.Put i value) ≡ None) }
         ensures served { OnOk result ((reply : ReplyOf) × (mine : List TakenStep) × Served (began self.old (Call.Put i value)) (Call.Put i value) (Answer.Mail reply ∷ []) 0 self.new mine × Calm (length mine + 1) (C.asked plan.old) (C.asked plan.new) (C.fallen plan.old) (C.fallen plan.new)) }
@@ -190,12 +191,12 @@ impl Member {
         }
     }
 
-    /// Mends what a crash inside has left, as a holder that came in again (POSIX: `pthread_mutex_consistent`). Answers whether
-    /// an append was cut off behind its commit; its message is shown from then on.
+    /// Mends what a crash inside has left, as a holder that came in again (POSIX: `pthread_mutex_consistent`; docs/model.md,
+    /// Consistent). Answers whether an append was cut off behind its commit; its message is shown from then on.
     ///
     /// `NotInconsistent` (POSIX: EINVAL): the process is in the section with nothing to mend, and goes on; or it isn't there, or
-    /// crashed there: lock first. `Crashed`: lock again, which answers `OwnerDied`, and mend then. `NotRecoverable`: the lock is
-    /// ruined; the process is inside still, and can but unlock.
+    /// crashed there: lock first. `Crashed`: lock again, which answers `OwnerDied`, and mend then; or it answers
+    /// `NotRecoverable`. `NotRecoverable`: the lock is ruined; the process is inside still, and can but unlock.
     pub fn consistent<C: CrashPlan>(&mut self, plan: &mut C) -> Result<bool, LockFault>
         ensures accepted { OnOk result (refusal_now self.old Call.Consistent ≡ None) }
         ensures served { IfOk result (λ mended. (mine : List TakenStep) × Served (began self.old Call.Consistent) Call.Consistent (Answer.Mail (Reply.Mended mended) ∷ []) 0 self.new mine × Calm (length mine + 1) (C.asked plan.old) (C.asked plan.new) (C.fallen plan.old) (C.fallen plan.new)) }
@@ -236,10 +237,10 @@ impl Member {
     /// `pthread_mutex_timedlock`, with turns for time; docs/model.md, Lock). `OwnerDied` (POSIX: EOWNERDEAD) says that this
     /// process itself crashed inside: call `consistent` before the unlock.
     ///
-    /// `AlreadyIn`: the process is in the section. `Crashed`: lock again. `NotYet`: it still waits, with its place kept; lock
-    /// again to wait on, or `withdraw`. `NumbersSpent`: another held the last number, the process is at rest; lock again
-    /// once it has left. `NotRecoverable` (POSIX: ENOTRECOVERABLE): the lock is ruined and the process has left; nobody will
-    /// hold it any more, and `read_from` still reads its messages.
+    /// `AlreadyIn`: the process is in the section, and goes on there. `Crashed`: lock again. `NotYet`: it still waits, with its
+    /// place kept; lock again to wait on, or `withdraw`. `NumbersSpent`: another held the last number, the process is at rest;
+    /// lock again once the other has left. `NotRecoverable` (POSIX: ENOTRECOVERABLE): the lock is ruined and the process has
+    /// left; so it is answered from now on, and `read_from` still reads its messages.
     pub fn lock_within<C: CrashPlan>(
         &mut self,
         plan: &mut C,

@@ -196,7 +196,7 @@ impl Member {
     ///
     /// `NotInconsistent` (POSIX: EINVAL): the process is in the section with nothing to mend, and goes on; or it isn't there, or
     /// crashed there: lock first. `Crashed`: lock again, which answers `OwnerDied`, and mend then; or it answers
-    /// `NotRecoverable`. `NotRecoverable`: the lock is ruined; the process is inside still, and can but unlock.
+    /// `NotRecoverable`. `NotRecoverable`: the lock is ruined, and the process is inside still: unlock.
     pub fn consistent<C: CrashPlan>(&mut self, plan: &mut C) -> Result<bool, LockFault>
         ensures accepted { OnOk result (refusal_now self.old Call.Consistent ≡ None) }
         ensures served { IfOk result (λ mended. (mine : List TakenStep) × Served (began self.old Call.Consistent) Call.Consistent (Answer.Mail (Reply.Mended mended) ∷ []) 0 self.new mine × Calm (length mine + 1) (C.asked plan.old) (C.asked plan.new) (C.fallen plan.old) (C.fallen plan.new)) }

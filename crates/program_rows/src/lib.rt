@@ -1,8 +1,14 @@
-//! The worked rows of the program, as whole invocations over a folder, an input and two outputs that are made up; and each
-//! request for memory refused in turn. Tests alone: each names public functions of `laboratory` and of the crates below it.
+//! Drawings, explanations and senders, and words that are refused, as whole invocations of the program; and each request for
+//! memory refused in turn. Tests alone: each names public functions of `laboratory` and of the crates below it.
 #![tactic(auto)]
 
 #[cfg(test)]
-mod kit;
+mod drawings;
 #[cfg(test)]
-mod program;
+mod explains;
+#[cfg(test)]
+mod invocations;
+#[cfg(test)]
+mod memory;
+#[cfg(test)]
+mod senders;

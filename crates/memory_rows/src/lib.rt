@@ -1,0 +1,10 @@
+//! Each request for memory refused in turn, of worlds, images, replays, traces and labs. Tests alone: each names public
+//! functions of `rmeworld`, `schedule` or `robust`.
+#![tactic(auto)]
+
+#[cfg(test)]
+mod labs;
+#[cfg(test)]
+mod traces;
+#[cfg(test)]
+mod worlds;

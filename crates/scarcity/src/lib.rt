@@ -1,0 +1,64 @@
+//! All memory is taken, but for a reserve that is given back piece by piece: so each request for memory is refused in turn,
+//! until a call meets no refusal. For tests.
+#![tactic(auto)]
+
+use std::alloc::{AllocError, Global};
+
+const LARGEST: usize = 8 * 1024 * 1024 * 1024;
+
+const BLOCKS: usize = 200_000;
+
+/// How many pieces the reserve has.
+pub const PIECES: usize = 400;
+
+const PIECE: usize = 240;
+
+/// All memory but for a reserve.
+#[derive(Drop)]
+pub struct Scarce {
+    reserve: Vec<Vec<u8>>,
+    taken: Vec<Vec<u8>>,
+}
+
+impl Scarce {
+    /// Takes all memory that there is.
+    pub fn new(alloc: Global) -> Result<Scarce, AllocError> {
+        let mut reserve = Vec::with_capacity(alloc, PIECES)?;
+        for _ in 0..PIECES {
+            reserve.push(Vec::<u8>::with_capacity(alloc, PIECE)?)?;
+        }
+        let taken = all_that_is_left(alloc)?;
+        Ok(Scarce { reserve, taken })
+    }
+
+    /// Gives back one piece, while there is one.
+    pub fn give_back(&mut self) {
+        let piece = self.reserve.pop();
+        drop(piece);
+    }
+
+    /// Gives everything back.
+    pub fn end(self) {
+        let Scarce { reserve, taken } = self;
+        drop(reserve);
+        drop(taken);
+    }
+}
+
+/// Blocks that shrink, until the smallest is refused.
+fn all_that_is_left(alloc: Global) -> Result<Vec<Vec<u8>>, AllocError> {
+    let mut blocks = Vec::with_capacity(alloc, BLOCKS)?;
+    let mut size = LARGEST;
+    for _ in 0..2 * BLOCKS {
+        if blocks.len() + 1 >= BLOCKS {
+            break;
+        }
+        match Vec::<u8>::with_capacity(alloc, size) {
+            Ok(block) => blocks.push(block)?,
+            Err(_) if size <= 16 => break,
+            Err(_) if size <= 4096 => size -= 16,
+            Err(_) => size /= 2,
+        }
+    }
+    Ok(blocks)
+}

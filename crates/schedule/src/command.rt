@@ -24,18 +24,29 @@ pub enum Command {
 pub fn command_at(word: &[u8]) -> Option<Command>
     ensures { result ≡ named commands_by_name word.now }
 {
-    match word {
-        b"lock" => Some(Command::Lock),
-        b"unlock" => Some(Command::Unlock),
-        b"consistent" => Some(Command::Consistent),
-        b"recover" => Some(Command::Recover),
-        b"append" => Some(Command::Append),
-        b"close" => Some(Command::Close),
-        b"put" => Some(Command::Put),
-        b"get" => Some(Command::Get),
-        b"withdraw" => Some(Command::Withdraw),
-        b"step" => Some(Command::Step),
-        b"crash" => Some(Command::Crash),
-        _ => None,
+    if word == b"lock".as_slice() {
+        Some(Command::Lock)
+    } else if word == b"unlock".as_slice() {
+        Some(Command::Unlock)
+    } else if word == b"consistent".as_slice() {
+        Some(Command::Consistent)
+    } else if word == b"recover".as_slice() {
+        Some(Command::Recover)
+    } else if word == b"append".as_slice() {
+        Some(Command::Append)
+    } else if word == b"close".as_slice() {
+        Some(Command::Close)
+    } else if word == b"put".as_slice() {
+        Some(Command::Put)
+    } else if word == b"get".as_slice() {
+        Some(Command::Get)
+    } else if word == b"withdraw".as_slice() {
+        Some(Command::Withdraw)
+    } else if word == b"step".as_slice() {
+        Some(Command::Step)
+    } else if word == b"crash".as_slice() {
+        Some(Command::Crash)
+    } else {
+        None
     }
 }

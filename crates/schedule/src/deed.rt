@@ -31,19 +31,30 @@ pub enum DeedWord {
 fn deed_word_at(word: &[u8]) -> Option<DeedWord>
     ensures { result ≡ named deeds_by_name word.now }
 {
-    match word {
-        b"begin" => Some(DeedWord::Begin),
-        b"ready" => Some(DeedWord::Ready),
-        b"enter" => Some(DeedWord::Enter),
-        b"crash" => Some(DeedWord::Crash),
-        b"reenter" => Some(DeedWord::Reenter),
-        b"leave" => Some(DeedWord::Leave),
-        b"quit" => Some(DeedWord::Quit),
-        b"commit" => Some(DeedWord::Commit),
-        b"show" => Some(DeedWord::Show),
-        b"close" => Some(DeedWord::Close),
-        b"ruin" => Some(DeedWord::Ruin),
-        _ => None,
+    if word == b"begin".as_slice() {
+        Some(DeedWord::Begin)
+    } else if word == b"ready".as_slice() {
+        Some(DeedWord::Ready)
+    } else if word == b"enter".as_slice() {
+        Some(DeedWord::Enter)
+    } else if word == b"crash".as_slice() {
+        Some(DeedWord::Crash)
+    } else if word == b"reenter".as_slice() {
+        Some(DeedWord::Reenter)
+    } else if word == b"leave".as_slice() {
+        Some(DeedWord::Leave)
+    } else if word == b"quit".as_slice() {
+        Some(DeedWord::Quit)
+    } else if word == b"commit".as_slice() {
+        Some(DeedWord::Commit)
+    } else if word == b"show".as_slice() {
+        Some(DeedWord::Show)
+    } else if word == b"close".as_slice() {
+        Some(DeedWord::Close)
+    } else if word == b"ruin".as_slice() {
+        Some(DeedWord::Ruin)
+    } else {
+        None
     }
 }
 

@@ -17,21 +17,55 @@ use rmecore::Outer;
 fn word(text: &[u8]) -> Option<(DeedWord, &[u8])>
     ensures { IfSome result (λ read. text.now ≡ lead read.0 ++ read.1.now) }
 {
+    match mail_word(text) {
+        None => match way_word(text) {
+            None => end_word(text),
+            read => read,
+        },
+        read => read,
+    }
+}
+
+/// As `word`, of a deed of the mailbox.
+#[inline(always)]
+fn mail_word(text: &[u8]) -> Option<(DeedWord, &[u8])>
+    ensures { IfSome result (λ read. text.now ≡ lead read.0 ++ read.1.now) }
+{
     match text {
         [b'c', b'o', b'm', b'm', b'i', b't', b' ', rest @ ..] => Some((DeedWord::Commit, rest)),
         [b's', b'h', b'o', b'w', b' ', rest @ ..] => Some((DeedWord::Show, rest)),
+        [b'c', b'l', b'o', b's', b'e', b' ', rest @ ..] => Some((DeedWord::Close, rest)),
+        [b'r', b'u', b'i', b'n', b' ', rest @ ..] => Some((DeedWord::Ruin, rest)),
+        _ => None,
+    }
+}
+
+/// As `word`, of a deed on the way into the section.
+#[inline(always)]
+fn way_word(text: &[u8]) -> Option<(DeedWord, &[u8])>
+    ensures { IfSome result (λ read. text.now ≡ lead read.0 ++ read.1.now) }
+{
+    match text {
         [b'b', b'e', b'g', b'i', b'n', b' ', rest @ ..] => Some((DeedWord::Begin, rest)),
         [b'r', b'e', b'a', b'd', b'y', b' ', rest @ ..] => Some((DeedWord::Ready, rest)),
         [b'e', b'n', b't', b'e', b'r', b' ', rest @ ..] => Some((DeedWord::Enter, rest)),
-        [b'l', b'e', b'a', b'v', b'e', b' ', rest @ ..] => Some((DeedWord::Leave, rest)),
-        [b'c', b'r', b'a', b's', b'h', b' ', rest @ ..] => Some((DeedWord::Crash, rest)),
         [b'r', b'e', b'e', b'n', b't', b'e', b'r', b' ', rest @ ..] => Some((
             DeedWord::Reenter,
             rest,
         )),
+        _ => None,
+    }
+}
+
+/// As `word`, of a deed that leads out of the section or the line before it, and of a crash.
+#[inline(always)]
+fn end_word(text: &[u8]) -> Option<(DeedWord, &[u8])>
+    ensures { IfSome result (λ read. text.now ≡ lead read.0 ++ read.1.now) }
+{
+    match text {
+        [b'l', b'e', b'a', b'v', b'e', b' ', rest @ ..] => Some((DeedWord::Leave, rest)),
+        [b'c', b'r', b'a', b's', b'h', b' ', rest @ ..] => Some((DeedWord::Crash, rest)),
         [b'q', b'u', b'i', b't', b' ', rest @ ..] => Some((DeedWord::Quit, rest)),
-        [b'c', b'l', b'o', b's', b'e', b' ', rest @ ..] => Some((DeedWord::Close, rest)),
-        [b'r', b'u', b'i', b'n', b' ', rest @ ..] => Some((DeedWord::Ruin, rest)),
         _ => None,
     }
 }

@@ -17,25 +17,24 @@ use rmeworld::Call;
 fn word(text: &[u8]) -> Option<(Command, &[u8])>
     ensures { IfSome result (λ read. text.now ≡ opening read.0 ++ read.1.now) }
 {
+    match lock_word(text) {
+        None => match mail_word(text) {
+            None => board_word(text),
+            read => read,
+        },
+        read => read,
+    }
+}
+
+/// As `word`, of a call of the lock, and of a crash.
+#[inline(always)]
+fn lock_word(text: &[u8]) -> Option<(Command, &[u8])>
+    ensures { IfSome result (λ read. text.now ≡ opening read.0 ++ read.1.now) }
+{
     match text {
         [b'l', b'o', b'c', b'k', b' ', rest @ ..] => Some((Command::Lock, rest)),
         [b'u', b'n', b'l', b'o', b'c', b'k', b' ', rest @ ..] => Some((Command::Unlock, rest)),
-        [b'a', b'p', b'p', b'e', b'n', b'd', b' ', rest @ ..] => Some((Command::Append, rest)),
         [b'c', b'r', b'a', b's', b'h', b' ', rest @ ..] => Some((Command::Crash, rest)),
-        [
-            b'c',
-            b'o',
-            b'n',
-            b's',
-            b'i',
-            b's',
-            b't',
-            b'e',
-            b'n',
-            b't',
-            b' ',
-            rest @ ..,
-        ] => Some((Command::Consistent, rest)),
         [b'r', b'e', b'c', b'o', b'v', b'e', b'r', b' ', rest @ ..] => Some((
             Command::Recover,
             rest,
@@ -52,9 +51,44 @@ fn word(text: &[u8]) -> Option<(Command, &[u8])>
             b' ',
             rest @ ..,
         ] => Some((Command::Withdraw, rest)),
+        _ => None,
+    }
+}
+
+/// As `word`, of a call that stores a message, ends a torn one, or closes the mailbox.
+#[inline(always)]
+fn mail_word(text: &[u8]) -> Option<(Command, &[u8])>
+    ensures { IfSome result (λ read. text.now ≡ opening read.0 ++ read.1.now) }
+{
+    match text {
+        [b'a', b'p', b'p', b'e', b'n', b'd', b' ', rest @ ..] => Some((Command::Append, rest)),
+        [
+            b'c',
+            b'o',
+            b'n',
+            b's',
+            b'i',
+            b's',
+            b't',
+            b'e',
+            b'n',
+            b't',
+            b' ',
+            rest @ ..,
+        ] => Some((Command::Consistent, rest)),
+        [b'c', b'l', b'o', b's', b'e', b' ', rest @ ..] => Some((Command::Close, rest)),
+        _ => None,
+    }
+}
+
+/// As `word`, of a call on a board word.
+#[inline(always)]
+fn board_word(text: &[u8]) -> Option<(Command, &[u8])>
+    ensures { IfSome result (λ read. text.now ≡ opening read.0 ++ read.1.now) }
+{
+    match text {
         [b'g', b'e', b't', b' ', rest @ ..] => Some((Command::Get, rest)),
         [b'p', b'u', b't', b' ', rest @ ..] => Some((Command::Put, rest)),
-        [b'c', b'l', b'o', b's', b'e', b' ', rest @ ..] => Some((Command::Close, rest)),
         _ => None,
     }
 }

@@ -8,7 +8,7 @@ use Rattle.meanings.specs.declared.topic.Topic.{Topic}
 use Rattle.meanings.specs.declared.topic.TheConstants.{TOPICS}
 use Rattle.meanings.specs.Told.{list_of, TellsTopic}
 use Rattle.rmeworld.specs.declared.image.Image.{Image}
-use Rattle.rmeworld.specs.ImageText.{image_line}
+use Rattle.imaging.specs.ImageText.{image_line}
 use Rattle.rmeworld.specs.Replayed.{image_of}
 use Rattle.rmecore.specs.declared.refusal.Refusal.{Refusal}
 use Rattle.judge.specs.Table.{State}

@@ -4,8 +4,8 @@ use Rattle.rmecore.specs.declared.refusal.Refusal.{Refusal}
 use Rattle.rmecore.specs.Refused.{number_of}
 use Rattle.rmecore.specs.Simulated.{cause}
 use Rattle.rmeworld.specs.declared.image.Image.{Image}
-use Rattle.rmeworld.specs.ImageText.{Spells, version_of}
-use Rattle.rmeworld.specs.ImageWiden.{IsUnwidened, IsWider}
+use Rattle.imaging.specs.ImageText.{Spells, version_of}
+use Rattle.imaging.specs.ImageWiden.{IsUnwidened, IsWider}
 use Rattle.rmeworld.specs.WorldState.{new_refusal}
 use Rattle.schedule.specs.declared.fault.LineFault.{LineFault}
 use Rattle.schedule.specs.Numbers.{number_of as number_of_line}

@@ -7,7 +7,7 @@ ghost use Rattle.judge.specs.Table.{empty};
 ghost use Rattle.rmecore.specs.Refused.{number_of};
 ghost use Rattle.rmeworld.specs.ImageRules.{IsLawfulImage};
 ghost use Rattle.rmeworld.specs.ImageStart.{IsStartOf};
-ghost use Rattle.rmeworld.specs.ImageWiden.{IsWider};
+ghost use Rattle.imaging.specs.ImageWiden.{IsWider};
 ghost use Rattle.rmeworld.specs.WorldState.{image_world as world_of_image, new_refusal, new_world as world_of_sizes};
 ghost use Rattle.crashlab.specs.VariantWorlds.{new_world as world_of_variant};
 ghost use Rattle.schedule.specs.Schedules.{schedule_at};
@@ -17,9 +17,10 @@ ghost use Rattle.laboratory.specs.Statuses.{fault_of_header, fault_of_image, sta
 
 use crate::fault::Fault;
 use crashlab::{Variant, VariantWorld};
+use imaging::{read_image, start_of, widen};
 use judge::{Judge, Start};
 use rmecore::Refusal;
-use rmeworld::{Image, World, read_image, start_of, widen};
+use rmeworld::{Image, World};
 use schedule::head::Head;
 use schedule::pieces::read_all;
 use schedule::{Schedule, Source, read_schedule};

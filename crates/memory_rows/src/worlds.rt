@@ -1,7 +1,8 @@
 //! Each request for memory refused in turn, of worlds, images and replays.
 
+use imaging::{read_image, write_image};
 use rmecore::Refusal;
-use rmeworld::{Call, Image, World, read_image, write_image};
+use rmeworld::{Call, Image, World};
 use scarcity::{PIECES, Scarce};
 use schedule::{ReplayFault, Text, ToWriter, Verdict, replay};
 use std::alloc::Global;

@@ -1,17 +1,8 @@
 -- What proof files of this crate cite from modules that two or more of them share, passed on from one place. Declares nothing.
-pub use Rattle.std.proofs.Math.Seq.{take-append_seam, get_or-append_seam, drop-append_seam}
 pub use Rattle.std.proofs.lemmas.Bool.{cases_Bool, cases_eq, and_parts, cond_both, cases_lt, false≢true, eqb-false}
 pub use Rattle.std.proofs.lemmas.Grind.{common_steps}
-pub use Rattle.std.proofs.lemmas.List.{get_or_past, length-map, get_or-map, get_or_default, take-append-le, map-append, set_past, get_or-replicate, length-replicate}
+pub use Rattle.std.proofs.lemmas.List.{get_or_past, length-map, get_or_default, set_past, get_or-replicate, length-replicate}
 pub use Rattle.std.proofs.lemmas.List.Elements.{All-nil, All-cons, All-append, Contains-append_right, All-head, All-tail, All-push, All-contains, Contains-append_left, Contains-push}
-pub use Rattle.std.proofs.lemmas.Result.{IfOk-weaker, err_from_is_err_and, IfErr-weaker}
-pub use Rattle.json.specs.Lex.{tokens, token, comma, colon, string_token, between, punctuate}
-unfoldable pub use Rattle.json.specs.Lex.{lex}
-pub use Rattle.json.specs.Print.{print, escape, quoted, token_text, begins, ends, separator, IsPrintable}
-unfoldable pub use Rattle.json.specs.Print.{print_from, ArePrintable}
-pub use Rattle.serde_json.specs.Data.{array, object, Items, no_items, item, Members, no_members, member, null, number, unsigned, depth, items_depth}
-pub use Rattle.serde_json.specs.Read.{read, max_depth, of_json}
-pub use Rattle.serde_json.specs.View.{view, items_of, items_view, members_view}
 pub use Rattle.rmecore.specs.declared.access.Access.{Access}
 pub use Rattle.rmecore.specs.declared.access.Access.TheVariants.{Load, Store}
 pub use Rattle.rmecore.specs.declared.core_call.CoreCall.{CoreCall}
@@ -26,12 +17,11 @@ pub use Rattle.rmecore.specs.declared.phase.Phase.{Phase}
 pub use Rattle.rmecore.specs.declared.phase.Phase.TheVariants.{Inside as Within, DeadIn}
 pub use Rattle.rmecore.specs.declared.progress.Progress.{Progress}
 pub use Rattle.rmecore.specs.declared.refusal.Refusal.{Refusal}
-pub use Rattle.rmecore.specs.declared.refusal.Refusal.TheVariants.{NoSuchProcess, NothingToDo, OutOfMemory, BadShape, Unmended, BadIndex, BadWidth}
 pub use Rattle.rmecore.specs.declared.tally.Tally.{Tally}
 pub use Rattle.rmecore.specs.declared.word.Word.{Word}
 pub use Rattle.rmecore.specs.declared.word.Word.TheVariants.{Data, Choosing, Number}
-pub use Rattle.rmecore.specs.AbstractLock.{Abstract, Legal, nobody, is_inside, doer, needs, done, is_ready, is_dead_in}
-pub use Rattle.rmecore.specs.Lawful.{dead_phase, phase_by, start_of, is_ahead, IsLawful, IsRow}
+pub use Rattle.rmecore.specs.AbstractLock.{Abstract, Legal, nobody, is_inside, doer, needs, done}
+pub use Rattle.rmecore.specs.Lawful.{dead_phase, phase_by, start_of, IsLawful, IsRow}
 pub use Rattle.rmecore.specs.Machine.{Standing, first, at_scan, kind_of, word_of, answer, reread_answer, shut_answer, unmark_answer, is_blocked, progress, after_access, next_access as lock_access, carried, access, IsLeast as IsLeastOfLock}
 pub use Rattle.rmecore.specs.Needs.{put, AllHold}
 pub use Rattle.rmecore.specs.OwnSteps.{reentry_steps, spent_steps, found_steps, entry_steps}
@@ -58,7 +48,6 @@ pub use Rattle.redomail.specs.declared.reply.Reply.{Reply}
 pub use Rattle.redomail.specs.declared.reply.Reply.TheVariants.{Mended, Ruined, Stored, Already, OutOfOrder, Full, Closed}
 pub use Rattle.redomail.specs.declared.stage.Stage.TheVariants.{Write}
 pub use Rattle.redomail.specs.declared.task.Task.{Task}
-pub use Rattle.redomail.specs.Content.{IsContent, HeadsHold}
 pub use Rattle.redomail.specs.Deeds.{deeds_of_put}
 pub use Rattle.redomail.specs.Laws.{NewWords}
 pub use Rattle.redomail.specs.Layout.{Words, IsLayout, size, words_of, row, last_at, held, board_at}
@@ -68,18 +57,16 @@ pub use Rattle.redomail.specs.Left.{Pending, left, begun, fed}
 pub use Rattle.redomail.specs.Mailbox.{Mailbox, message, IsAmong, is_pending, nothing_shown}
 pub use Rattle.redomail.specs.Safe.{Safe}
 pub use Rattle.redomail.specs.Script.{Script, Get, Put, Done, tail, puts, gets, in_row}
-pub use Rattle.redomail.specs.Shape.{Shape, RecordRule, mailbox_of, bit, entry, entries, recorded, IsNumbered, count_of, ListRule, Unshown, Shown}
+pub use Rattle.redomail.specs.Shape.{Shape, RecordRule, mailbox_of, bit, entry, entries, recorded, IsNumbered, count_of}
 pub use Rattle.redomail.specs.Stages.{stage_after}
 pub use Rattle.redomail.specs.Tasks.{script, consistent, apply_steps, store_steps, record_of, decided, append, redo, repair, close}
-pub use Rattle.redomail.proofs.Changes.{length-entries, count_of-push}
 pub use Rattle.redomail.proofs.Owns.{puts_are_own}
 pub use Rattle.redomail.proofs.Passes.{shape_passes_on, may_leave}
 pub use Rattle.redomail.proofs.Scripts.{length-store_steps, held-small}
-pub use Rattle.redomail.proofs.Words.{put-other, put-same, place_low, deeds_of_put-none, entry-from_row}
 pub use Rattle.judge.specs.declared.start.Start.{Start}
 pub use Rattle.judge.specs.Halves.{outers, all_after}
 pub use Rattle.judge.specs.Legal.{Leads, judged_all, IsLegal}
-pub use Rattle.judge.specs.Starts.{state_of, phase_in, is_named, IsNext, AreNumbered, LockHolds, MailHolds, IsStart}
+pub use Rattle.judge.specs.Starts.{state_of, phase_in}
 pub use Rattle.judge.specs.Table.{empty, State, after}
 pub use Rattle.judge.proofs.Halves.{AllHold-append, judged-allowed, state_led}
 pub use Rattle.judge.proofs.Histories.{judged_all-append}
@@ -99,10 +86,8 @@ pub use Rattle.rmeworld.specs.CallWalk.{next_or_same, Walks, blocked_in, and_ans
 pub use Rattle.rmeworld.specs.Entered.{is_entry, checks_done, mended_done}
 pub use Rattle.rmeworld.specs.Errands.{errand_of, HasStep, Held}
 pub use Rattle.rmeworld.specs.Holders.{puts_data, AllPutBy, NoEndOf, OnlyHoldersPut}
-pub use Rattle.rmeworld.specs.ImageRules.{layout_of, IsLawfulImage, IsRecorded, Keeps, IsSized}
+pub use Rattle.rmeworld.specs.ImageRules.{layout_of, IsLawfulImage, IsRecorded, Keeps}
 pub use Rattle.rmeworld.specs.ImageStart.{IsStartOf, IsInAlone}
-pub use Rattle.rmeworld.specs.ImageText.{whole_data, width_member, image_data, own_data, written_data, Spells, IsFirstBrokenAs, IsUnread}
-pub use Rattle.rmeworld.specs.ImageWiden.{padded, widened, IsWider, shown_in}
 pub use Rattle.rmeworld.specs.Law.{Sits, IsLater, ErrandTells, AppendTells, WhyTells, Sound, EveryStoryIsSound}
 pub use Rattle.rmeworld.specs.OwnSteps.{and_more, either, core_steps, task_steps, own_steps, most_steps, mending_steps}
 pub use Rattle.rmeworld.specs.Paid.{Costs, checked_steps, script_steps, PaysCore, Exits, PaysPart, PaysBy, PaysAt, entry_of}
@@ -114,6 +99,5 @@ pub use Rattle.rmeworld.specs.Spot.{outer_by, Errand, Free, Doing, Spot, dead, H
 pub use Rattle.rmeworld.specs.Stand.{Stand, standing, outcome, IsLeast, IsSize, resting, IsAllowed, spot_of, lock_moved, job_left, stepped, stepped_by, access_by, next_access, after_at, spot_after, StoresOwn, started as stand_started, crashed, InWords, IsOwnWord}
 pub use Rattle.rmeworld.specs.Tallied.{HasTaken, IsTallied, AllTallied}
 pub use Rattle.rmeworld.specs.UnderWay.{lock_part, part_call, why_call, call_by, call_at, task_call}
-pub use Rattle.rmeworld.specs.WideWords.{words_from, wide_place, wide_words}
 pub use Rattle.rmeworld.specs.World.{reading, event_deeds, Scene, at_first, Reads, put_cell, cells_after, Story, onward, last_scene, outer_deeds, mail_deeds, deeds, Can, put_deeds, words_after, all_dead, own_happenings, reading_of}
 pub use Rattle.rmeworld.specs.WorldState.{WorldState, stand_at, spot_at, scene_of, Takes, happening_of, ChoosesLeast, new_world, new_refusal, image_world, absent, HasSeat, crashed_from, IsSeated, at_rest_from}

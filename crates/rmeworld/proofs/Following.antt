@@ -1,9 +1,10 @@
 -- What the machine that a world is does, over all its calls: it follows a story from where it began, and tells its deeds.
 use Rattle.std.proofs.Common.{◌≡◌, ℕ, ◌<◌, Bool, true, false, ◌&&◌, ◌==◌, nat_lt, if◌then◌else◌, List, [], ◌∷◌, ◌++◌, length, slice_set, Option, Some, None, IfSome, refl, sym, ap, ◌∙◌, subst, inl, inr, append-nil, ltb-true, get_or-set_same, get_or-set_other}
-use Rattle.rmeworld.proofs.Common.{cases_Bool, cases_eq, Access, Load, Store, Outer, Refusal, NoSuchProcess, NothingToDo, Word, Data as DataAt, word_of, Deed, Layout, deeds_of_put, Words, IsLayout}
-use Rattle.rmeworld.proofs.Common.{words_of, Call, IsWorld, start_refusal as spot_refusal, happening, or_else, mail_by, the_deed, stepped_if, advanced_if, started, advance_refusal, advanced}
-use Rattle.rmeworld.proofs.Common.{crash_refusal, crash_deed, list_of, advanced_by, Happening, Begins, next_spot, Stand, outcome, IsLeast, IsAllowed, spot_of, stepped as stand_stepped, next_access}
-use Rattle.rmeworld.proofs.Common.{StoresOwn, stand_started, crashed as stand_crashed, reading, event_deeds, Scene, onward, Can, put_deeds, WorldState, stand_at, spot_at, scene_of, Takes, absent}
+use Rattle.rmeworld.proofs.Common.{cases_Bool, cases_eq, Access, Load, Store, Outer, Refusal, Word, Data as DataAt, word_of, Deed, Layout, deeds_of_put, Words, IsLayout, words_of, Call, IsWorld}
+use Rattle.rmeworld.proofs.Common.{start_refusal as spot_refusal, happening, or_else, mail_by, the_deed, stepped_if, advanced_if, started, advance_refusal, advanced, crash_refusal, crash_deed}
+use Rattle.rmeworld.proofs.Common.{list_of, advanced_by, Happening, Begins, next_spot, Stand, outcome, IsLeast, IsAllowed, spot_of, stepped as stand_stepped, next_access, StoresOwn, stand_started}
+use Rattle.rmeworld.proofs.Common.{crashed as stand_crashed, reading, event_deeds, Scene, onward, Can, put_deeds, WorldState, stand_at, spot_at, scene_of, Takes, absent}
+use Rattle.rmecore.specs.declared.refusal.Refusal.TheVariants.{NoSuchProcess, NothingToDo}
 use Rattle.rmeworld.specs.Refused.{is_idle}
 use Rattle.rmeworld.specs.Replayed.{start_refusal, stepped, crashed}
 use Rattle.rmeworld.proofs.Ordered.{IsOrdered, ordered_crashed, ordered_stepped, goes, allowed, owns, least, has_step, begins}

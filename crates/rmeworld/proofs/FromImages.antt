@@ -8,8 +8,7 @@ use Rattle.rmeworld.specs.ImageRules.{IsIn as IsInImage}
 use Rattle.rmeworld.proofs.LawfulNow.{find_in}
 use Rattle.rmeworld.proofs.WorldSteps.{le-ltb}
 use Rattle.rmeworld.proofs.WorldTallies.{unstarted}
-use Rattle.rmeworld.proofs.ImageJudged.{alone}
-use Rattle.rmeworld.proofs.ImageStarts.{lawful_content}
+use Rattle.rmeworld.proofs.ImageRules.{alone, lawful_content}
 use Rattle.rmeworld.proofs.Stories.{in_numbers}
 
 numbers_in : (c k i : ℕ) → 0 < k → 0 < i → IsIn (dead_phase c k i)

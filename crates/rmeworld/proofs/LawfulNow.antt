@@ -1,7 +1,8 @@
 -- The image of a scene that a story comes to is lawful.
 use Rattle.std.proofs.Common.{◌≡◌, ℕ, zero, suc, ◌<◌, ◌≤◌, ◌^◌, Bool, true, false, List, length, slice_index, refl, sym, ap, ◌∙◌, subst, inl, inr, ◌⊎◌, arith}
-use Rattle.rmeworld.proofs.Common.{cases_eq, Phase, Within as Inside, DeadIn, own_at, IsIn, Deed, Layout, HeadsHold, Words, size, words_of, Shape, RecordRule, bit, State, Image, layout_of}
-use Rattle.rmeworld.proofs.Common.{IsLawfulImage, IsWorld, IsImageOf, EveryStoryLeavesAnImage, IsLegalHistory, image_of, Spot, IsSize, Scene, WorldState, scene_of}
+use Rattle.rmeworld.proofs.Common.{cases_eq, Phase, Within as Inside, DeadIn, own_at, IsIn, Deed, Layout, Words, size, words_of, Shape, RecordRule, bit, State, Image, layout_of, IsLawfulImage}
+use Rattle.rmeworld.proofs.Common.{IsWorld, IsImageOf, EveryStoryLeavesAnImage, IsLegalHistory, image_of, Spot, IsSize, Scene, WorldState, scene_of}
+use Rattle.redomail.specs.Content.{HeadsHold}
 use Rattle.rmeworld.proofs.Reaching.{Arrived, arrives, origin, reached_arrives}
 use Rattle.rmeworld.proofs.Stories.{before_is}
 

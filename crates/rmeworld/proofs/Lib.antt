@@ -1,15 +1,7 @@
 pub mod Common
-pub mod ImageForms
-pub mod ImageJudged
 pub mod ImageRules
-pub mod ImageStarts
-pub mod ImageTexts
-pub mod LineFeeds
-pub mod ImageSpelt
 pub mod Entries
 pub mod Chores
-pub mod ImageWidens
-pub mod WideWords
 pub mod Projection
 pub mod Knowing
 pub mod Happenings

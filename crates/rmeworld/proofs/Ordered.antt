@@ -1,10 +1,11 @@
 -- What each process of a world keeps in its private memory, so that whatever its machine does is the definition's step.
 use Rattle.std.proofs.Common.{◌≡◌, ℕ, Bool, true, false, ◌&&◌, ◌==◌, nat_lt, if◌then◌else◌, [], ◌∷◌, length, Option, Some, None, IfSome, refl, sym, ◌∙◌, subst, inl, inr, arith, eqb-true, ltb-true, true≢false}
-use Rattle.rmeworld.proofs.Common.{cases_Bool, Access, Store, Refusal, Unmended, BadIndex, BadWidth, Data as DataAt, after_access, lock_access, IsLeastOfLock, Place, Wait, Rest, Inside, Dead, Layout}
-use Rattle.rmeworld.proofs.Common.{Reply, Ruined, IsLayout, Pending, left, fed, Script, Get as Asks, Put as Writes, Done, tail, stage_after, Call, Lock, Unlock, Consistent, Recover, Append, Close}
-use Rattle.rmeworld.proofs.Common.{Withdraw, Chore, IsFree, Asking, Does, Why, Mending, Checking, is_entry, errand_of, HasStep, Held, first_cause, start_refusal, is_idle_by, Doing, Spot, Begins}
-use Rattle.rmeworld.proofs.Common.{begun_from, next_spot, only_spot, end_place, Stand, standing, IsLeast, resting, IsAllowed, spot_of, lock_moved, job_left, stepped, stepped_by, access_by}
-use Rattle.rmeworld.proofs.Common.{next_access, spot_after, StoresOwn, stand_started as started, crashed}
+use Rattle.rmeworld.proofs.Common.{cases_Bool, Access, Store, Refusal, Data as DataAt, after_access, lock_access, IsLeastOfLock, Place, Wait, Rest, Inside, Dead, Layout, Reply, Ruined, IsLayout}
+use Rattle.rmeworld.proofs.Common.{Pending, left, fed, Script, Get as Asks, Put as Writes, Done, tail, stage_after, Call, Lock, Unlock, Consistent, Recover, Append, Close, Withdraw, Chore, IsFree}
+use Rattle.rmeworld.proofs.Common.{Asking, Does, Why, Mending, Checking, is_entry, errand_of, HasStep, Held, first_cause, start_refusal, is_idle_by, Doing, Spot, Begins, begun_from, next_spot}
+use Rattle.rmeworld.proofs.Common.{only_spot, end_place, Stand, standing, IsLeast, resting, IsAllowed, spot_of, lock_moved, job_left, stepped, stepped_by, access_by, next_access, spot_after}
+use Rattle.rmeworld.proofs.Common.{StoresOwn, stand_started as started, crashed}
+use Rattle.rmecore.specs.declared.refusal.Refusal.TheVariants.{Unmended, BadIndex, BadWidth}
 use Rattle.rmecore.specs.Machine.{StoresOwn as IsLockOwn}
 use Rattle.rmecore.proofs.Accesses.{all_allowed, stores_own}
 use Rattle.redomail.specs.declared.task.Task.TheVariants as task

@@ -2,9 +2,10 @@
 use Rattle.std.proofs.Common.{◌≡◌, ℕ, zero, suc, ◌+◌, ◌-◌, ◌<◌, ◌≤◌, Bool, true, false, ◌&&◌, ◌==◌, List, [], ◌∷◌, ◌++◌, Some, All, Contains, refl, sym, ap, ◌∙◌, subst, inl, inr, arith, eqb-true, eq-eqb, append_assoc}
 use Rattle.rmeworld.proofs.Common.{and_parts, All-nil, Contains-append_right, All-push, All-contains, Contains-append_left, Contains-push, Kind, Gets, Puts, Word, Data as DataAt, Abstract, nobody}
 use Rattle.rmeworld.proofs.Common.{put, Place, all_done, is_store, Deed, Layout, Message, Reply, Stored, OutOfOrder, Full, Closed, Task, deeds_of_put, Words, IsLayout, place_at, MailLeads, Mailbox}
-use Rattle.rmeworld.proofs.Common.{message, IsAmong, Safe, Script, Get as Asks, Put as Writes, Done, tail, entry, entries, IsNumbered, count_of, count_of-push, all_after, empty, State, after}
-use Rattle.rmeworld.proofs.Common.{state_led, Mail, Working, answer_at, answer_by, by_script, mail_after, ReplyTells, RepliesTell, StoredIsShown, outer_by, Errand, Doing, Spot, Happening, Moves}
-use Rattle.rmeworld.proofs.Common.{settled, moved_by, next_spot, reading, event_deeds, Scene, at_first, Story, onward, last_scene, outer_deeds, mail_deeds, deeds}
+use Rattle.rmeworld.proofs.Common.{message, IsAmong, Safe, Script, Get as Asks, Put as Writes, Done, tail, entry, entries, IsNumbered, count_of, all_after, empty, State, after, state_led, Mail}
+use Rattle.rmeworld.proofs.Common.{Working, answer_at, answer_by, by_script, mail_after, ReplyTells, RepliesTell, StoredIsShown, outer_by, Errand, Doing, Spot, Happening, Moves, settled, moved_by}
+use Rattle.rmeworld.proofs.Common.{next_spot, reading, event_deeds, Scene, at_first, Story, onward, last_scene, outer_deeds, mail_deeds, deeds}
+use Rattle.redomail.proofs.Changes.{count_of-push}
 use Rattle.redomail.specs.declared.deed.Deed.TheVariants as deed
 use Rattle.redomail.specs.declared.task.Task.TheVariants as task
 use Rattle.rmeworld.proofs.Happenings.{judge_of}

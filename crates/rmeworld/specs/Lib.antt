@@ -1,6 +1,5 @@
 pub mod ImageRules
 pub mod ImageStart
-pub mod ImageText
 pub mod Whys
 pub mod Entered
 pub mod Spot
@@ -10,8 +9,6 @@ pub mod Errands
 pub mod Stand
 pub mod Seams
 pub mod World
-pub mod ImageWiden
-pub mod WideWords
 pub mod Law
 pub mod Holders
 pub mod WorldState

@@ -1,5 +1,7 @@
 //! What outlives a crash of everything.
 
+pub mod rules;
+
 use crate::cells::Cells;
 use crate::owns::Owns;
 use std::fmt;

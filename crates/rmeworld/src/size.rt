@@ -4,7 +4,7 @@ ghost use Rattle.std.specs.Prelude.{◌≡◌, ◌<◌, ◌≤◌, ◌^◌, None
 ghost use Rattle.rmeworld.specs.Stand.{IsSize};
 ghost use Rattle.rmeworld.specs.WorldState.{new_refusal};
 
-use crate::images::rules::{MOST_CAP, MOST_WIDTH};
+use crate::image::rules::{MOST_CAP, MOST_WIDTH};
 use redomail::Layout;
 use rmecore::Refusal;
 use rmecore::simulated::{MOST_LIMIT, MOST_PROCS};

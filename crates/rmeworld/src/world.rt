@@ -15,7 +15,7 @@ use crate::call::Call;
 use crate::cells::Cells;
 use crate::history::{make_room, note};
 use crate::image::Image;
-use crate::images::rules::{first_rule, layout};
+use crate::image::rules::{first_rule, layout};
 use crate::machine::Machine;
 use crate::memory::{deed_of, load, store};
 use crate::owns::Owns;

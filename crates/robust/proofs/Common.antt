@@ -51,7 +51,7 @@ pub use Rattle.rmeworld.specs.Sent.{EveryMessageWasSent, IsSent, mail_after, Rep
 pub use Rattle.rmeworld.specs.Spot.{Happening, Begins, Falls, Errand, Free, Doing, Spot, Moves, at_rest, at_lock, settled, only_spot, moved_by, inside_only, begun_from, next_spot, mended_entered, who}
 pub use Rattle.rmeworld.specs.Stand.{Stand, access_by, stepped, standing, IsAllowed, lock_moved, IsSize}
 pub use Rattle.rmeworld.specs.World.{Scene, at_first, last_scene, Story, onward, reading}
-pub use Rattle.rmeworld.proofs.ImageStarts.{lawful_content}
+pub use Rattle.rmeworld.proofs.ImageRules.{lawful_content}
 pub use Rattle.runs.specs.declared.entry.Known.{Known}
 pub use Rattle.runs.specs.declared.entry.TakenStep.{TakenStep}
 pub use Rattle.runs.specs.declared.entry_kind.Entry.{Entry}

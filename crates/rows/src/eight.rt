@@ -8,9 +8,10 @@ ghost use Rattle.runs.specs.Gathering.{OneArena};
 ghost use Rattle.robust.specs.Making.{fresh_members};
 ghost use Rattle.robust.specs.Working.{seat_of, seats_of};
 
+use imaging::start_of;
 use plans::{CrashPlan, Seeded};
 use redomail::Layout;
-use rmeworld::{Image, start_of};
+use rmeworld::Image;
 use robust::{Arena, Entry, LockFault, Member, gather};
 use std::alloc::{AllocError, Global};
 use std::process::Abort;

@@ -2,7 +2,8 @@
 
 ghost use Rattle.std.specs.Prelude.{◌≡◌};
 
-use rmeworld::{Image, start_of};
+use imaging::start_of;
+use rmeworld::Image;
 use robust::{Arena, Member, gather};
 use std::alloc::Global;
 use std::process::Abort;

@@ -1,10 +1,11 @@
 //! Texts of images: worked ones, broken ones, and spellings.
 
 use super::phrase::{Phrase, cut};
+use imaging::{read_image, start_of, widen, write_image};
 use judge::{Judge, Start};
 use redomail::Message;
 use rmecore::{Own, Phase, Refusal};
-use rmeworld::{Cells, Image, Owns, first_rule, read_image, start_of, widen, write_image};
+use rmeworld::{Cells, Image, Owns, first_rule};
 use std::alloc::Global;
 
 /// One process that is in, and nothing in the mailbox.

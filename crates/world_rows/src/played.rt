@@ -6,9 +6,10 @@
 //! for a data word, and `image` for the text of the image.
 
 use super::phrase::{Phrase, answer_of, cut, place};
+use imaging::write_image;
 use redomail::Deed;
 use rmecore::{Own, Refusal};
-use rmeworld::{Answer, World, write_image};
+use rmeworld::{Answer, World};
 use std::alloc::Global;
 
 /// Takes steps. Is this what the last one is answered, and no other?

@@ -4,7 +4,7 @@ ghost use Rattle.std.specs.Prelude.{◌↔◌, IsTrue};
 ghost use Rattle.one_lock.specs.Lab.{IsOutside, IsBadSpec};
 
 use rmecore::simulated::{MOST_LIMIT, MOST_PROCS};
-use rmeworld::images::rules::{MOST_CAP, MOST_WIDTH};
+use rmeworld::image::rules::{MOST_CAP, MOST_WIDTH};
 
 /// How many messages a worker sends at most.
 pub const MOST_MESSAGES: u64 = 4_096;

@@ -1,0 +1,3 @@
+pub mod ImageText
+pub mod ImageWiden
+pub mod WideWords

@@ -1,0 +1,209 @@
+//! The rules of images.
+
+ghost use Rattle.std.specs.Prelude.{◌≡◌, ◌≢◌, ℕ, ◌<◌, ◌≤◌, ◌↔◌, IsTrue, IsNone, IfSome, true, length, slice_index};
+ghost use Rattle.rmecore.specs.Lawful.{IsRow, IsLawful};
+ghost use Rattle.rmecore.specs.Place.{is_before};
+ghost use Rattle.rmecore.specs.Simulated.{own_at};
+ghost use Rattle.redomail.specs.Layout.{words_of, size};
+ghost use Rattle.redomail.specs.Shape.{IsNumbered, RecordRule};
+ghost use Rattle.redomail.specs.Content.{AreCounts};
+ghost use Rattle.rmeworld.specs.ImageRules.{layout_of, IsVersioned, IsSized, IsIn, IsListed, IsRecorded, Keeps, IsLawfulImage, IsFirstBroken};
+
+use crate::image::Image;
+use redomail::Layout;
+use redomail::contents::{any_record, count_entries, counters, has_record, heads_hold, lasts_are};
+use redomail::layout::{ARMED, RUINED};
+use rmecore::Own;
+use rmecore::simulated::{MOST_LIMIT, MOST_PROCS};
+
+/// How many messages a mailbox can hold at most.
+pub const MOST_CAP: u64 = 65_536;
+/// How many words a message can have at most.
+pub const MOST_WIDTH: u64 = 8;
+
+/// The first of the rules 2 to 9 that an image breaks, none of a lawful image. Rule 1 is one of texts alone.
+pub fn first_rule(image: &Image) -> Option<u64>
+    ensures lawful { IsNone result ↔ IsLawfulImage image.now }
+    ensures broken { IfSome result (λ rule. IsFirstBroken rule image.now) }
+{
+    if !is_versioned(image) {
+        return Some(2);
+    }
+    if !is_sized(image) {
+        return Some(3);
+    }
+    if !is_filled(image) {
+        return Some(4);
+    }
+    let lock = image.lock.as_slice();
+    if !are_rows(lock, image.limit) {
+        return Some(5);
+    }
+    if !is_first(lock, image.limit) {
+        return Some(6);
+    }
+    if !heads_hold(layout(image), image.cells.as_slice()) {
+        return Some(7);
+    }
+    if !is_listed(image) {
+        return Some(8);
+    }
+    if !is_recorded(image) {
+        return Some(9);
+    }
+    None
+}
+
+/// Where the data words of an image stand.
+pub fn layout(image: &Image) -> Layout
+    ensures { result ≡ layout_of image.now }
+{
+    Layout {
+        procs: image.lock.as_slice().len() as u64,
+        cap: image.cap,
+        width: image.width,
+    }
+}
+
+fn is_versioned(image: &Image) -> bool
+    ensures { IsTrue result ↔ IsVersioned image.now }
+{
+    image.version == 2 || (image.version == 1 && image.width == 1)
+}
+
+fn is_sized(image: &Image) -> bool
+    ensures { IsTrue result ↔ IsSized image.now }
+{
+    let procs = image.lock.as_slice().len() as u64;
+    procs >= 1
+        && procs <= MOST_PROCS
+        && image.limit >= 1
+        && image.limit <= MOST_LIMIT
+        && image.cap >= 1
+        && image.cap <= MOST_CAP
+        && image.width >= 1
+        && image.width <= MOST_WIDTH
+}
+
+#[tactic(auto, unfolding(redomail::specs::Layout::place_at))]
+fn is_filled(image: &Image) -> bool
+    requires { IsSized image.now }
+    ensures { IsTrue result ↔ (length image.now.cells ≡ size (layout_of image.now)) }
+{
+    let head = 10 + image.width + image.lock.as_slice().len() as u64;
+    image.cells.as_slice().len() as u64 == head + (2 + image.width) * image.cap
+}
+
+// Is this a row of the restart table?
+fn is_row(own: &Own, limit: u64) -> bool
+    ensures { IsTrue result ↔ IsRow limit own.now }
+{
+    own.choosing <= 1
+        && own.number <= limit
+        && own.inside <= 1
+        && (own.choosing == 0 || own.inside == 0)
+}
+
+fn are_rows(lock: &[Own], limit: u64) -> bool
+    ensures { IsTrue result ↔ ((p : ℕ) → IsRow limit (own_at lock.now p)) }
+{
+    for own in lock {
+        if !is_row(own, limit) {
+            return false;
+        }
+    }
+    true
+}
+
+// Has p the least pair of all that hold a number?
+fn has_least(lock: &[Own], p: u64) -> bool
+    requires { p < length lock.now }
+    ensures { IsTrue result ↔ ((q : ℕ) → q < length lock.now → q ≢ p → 0 < (own_at lock.now q).number → is_before (own_at lock.now p).number p (own_at lock.now q).number q ≡ true) }
+{
+    let own = lock[p as usize];
+    for q in 0..lock.len() as u64 {
+        let other = lock[q as usize].number;
+        let before = own.number < other || (own.number == other && p < q);
+        if q != p && other > 0 && !before {
+            return false;
+        }
+    }
+    true
+}
+
+// Has whoever is in the least pair?
+fn is_first(lock: &[Own], limit: u64) -> bool
+    requires { (p : ℕ) → IsRow limit (own_at lock.now p) }
+    ensures { IsTrue result ↔ IsLawful (length lock.now) limit (own_at lock.now) }
+{
+    for p in 0..lock.len() as u64 {
+        let own = lock[p as usize];
+        if own.number > 0 && own.inside > 0 && !has_least(lock, p) {
+            return false;
+        }
+    }
+    true
+}
+
+/// A data word, or 0 past the last.
+pub fn word(words: &[u64], i: u64) -> u64
+    ensures { result ≡ slice_index words.now i }
+{
+    words.get(i as usize).copied().unwrap_or(0)
+}
+
+// With no record armed: does the list rule hold?
+fn is_listed(image: &Image) -> bool
+    requires { Keeps 7 image.now }
+    ensures { IsTrue result ↔ IsListed image.now }
+{
+    let layout = layout(image);
+    let words = image.cells.as_slice();
+    if word(words, ARMED) != 0 {
+        return true;
+    }
+    let mut all = counters();
+    let counts = &mut all[..layout.procs as usize];
+    if !count_entries(layout, words, counts) {
+        return false;
+    }
+    lasts_are(layout, words, counts, layout.procs)
+}
+
+// With a record armed: is it one's that may have left it?
+fn is_recorded(image: &Image) -> bool
+    requires { Keeps 7 image.now }
+    ensures { IsTrue result ↔ IsRecorded image.now }
+{
+    let layout = layout(image);
+    let words = image.cells.as_slice();
+    if word(words, ARMED) == 0 {
+        return true;
+    }
+    let mut all = counters();
+    let counts = &mut all[..layout.procs as usize];
+    if !count_entries(layout, words, counts) {
+        return false;
+    }
+    if word(words, RUINED) == 1 {
+        return any_record(layout, words, counts);
+    }
+    match find_in(image.lock.as_slice()) {
+        Some(p) => has_record(layout, words, counts, p),
+        None => false,
+    }
+}
+
+/// The process that is in.
+pub fn find_in(lock: &[Own]) -> Option<u64>
+    ensures some { IfSome result (λ p. (p < length lock.now) × (0 < (own_at lock.now p).number) × (0 < (own_at lock.now p).inside)) }
+    ensures none { IsNone result → (p : ℕ) → p < length lock.now → 0 < (own_at lock.now p).number → 0 < (own_at lock.now p).inside → ⊥ }
+{
+    for p in 0..lock.len() as u64 {
+        let own = lock[p as usize];
+        if own.number > 0 && own.inside > 0 {
+            return Some(p);
+        }
+    }
+    None
+}

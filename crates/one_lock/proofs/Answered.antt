@@ -1,13 +1,18 @@
 -- How the answer of a call comes from the steps of its process.
 use Rattle.std.proofs.Common.{◌≡◌, ◌≢◌, ◌↔◌, ◌+◌, ℕ, zero, suc, ◌⊎◌, Bool, true, false, Option, Some, None, IsNone, IsSome, IsTrue, List, [], ◌∷◌, length, Result, Ok, Err, OnOk, IfOk, IfErr, refl, sym, ap, ◌∙◌, subst, inl, inr, arith}
-use Rattle.one_lock.proofs.Common.{true≢false, Reply, Clean, OwnerDied, NumbersSpent, Unlocked, Withdrawn, Found, Mail, Lock, WorldState, LockFault, Crashed, OutOfMemory, NotRecoverable as RuinFault}
-use Rattle.one_lock.proofs.Common.{Setup, Mended, opened, Opens, IsBlocked, Gives, first_of, further, opening_after, HasTaken, count_blocked, Suffice, spent, IsAnswered, Answered, IsReply, EndsAtLock}
-use Rattle.one_lock.proofs.Common.{reply_by, entry_by, Seat, IsTold, AreSizes}
+use Rattle.one_lock.proofs.Common.{WorldState, Setup, opened, Opens, IsBlocked, Gives, first_of, further, opening_after, HasTaken, count_blocked, Suffice, spent, IsAnswered, Answered, IsReply}
+use Rattle.one_lock.proofs.Common.{EndsAtLock, reply_by, entry_by, Seat, IsTold, AreSizes}
+use Rattle.std.proofs.lemmas.Bool.{true≢false}
+use Rattle.redomail.specs.declared.reply.Reply.{Reply}
+use Rattle.rmeworld.specs.declared.call.Call.TheVariants.{Lock}
+use Rattle.runs.specs.declared.lock_fault.LockFault.{LockFault}
+use Rattle.runs.specs.declared.lock_fault.LockFault.TheVariants.{Crashed, OutOfMemory, NotRecoverable as RuinFault}
+use Rattle.one_lock.specs.declared.member_state.MemberState.TheVariants.{Mended}
 use Rattle.rmecore.specs.Simulated.{tally_at}
 use Rattle.rmecore.specs.declared.refusal.Refusal.{Refusal}
 use Rattle.rmeworld.specs.declared.call.Call.{Call}
 use Rattle.rmeworld.specs.declared.answer.Answer.{Answer}
-use Rattle.rmeworld.specs.declared.answer.Answer.TheVariants.{NotRecoverable}
+use Rattle.rmeworld.specs.declared.answer.Answer.TheVariants.{NotRecoverable, Clean, OwnerDied, NumbersSpent, Unlocked, Withdrawn, Found, Mail}
 use Rattle.rmeworld.specs.Replayed.{stepped, advanced, advance_refusal}
 use Rattle.runs.specs.declared.entry_kind.Entry.{Entry}
 use Rattle.one_lock.specs.declared.opening.Opening.{Opening}

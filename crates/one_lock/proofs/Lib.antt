@@ -1,6 +1,5 @@
 pub mod Common
 pub mod Stories
-pub mod Endings
 pub mod Steps
 pub mod Seats
 pub mod Answered

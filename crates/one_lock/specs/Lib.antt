@@ -3,4 +3,3 @@ pub mod Endings
 pub mod Story
 pub mod Member
 pub mod Answers
-pub mod Shown

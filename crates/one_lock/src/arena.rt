@@ -44,7 +44,7 @@ impl Arena {
     }
 
     /// The same, of members whose type may name the sizes.
-    pub(crate) fn of_sizes<L: Ledger, S: Sizes>(
+    pub fn of_sizes<L: Ledger, S: Sizes>(
         alloc: Global,
         procs: u64,
         limit: u64,

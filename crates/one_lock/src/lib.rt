@@ -18,7 +18,6 @@ pub mod sizes;
 pub use arena::Arena;
 pub use gather_fault::GatherFault;
 pub use gathering::gather;
-pub use lab::run_lab;
 pub use member::Member;
 pub use member_state::MemberState;
 pub use runs::Entry;

@@ -5,7 +5,8 @@ ghost use Rattle.std.specs.Thread.{IsSend, IsSync};
 
 use crate::kit::two;
 use one_lock::lab::{LabFault, Spec};
-use one_lock::{Entry, Member, run_lab};
+use one_lock::{Entry, Member};
+use plain_lab::run_lab;
 use plans::{CrashPlan, Never};
 use redomail::{Message, Reply};
 use rmecore::Body;

@@ -1,7 +1,7 @@
 //! Labs whose workers crash, and those that are refused.
 
 use one_lock::lab::{LabFault, Spec};
-use one_lock::run_lab;
+use plain_lab::run_lab;
 use plans::{Never, Seeded};
 use redomail::{Message, Reply};
 use row_kit::messages::are_all_sent;

@@ -1,7 +1,7 @@
 //! A call that is cut off at each of its askings in turn.
 
 ghost use Rattle.std.specs.Prelude.{◌≡◌};
-ghost use Rattle.one_lock.specs.Shown.{place_of};
+ghost use Rattle.plain_lab.specs.Shown.{place_of};
 
 use crate::kit::{left_by, two};
 use one_lock::{Entry, Member};

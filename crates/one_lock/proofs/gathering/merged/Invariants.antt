@@ -1,5 +1,6 @@
 use Rattle.std.proofs.Common.{◌≡◌, ◌+◌, vec_len}
-use Rattle.one_lock.proofs.Common.{into_iter_items, into_iter_len, steps_taken}
+use Rattle.one_lock.proofs.Common.{steps_taken}
+use Rattle.std.specs.Vec.Iter.{into_iter_items, into_iter_len}
 use Rattle.one_lock.proofs.gathering.merged.Given as goal
 
 abbrev pub invariant-loop-member : goal.invariant-loop-member

@@ -1,5 +1,5 @@
 use Rattle.std.proofs.Common.{◌≡◌, length, take}
-use Rattle.one_lock.proofs.Common.{words_sent}
+use Rattle.one_lock.specs.Lab.{words_sent}
 use Rattle.one_lock.proofs.lab.sending.value_sent.Given as goal
 
 abbrev pub invariant-loop-j : goal.invariant-loop-j

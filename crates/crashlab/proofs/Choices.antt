@@ -1,7 +1,7 @@
 -- Which step a variant's process takes next, by its definition alone; and the variant that changes nothing.
 use Rattle.std.proofs.Common.{◌≡◌, ℕ, ◌<◌, Bool, true, false, ◌==◌, if◌then◌else◌, Option, Some, refl, sym, ap, ◌∙◌, subst}
 use Rattle.crashlab.proofs.Common.{Access, Load, Store, Gets, Puts, Data as DataAt, access, Place, next, Layout, Reply, last_at, Script, Get as Asks, Put as Writes, Done, Call, Consistent}
-use Rattle.crashlab.proofs.Common.{Errand as Chore, Free as IsFree, Asking, Does, Mending, errand_of, Doing, Spot, Happening, Begins, Falls, Moves, next_spot, begun_from, Stand, access_by, Change}
+use Rattle.crashlab.proofs.Common.{Errand as Chore, Free as IsFree, Does, Mending, errand_of, Doing, Spot, Happening, Begins, Falls, Moves, next_spot, begun_from, Stand, access_by, Change}
 use Rattle.crashlab.proofs.Common.{Nothing, LeavesOut, Counts, Counted, Detour, Straight, Dropping, Over, Variant, Right, NoLook, NoTies, Renumber, ExitOnCrash, CountUp, LastSkipped, IsRun, spot_at}
 use Rattle.crashlab.proofs.Common.{raised, counting_up, leaving_out, beside, variant_begun, variant_spot, variant_outer, changed_errand, changed_access, weighed, access_beside, is_put, VariantState}
 use Rattle.crashlab.proofs.Common.{stand_at, access_at, variant_access}
@@ -36,7 +36,6 @@ looks_next s (Doing why x) = unweighed s.limit s.index s.lock why x
 
 drops_next : (s : Stand) (e : Chore) → dropping_access (record s { errand = e }) e ≡ variant_access_by ExitOnCrash s.limit s.index s.lock (errand_of e) Dropping
 drops_next s IsFree = refl
-drops_next s (Asking job) = refl
 drops_next s (Does why job) = refl
 
 counts_next : (s : Stand) (e : Script Reply) → Chosen CountUp Straight Counts s (Doing Mending e)

@@ -27,7 +27,7 @@ pub use Rattle.rmeworld.specs.declared.answer.Answer.{Answer}
 pub use Rattle.rmeworld.specs.declared.call.Call.{Call}
 pub use Rattle.rmeworld.specs.declared.call.Call.TheVariants.{Consistent}
 pub use Rattle.rmeworld.specs.declared.errand.Errand.{Errand}
-pub use Rattle.rmeworld.specs.declared.errand.Errand.TheVariants.{Free, Asking, Doing as Does}
+pub use Rattle.rmeworld.specs.declared.errand.Errand.TheVariants.{Free, Doing as Does}
 pub use Rattle.rmeworld.specs.declared.outcome.Outcome.{Outcome}
 pub use Rattle.rmeworld.specs.declared.why.Why.{Why}
 pub use Rattle.rmeworld.specs.declared.why.Why.TheVariants.{Mending}

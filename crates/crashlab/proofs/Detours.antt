@@ -1,7 +1,7 @@
 -- Processes that leave the lock's way: one that takes a new number, and one that goes out where a crash left it inside.
 use Rattle.std.proofs.Common.{◌≡◌, ℕ, zero, suc, Bool, [], ◌∷◌, Option, Some, None, IsSome, IfSome, unwrap_or, refl, sym, ap, ◌∙◌}
 use Rattle.crashlab.proofs.Common.{Access, Kind, Take as Takes, Shut as Shuts, Word, access, kind_of, word_of, carried, Place, next, Reread, Wait, eqb_self, Layout, left, Errand as Chore}
-use Rattle.crashlab.proofs.Common.{Free as IsFree, Asking, Does, Mending, Stand, Nothing, Detour, Straight, Dropping, Over, Renumber, ExitOnCrash, at_variant, VariantStand, variant_spot_of}
+use Rattle.crashlab.proofs.Common.{Free as IsFree, Does, Stand, Nothing, Detour, Straight, Dropping, Over, Renumber, ExitOnCrash, at_variant, VariantStand, variant_spot_of}
 use Rattle.crashlab.proofs.Common.{outside_at, over_by, over_way, silent, and_detour}
 use Rattle.rmecore.specs.Place.{others}
 use Rattle.rmecore.specs.Machine.{after_access}
@@ -70,7 +70,6 @@ renumber_goes s d v h may = by s.errand d h may
     by : (e : Chore) (d : Detour) → Steady (record s { errand = e }) → MayGo Renumber d → Walks Renumber (record s { errand = e }) d v
     by IsFree Straight h may = taken_at s.layout s.limit s.index s.lock s.mended s.barred v h
     by IsFree (Over k) h may = over_at s.layout s.limit s.index s.lock s.mended s.barred k v h
-    by (Asking job) d h may = script_goes Renumber (record s { errand = Asking job }) d v h may Mending _ refl
     by (Does why job) d h may = script_goes Renumber (record s { errand = Does why job }) d v h may why (left job) refl
     by e Dropping h may = absurd may
 
@@ -99,8 +98,6 @@ exit_goes s d v h may = by s.errand d h may
     by : (e : Chore) (d : Detour) → Steady (record s { errand = e }) → MayGo ExitOnCrash d → Walks ExitOnCrash (record s { errand = e }) d v
     by IsFree Straight h may = inside_at s.layout s.limit s.index s.lock s.mended s.barred v h
     by IsFree Dropping h may = dropped_at s v h
-    by (Asking job) Straight h may = script_goes ExitOnCrash (record s { errand = Asking job }) Straight v h may Mending _ refl
-    by (Asking job) Dropping h may = script_goes ExitOnCrash (record s { errand = Asking job }) Dropping v h may Mending _ refl
     by (Does why job) Straight h may = script_goes ExitOnCrash (record s { errand = Does why job }) Straight v h may why (left job) refl
     by (Does why job) Dropping h may = script_goes ExitOnCrash (record s { errand = Does why job }) Dropping v h may why (left job) refl
     by e (Over k) h may = absurd may

@@ -1,7 +1,7 @@
 -- Processes whose repair is changed: one that counts up from the count that stands, and one that leaves out the last number.
 use Rattle.std.proofs.Common.{◌≡◌, ℕ, Bool, true, false, ◌&&◌, ◌==◌, if◌then◌else◌, Option, Some, None, IfSome, refl, sym, ap, ◌∙◌, subst, eqb-true}
 use Rattle.crashlab.proofs.Common.{cond_both, Access, Load, Store, Gets, Puts, Data as DataAt, kind_of, word_of, carried, Inside, eqb_self, Reply, IsLayout, left, Pending, fed, Script, Get as Asks}
-use Rattle.crashlab.proofs.Common.{Put as Writes, Done, tail, Answer, Errand as Chore, Free as IsFree, Asking, Does, Outcome, Mending, by_script, answer_by, done_by, errand_of, HasStep, Doing}
+use Rattle.crashlab.proofs.Common.{Put as Writes, Done, tail, Answer, Errand as Chore, Does, Outcome, Mending, by_script, answer_by, done_by, errand_of, HasStep, Doing}
 use Rattle.crashlab.proofs.Common.{only_spot, settled, outer_by, Stand, access_by, spot_of, next_access, outcome, job_left, Change, Nothing, LeavesOut, Counts, Counted, Straight, Variant, CountUp}
 use Rattle.crashlab.proofs.Common.{raised, counting_up, beside, variant_moved, variant_outer_by, variant_answer_by, variant_done_by, changed_errand, changed_access, is_put, VariantStand}
 use Rattle.crashlab.proofs.Common.{variant_spot_of, silent, variant_stepped, changed_script, unless_answered, plain_outcome}
@@ -31,7 +31,6 @@ count_plain s v h = subst (Unchanged CountUp s v) (sym (nothing_stays (plain_out
 -- A process that mends: its script, and the job that the next step leaves.
 
 abbrev pub IsMending : Chore → Type 0
-IsMending (Asking job) = Unit {0}
 IsMending (Does Mending job) = Unit {0}
 IsMending _ = ⊥
 
@@ -41,36 +40,13 @@ pub record Mends (s : Stand) (v : ℕ) : Type 0 where
   pub step : HasStep script
   pub inside : s.lock ≡ Inside
   pub job : Pending
-  pub told : HasStep (tail script v) → left job ≡ tail script v
+  pub told : left job ≡ tail script v
   pub is : stepped s v ≡ job_left s Mending job (tail script v)
-
-job_same : (s : Stand) (job : Pending) (e : Script Reply) → HasStep e → record s { errand = Does Mending job } ≡ job_left s Mending job e
-job_same s job (Asks i rest) h = refl
-job_same s job (Writes i v rest) h = refl
-job_same s job (Done reply) h = absurd h
-
-asked_left : (s : Stand) (job : Pending) (x : Bool) → s.lock ≡ Inside → HasStep (left job) → (if x then record s { errand = IsFree } else record s { errand = Does Mending job }) ≡ job_left s Mending job (if x then Done (Ruined true) else left job)
-asked_left s job true inside h = λ i. record s { lock = inside i; errand = IsFree }
-asked_left s job false inside h = job_same s job (left job) h
-
-asked_told : (job : Pending) (x : Bool) → HasStep (if x then Done (Ruined true) else left job) → left job ≡ (if x then Done (Ruined true) else left job)
-asked_told job true h = absurd h
-asked_told job false h = refl
 
 pub mends_of : (s : Stand) (v : ℕ) → Steady s → IsMending s.errand → Mends s v
 mends_of s v h k = by s.errand h.ordered.held h.ordered.fits k
   where
     by : (e : Chore) → Held e s.lock → FitsChore s.layout e → IsMending e → Mends (record s { errand = e }) v
-    by (Asking job) held fits k =
-        record {
-          script = Asks 0 (λ x. if x == 1 then Done (Ruined true) else left job);
-          at = refl;
-          step = tt;
-          inside = held.0;
-          job = job;
-          told = asked_told job (v == 1);
-          is = asked_left (record s { errand = Asking job }) job (v == 1) held.0 held.1;
-        }
     by (Does Mending job) held fits k =
         let fed_is : left (fed job v) ≡ tail (left job) v = left_after job.layout (subst IsLayout (sym fits.0) h.layout) job.sender job.stage v (subst (λ l. FitsStage l job.stage) (sym fits.0) fits.1) in
         record {
@@ -79,7 +55,7 @@ mends_of s v h k = by s.errand h.ordered.held h.ordered.fits k
           step = held.1;
           inside = held.0;
           job = fed job v;
-          told = λ _. fed_is;
+          told = fed_is;
           is = ap (job_left (record s { errand = Does Mending job }) Mending (fed job v)) fed_is;
         }
     by _ held fits k = absurd k
@@ -91,20 +67,20 @@ stands b c (Asks i rest) h = refl
 stands b c (Writes i v rest) h = refl
 stands b c (Done reply) h = absurd h
 
-settles : (change : Change) (s : Stand) (job : Pending) (e : Script Reply) → s.lock ≡ Inside → (HasStep e → left job ≡ e) → ((r : Reply) → changed_script change s.layout s.index (Done r) ≡ Done r)
+settles : (change : Change) (s : Stand) (job : Pending) (e : Script Reply) → s.lock ≡ Inside → left job ≡ e → ((r : Reply) → changed_script change s.layout s.index (Done r) ≡ Done r)
     → (HasStep e → HasStep (changed_script change s.layout s.index e))
     → settled s.mended s.barred Mending (changed_script change s.layout s.index e) ≡ changed_spot (unless_answered (by_script Mending s.mended e) change) s.layout s.index (spot_of (job_left s Mending job e))
 settles change s job (Done r) inside told done step =
     ap (settled s.mended s.barred Mending) (done r)
 settles change s job (Asks i rest) inside told done step =
     stands s.mended s.barred (changed_script change s.layout s.index (Asks i rest)) (step tt)
-    ∙ (λ k. record { lock = sym inside k; mended = s.mended; barred = s.barred; errand = Doing Mending (changed_script change s.layout s.index (sym (told tt) k)) })
+    ∙ (λ k. record { lock = sym inside k; mended = s.mended; barred = s.barred; errand = Doing Mending (changed_script change s.layout s.index (sym told k)) })
 settles change s job (Writes i v rest) inside told done step =
     stands s.mended s.barred (changed_script change s.layout s.index (Writes i v rest)) (step tt)
-    ∙ (λ k. record { lock = sym inside k; mended = s.mended; barred = s.barred; errand = Doing Mending (changed_script change s.layout s.index (sym (told tt) k)) })
+    ∙ (λ k. record { lock = sym inside k; mended = s.mended; barred = s.barred; errand = Doing Mending (changed_script change s.layout s.index (sym told k)) })
 
 pub lands : (variant : Variant) (change : Change) (s : Stand) (v : ℕ) (job : Pending) (e : Script Reply) (o : Option Answer) → ((r : Reply) → changed_script change s.layout s.index (Done r) ≡ Done r)
-    → (HasStep e → HasStep (changed_script change s.layout s.index e)) → s.lock ≡ Inside → (HasStep e → left job ≡ e) → stepped s v ≡ job_left s Mending job e → o ≡ by_script Mending s.mended e
+    → (HasStep e → HasStep (changed_script change s.layout s.index e)) → s.lock ≡ Inside → left job ≡ e → stepped s v ≡ job_left s Mending job e → o ≡ by_script Mending s.mended e
     → Some (record { spot = settled s.mended s.barred Mending (changed_script change s.layout s.index e); detour = Straight }) ≡ Some (variant_spot_of (process_of variant (stepped s v) Straight (unless_answered o change)))
 lands variant change s v job e o done step inside told is answer =
     ap (λ y. Some (record { spot = y; detour = Straight })) (settles change s job e inside told done step)
@@ -117,7 +93,7 @@ lands variant change s v job e o done step inside told is answer =
     same_index = sym (step_stays s v).index
 
 -- behind a step of a changed script comes what is left of it, as it was
-pub plain_lands : (variant : Variant) (s : Stand) (v : ℕ) (job : Pending) (e : Script Reply) (o : Option Answer) → s.lock ≡ Inside → (HasStep e → left job ≡ e) → stepped s v ≡ job_left s Mending job e → o ≡ by_script Mending s.mended e
+pub plain_lands : (variant : Variant) (s : Stand) (v : ℕ) (job : Pending) (e : Script Reply) (o : Option Answer) → s.lock ≡ Inside → left job ≡ e → stepped s v ≡ job_left s Mending job e → o ≡ by_script Mending s.mended e
     → Some (record { spot = settled s.mended s.barred Mending e; detour = Straight }) ≡ Some (variant_spot_of (process_of variant (stepped s v) Straight (unless_answered o Nothing)))
 plain_lands variant s v job e o inside told is answer = lands variant Nothing s v job e o (λ r. refl) (λ h. h) inside told is answer
 
@@ -140,7 +116,7 @@ count_answer b cap (Asks i rest) = refl
 count_answer b cap (Writes i v rest) = cond_both (i == 2) _ _ (λ x. by_script Mending b x ≡ None) (λ _. refl) (λ _. refl)
 count_answer b cap (Done r) = refl
 
-count_lands : (s : Stand) (v : ℕ) (job : Pending) (e : Script Reply) (o : Option Answer) → s.lock ≡ Inside → (HasStep e → left job ≡ e) → stepped s v ≡ job_left s Mending job e → o ≡ by_script Mending s.mended e
+count_lands : (s : Stand) (v : ℕ) (job : Pending) (e : Script Reply) (o : Option Answer) → s.lock ≡ Inside → left job ≡ e → stepped s v ≡ job_left s Mending job e → o ≡ by_script Mending s.mended e
     → Some (record { spot = settled s.mended s.barred Mending (counting_up s.layout.cap e); detour = Straight }) ≡ Some (variant_spot_of (process_of CountUp (stepped s v) Straight (unless_answered o Counts)))
 count_lands s v job e o inside told is answer = lands CountUp Counts s v job e o (λ r. refl) (count_step s.layout.cap e) inside told is answer
 
@@ -162,7 +138,7 @@ CountGoal s v x =
     CountRow s v (changed_access Counts (access_by s.limit s.index s.lock x)) (changed_errand Counts s.layout s.index x) (CountAfter s v (is_put 2 (access_by s.limit s.index s.lock x)) (access_by s.limit s.index s.lock x))
     (CountOutcome s v (is_put 2 (access_by s.limit s.index s.lock x)) (access_by s.limit s.index s.lock x))
 
-count_put : (s : Stand) (v i x : ℕ) (rest : Script Reply) (job : Pending) (put : Bool) → (i == 2) ≡ put → errand_of s.errand ≡ Doing Mending (Writes i x rest) → s.lock ≡ Inside → (HasStep rest → left job ≡ rest) → stepped s v ≡ job_left s Mending job rest
+count_put : (s : Stand) (v i x : ℕ) (rest : Script Reply) (job : Pending) (put : Bool) → (i == 2) ≡ put → errand_of s.errand ≡ Doing Mending (Writes i x rest) → s.lock ≡ Inside → left job ≡ rest → stepped s v ≡ job_left s Mending job rest
     → CountRow s v (if put then Some (Load Gets (DataAt 2)) else Some (Store Puts (DataAt i) x)) (Doing Mending (if put then Asks 2 (λ count. Writes 2 (raised s.layout.cap count) rest) else Writes i x (counting_up s.layout.cap rest)))
     (CountAfter s v put (Some (Store Puts (DataAt i) x))) (CountOutcome s v put (Some (Store Puts (DataAt i) x)))
 count_put s v i x rest job true e at inside told is =
@@ -178,7 +154,7 @@ count_put s v i x rest job false e at inside told is =
       sym out.2,
     )
 
-count_by : (s : Stand) (v : ℕ) (e : Script Reply) (job : Pending) → errand_of s.errand ≡ Doing Mending e → HasStep e → s.lock ≡ Inside → (HasStep (tail e v) → left job ≡ tail e v) → stepped s v ≡ job_left s Mending job (tail e v) → CountGoal s v (Doing Mending e)
+count_by : (s : Stand) (v : ℕ) (e : Script Reply) (job : Pending) → errand_of s.errand ≡ Doing Mending e → HasStep e → s.lock ≡ Inside → left job ≡ tail e v → stepped s v ≡ job_left s Mending job (tail e v) → CountGoal s v (Doing Mending e)
 count_by s v (Asks i rest) job at h inside told is =
     let out = outcome_is s (Asks i rest) (Load Gets (DataAt i)) v at in (
       ap (λ y. beside Straight (only_spot y (settled s.mended s.barred Mending (counting_up s.layout.cap (rest v))))) (eqb_self i) ∙ count_lands s v job (rest v) (outcome s (Some (Load Gets (DataAt i))) v).answer inside told is out.1,
@@ -212,7 +188,7 @@ counted_row s n v h fits =
     let m = mends_of s v h fits.mending in
     let e : m.script ≡ Writes 2 fits.value fits.rest = same_script _ _ (sym m.at ∙ fits.at) in
     let out = outcome_is s (Writes 2 fits.value fits.rest) (Store Puts (DataAt 2) fits.value) v fits.at in
-    let told : HasStep fits.rest → left m.job ≡ fits.rest = subst (λ f. HasStep (tail f v) → left m.job ≡ tail f v) e m.told in
+    let told : left m.job ≡ fits.rest = subst (λ f. left m.job ≡ tail f v) e m.told in
     let is : stepped s v ≡ job_left s Mending m.job fits.rest = subst (λ f. stepped s v ≡ job_left s Mending m.job (tail f v)) e m.is in
     subst (CountedGoal s n v) (sym fits.at) (
       ap (λ y. beside Straight (only_spot y (settled s.mended s.barred Mending fits.rest))) (allowed_put 2 n) ∙ plain_lands CountUp s v m.job fits.rest (outcome s (Some (Store Puts (DataAt 2) fits.value)) v).answer m.inside told is out.1,

@@ -1,6 +1,6 @@
 -- A step of a variant's process: what is to be shown of it, and that it is so where its definition has the lock's row.
 use Rattle.std.proofs.Common.{◌≡◌, ℕ, Bool, Option, Some, None, IfSome, refl, sym, ap, ◌∙◌, subst}
-use Rattle.crashlab.proofs.Common.{Access, access, kind_of, word_of, carried, Place, next, Layout, Reply, left, Script, Errand as Chore, Free as IsFree, Asking, Does, Outcome, Why, Mending, answer_by}
+use Rattle.crashlab.proofs.Common.{Access, access, kind_of, word_of, carried, Place, next, Layout, Reply, left, Script, Errand as Chore, Free as IsFree, Does, Outcome, Why, answer_by}
 use Rattle.crashlab.proofs.Common.{done_by, errand_of, Doing, next_spot, outer_by, Stand, access_by, spot_of, next_access, outcome, happening, Change, Nothing, Detour, Straight, Dropping, Over}
 use Rattle.crashlab.proofs.Common.{Variant, Renumber, ExitOnCrash, beside, variant_spot, variant_outer, at_variant, variant_moved, variant_outer_by, variant_answer_by, variant_done_by}
 use Rattle.crashlab.proofs.Common.{variant_answer_at, variant_done_at, VariantStand, variant_spot_of, variant_next_access, variant_stepped, variant_outcome, plain_outcome, and_detour}
@@ -113,5 +113,4 @@ plain_goes variant s v h may agree = by s.errand h
   where
     by : (e : Chore) → Steady (record s { errand = e }) → Goes variant (record s { errand = e }) Straight (next_access (record s { errand = e })) (process_of variant (stepped (record s { errand = e }) v) Straight Nothing) (plain_outcome (record s { errand = e }) v) v
     by IsFree h = lock_goes variant s.layout s.limit s.index s.lock s.mended s.barred v h may (all (access s.limit s.index s.lock) _ agree)
-    by (Asking job) h = script_goes variant (record s { errand = Asking job }) Straight v h may Mending _ refl
     by (Does why job) h = script_goes variant (record s { errand = Does why job }) Straight v h may why (left job) refl

@@ -1,7 +1,7 @@
 -- A world of a variant stays seated.
-use Rattle.std.proofs.Common.{◌≡◌, ◌≢◌, ℕ, ◌<◌, ◌==◌, ◌⊎◌, List, length, slice_index_or, slice_set, Option, Some, None, IfSome, Result, Ok, Err, OnOk, OnErr, refl, sym, ap, ◌∙◌, subst, inl, inr, get_or-set_same, get_or-set_other, length-set}
+use Rattle.std.proofs.Common.{◌≡◌, ◌≢◌, ℕ, ◌<◌, ◌⊎◌, List, length, slice_index_or, slice_set, Option, Some, None, IfSome, Result, Ok, Err, OnOk, OnErr, refl, sym, ap, ◌∙◌, subst, inl, inr, get_or-set_same, get_or-set_other, length-set}
 use Rattle.crashlab.proofs.Common.{cond_both, Access, Kind, Take as Takes, Shut as Shuts, Own, Refusal, Word, kind_of, word_of, Place, Layout, Reply, left, Pending, fed, Script, Get as Asks}
-use Rattle.crashlab.proofs.Common.{Put as Writes, Done, Call, Errand as Chore, Free as IsFree, Asking, Does, Why, Mending, Stand, next_access, started, job_left, InWords, Change, Nothing, LeavesOut}
+use Rattle.crashlab.proofs.Common.{Put as Writes, Done, Call, Errand as Chore, Free as IsFree, Does, Why, Stand, next_access, started, job_left, InWords, Change, Nothing, LeavesOut}
 use Rattle.crashlab.proofs.Common.{Counts, Counted, Detour, Straight, Dropping, Over, Variant, Right, CountUp, LastSkipped, is_put, VariantStand, outside_at, over_by, over_way, variant_stepped}
 use Rattle.crashlab.proofs.Common.{stepped_beside, variant_started, by_row, last_put_next, VariantState, stand_at, IsSeated, HasSeat}
 use Rattle.std.proofs.lemmas.Bool.{cases_eq}
@@ -59,7 +59,6 @@ job_stays s why job (Writes i v rest) = (same_by refl refl refl)
 
 steps_stay : (s : Stand) (c : Chore) (v : ℕ) → SameSeat s (stepped_by s c v)
 steps_stay s IsFree v = (same_by refl refl refl)
-steps_stay s (Asking job) v = cond_both (v == 1) (record s { errand = IsFree }) (record s { errand = Does Mending job }) (SameSeat s) (λ _. (same_by refl refl refl)) (λ _. (same_by refl refl refl))
 steps_stay s (Does why job) v = job_stays s why (fed job v) (left (fed job v))
 
 pub step_stays : (s : Stand) (v : ℕ) → SameSeat s (stepped s v)

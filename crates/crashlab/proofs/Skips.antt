@@ -29,10 +29,10 @@ leave_answer i limit p t b (Writes j x rest) other = ap (λ y. by_script Mending
 leave_answer i limit p t b (Done r) other = refl
 
 -- whether the put comes next, by what is left of the script
-next_is : (s : Stand) (v : ℕ) (job : Pending) (e : Script Reply) → (HasStep e → left job ≡ e) → stepped s v ≡ job_left s Mending job e → last_put_next (stepped s v) ≡ is_put (last_of s) (access_by s.limit s.index Inside (Doing Mending e))
+next_is : (s : Stand) (v : ℕ) (job : Pending) (e : Script Reply) → left job ≡ e → stepped s v ≡ job_left s Mending job e → last_put_next (stepped s v) ≡ is_put (last_of s) (access_by s.limit s.index Inside (Doing Mending e))
 next_is s v job (Done r) told is = ap last_put_next is
-next_is s v job (Asks j rest) told is = ap last_put_next is ∙ ap (λ f. is_put (last_of s) (access_by s.limit s.index Inside (Doing Mending f))) (told tt)
-next_is s v job (Writes j x rest) told is = ap last_put_next is ∙ ap (λ f. is_put (last_of s) (access_by s.limit s.index Inside (Doing Mending f))) (told tt)
+next_is s v job (Asks j rest) told is = ap last_put_next is ∙ ap (λ f. is_put (last_of s) (access_by s.limit s.index Inside (Doing Mending f))) told
+next_is s v job (Writes j x rest) told is = ap last_put_next is ∙ ap (λ f. is_put (last_of s) (access_by s.limit s.index Inside (Doing Mending f))) told
 
 -- where a step leads, and what it is
 abbrev SkipAfter : Stand → ℕ → Bool → Option Answer → VariantStand
@@ -54,7 +54,7 @@ skip_past s v job j x rest out here h inside told is =
     let m : Mends t 0 = mends_of t 0 (step_steady s v h) (subst (λ u. IsMending u.errand) (sym is) tt) in
     let at : errand_of t.errand ≡ Doing Mending (Writes j x rest) = ap (λ u. errand_of u.errand) is ∙ ap (λ f. Doing Mending f) told in
     let same : m.script ≡ Writes j x rest = same_script _ _ (sym m.at ∙ at) in
-    let told' : HasStep rest → left m.job ≡ rest = subst (λ f. HasStep (tail f 0) → left m.job ≡ tail f 0) same m.told in
+    let told' : left m.job ≡ rest = subst (λ f. left m.job ≡ tail f 0) same m.told in
     let is' : stepped t 0 ≡ job_left t Mending m.job rest = subst (λ f. stepped t 0 ≡ job_left t Mending m.job (tail f 0)) same m.is in
     let out' = outcome_is t (Writes j x rest) (Store Puts (DataAt j) x) 0 at in
     let next : next_access t ≡ Some (Store Puts (DataAt j) x) = ap (λ e. access_by t.limit t.index t.lock e) at in
@@ -66,7 +66,7 @@ skip_past s v job j x rest out here h inside told is =
       sym (ap (λ o. (outcome t o 0).progress.done) next ∙ out'.2),
     )
 
-lands_on : (s : Stand) (v : ℕ) (job : Pending) (e : Script Reply) (out : Outcome) → is_put (last_of s) (access_by s.limit s.index Inside (Doing Mending e)) ≡ false → s.lock ≡ Inside → (HasStep e → left job ≡ e) → stepped s v ≡ job_left s Mending job e → out.progress.outer ≡ None → out.answer ≡ by_script Mending s.mended e → out.progress.done ≡ None → Lands s v e false out
+lands_on : (s : Stand) (v : ℕ) (job : Pending) (e : Script Reply) (out : Outcome) → is_put (last_of s) (access_by s.limit s.index Inside (Doing Mending e)) ≡ false → s.lock ≡ Inside → left job ≡ e → stepped s v ≡ job_left s Mending job e → out.progress.outer ≡ None → out.answer ≡ by_script Mending s.mended e → out.progress.done ≡ None → Lands s v e false out
 lands_on s v job e out other inside told is outer answer done = (
   lands LastSkipped LeavesOut s v job e out.answer (λ r. refl) (leave_step (last_of s) s.limit s.index Inside e other) inside told is answer,
   sym outer,
@@ -77,14 +77,14 @@ lands_on s v job e out other inside told is outer answer done = (
 lands_put : (s : Stand) (v : ℕ) (job : Pending) (j x : ℕ) (rest : Script Reply) (out : Outcome) (put : Bool) → (j == last_of s) ≡ put → Steady s → s.lock ≡ Inside → left job ≡ Writes j x rest → stepped s v ≡ job_left s Mending job (Writes j x rest) → out.progress.outer ≡ None → out.answer ≡ by_script Mending s.mended (Writes j x rest)
     → out.progress.done ≡ None → Lands s v (Writes j x rest) put out
 lands_put s v job j x rest out true here h inside told is outer answer done = skip_past s v job j x rest out here h inside told is
-lands_put s v job j x rest out false here h inside told is outer answer done = lands_on s v job (Writes j x rest) out here inside (λ _. told) is outer answer done
+lands_put s v job j x rest out false here h inside told is outer answer done = lands_on s v job (Writes j x rest) out here inside told is outer answer done
 
-lands_by : (s : Stand) (v : ℕ) (job : Pending) (e : Script Reply) (out : Outcome) → Steady s → s.lock ≡ Inside → (HasStep e → left job ≡ e) → stepped s v ≡ job_left s Mending job e → out.progress.outer ≡ None → out.answer ≡ by_script Mending s.mended e → out.progress.done ≡ None → Lands s v e (last_put_next (stepped s v)) out
+lands_by : (s : Stand) (v : ℕ) (job : Pending) (e : Script Reply) (out : Outcome) → Steady s → s.lock ≡ Inside → left job ≡ e → stepped s v ≡ job_left s Mending job e → out.progress.outer ≡ None → out.answer ≡ by_script Mending s.mended e → out.progress.done ≡ None → Lands s v e (last_put_next (stepped s v)) out
 lands_by s v job e out h inside told is outer answer done = subst (λ y. Lands s v e y out) (sym (next_is s v job e told is)) (by e told is answer)
   where
-    by : (e : Script Reply) → (HasStep e → left job ≡ e) → stepped s v ≡ job_left s Mending job e → out.answer ≡ by_script Mending s.mended e → Lands s v e (is_put (last_of s) (access_by s.limit s.index Inside (Doing Mending e))) out
+    by : (e : Script Reply) → left job ≡ e → stepped s v ≡ job_left s Mending job e → out.answer ≡ by_script Mending s.mended e → Lands s v e (is_put (last_of s) (access_by s.limit s.index Inside (Doing Mending e))) out
     by (Asks i rest) told is answer = lands_on s v job (Asks i rest) out refl inside told is outer answer done
-    by (Writes j x rest) told is answer = lands_put s v job j x rest out (j == last_of s) refl h inside (told tt) is outer answer done
+    by (Writes j x rest) told is answer = lands_put s v job j x rest out (j == last_of s) refl h inside told is outer answer done
     by (Done r) told is answer = lands_on s v job (Done r) out refl inside told is outer answer done
 
 abbrev SkipRow : Stand → ℕ → Option Access → Errand → Outcome → Type 0
@@ -97,7 +97,7 @@ SkipRow s v o e out =
 abbrev SkipGoal : Stand → ℕ → Errand → Type 0
 SkipGoal s v x = SkipRow s v (access_by s.limit s.index s.lock x) (changed_errand LeavesOut s.layout s.index x) (outcome s (access_by s.limit s.index s.lock x) v)
 
-skip_by : (s : Stand) (v : ℕ) (e : Script Reply) (job : Pending) → is_put (last_of s) (access_by s.limit s.index s.lock (Doing Mending e)) ≡ false → Steady s → errand_of s.errand ≡ Doing Mending e → HasStep e → s.lock ≡ Inside → (HasStep (tail e v) → left job ≡ tail e v)
+skip_by : (s : Stand) (v : ℕ) (e : Script Reply) (job : Pending) → is_put (last_of s) (access_by s.limit s.index s.lock (Doing Mending e)) ≡ false → Steady s → errand_of s.errand ≡ Doing Mending e → HasStep e → s.lock ≡ Inside → left job ≡ tail e v
     → stepped s v ≡ job_left s Mending job (tail e v) → SkipGoal s v (Doing Mending e)
 skip_by s v (Asks i rest) job other h at step inside told is =
     let o = outcome_is s (Asks i rest) (Load Gets (DataAt i)) v at in

@@ -1,7 +1,7 @@
 -- Waiters that go by a row of the variant's: one that doesn't look, and one that goes past an equal number.
 use Rattle.std.proofs.Common.{◌≡◌, ℕ, ◌+◌, Bool, true, false, ◌||◌, ◌==◌, nat_lt, if◌then◌else◌, List, [], ◌∷◌, Option, Some, None, refl, sym, ap, ◌∙◌, subst}
 use Rattle.crashlab.proofs.Common.{cond_both, Access, Load, Look as Looks, Weigh as Weighs, Choosing as ChoosingOf, Number as NumberOf, access, place_of, Place, Reread, Wait, is_before, eqb_self}
-use Rattle.crashlab.proofs.Common.{Layout, Reply, left, Script, Get as Asks, Put as Writes, Done, Errand as Chore, Free as IsFree, Asking, Does, Why, Mending, errand_of, Doing, Stand, access_by}
+use Rattle.crashlab.proofs.Common.{Layout, Reply, left, Script, Get as Asks, Put as Writes, Done, Errand as Chore, Free as IsFree, Does, Why, errand_of, Doing, Stand, access_by}
 use Rattle.crashlab.proofs.Common.{next_access, Nothing, Detour, Straight, NoLook, NoTies, weighed, silent, variant_stepped, plain_outcome, by_row, variant_access}
 use Rattle.rmecore.specs.Place.{Door, without, above}
 use Rattle.rmecore.specs.Machine.{first}
@@ -64,7 +64,6 @@ looks_go s v h = by s.errand h
   where
     by : (e : Chore) → Steady (record s { errand = e }) → Walks NoLook (record s { errand = e }) Straight v
     by IsFree h = weighs_at s.layout s.limit s.index s.lock s.mended s.barred v h
-    by (Asking job) h = script_goes NoLook (record s { errand = Asking job }) Straight v h tt Mending _ refl
     by (Does why job) h =
         let t : Stand = record s { errand = Does why job } in
         subst (λ o. Goes NoLook t Straight o (variant_stepped (process_of NoLook t Straight Nothing) v) (plain_outcome t v) v) (sym (unweighed s.limit s.index s.lock why (left job))) (script_goes NoLook t Straight v h tt why (left job) refl)
@@ -100,7 +99,6 @@ ties_go s v h = by s.errand h
   where
     by : (e : Chore) → Steady (record s { errand = e }) → Walks NoTies (record s { errand = e }) Straight v
     by IsFree h = ties_at s.layout s.limit s.index s.lock s.mended s.barred v h
-    by (Asking job) h = script_goes NoTies (record s { errand = Asking job }) Straight v h tt Mending _ refl
     by (Does why job) h = script_goes NoTies (record s { errand = Does why job }) Straight v h tt why (left job) refl
 
 -- where the code finds these rows

@@ -35,6 +35,9 @@ module _ (l : Layout) (lawful : IsLayout l) where
   fits_first task.Ruin h = fits stage.PutRuined refl refl refl refl refl
   fits_first task.Check h = fits stage.AskRuined refl refl refl refl refl
 
+  pub fits_usable : FitsStage l stage.AskUsable
+  fits_usable = fits stage.AskUsable refl refl refl refl refl
+
   -- an append that knows the three words
   fits_decided : (seq : ℕ) (value : List ℕ) (closed count last : ℕ) → length value ≡ l.width → FitsStage l (decided_stage l seq value closed count last)
   fits_decided seq value closed count last wide = by (seq == 0) (nat_le seq last) (nat_lt (last + 1) seq) (closed == 1) (count == l.cap)
@@ -96,6 +99,7 @@ module _ (l : Layout) (lawful : IsLayout l) where
   fits_after (stage.AskClosed seq value) word h = fits (stage.AskCount seq value word) h.value refl refl refl refl
   fits_after (stage.AskCount seq value closed) word h = fits (stage.AskLast seq value closed word) h.value refl refl refl refl
   fits_after (stage.AskLast seq value closed count) word h = fits_decided seq value closed count word h.value
+  fits_after stage.AskUsable word h = fits_if (word == 1) _ _ (fits_ended _) (fits stage.AskArmed refl refl refl refl refl)
   fits_after stage.AskArmed word h = fits_if (word == 0) _ _ (fits_ended _) (fits stage.AskAt refl refl refl refl refl)
   fits_after stage.AskAt word h = fits (stage.AskSeq word) refl refl refl refl refl
   fits_after (stage.AskSeq at) word h = fits (stage.AskValue at word _ 0) refl refl refl refl refl
@@ -110,6 +114,7 @@ module _ (l : Layout) (lawful : IsLayout l) where
 
   pub left_after : (p : ℕ) (x : Stage) (word : ℕ) → FitsStage l x → left_at l p (stage_after l x word) ≡ tail (left_at l p x) word
   left_after p (stage.AskLast seq value closed count) word h = left_decided p seq value closed count word
+  left_after p stage.AskUsable word h = elim (cases_Bool (word == 1)) [ inl e ↦ rw e refl | inr e ↦ rw e refl ]
   left_after p stage.AskArmed word h = elim (cases_Bool (word == 0)) [ inl e ↦ rw e refl | inr e ↦ rw e refl ]
   left_after p (stage.AskSeq at) word h = let whole : l.width - 0 ≡ l.width = omega arith in rw whole refl
   left_after p (stage.AskValue at seq words read) word h = left_read p at seq words read word h.buffer h.read

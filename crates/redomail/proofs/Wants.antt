@@ -26,6 +26,7 @@ pub stage_wants : (l : Layout) (p : ℕ) (x : Stage) → FitsStage l x → ((a :
 stage_wants l p (stage.AskClosed seq value) fits more = refl
 stage_wants l p (stage.AskCount seq value closed) fits more = refl
 stage_wants l p (stage.AskLast seq value closed count) fits more = refl
+stage_wants l p stage.AskUsable fits more = refl
 stage_wants l p stage.AskArmed fits more = refl
 stage_wants l p stage.AskAt fits more = refl
 stage_wants l p (stage.AskSeq at) fits more = refl

@@ -3,6 +3,7 @@ use Rattle.std.specs.Prelude.{ℕ}
 use Rattle.redomail.specs.declared.layout.Layout.{Layout}
 use Rattle.redomail.specs.declared.reply.Reply.{Reply}
 use Rattle.redomail.specs.declared.stage.Stage.{Stage}
+use Rattle.redomail.specs.declared.stage.Stage.TheVariants.{AskUsable}
 use Rattle.redomail.specs.declared.task.Task.{Task}
 use Rattle.redomail.specs.Script.{Script}
 use Rattle.redomail.specs.Jobs.{left_at}
@@ -21,6 +22,10 @@ left job = left_at job.layout job.sender job.stage
 -- a task, not yet begun
 abbrev pub begun : Layout → ℕ → Task → Pending
 begun l p t = record { layout = l; sender = p; stage = first_stage t }
+
+-- the call consistent, not yet begun
+abbrev pub mending : Layout → ℕ → Pending
+mending l p = record { layout = l; sender = p; stage = AskUsable }
 
 -- the job once it was given this word
 abbrev pub fed : Pending → ℕ → Pending

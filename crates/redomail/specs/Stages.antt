@@ -38,6 +38,7 @@ abbrev pub stage_after : Layout → Stage → ℕ → Stage
 stage_after l (stage.AskClosed seq value) word = stage.AskCount seq value word
 stage_after l (stage.AskCount seq value closed) word = stage.AskLast seq value closed word
 stage_after l (stage.AskLast seq value closed count) word = decided_stage l seq value closed count word
+stage_after l stage.AskUsable word = if word == 1 then stage.Ended (reply.Ruined true) else stage.AskArmed
 stage_after l stage.AskArmed word = if word == 0 then stage.Ended (reply.Mended false) else stage.AskAt
 stage_after l stage.AskAt word = stage.AskSeq word
 stage_after l (stage.AskSeq at) word = stage.AskValue at word (replicate 8 0) 0

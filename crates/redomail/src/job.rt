@@ -6,7 +6,7 @@ ghost use Rattle.redomail.specs.Layout.{IsLayout};
 ghost use Rattle.redomail.specs.Refusals.{refused as refusal_of};
 ghost use Rattle.redomail.specs.Runs.{StepKept};
 ghost use Rattle.redomail.specs.Script.{head, tail, reply_in};
-ghost use Rattle.redomail.specs.Tasks.{script};
+ghost use Rattle.redomail.specs.Tasks.{script, consistent};
 
 use crate::layout::Layout;
 use crate::next::Next;
@@ -48,7 +48,7 @@ impl Model for Job {
 }
 
 impl Job {
-    ghost use Rattle.redomail.specs.Left.{left, begun, fed};
+    ghost use Rattle.redomail.specs.Left.{left, begun, mending, fed};
 
     /// A task of a process, not yet begun.
     pub fn new(layout: Layout, sender: u64, task: Task) -> Result<Job, Refusal>
@@ -64,6 +64,21 @@ impl Job {
             sender,
             stage,
         })
+    }
+
+    /// A seam of this workspace: the call consistent of a process, not yet begun. It is no task of the mailbox, since it asks
+    /// before its repair whether the lock is ruined.
+    pub fn seam_mending(layout: Layout, sender: u64) -> Job
+        requires lawful { IsLayout layout }
+        requires below { sender < layout.procs }
+        ensures left { left result ≡ consistent layout sender }
+        ensures exact { result ≡ mending layout sender }
+    {
+        Job {
+            layout,
+            sender,
+            stage: Stage::AskUsable,
+        }
     }
 
     /// What the job wants next.

@@ -24,6 +24,8 @@ pub enum Stage {
     AskCount(u64, Body, u64),
     /// It asks for the sender's last number, and knows closed and count.
     AskLast(u64, Body, u64, u64),
+    /// Consistent asks whether the lock is ruined. The repair comes behind it.
+    AskUsable,
     /// A repair asks whether the record is armed.
     AskArmed,
     /// It asks for the record's place.
@@ -77,7 +79,8 @@ impl Stage {
                 record.value.width() == layout.width && step < 8 + 2 * layout.width
             }
             Stage::GetBoard(i) | Stage::PutBoard(i, _) => i < 4,
-            Stage::AskArmed
+            Stage::AskUsable
+            | Stage::AskArmed
             | Stage::AskAt
             | Stage::AskSeq(_)
             | Stage::AskOpen
@@ -111,7 +114,7 @@ impl Stage {
             Stage::GetBoard(i) => Next::Get(layout.board(i)),
             Stage::PutBoard(i, v) => Next::Put(layout.board(i), v),
             Stage::PutRuined => Next::Put(RUINED, 1),
-            Stage::AskRuined => Next::Get(RUINED),
+            Stage::AskUsable | Stage::AskRuined => Next::Get(RUINED),
             Stage::Ended(reply) => Next::Done(reply),
         }
     }
@@ -170,6 +173,8 @@ impl Stage {
             Stage::AskLast(seq, value, closed, count) => decided(
                 layout, seq, value, closed, count, word,
             ),
+            Stage::AskUsable if word == 1 => Stage::Ended(Reply::Ruined(true)),
+            Stage::AskUsable => Stage::AskArmed,
             Stage::AskArmed if word == 0 => Stage::Ended(Reply::Mended(false)),
             Stage::AskArmed => Stage::AskAt,
             Stage::AskAt => Stage::AskSeq(word),

@@ -21,7 +21,7 @@ padded read words = take read words ++ replicate (8 - read) 0
 
 -- how far the job of a chore has come
 abbrev pub job_stage : Layout → List ℕ → Chore → Stage
-job_stage l words chore.Asking = stage.AskArmed
+job_stage l words chore.Asking = stage.AskUsable
 job_stage l words chore.Checking = stage.AskRuined
 job_stage l words chore.Ruining = stage.PutRuined
 job_stage l words chore.Armed = stage.AskArmed
@@ -61,7 +61,6 @@ abbrev pub job_of : Layout → ℕ → List ℕ → Chore → Pending
 job_of l p words c = record { layout = l; sender = p; stage = job_stage l words c }
 
 abbrev pub errand_of : Layout → ℕ → List ℕ → Chore → Errand
-errand_of l p words chore.Asking = errand.Asking (job_of l p words chore.Asking)
 errand_of l p words c = errand.Doing (why_of l words c) (job_of l p words c)
 
 -- what a chore needs of the sizes, and of what it knows

@@ -1,7 +1,7 @@
 -- What a process's machine does is what the definition says, at whatever spot it stands.
 use Rattle.std.proofs.Common.{◌≡◌, ℕ, Bool, true, false, ◌&&◌, ◌==◌, if◌then◌else◌, [], ◌∷◌, Result, Ok, Err, OnErr, Option, Some, None, IsSome, IfSome, unwrap_or, refl, sym, ap, ◌∙◌, subst, eq-eqb}
-use Rattle.rmeworld.proofs.Common.{Access, Progress, Refusal, Standing, kind_of, word_of, progress, after_access, lock_access, carried, Place, next, Inside, Layout, Reply, Ruined, Pending, left}
-use Rattle.rmeworld.proofs.Common.{begun, Script, Get as Asks, Put as Writes, Done, tail, script, Call, Lock, Unlock, Consistent, Append, Close, Chore, IsFree, Asking, Does, Why, Mending, Checking}
+use Rattle.rmeworld.proofs.Common.{Access, Progress, Refusal, Standing, kind_of, word_of, progress, after_access, lock_access, carried, Place, next, Inside, Layout, Reply, Pending, left}
+use Rattle.rmeworld.proofs.Common.{begun, Script, Get as Asks, Put as Writes, Done, tail, script, Call, Lock, Unlock, Consistent, Append, Close, Chore, IsFree, Does, Why, Checking}
 use Rattle.rmeworld.proofs.Common.{by_lock, is_entry, errand_of, HasStep, Held, first_cause, start_refusal, Errand, Free, Doing, Spot, settled, errand_entered, at_lock, begun_from, moved_by}
 use Rattle.rmeworld.proofs.Common.{only_spot, mended_entered, Stand, standing, outcome, IsAllowed, spot_of, lock_moved, job_left, stepped, stepped_by, access_by, next_access, after_at, spot_after}
 use Rattle.rmeworld.specs.declared.call.Call.TheVariants.{Get, Put}
@@ -37,19 +37,6 @@ lock_goes s v h = by (lock_access (standing s)) h
         let t : Place = after_access (standing s) (Some a) v in
         (λ i. record { lock = t; mended = mended_entered s.mended s.lock t; barred = s.barred; errand = checks s.layout s.index (is_entry s.lock t) i })
         ∙ sym (at_lock_goes s (next s.layout.procs s.limit s.index s.lock (kind_of a) (word_of a) (carried a v)) (h v))
-
-step_settled : (b c : Bool) (why : Why) (e : Script Reply) → HasStep e → settled b c why e ≡ record { lock = Inside; mended = b; barred = c; errand = Doing why e }
-step_settled b c why (Asks i rest) h = refl
-step_settled b c why (Writes i v rest) h = refl
-step_settled b c why (Done reply) h = absurd h
-
--- the get of ruined with which consistent begins
-pub ask_goes : (s : Stand) (job : Pending) (v : ℕ) → Held (Asking job) s.lock → Goes s (Asking job) v
-ask_goes s job v h = by (v == 1)
-  where
-    by : (b : Bool) → spot_of (if b then record s { errand = IsFree } else record s { errand = Does Mending job }) ≡ settled s.mended s.barred Mending (if b then Done (Ruined true) else left job)
-    by true = λ i. record { lock = h.0 i; mended = s.mended; barred = s.barred; errand = Free }
-    by false = (λ i. record { lock = h.0 i; mended = s.mended; barred = s.barred; errand = Doing Mending (left job) }) ∙ sym (step_settled s.mended s.barred Mending (left job) h.1)
 
 -- with this script left, or its reply
 left_goes : (s : Stand) (why : Why) (job : Pending) (e : Script Reply) → left job ≡ e → s.lock ≡ Inside → spot_of (job_left s why job e) ≡ settled s.mended s.barred why e

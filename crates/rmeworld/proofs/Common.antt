@@ -75,7 +75,7 @@ pub use Rattle.rmeworld.specs.declared.answer.Answer.TheVariants.{Clean, OwnerDi
 pub use Rattle.rmeworld.specs.declared.call.Call.{Call}
 pub use Rattle.rmeworld.specs.declared.call.Call.TheVariants.{Lock, Unlock, Consistent, Recover, Append, Close, Withdraw}
 pub use Rattle.rmeworld.specs.declared.errand.Errand.{Errand as Chore}
-pub use Rattle.rmeworld.specs.declared.errand.Errand.TheVariants.{Free as IsFree, Asking, Doing as Does}
+pub use Rattle.rmeworld.specs.declared.errand.Errand.TheVariants.{Free as IsFree, Doing as Does}
 pub use Rattle.rmeworld.specs.declared.image.Image.{Image}
 pub use Rattle.rmeworld.specs.declared.stepped.Stepped.{Stepped}
 pub use Rattle.rmeworld.specs.declared.why.Why.{Why}

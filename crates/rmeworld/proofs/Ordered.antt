@@ -1,27 +1,25 @@
 -- What each process of a world keeps in its private memory, so that whatever its machine does is the definition's step.
-use Rattle.std.proofs.Common.{◌≡◌, ℕ, Bool, true, false, ◌&&◌, ◌==◌, nat_lt, if◌then◌else◌, [], ◌∷◌, length, Option, Some, None, IfSome, refl, sym, ◌∙◌, subst, inl, inr, arith, eqb-true, ltb-true, true≢false}
-use Rattle.rmeworld.proofs.Common.{cases_Bool, Access, Store, Refusal, Data as DataAt, after_access, lock_access, IsLeastOfLock, Place, Wait, Rest, Inside, Dead, Layout, Reply, Ruined, IsLayout}
-use Rattle.rmeworld.proofs.Common.{Pending, left, fed, Script, Get as Asks, Put as Writes, Done, tail, stage_after, Call, Lock, Unlock, Consistent, Recover, Append, Close, Withdraw, Chore, IsFree}
-use Rattle.rmeworld.proofs.Common.{Asking, Does, Why, Mending, Checking, is_entry, errand_of, HasStep, Held, first_cause, start_refusal, is_idle_by, Doing, Spot, Begins, begun_from, next_spot}
-use Rattle.rmeworld.proofs.Common.{only_spot, end_place, Stand, standing, IsLeast, resting, IsAllowed, spot_of, lock_moved, job_left, stepped, stepped_by, access_by, next_access, spot_after}
-use Rattle.rmeworld.proofs.Common.{StoresOwn, stand_started as started, crashed}
+use Rattle.std.proofs.Common.{◌≡◌, ℕ, Bool, true, false, ◌&&◌, ◌==◌, nat_lt, [], ◌∷◌, length, Option, Some, None, IfSome, refl, sym, ◌∙◌, subst, inl, inr, arith, eqb-true, ltb-true, true≢false}
+use Rattle.rmeworld.proofs.Common.{cases_Bool, Access, Store, Refusal, Data as DataAt, after_access, lock_access, IsLeastOfLock, Place, Wait, Rest, Inside, Dead, Layout, Reply, Ruined, IsLayout, Pending}
+use Rattle.rmeworld.proofs.Common.{left, fed, Script, Get as Asks, Put as Writes, Done, tail, stage_after, Call, Lock, Unlock, Consistent, Recover, Append, Close, Withdraw, Chore, IsFree, Does, Why, HasStep}
+use Rattle.rmeworld.proofs.Common.{Checking, is_entry, errand_of, Held, first_cause, start_refusal, is_idle_by, Doing, Spot, Begins, begun_from, next_spot, only_spot, end_place, Stand, standing, IsLeast}
+use Rattle.rmeworld.proofs.Common.{resting, IsAllowed, spot_of, lock_moved, job_left, stepped, stepped_by, access_by, next_access, spot_after, StoresOwn, stand_started as started, crashed}
 use Rattle.rmecore.specs.declared.refusal.Refusal.TheVariants.{Unmended, BadIndex, BadWidth}
 use Rattle.rmecore.specs.Machine.{StoresOwn as IsLockOwn}
 use Rattle.rmecore.proofs.Accesses.{all_allowed, stores_own}
 use Rattle.redomail.specs.declared.task.Task.TheVariants as task
 use Rattle.redomail.specs.Jobs.{FitsStage}
-use Rattle.redomail.proofs.Feeding.{fits_first, fits_after, left_after}
+use Rattle.redomail.proofs.Feeding.{fits_first, fits_usable, fits_after, left_after}
 use Rattle.rmeworld.specs.declared.call.Call.TheVariants.{Get, Put}
 use Rattle.rmeworld.specs.Refused.{is_idle}
 use Rattle.rmeworld.proofs.Scanned.{IsScanned, least_of_lock, scanned_after, no_step_is_idle}
-use Rattle.rmeworld.proofs.Chores.{with, lock_goes, ask_goes, job_goes, Goes, lock_allowed, doing_allowed, script_allowed}
+use Rattle.rmeworld.proofs.Chores.{with, lock_goes, job_goes, Goes, lock_allowed, script_allowed}
 use Rattle.rmeworld.proofs.Projection.{entry_inside}
 use Rattle.rmeworld.proofs.WorldTallies.{at_lock_some}
 
 -- a job of this layout
 abbrev pub FitsChore : Layout → Chore → Type 0
 FitsChore l IsFree = Unit {0}
-FitsChore l (Asking job) = (job.layout ≡ l) × FitsStage l job.stage
 FitsChore l (Does why job) = (job.layout ≡ l) × FitsStage l job.stage
 
 pub record IsOrdered (s : Stand) : Type 0 where
@@ -45,7 +43,6 @@ goes s v lawful h = by s.errand h.held h.fits
   where
     by : (e : Chore) → Held e s.lock → FitsChore s.layout e → Goes s e v
     by IsFree held fits = lock_goes s v (all_allowed (standing s))
-    by (Asking job) held fits = ask_goes s job v held
     by (Does why job) held fits = job_goes s why job (fed job v) v held (job_left_after s.layout job v lawful fits.0 fits.1)
 
 pub allowed : (s : Stand) → IfSome (next_access s) (IsAllowed s)
@@ -53,7 +50,6 @@ allowed s = by s.errand
   where
     by : (e : Chore) → IfSome (next_access (with s e)) (IsAllowed (with s e))
     by IsFree = lock_allowed s (all_allowed (standing s))
-    by (Asking job) = doing_allowed s Mending (Asks 0 (λ x. if x == 1 then Done (Ruined true) else left job))
     by (Does why job) = script_allowed s why job
 
 -- a store of the lock's is one of the process
@@ -75,7 +71,6 @@ owns s = by s.errand
 
     by : (e : Chore) → IfSome (next_access (with s e)) (StoresOwn s.index)
     by IsFree = lifted (lock_access (standing s)) (stores_own s.limit s.index s.lock)
-    by (Asking job) = refl
     by (Does why job) = doing why (left job)
 
 -- where a script ends
@@ -99,10 +94,6 @@ ordered_stepped s v lawful h = by s.errand h.held h.fits
 
     by : (e : Chore) → Held e s.lock → FitsChore s.layout e → IsOrdered (stepped_by s e v)
     by IsFree held fits = moved (after_access (standing s) (lock_access (standing s)) v) (scanned_after s.layout.procs s.limit s.index s.lock v h.scanned)
-    by (Asking job) held fits = elim (cases_Bool (v == 1)) [
-      | inl e ↦ rw e (record { held = tt; fits = tt; scanned = h.scanned })
-      | inr e ↦ rw e (record { held = held; fits = fits; scanned = h.scanned })
-    ]
     by (Does why job) held fits =
         let stage = fits_after s.layout lawful job.stage v fits.1 in
         let next : FitsChore s.layout (Does why (fed job v)) = (fits.0, subst (λ l. FitsStage s.layout (stage_after l job.stage v)) (sym fits.0) stage) in
@@ -123,7 +114,6 @@ least s h = by s.errand
 
     by : (e : Chore) → IfSome (next_access (with s e)) (IsLeast (with s e))
     by IsFree = lifted (lock_access (standing s)) (least_of_lock (standing s) h.scanned)
-    by (Asking job) = λ word v some. omega arith
     by (Does why job) = doing (Does why job) why (left job)
 
 -- where a call is under way there is a next step
@@ -137,7 +127,6 @@ has_step s h = by s.errand h.held
 
     by : (e : Chore) → Held e s.lock → is_idle_by s.lock (errand_of e) ≡ false → access_by s.limit s.index s.lock (errand_of e) ≡ None → ⊥
     by IsFree held busy none = true≢false (sym (no_step_is_idle s.layout.procs s.limit s.index s.lock h.scanned none) ∙ busy)
-    by (Asking job) held busy none = cc
     by (Does why job) held busy none = doing why (left job) held.1 none
 
 -- a start that is not refused
@@ -174,7 +163,7 @@ module _ (l : Layout) (limit p : ℕ) (lawful : IsLayout l) (barred : Bool) wher
   starts (Wait k unpassed looked) b Withdraw h = (refl, idle tt tt tt)
   starts Inside true Unlock h = (refl, idle tt tt tt)
   starts Inside false Unlock h = (refl, idle (refl, tt) (refl, fits_first l lawful task.Ruin tt) tt)
-  starts Inside false Consistent h = (refl, idle (refl, tt) (refl, fits_first l lawful task.Repair tt) tt)
+  starts Inside false Consistent h = (refl, idle (refl, tt) (refl, fits_usable l lawful) tt)
   starts Inside b (Append seq value) h =
       let both = both_causes b (length value == l.width) Unmended BadWidth h in
       let may : (b && (length value == l.width)) ≡ true = rw (both.0, both.1) refl in
@@ -208,5 +197,4 @@ begins s call lawful h may = by s.errand refl h.held may
         let free : record s { errand = IsFree } ≡ s = λ i. record s { errand = sym is i } in
         subst (λ (t : Stand). (next_spot t.layout t.limit (spot_of t) (Begins t.index call) ≡ Some (spot_of (started t call))) × IsOrdered (started t call)) free
         (starts s.layout s.limit s.index lawful s.barred s.lock s.mended call may)
-    by (Asking job) is held may = absurd (busy s.layout s.lock s.mended s.barred Mending (Asks 0 (λ x. if x == 1 then Done (Ruined true) else left job)) call held.0 may)
     by (Does why job) is held may = absurd (busy s.layout s.lock s.mended s.barred why (left job) call held.0 may)

@@ -1,7 +1,7 @@
 -- A step in memory is a happening of the definition.
-use Rattle.std.proofs.Common.{◌≡◌, ℕ, ◌<◌, ◌≤◌, Bool, true, false, ◌==◌, nat_lt, if◌then◌else◌, List, ◌++◌, length, slice_index_or, slice_set, Some, IsSome, unwrap_or, refl, sym, ap, ◌∙◌, subst, inl, inr, arith, append-nil, lt-ltb, ltb-true, get_or-set_same, get_or-set_other, length-set}
+use Rattle.std.proofs.Common.{◌≡◌, ℕ, ◌<◌, ◌≤◌, Bool, true, false, nat_lt, if◌then◌else◌, List, ◌++◌, length, slice_index_or, slice_set, Some, IsSome, unwrap_or, refl, sym, ap, ◌∙◌, subst, inl, inr, arith, append-nil, lt-ltb, ltb-true, get_or-set_same, get_or-set_other, length-set}
 use Rattle.rmeworld.proofs.Common.{cases_Bool, cases_eq, cases_lt, set_past, Access, Load, Store, Own, Tally, Word, Data as DataAt, kind_of, word_of, carried, put, own_at, zeros, write, put_same}
-use Rattle.rmeworld.proofs.Common.{put_other, Deed, Layout, Reply, size, words_of, left, fed, Script, Get as Asks, Put as Writes, Done, Call, Unlock, Chore, IsFree, Asking, Does, Mending, value_of}
+use Rattle.rmeworld.proofs.Common.{put_other, Deed, Layout, Reply, size, words_of, left, fed, Script, Get as Asks, Put as Writes, Done, Call, Unlock, Chore, IsFree, Does, value_of}
 use Rattle.rmeworld.proofs.Common.{words_by, cells_by, advanced_by, words_set, Happening, Begins, Falls, Moves, who, next_spot, Stand, IsAllowed, spot_of, job_left, stepped as stand_stepped}
 use Rattle.rmeworld.proofs.Common.{stepped_by, next_access, spot_after, StoresOwn, stand_started, crashed as stand_crashed, InWords, IsOwnWord, reading, event_deeds, Reads, cells_after, words_after}
 use Rattle.rmeworld.proofs.Common.{WorldState, stand_at, spot_at, scene_of, Takes, absent, HasSeat, IsSeated}
@@ -129,11 +129,6 @@ crash_takes s p seated below = alone s p (stand_crashed (stand_at s.processes p)
 -- a process keeps its seat
 pub keeps_stepped : (s : Stand) (e : Chore) (v : ℕ) → HasSeat s.layout s.limit s.index (stepped_by s e v)
 keeps_stepped s IsFree v = (refl, refl, refl)
-keeps_stepped s (Asking job) v = by (v == 1)
-  where
-    by : (b : Bool) → HasSeat s.layout s.limit s.index (if b then record s { errand = IsFree } else record s { errand = Does Mending job })
-    by true = (refl, refl, refl)
-    by false = (refl, refl, refl)
 keeps_stepped s (Does why job) v = by (left (fed job v))
   where
     by : (x : Script Reply) → HasSeat s.layout s.limit s.index (job_left s why (fed job v) x)

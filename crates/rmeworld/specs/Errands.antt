@@ -1,18 +1,15 @@
 -- What a process of the program has to do with the data words, as the definition has it.
-use Rattle.std.specs.Prelude.{◌≡◌, ◌==◌, true, if◌then◌else◌}
+use Rattle.std.specs.Prelude.{◌≡◌}
 use Rattle.rmecore.specs.Place.{Place, Inside}
 use Rattle.redomail.specs.declared.reply.Reply.{Reply}
-use Rattle.redomail.specs.declared.reply.Reply.TheVariants.{Ruined}
 use Rattle.redomail.specs.Script.{Script, Get as Asks, Put as Writes, Done}
 use Rattle.redomail.specs.Left.{left}
 use Rattle.rmeworld.specs.declared.errand.Errand.{Errand as Task}
-use Rattle.rmeworld.specs.declared.errand.Errand.TheVariants.{Free as IsFree, Asking, Doing as Does}
-use Rattle.rmeworld.specs.declared.why.Why.TheVariants.{Mending}
+use Rattle.rmeworld.specs.declared.errand.Errand.TheVariants.{Free as IsFree, Doing as Does}
 use Rattle.rmeworld.specs.Spot.{Errand, Free, Doing}
 
 abbrev pub errand_of : Task → Errand
 errand_of IsFree = Free
-errand_of (Asking job) = Doing Mending (Asks 0 (λ x. if x == 1 then Done (Ruined true) else left job))
 errand_of (Does why job) = Doing why (left job)
 
 -- a script that has a step left
@@ -24,5 +21,4 @@ HasStep (Done reply) = ⊥
 -- a process with a script is inside, and the script has a step left
 abbrev pub Held : Task → Place → Type 0
 Held IsFree s = Unit {0}
-Held (Asking job) s = (s ≡ Inside) × HasStep (left job)
 Held (Does why job) s = (s ≡ Inside) × HasStep (left job)

@@ -3,13 +3,12 @@ use Rattle.std.specs.Prelude.{◌≡◌, Some}
 use Rattle.rmecore.specs.Machine.{word_of}
 use Rattle.rmecore.specs.declared.access.Access.{Access}
 use Rattle.rmeworld.specs.declared.errand.Errand.{Errand}
-use Rattle.rmeworld.specs.declared.errand.Errand.TheVariants.{Free, Asking, Doing}
+use Rattle.rmeworld.specs.declared.errand.Errand.TheVariants.{Free, Doing}
 use Rattle.rmeworld.specs.Stand.{Stand, next_access, IsAllowed, InWords, StoresOwn}
 
--- a job is under way, behind what consistent asks first
+-- a job is under way
 abbrev pub IsWorking : Errand → Type 0
 IsWorking Free = ⊥
-IsWorking (Asking job) = ⊥
 IsWorking (Doing why job) = Unit {0}
 
 -- This access is the next step of its job.

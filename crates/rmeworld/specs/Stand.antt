@@ -1,5 +1,5 @@
 -- What contracts see of one process of a world, and what its machine does next.
-use Rattle.std.specs.Prelude.{◌≡◌, ℕ, ◌<◌, ◌≤◌, Bool, true, false, ◌==◌, if◌then◌else◌, [], Option, Some, None, IsSome, unwrap_or}
+use Rattle.std.specs.Prelude.{◌≡◌, ℕ, ◌<◌, ◌≤◌, Bool, true, false, if◌then◌else◌, [], Option, Some, None, IsSome, unwrap_or}
 use Rattle.rmecore.specs.Place.{Place, Rest, Dead, Reread, Leaving, Withdrawing}
 use Rattle.rmecore.specs.World.{is_store}
 use Rattle.rmecore.specs.Machine.{Standing, next_access as lock_access, after_access, access, kind_of, word_of, carried, owner, InLock}
@@ -13,14 +13,14 @@ use Rattle.rmecore.specs.declared.word.Word.TheVariants.{Data as DataAt}
 use Rattle.redomail.specs.declared.layout.Layout.{Layout}
 use Rattle.redomail.specs.declared.reply.Reply.{Reply}
 use Rattle.redomail.specs.Layout.{IsLayout}
-use Rattle.redomail.specs.Left.{Pending, left, begun, fed}
+use Rattle.redomail.specs.Left.{Pending, left, begun, mending, fed}
 use Rattle.redomail.specs.declared.task.Task.TheVariants as task
 use Rattle.redomail.specs.Script.{Script, Get as Asks, Put as Writes, Done}
 use Rattle.rmeworld.specs.declared.outcome.Outcome.{Outcome}
 use Rattle.rmeworld.specs.declared.call.Call.{Call}
 use Rattle.rmeworld.specs.declared.call.Call.TheVariants as call
 use Rattle.rmeworld.specs.declared.errand.Errand.{Errand as Chore}
-use Rattle.rmeworld.specs.declared.errand.Errand.TheVariants.{Free as IsFree, Asking, Doing as Does}
+use Rattle.rmeworld.specs.declared.errand.Errand.TheVariants.{Free as IsFree, Doing as Does}
 use Rattle.rmeworld.specs.declared.why.Why.{Why}
 use Rattle.rmeworld.specs.declared.why.Why.TheVariants.{Checking, Ruining, Mending, Working}
 use Rattle.rmeworld.specs.Spot.{Errand, Free, Doing, Spot, Happening, Moves, next_spot, outer_by, mended_entered, end_place, end_mended, end_barred}
@@ -140,7 +140,6 @@ job_left s why job _ = record s { errand = Does why job }
 
 abbrev pub stepped_by : Stand → Chore → ℕ → Stand
 stepped_by s IsFree v = lock_moved s (after_access (standing s) (lock_access (standing s)) v)
-stepped_by s (Asking job) v = if v == 1 then record s { errand = IsFree } else record s { errand = Does Mending job }
 stepped_by s (Does why job) v = job_left s why (fed job v) (left (fed job v))
 
 -- after the next step, with the value that it read
@@ -165,7 +164,7 @@ started s call.Lock = placed s (Reread core.Lock [])
 started s call.Recover = placed s (Reread core.Recover [])
 started s call.Withdraw = placed s Withdrawing
 started s call.Unlock = if s.mended then placed s Leaving else works (calm s) Ruining
-started s call.Consistent = record (calm s) { errand = Asking (begun s.layout s.index task.Repair) }
+started s call.Consistent = record (calm s) { errand = Does Mending (mending s.layout s.index) }
 started s (call.Append seq value) = works (calm s) (Working (task.Append seq value))
 started s call.Close = works (calm s) (Working task.Close)
 started s (call.Get i) = works (calm s) (Working (task.BoardGet i))

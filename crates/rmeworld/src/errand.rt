@@ -13,8 +13,6 @@ use redomail::{Job, Layout, Task};
 #[derive(Clone, Copy)]
 pub enum Errand {
     Free,
-    /// The get of ruined with which the call consistent begins; the job is the repair behind it.
-    Asking(Job),
     Doing(Why, Job),
 }
 

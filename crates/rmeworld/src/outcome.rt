@@ -1,6 +1,6 @@
 //! What a step of a process was, and what it is for its call.
 
-ghost use Rattle.std.specs.Prelude.{◌≡◌, ◌==◌, if◌then◌else◌, Some, None};
+ghost use Rattle.std.specs.Prelude.{◌≡◌, Some, None};
 ghost use Rattle.rmecore.specs.Machine.{quiet};
 ghost use Rattle.redomail.specs.Left.{left};
 ghost use Rattle.rmeworld.specs.Answered.{by_lock, by_reply, by_script};
@@ -55,20 +55,6 @@ fn core_answer(barred: bool, done: Option<CoreDone>) -> Option<Answer>
         CoreDone::Out => Some(Answer::Unlocked),
         CoreDone::Found(found) => Some(Answer::Found(found)),
         CoreDone::Withdrawn => Some(Answer::Withdrawn),
-    }
-}
-
-/// What the get of ruined with which consistent begins is for its call.
-pub(crate) fn asked(value: u64) -> Outcome
-    ensures { result ≡ record { progress = quiet; answer = if value == 1 then Some Answer.NotRecoverable else None } }
-{
-    Outcome {
-        progress: QUIET,
-        answer: if value == 1 {
-            Some(Answer::NotRecoverable)
-        } else {
-            None
-        },
     }
 }
 

@@ -16,16 +16,13 @@ mod quiet;
 use crate::call::Call;
 use crate::errand::{Errand, check_next, job};
 use crate::lock_part::{begin_lock, leave, lock_scan, lock_step};
-use crate::outcome::{Outcome, asked, job_outcome, job_step, lock_outcome};
+use crate::outcome::{Outcome, job_outcome, job_step, lock_outcome};
 use crate::private_memory::PrivateMemory;
 use crate::why::Why;
 use redomail::{Job, Layout, Next, Reply, Task};
 use rmecore::{Access, CoreCall, Kind, LockProcess, Progress, Refusal, Scan, Stage, Word};
 use std::fmt;
 use std::marker::Model;
-
-/// The index of the data word that says whether the lock is ruined.
-const RUINED: u64 = 0;
 
 /// One process, with its whole private memory. It takes no memory.
 #[derive(Drop)]
@@ -90,7 +87,7 @@ impl Process {
         self.barred = false;
         match &self.errand {
             Errand::Free => {}
-            Errand::Asking(_) | Errand::Doing(..) => self.errand = Errand::Free,
+            Errand::Doing(..) => self.errand = Errand::Free,
         }
     }
 
@@ -107,7 +104,6 @@ impl Process {
     {
         match &self.errand {
             Errand::Free => self.lock.next(),
-            Errand::Asking(_) => Some(Access::Load(Kind::Get, Word::Data(RUINED))),
             Errand::Doing(_, job) => match job.next() {
                 Next::Get(i) => Some(Access::Load(Kind::Get, Word::Data(i))),
                 Next::Put(i, v) => Some(Access::Store(Kind::Put, Word::Data(i), v)),
@@ -122,7 +118,6 @@ impl Process {
     {
         match self.errand {
             Errand::Free => lock_outcome(self.barred, self.lock.outlook(value)),
-            Errand::Asking(_) => asked(value),
             Errand::Doing(why, job) => {
                 let mut job = job;
                 job.feed(value);
@@ -144,11 +139,6 @@ impl Process {
             Errand::Free => {
                 let barred = self.barred;
                 lock_outcome(barred, self.move_on(value))
-            }
-            Errand::Asking(job) => {
-                let repair = *job;
-                self.go_on(value, repair);
-                asked(value)
             }
             Errand::Doing(..) => job_step(self.job_on(value)),
         }
@@ -182,7 +172,7 @@ impl Process {
     {
         match &self.errand {
             Errand::Free => self.lock.scan(),
-            Errand::Asking(_) | Errand::Doing(..) => None,
+            Errand::Doing(..) => None,
         }
     }
 
@@ -224,7 +214,7 @@ impl Process {
     {
         match self.errand {
             Errand::Free => Some(self.lock.stage()),
-            Errand::Asking(_) | Errand::Doing(..) => None,
+            Errand::Doing(..) => None,
         }
     }
 
@@ -304,19 +294,6 @@ impl Process {
             (Errand::Free, Stage::Inside) => self.mended && !self.barred,
             _ => false,
         }
-    }
-
-    /// The step with which consistent begins: unless the lock is ruined, the repair comes next.
-    fn go_on(&mut self, value: u64, repair: Job)
-        requires { self.old.errand ≡ Errand.Asking repair }
-        ensures exact { self.new ≡ stepped self.old value }
-        ensures spot { spot_of self.new ≡ spot_after self.old (next_access self.old) value }
-    {
-        self.errand = if value == 1 {
-            Errand::Free
-        } else {
-            Errand::Doing(Why::Mending, repair)
-        };
     }
 
     /// The end of a script: inside, or at the exit.
@@ -421,7 +398,7 @@ impl Process {
                 Some(refusal) => Err(refusal),
                 None => Ok(()),
             },
-            Errand::Asking(_) | Errand::Doing(..) => Err(Refusal::CallUnderWay),
+            Errand::Doing(..) => Err(Refusal::CallUnderWay),
         }
     }
 
@@ -435,7 +412,7 @@ impl Process {
                 Some(refusal) => Err(refusal),
                 None => Ok(()),
             },
-            Errand::Asking(_) | Errand::Doing(..) => Err(Refusal::CallUnderWay),
+            Errand::Doing(..) => Err(Refusal::CallUnderWay),
         }
     }
 
@@ -463,7 +440,8 @@ impl Process {
             Call::Unlock if self.mended => begin_lock(&mut self.lock, CoreCall::Unlock),
             Call::Unlock => self.take_up(Why::Ruining),
             Call::Consistent => {
-                self.errand = Errand::Asking(job(self.layout, self.index, Task::Repair));
+                let job = Job::seam_mending(self.layout, self.index);
+                self.errand = Errand::Doing(Why::Mending, job);
             }
             Call::Append { seq, value } => self.take_up(Why::Working(Task::Append { seq, value })),
             Call::Close => self.take_up(Why::Working(Task::Close)),

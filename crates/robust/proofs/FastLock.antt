@@ -5,7 +5,7 @@ use Rattle.robust.proofs.Common.{Stand, stepped, TakenStep, Setup, Going, Ran, C
 use Rattle.robust.proofs.Common.{Unanswered, EndsIn}
 use Rattle.plans.specs.Plans.{so_many_more}
 use Rattle.rmeworld.specs.declared.errand.Errand.{Errand as Chore}
-use Rattle.rmeworld.specs.declared.errand.Errand.TheVariants.{Free as IsFree, Asking, Doing as Does}
+use Rattle.rmeworld.specs.declared.errand.Errand.TheVariants.{Free as IsFree, Doing as Does}
 use Rattle.rmeworld.specs.Stand.{spot_of as standing_at}
 use Rattle.robust.proofs.FreeSteps.{seat}
 
@@ -69,7 +69,6 @@ module _ (l : Layout) (limit p : ℕ) (b : Bool) where
 -- an unlock of a holder with nothing to mend
 pub free_of : (e : Chore) → errand_of e ≡ Free → e ≡ IsFree
 free_of IsFree e = refl
-free_of (Asking job) e = cc
 free_of (Does why job) e = cc
 
 module _ (x : Pass) (at : spot_now x ≡ free_spot Inside true) where

@@ -1,14 +1,14 @@
 -- The machine and the pass stay together.
-use Rattle.std.proofs.Common.{◌≡◌, ℕ, ◌+◌, ◌*◌, Bool, true, false, ◌==◌, nat_lt, [], ◌∷◌, Option, Some, None, IsSome, unwrap_or, if◌then◌else◌, refl, sym, ap, ◌∙◌, subst}
+use Rattle.std.proofs.Common.{◌≡◌, ℕ, ◌+◌, ◌*◌, Bool, true, false, nat_lt, [], ◌∷◌, Option, Some, None, IsSome, unwrap_or, if◌then◌else◌, refl, sym, ap, ◌∙◌, subst}
 use Rattle.runs.proofs.Common.{Kind, Word, access, kind_of, word_of, carried, is_glance, Place, Rest, Dead, Wait, Inside, Reread, Opening, Door, Shutting, Leaving, Withdrawing, Unmarking, Layout}
-use Rattle.runs.proofs.Common.{Reply, size, place_at, Script, Get, Put, Done, Call, Why, Ruining, Mending, answer_at, Errand, Free, Doing, Spot, Begins, next_spot, Moves, Stand, access_by}
+use Rattle.runs.proofs.Common.{Reply, size, place_at, Script, Get, Put, Done, Call, Why, Ruining, answer_at, Errand, Free, Doing, Spot, Begins, next_spot, Moves, Stand, access_by}
 use Rattle.runs.proofs.Common.{next_access, outcome, spot_after, IsAllowed, progress_by, stepped, stepped_by, job_left, placed, works, calm, Setup, Pass, spot_now, Looks, moved_spot, Advances}
 use Rattle.runs.proofs.Common.{IsRunBy, next_of, outcome_of, before, taken, gone, spot_of}
 use Rattle.rmecore.specs.declared.access.Access.{Access}
 use Rattle.rmecore.specs.declared.kind.Kind.TheVariants as kind
 use Rattle.rmeworld.specs.Stand.{spot_of as standing_at, started}
 use Rattle.rmeworld.specs.declared.errand.Errand.{Errand as Chore}
-use Rattle.rmeworld.specs.declared.errand.Errand.TheVariants.{Free as IsFree, Asking, Doing as Does}
+use Rattle.rmeworld.specs.declared.errand.Errand.TheVariants.{Free as IsFree, Doing as Does}
 use Rattle.rmeworld.specs.declared.call.Call.TheVariants as call
 use Rattle.redomail.specs.Left.{Pending, left, fed}
 use Rattle.runs.proofs.Leads.{spot_moves, spot_stays}
@@ -129,10 +129,6 @@ run_by_start x s t call none r layout limit index spot =
 abbrev Keeps : Stand → Stand → Type 0
 Keeps s t = (t.layout ≡ s.layout) × (t.limit ≡ s.limit) × (t.index ≡ s.index)
 
-keeps_either : (b : Bool) (s t u : Stand) → Keeps s t → Keeps s u → Keeps s (if b then t else u)
-keeps_either true s t u h k = h
-keeps_either false s t u h k = k
-
 keeps_job : (s : Stand) (why : Why) (job : Pending) (left : Script Reply) → Keeps s (job_left s why job left)
 keeps_job s why job (Get i rest) = (refl, refl, refl)
 keeps_job s why job (Put i v rest) = (refl, refl, refl)
@@ -140,7 +136,6 @@ keeps_job s why job (Done reply) = (refl, refl, refl)
 
 keeps_by : (s : Stand) (e : Chore) (v : ℕ) → Keeps s (stepped_by s e v)
 keeps_by s IsFree v = (refl, refl, refl)
-keeps_by s (Asking job) v = keeps_either (v == 1) s (record s { errand = IsFree }) (record s { errand = Does Mending job }) (refl, refl, refl) (refl, refl, refl)
 keeps_by s (Does why job) v = keeps_job s why (fed job v) (left (fed job v))
 
 pub keeps : (s t : Stand) (v : ℕ) → t ≡ stepped s v → Keeps s t

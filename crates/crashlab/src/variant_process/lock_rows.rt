@@ -169,7 +169,6 @@ impl VariantProcess {
         ensures outcome { result ≡ part_outcome self.old.stand.errand self.old.detour self.old value }
     {
         match (errand_of(&self.process), self.detour) {
-            (Errand::Asking(_), _) => self.process.feed(value),
             (Errand::Doing(..), _) => self.process.feed(value),
             (Errand::Free, Detour::Straight) => self.go_by_row(value),
             (Errand::Free, Detour::Over(number)) => {

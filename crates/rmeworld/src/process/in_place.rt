@@ -42,7 +42,7 @@ impl Process {
                 Next::Put(i, v) => Some(Access::Store(Kind::Put, Word::Data(i), v)),
                 Next::Done(_) => None,
             },
-            Errand::Free | Errand::Asking(_) => None,
+            Errand::Free => None,
         }
     }
 
@@ -66,7 +66,7 @@ impl Process {
                 self.end(why, reply);
                 answer
             }
-            Errand::Free | Errand::Asking(_) => unreachable!(),
+            Errand::Free => unreachable!(),
         }
     }
 

@@ -23,7 +23,6 @@ impl Process {
                 | Stage::Shutting { .. } => true,
                 _ => false,
             },
-            Errand::Asking(_) => false,
             Errand::Doing(_, job) => may_go_on(job),
         }
     }
@@ -53,7 +52,6 @@ impl Process {
     {
         match &mut self.errand {
             Errand::Free => lock_quietly(&mut self.lock, value),
-            Errand::Asking(_) => None,
             Errand::Doing(_, job) => {
                 if !goes_on(job, value) {
                     return None;

@@ -34,7 +34,6 @@ pub use Rattle.rmeworld.specs.declared.why.Why.TheVariants.{Mending}
 pub use Rattle.rmeworld.specs.Advancing.{GoesOn}
 pub use Rattle.rmeworld.specs.Answered.{by_script, answer_by, done_by}
 pub use Rattle.rmeworld.specs.Errands.{errand_of, HasStep}
-pub use Rattle.rmeworld.specs.InPlace.{Works}
 pub use Rattle.rmeworld.specs.Replayed.{list_of, mail_by, or_else, words_by, cells_by, the_deed}
 pub use Rattle.rmeworld.specs.Spot.{Doing, Spot, Happening, Begins, Falls, Moves, next_spot, begun_from, only_spot, settled, outer_by}
 pub use Rattle.rmeworld.specs.Stand.{Stand, access_by, spot_of, IsSize, next_access, outcome, started, spot_after, IsAllowed, StoresOwn, job_left, happening, InWords}
@@ -54,6 +53,6 @@ pub use Rattle.crashlab.specs.LockWorlds.{IsLockWorld}
 pub use Rattle.crashlab.specs.VariantRuns.{IsRun, spot_at}
 pub use Rattle.crashlab.specs.VariantScripts.{raised, counting_up, leaving_out}
 pub use Rattle.crashlab.specs.VariantSpots.{beside, variant_begun, variant_spot, variant_outer, at_variant, variant_moved, variant_outer_by, variant_answer_by, variant_done_by, variant_answer_at, variant_done_at}
-pub use Rattle.crashlab.specs.VariantStands.{changed_errand, changed_access, weighed, access_beside, is_put, VariantStand, variant_spot_of, outside_at, over_by, over_way, silent, IsPlain, variant_resting, variant_crashed, variant_next_access, variant_stepped, stepped_beside, variant_outcome, variant_started, change_of, changed_script, unless_answered, plain_outcome, by_row, last_put_next}
-pub use Rattle.crashlab.specs.VariantWorlds.{VariantState, stand_at, access_at, advance_refusal, unless_step, start_refusal, stepped, advanced, advanced_if, crash_deed, crashed, IsSeated, at_rest_from, new_world, found_by, HasSeat, outcome_of, deeds_of, stepped_if}
+pub use Rattle.crashlab.specs.VariantStands.{changed_errand, changed_access, weighed, access_beside, is_put, VariantStand, variant_spot_of, outside_at, over_by, over_way, silent, IsPlain, variant_resting, variant_crashed, variant_next_access, variant_stepped, stepped_beside, variant_outcome, outcome_beside, variant_started, change_of, changed_script, unless_answered, plain_outcome, by_row, last_put_next}
+pub use Rattle.crashlab.specs.VariantWorlds.{VariantState, stand_at, access_at, advance_refusal, unless_step, start_refusal, stepped, advanced, advanced_if, crash_deed, crashed, IsSeated, at_rest_from, new_world, found_by, HasSeat, outcome_of, deeds_of, stepped_by, advanced_by, stepped_if}
 pub use Rattle.crashlab.specs.Variants.{variant_access, and_detour}

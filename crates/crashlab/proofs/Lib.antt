@@ -12,4 +12,3 @@ pub mod Choices
 pub mod LockWorlds
 pub mod Lines
 pub mod Scans
-pub mod Jobs

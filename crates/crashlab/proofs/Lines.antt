@@ -1,7 +1,7 @@
 -- One more line of a hunt.
-use Rattle.std.proofs.Common.{◌≡◌, ℕ, Bool, true, false, List, [], ◌∷◌, ◌++◌, Option, Some, None, Result, Ok, Err, IfSome, is_err, MatchResult, refl, sym, ap, ◌∙◌, subst, append-nil, append_assoc, arith}
-use Rattle.crashlab.proofs.Common.{cond_both, Access, Deed, IsLayout, StandsAfter, empty, Call, list_of, Start, Scheduled, On, Variant, Ends, Told, with_line, first_world, deeds_of_lines, IsPlayed}
-use Rattle.crashlab.proofs.Common.{IsLockWorld, VariantState, access_at, advance_refusal, start_refusal, stepped, advanced, advanced_if, crash_deed, crashed}
+use Rattle.std.proofs.Common.{◌≡◌, ℕ, zero, suc, Bool, if◌then◌else◌, true, false, List, [], ◌∷◌, ◌++◌, Option, Some, None, Result, Ok, Err, IfSome, is_err, MatchResult, refl, sym, ap, ◌∙◌, subst, append-nil, append_assoc}
+use Rattle.crashlab.proofs.Common.{cond_both, Deed, StandsAfter, empty, Call, list_of, Start, Scheduled, On, Variant, Ends, Told, with_line, first_world, deeds_of_lines, IsPlayed}
+use Rattle.crashlab.proofs.Common.{Right, VariantState, advance_refusal, start_refusal, stepped, advanced, crash_deed, crashed}
 use Rattle.rmecore.specs.declared.fault.Fault.{Fault}
 use Rattle.judge.specs.Legal.{judged_all}
 use Rattle.judge.specs.Kept.{Kept}
@@ -13,6 +13,8 @@ use Rattle.crashlab.specs.declared.moves.Made.TheVariants.{Caught}
 use Rattle.crashlab.specs.Found.{IsCaught, IsRefused}
 use Rattle.rmeworld.specs.Law.{EveryStoryIsLegal}
 use Rattle.crashlab.specs.VariantWorlds.{started, crash_refusal}
+use Rattle.crashlab.proofs.LockWorlds.{IsLock, lock_new, lock_started, lock_crashed, lock_advanced, lock_legal}
+use Rattle.redomail.specs.declared.layout.Layout.{Layout}
 
 after_more : (s : VariantState) (lines : List Line) (line : Line) → after_lines s (lines ++ line ∷ []) ≡ after_line (after_lines s lines) line
 after_more s [] line = refl
@@ -51,13 +53,11 @@ module _ (variant : Variant) (schedule : Scheduled) (world : VariantState) (judg
   deeds = deeds_more (first_world variant) schedule.lines line ∙ ap (λ s. deeds_of_lines (first_world variant) schedule.lines ++ deeds_of_line s line) (sym played.reached)
 
   -- the round goes on
-  pub goes_on : (next : VariantState) (ds : List Deed) (later : Kept) → next ≡ after_line world line → next.layout ≡ world.layout → ((h : List Deed) → IsLockWorld world h → IsLockWorld next (h ++ ds)) → deeds_of_line world line ≡ ds → StandsAfter (empty 3 64) (deeds_of_lines (first_world variant) schedule.lines ++ ds) later → IsPlayed variant (with_line schedule line) next later
-  goes_on next ds later to layout locks done stands =
+  pub goes_on : (next : VariantState) (ds : List Deed) (later : Kept) → next ≡ after_line world line → deeds_of_line world line ≡ ds → StandsAfter (empty 3 64) (deeds_of_lines (first_world variant) schedule.lines ++ ds) later → IsPlayed variant (with_line schedule line) next later
+  goes_on next ds later to done stands =
       record {
         size = sized;
         runs = runs;
-        layout = layout ∙ played.layout;
-        lock = λ right. subst (IsLockWorld next) (sym (deeds ∙ ap (λ list. deeds_of_lines (first_world variant) schedule.lines ++ list) done)) (locks _ (played.lock right));
         reached = to ∙ ap (λ s. after_line s line) played.reached ∙ sym (after_more (first_world variant) schedule.lines line);
         stands = subst (λ list. StandsAfter (empty 3 64) list later) (sym (deeds ∙ ap (λ list. deeds_of_lines (first_world variant) schedule.lines ++ list) done)) stands;
       }
@@ -76,62 +76,73 @@ module _ (variant : Variant) (schedule : Scheduled) (world : VariantState) (judg
         refused = refused;
       }
 
--- the lock theorem: the judge refuses nothing that the lock's world does
-refuted :
-    (next : VariantState) (h : List Deed) (last : Deed) (fault : Fault) → next.layout ≡ hunt_layout → IsLockWorld next (h ++ last ∷ []) → judged_all (empty 3 64) (h ++ last ∷ []) ≡ Err fault
-    → EveryStoryIsLegal → ⊥
-refuted next h last fault layout lock refused law =
-    let sized : IsLayout hunt_layout = record { few = omega arith; small = omega arith; least = omega arith; most = omega arith } in
-    let legal = law next.layout next.limit lock.story (subst IsLayout (sym layout) sized) lock.told in
-    let same : judged_all (empty 3 64) (h ++ last ∷ []) ≡ Ok legal.0 = (λ i. judged_all (empty (sym layout i).procs (sym layout i).cap) (sym lock.done i)) ∙ legal.1 in
-    let both : Ok legal.0 ≡ Err fault = sym same ∙ refused in
+-- the lock's world behind lines that may come
+
+steps_lock : (l : Layout) (s : VariantState) (h : List Deed) (p k : ℕ) → IsLock l s h → MaySteps s p k → IsLock l (after_steps s p k) (h ++ deeds_of_steps s p k)
+steps_lock l s h p zero lock may = subst (IsLock l s) (sym (append-nil h)) lock
+steps_lock l s h p (suc k) lock may =
+    let one = lock_advanced l s h p lock may.0 in
+    by (is_answered s p) one may.1 (steps_lock l (advanced s p) (h ++ list_of (stepped s p).deed) p k one)
+  where
+    by : (b : Bool) → IsLock l (advanced s p) (h ++ list_of (stepped s p).deed) → Unless b (MaySteps (advanced s p) p k)
+        → (MaySteps (advanced s p) p k → IsLock l (after_steps (advanced s p) p k) ((h ++ list_of (stepped s p).deed) ++ deeds_of_steps (advanced s p) p k))
+        → IsLock l (if b then advanced s p else after_steps (advanced s p) p k) (h ++ (list_of (stepped s p).deed ++ (if b then [] else deeds_of_steps (advanced s p) p k)))
+    by true one may on = subst (λ ds. IsLock l (advanced s p) (h ++ ds)) (sym (append-nil (list_of (stepped s p).deed))) one
+    by false one may on = subst (IsLock l (after_steps (advanced s p) p k)) (append_assoc h (list_of (stepped s p).deed) (deeds_of_steps (advanced s p) p k)) (on may)
+
+line_lock : (l : Layout) (s : VariantState) (h : List Deed) (line : Line) → IsLock l s h → MayLine s line → IsLock l (after_line s line) (h ++ deeds_of_line s line)
+line_lock l s h (Start p call) lock may = subst (IsLock l (started s p call)) (sym (append-nil h)) (lock_started l s h p lock call may)
+line_lock l s h (Step p k) lock may = steps_lock l s h p k lock may
+line_lock l s h (Crash p) lock may = lock_crashed l s h p lock may
+
+lines_lock : (l : Layout) (s : VariantState) (h : List Deed) (lines : List Line) → IsLock l s h → MayLines s lines → IsLock l (after_lines s lines) (h ++ deeds_of_lines s lines)
+lines_lock l s h [] lock may = subst (IsLock l s) (sym (append-nil h)) lock
+lines_lock l s h (line ∷ lines) lock may =
+    subst (IsLock l (after_lines (after_line s line) lines)) (append_assoc h (deeds_of_line s line) (deeds_of_lines (after_line s line) lines))
+    (lines_lock l (after_line s line) (h ++ deeds_of_line s line) lines (line_lock l s h line lock may.0) may.1)
+
+-- the lock theorem: nothing is found of the lock
+never_found : EveryStoryIsLegal → (schedule : Scheduled) → IsFound Right schedule → ⊥
+never_found law schedule found =
+    let legal = lock_legal law hunt_layout _ _ (lines_lock hunt_layout (first_world Right) [] schedule.lines (lock_new hunt_layout 1000000 refl) found.runs) in
+    let both : Ok legal.0 ≡ Err found.fault = sym legal.1 ∙ ap (judged_all (empty 3 64)) found.deeds ∙ found.refused in
     cc
 
 -- a move that has told the judge its deed
 told_ends :
     (variant : Variant) (schedule : Scheduled) (world : VariantState) (judge : Kept) → IsPlayed variant schedule world judge → (line : Line) → MayLine world line
-    → (next : VariantState) → next ≡ after_line world line → next.layout ≡ world.layout → (deed : Option Deed) → ((h : List Deed) → IsLockWorld world h → IsLockWorld next (h ++ list_of deed))
-    → deeds_of_line world line ≡ list_of deed → (made : Made) (written : Scheduled) (later : Kept)
+    → (next : VariantState) → next ≡ after_line world line → (deed : Option Deed) → deeds_of_line world line ≡ list_of deed
+    → (made : Made) (written : Scheduled) (later : Kept)
     → written ≡ with_line schedule line → Told (deeds_of_lines (first_world variant) schedule.lines) deed later made → Ends variant written next later made
-told_ends variant schedule world judge played line may next to layout deed locks done On written later is told =
-    subst (λ s. IsPlayed variant s next later) (sym is) (goes_on variant schedule world judge played line may next (list_of deed) later to layout locks done told)
-told_ends variant schedule world judge played line may next to layout deed locks done Caught written later is told =
+told_ends variant schedule world judge played line may next to deed done On written later is told =
+    subst (λ s. IsPlayed variant s next later) (sym is) (goes_on variant schedule world judge played line may next (list_of deed) later to done told)
+told_ends variant schedule world judge played line may next to deed done Caught written later is told =
     let h = deeds_of_lines (first_world variant) schedule.lines in
-    subst (IsCaught variant) (sym is)
-    (record {
-      found = is_caught variant schedule world judge played line may told.last told.fault (done ∙ ap list_of told.is) told.refused;
-      wrong = λ law right. refuted next h told.last told.fault (layout ∙ played.layout) (subst (λ d. IsLockWorld next (h ++ list_of d)) told.is (locks h (played.lock right))) told.refused law;
-    })
-
-advanced_layout : (s : VariantState) (p : ℕ) → (advanced s p).layout ≡ s.layout
-advanced_layout s p = go (access_at s p)
-  where
-    go : (o : Option Access) → (advanced_if s p o).layout ≡ s.layout
-    go None = refl
-    go (Some a) = refl
+    let found = is_caught variant schedule world judge played line may told.last told.fault (done ∙ ap list_of told.is) told.refused in
+    subst (IsCaught variant) (sym is) (record { found = found; wrong = λ law right. never_found law (with_line schedule line) (subst (λ v. IsFound v (with_line schedule line)) right found) })
 
 pub step_ends :
     (variant : Variant) (schedule : Scheduled) (world : VariantState) (judge : Kept) → IsPlayed variant schedule world judge → (p : ℕ) → advance_refusal world p ≡ None
-    → (next : VariantState) → next ≡ advanced world p → (deed : Option Deed) → deed ≡ (stepped world p).deed → ((h : List Deed) → IsLockWorld world h → IsLockWorld next (h ++ list_of deed))
+    → (next : VariantState) → next ≡ advanced world p → (deed : Option Deed) → deed ≡ (stepped world p).deed
     → (made : Made) (written : Scheduled) (later : Kept) → written ≡ with_line schedule (Step p 1) → Told (deeds_of_lines (first_world variant) schedule.lines) deed later made
     → Ends variant written next later made
-step_ends variant schedule world judge played p may next to deed is locks made written later writes told =
-    told_ends variant schedule world judge played (Step p 1) (may_one world p may) next (to ∙ sym (after_one world p)) (ap (λ (s : VariantState). s.layout) to ∙ advanced_layout world p) deed locks
+step_ends variant schedule world judge played p may next to deed is made written later writes told =
+    told_ends variant schedule world judge played (Step p 1) (may_one world p may) next (to ∙ sym (after_one world p)) deed
     (deeds_one world p ∙ ap list_of (sym is)) made written later writes told
 
 pub crash_ends :
     (variant : Variant) (schedule : Scheduled) (world : VariantState) (judge : Kept) → IsPlayed variant schedule world judge → (p : ℕ) → crash_refusal world p ≡ None
-    → (next : VariantState) → next ≡ crashed world p → ((h : List Deed) → IsLockWorld world h → IsLockWorld next (h ++ crash_deed p ∷ [])) → (made : Made) (written : Scheduled) (later : Kept)
+    → (next : VariantState) → next ≡ crashed world p → (made : Made) (written : Scheduled) (later : Kept)
     → written ≡ with_line schedule (Crash p) → Told (deeds_of_lines (first_world variant) schedule.lines) (Some (crash_deed p)) later made → Ends variant written next later made
-crash_ends variant schedule world judge played p may next to locks made written later is told =
-    told_ends variant schedule world judge played (Crash p) may next to (ap (λ (s : VariantState). s.layout) to) (Some (crash_deed p)) locks refl made written later is told
+crash_ends variant schedule world judge played p may next to made written later is told =
+    told_ends variant schedule world judge played (Crash p) may next to (Some (crash_deed p)) refl made written later is told
 
 pub start_ends :
     (variant : Variant) (schedule : Scheduled) (world : VariantState) (judge : Kept) → IsPlayed variant schedule world judge → (p : ℕ) (call : Call) → start_refusal world p call ≡ None
-    → (next : VariantState) → next ≡ started world p call → ((h : List Deed) → IsLockWorld world h → IsLockWorld next h) → (made : Made) (written : Scheduled) (later : Kept)
+    → (next : VariantState) → next ≡ started world p call → (made : Made) (written : Scheduled) (later : Kept)
     → written ≡ with_line schedule (Start p call) → Told (deeds_of_lines (first_world variant) schedule.lines) None later made → Ends variant written next later made
-start_ends variant schedule world judge played p call may next to locks made written later is told =
-    told_ends variant schedule world judge played (Start p call) may next to (ap (λ (s : VariantState). s.layout) to) None (λ h lock. subst (IsLockWorld next) (sym (append-nil h)) (locks h lock)) refl made written later is
+start_ends variant schedule world judge played p call may next to made written later is told =
+    told_ends variant schedule world judge played (Start p call) may next to None refl made written later is
     told
 
 -- what a move ends with, where the world took it

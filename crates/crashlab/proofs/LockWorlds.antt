@@ -1,212 +1,163 @@
 -- What the variant that is the lock does is what the world does.
-use Rattle.std.proofs.Common.{◌≡◌, ℕ, zero, suc, ◌+◌, ◌<◌, List, [], ◌∷◌, ◌++◌, map, slice_set, Some, Result, Ok, Err, OnOk, refl, sym, ap, ◌∙◌, subst}
-use Rattle.crashlab.proofs.Common.{Nothing, Consistent, length-replicate, Access, Own, Refusal, zeros, Deed, Layout, words_of, Call, Outcome, mail_by, or_else, words_by, cells_by, Happening, Begins, Falls, next_spot}
-use Rattle.crashlab.proofs.Common.{Stand, spot_of, IsSize, next_access, outcome, started as stand_started, spot_after, IsAllowed, StoresOwn, Right, IsLockWorld, access_beside, VariantStand, IsPlain}
-use Rattle.crashlab.proofs.Common.{variant_resting, variant_crashed, variant_next_access, variant_stepped, stepped_beside, variant_outcome, variant_started, change_of, VariantState, stand_at}
-use Rattle.crashlab.proofs.Common.{crash_deed, crashed, IsSeated, at_rest_from, new_world, found_by}
-use Rattle.std.proofs.lemmas.List.{map-set, length-map}
+use Rattle.std.proofs.Common.{◌≡◌, ℕ, zero, suc, ◌+◌, ◌<◌, false, List, [], ◌∷◌, ◌++◌, map, slice_set, nat_lt, if◌then◌else◌, Option, Some, None, IfSome, refl, sym, ap, ◌∙◌, subst, lt-ltb}
+use Rattle.crashlab.proofs.Common.{Nothing, Right, Consistent, Access, Place, Inside, Deed, Layout, words_of, Call, Outcome, mail_by, or_else, words_by, cells_by, the_deed, list_of}
+use Rattle.crashlab.proofs.Common.{Stand, spot_of, next_access, access_by, errand_of, outcome, started as stand_started, StoresOwn, IsLockWorld, VariantStand, variant_next_access, variant_stepped}
+use Rattle.crashlab.proofs.Common.{variant_outcome, variant_started, variant_crashed, change_of, VariantState, stand_at, access_at, start_refusal, advance_refusal, unless_step, stepped, stepped_if}
+use Rattle.crashlab.proofs.Common.{advanced, advanced_if, crash_deed, crashed, at_rest_from, new_world, found_by, outcome_of}
+use Rattle.std.proofs.lemmas.List.{map-set}
 use Rattle.std.proofs.Math.ListN.{get_or-map}
-use Rattle.rmecore.specs.Simulated.{fresh}
-use Rattle.rmeworld.specs.Replayed.{advanced_by as world_advanced, crashed as world_crashed, happening}
+use Rattle.judge.specs.Legal.{IsLegal}
+use Rattle.rmecore.specs.declared.refusal.Refusal.TheVariants.{NoSuchProcess, NothingToDo}
+use Rattle.rmecore.specs.Machine.{access}
+use Rattle.rmecore.specs.Place.{Rest, Dead}
+use Rattle.rmecore.specs.Refused.{is_idle as is_idle_place}
+use Rattle.rmeworld.specs.Law.{EveryStoryIsLegal}
+use Rattle.rmeworld.specs.Refused.{is_idle, is_idle_by, start_refusal as spot_refusal}
+use Rattle.rmeworld.specs.Replayed as world
+use Rattle.rmeworld.specs.Spot.{Errand, Free}
 use Rattle.rmeworld.specs.Stand.{resting, stepped as stand_stepped, crashed as stand_crashed}
-use Rattle.rmeworld.specs.World.{at_first, Can, onward, Story, last_scene, deeds, event_deeds}
-use Rattle.rmeworld.specs.WorldState.{WorldState, scene_of, stand_at as world_stand, IsSeated as IsWorldSeated, Takes, at_rest_from as world_rest, new_world as world_new}
-use Rattle.rmeworld.proofs.StoryGrows.{story_more, last_more, deeds_more}
-use Rattle.rmeworld.proofs.WorldSteps.{IsStep, step_takes, start_takes, crash_takes}
-use Rattle.rmeworld.proofs.Worlds.{new_scene, deeds_are}
-use Rattle.crashlab.specs.LockWorlds.{as_world}
-use Rattle.crashlab.specs.VariantStands.{outcome_beside}
-use Rattle.crashlab.specs.VariantWorlds.{started, advanced_by}
-use Rattle.crashlab.proofs.Rests.{seated_new, rest_at}
-use Rattle.crashlab.proofs.Seats.{set_each}
+use Rattle.rmeworld.specs.World.{at_first}
+use Rattle.rmeworld.specs.WorldState.{WorldState, IsSeated, stand_at as world_stand, new_refusal, at_rest_from as world_rest, new_world as world_new, absent}
+use Rattle.rmeworld.proofs.Beginning.{follows_new}
+use Rattle.rmeworld.proofs.Following.{Follows, below_if, follows_started, follows_advanced, follows_crashed}
+use Rattle.rmeworld.proofs.Ordered.{owns}
+use Rattle.rmeworld.proofs.Worlds.{deeds_are}
+use Rattle.crashlab.specs.LockWorlds.{unchanged, as_variant}
+use Rattle.crashlab.specs.VariantWorlds.{started, crash_refusal}
 
--- the world's process at p
-stand_is : (s : VariantState) (h : List Deed) (p : ℕ) → world_stand (as_world s h).processes p ≡ (stand_at s.processes p).stand
-stand_is s h p = get_or-map (λ (t : VariantStand). t.stand) s.processes p (variant_resting Right (record { procs = 0; cap = 0; width = 0 }) 0 0)
+-- its processes
 
-world_seated : (s : VariantState) (h : List Deed) → IsSeated s → IsWorldSeated s.layout s.limit s.words (as_world s h).processes (as_world s h).tallies
-world_seated s h seated =
-    record {
-      words_each = seated.words_each;
-      processes_each = length-map s.processes (λ (t : VariantStand). t.stand) ∙ seated.processes_each;
-      tallies_each = length-replicate s.layout.procs (fresh zeros);
-      seats = λ p below.
-          let seat = seated.seats p below in
-          (ap (λ (t : Stand). t.layout) (stand_is s h p) ∙ seat.1, ap (λ (t : Stand). t.limit) (stand_is s h p) ∙ seat.2, ap (λ (t : Stand). t.index) (stand_is s h p) ∙ seat.3);
-    }
+stand_is : (w : WorldState) (p : ℕ) → stand_at (as_variant w).processes p ≡ unchanged (world_stand w.processes p)
+stand_is w p = get_or-map unchanged w.processes p absent
 
--- one process moved
-processes_set : (s : VariantState) (p : ℕ) (t : VariantStand) → map (λ (u : VariantStand). u.stand) (slice_set s.processes p t) ≡ slice_set (map (λ (u : VariantStand). u.stand) s.processes) p t.stand
-processes_set s p t = map-set (λ (u : VariantStand). u.stand) s.processes p t
+set_is : (w : WorldState) (p : ℕ) (t : Stand) (u : VariantStand) → u ≡ unchanged t → map unchanged (slice_set w.processes p t) ≡ slice_set (as_variant w).processes p u
+set_is w p t u is = map-set unchanged w.processes p t ∙ ap (slice_set (map unchanged w.processes) p) (sym is)
 
--- one more happening
-more :
-    (s new : VariantState) (h later : List Deed) (e : Happening) (w : WorldState) → IsLockWorld s h → Takes (as_world s h) e w → scene_of w ≡ scene_of (as_world new later) → w.history ≡ later
-    → new.layout ≡ s.layout → new.limit ≡ s.limit → IsSeated new → ((p : ℕ) → p < new.layout.procs → IsPlain (stand_at new.processes p)) → IsLockWorld new later
-more s new h later e w lock takes scene history layout limit seated plain =
-    record {
-      seated = seated;
-      plain = plain;
-      story = lock.story ++ e ∷ [];
-      told = subst (λ l. Story l new.limit at_first (lock.story ++ e ∷ [])) (sym layout) (subst (λ x. Story s.layout x at_first (lock.story ++ e ∷ [])) (sym limit) told);
-      last = (λ i. last_scene (layout i) (limit i) at_first (lock.story ++ e ∷ [])) ∙ last ∙ scene;
-      done = (λ i. deeds (layout i) (limit i) at_first (lock.story ++ e ∷ [])) ∙ done ∙ history;
-    }
-  where
-    told : Story s.layout s.limit at_first (lock.story ++ e ∷ [])
-    told = story_more s.layout s.limit at_first lock.story e lock.told (subst (λ x. Can s.layout s.limit x e) (sym lock.last) takes.can)
+rests_are : (l : Layout) (limit p n : ℕ) → map unchanged (world_rest l limit p n) ≡ at_rest_from Right l limit p n
+rests_are l limit p zero = refl
+rests_are l limit p (suc n) = ap (λ rest. unchanged (resting l limit p) ∷ rest) (rests_are l limit (p + 1) n)
 
-    last : last_scene s.layout s.limit at_first (lock.story ++ e ∷ []) ≡ scene_of w
-    last = last_more s.layout s.limit at_first lock.story e ∙ ap (λ x. onward s.layout s.limit x e) lock.last ∙ sym takes.scene
-
-    done : deeds s.layout s.limit at_first (lock.story ++ e ∷ []) ≡ w.history
-    done = deeds_more s.layout s.limit at_first lock.story e ∙ (λ i. lock.done i ++ event_deeds s.layout (lock.last i) e) ∙ sym takes.history
-
--- a plain process does what the world's does
-
-plain_stepped : (t : VariantStand) (v : ℕ) → IsPlain t → variant_stepped t v ≡ record t { stand = stand_stepped t.stand v }
-plain_stepped t v plain = ap (λ variant. stepped_beside variant t.detour t v) plain.variant
-
-pub plain_outcome : (t : VariantStand) (v : ℕ) → IsPlain t → variant_outcome t v ≡ outcome t.stand (next_access t.stand) v
-plain_outcome t v plain = ap (λ variant. outcome_beside variant t.detour t v) plain.variant
-
-pub plain_access : (t : VariantStand) → IsPlain t → variant_next_access t ≡ next_access t.stand
-plain_access t plain = ap (λ variant. access_beside variant t.detour t.change t.stand) plain.variant
-
-pub still_plain : (t : VariantStand) (v : ℕ) → IsPlain t → IsPlain (variant_stepped t v)
-still_plain t v plain = subst IsPlain (sym (plain_stepped t v plain)) (record { variant = plain.variant; detour = plain.detour; change = plain.change })
+-- its calls leave what the world's do
 
 no_change : (c : Call) → change_of Right c ≡ Nothing
 no_change Consistent = refl
 no_change _ = refl
 
-start_plain : (t : VariantStand) (c : Call) → IsPlain t → IsPlain (variant_started t c)
-start_plain t c plain = record { variant = plain.variant; detour = plain.detour; change = ap (λ variant. change_of variant c) plain.variant ∙ no_change c }
+started_is : (w : WorldState) (p : ℕ) (c : Call) → as_variant (world.started w p c) ≡ started (as_variant w) p c
+started_is w p c =
+    let t : Stand = stand_started (world_stand w.processes p) c in
+    let is : variant_started (stand_at (as_variant w).processes p) c ≡ unchanged t = ap (λ u. variant_started u c) (stand_is w p) ∙ ap (λ change. record (unchanged t) { change = change }) (no_change c) in
+    ap (λ ts. record (as_variant w) { processes = ts }) (set_is w p t (variant_started (stand_at (as_variant w).processes p) c) is)
 
--- a new world
+crashed_is : (w : WorldState) (p : ℕ) → as_variant (world.crashed w p) ≡ crashed (as_variant w) p
+crashed_is w p =
+    ap (λ ts. record (as_variant w) { processes = ts }) (set_is w p (stand_crashed (world_stand w.processes p)) (variant_crashed (stand_at (as_variant w).processes p)) (ap variant_crashed (stand_is w p)))
 
-rests_are : (l : Layout) (limit p n : ℕ) → map (λ (t : VariantStand). t.stand) (at_rest_from Right l limit p n) ≡ world_rest l limit p n
-rests_are l limit p zero = refl
-rests_are l limit p (suc n) = ap (λ rest. resting l limit p ∷ rest) (rests_are l limit (p + 1) n)
+access_is : (w : WorldState) (p : ℕ) → access_at (as_variant w) p ≡ next_access (world_stand w.processes p)
+access_is w p = ap variant_next_access (stand_is w p)
 
-pub lock_new : (l : Layout) (limit : ℕ) → IsSize l → IsLockWorld (new_world Right l limit) []
-lock_new l limit sized =
-    record {
-      seated = seated_new Right l limit sized;
-      plain = λ p below. subst IsPlain (sym (rest_at Right l limit 0 l.procs p below)) (record { variant = refl; detour = refl; change = refl });
-      story = [];
-      told = tt;
-      last = sym (new_scene l limit) ∙ ap (λ processes. scene_of (record (world_new l limit) { processes = processes })) (sym (rests_are l limit 0 l.procs));
-      done = refl;
-    }
+advanced_is : (w : WorldState) (p : ℕ) → as_variant (world.advanced w p) ≡ advanced (as_variant w) p
+advanced_is w p = by (next_access (world_stand w.processes p)) ∙ ap (advanced_if (as_variant w) p) (sym (access_is w p))
+  where
+    by : (o : Option Access) → as_variant (world.advanced_if w p o) ≡ advanced_if (as_variant w) p o
+    by None = refl
+    by (Some a) =
+        let v : ℕ = found_by (as_variant w) a in
+        ap (λ ts. record (as_variant w) { words = words_by w.words a; cells = cells_by w.cells a; processes = ts })
+        (set_is w p (stand_stepped (world_stand w.processes p) v) (variant_stepped (stand_at (as_variant w).processes p) v) (ap (λ u. variant_stepped u v) (stand_is w p)))
 
--- its calls
+-- and its steps are the same deeds
+deed_is : (w : WorldState) (p : ℕ) → IsSeated w.layout w.limit w.words w.processes w.tallies → p < w.layout.procs → (world.stepped w p).deed ≡ (stepped (as_variant w) p).deed
+deed_is w p seated below = by (next_access t) refl ∙ ap (λ o. (stepped_if (as_variant w) p o).deed) (sym (access_is w p))
+  where
+    t : Stand
+    t = world_stand w.processes p
 
-pub lock_started :
-    (s : VariantState) (h : List Deed) (p : ℕ) (c : Call) → IsLockWorld s h → p < s.layout.procs → IsSeated (started s p c)
-    → next_spot (stand_at s.processes p).stand.layout (stand_at s.processes p).stand.limit (spot_of (stand_at s.processes p).stand) (Begins (stand_at s.processes p).stand.index c) ≡ Some (spot_of (stand_started (stand_at s.processes p).stand c))
-    → IsLockWorld (started s p c) h
-lock_started s h p c lock below seated to =
-    let t = stand_at s.processes p in
-    let at = stand_is s h p in
-    let to' : next_spot (world_stand (as_world s h).processes p).layout (world_stand (as_world s h).processes p).limit (spot_of (world_stand (as_world s h).processes p)) (Begins (world_stand (as_world s h).processes p).index c) ≡ Some (spot_of (stand_started t.stand c)) =
-    (λ i. next_spot (at i).layout (at i).limit (spot_of (at i)) (Begins (at i).index c)) ∙ to in
-    let w : WorldState = record (as_world s h) { processes = slice_set (as_world s h).processes p (stand_started t.stand c) } in
-    more s (started s p c) h h (Begins p c) w lock (start_takes (as_world s h) p c (stand_started t.stand c) (as_world s h).tallies (world_seated s h lock.seated) below to')
-    (ap (λ processes. scene_of (record (as_world s h) { processes = processes })) (sym (processes_set s p (variant_started t c)))) refl refl refl seated
-    (set_each (λ _. IsPlain) s p (variant_started t c) lock.seated.processes_each (start_plain t c (lock.plain p below)) below lock.plain)
+    by : (o : Option Access) → next_access t ≡ o → (world.stepped_if w p o).deed ≡ (stepped_if (as_variant w) p o).deed
+    by None is = refl
+    by (Some a) is =
+        let v : ℕ = found_by (as_variant w) a in
+        let own : StoresOwn t.index a = subst (λ o. IfSome o (StoresOwn t.index)) is (owns t) in
+        let told : outcome t (Some a) v ≡ outcome_of (as_variant w) p a = ap (λ o. outcome t o v) (sym is) ∙ ap (λ u. variant_outcome u v) (sym (stand_is w p)) in
+        ap the_deed (sym (deeds_are w p a t.index seated below own is) ∙ ap (λ (o : Outcome). or_else o.progress.outer (mail_by w.layout p (words_of w.cells) a)) told)
 
-pub lock_crashed : (s : VariantState) (h : List Deed) (p : ℕ) → IsLockWorld s h → p < s.layout.procs → IsSeated (crashed s p) → IsLockWorld (crashed s p) (h ++ crash_deed p ∷ [])
-lock_crashed s h p lock below seated =
-    let t = stand_at s.processes p in
-    let plain = lock.plain p below in
-    let at = stand_is s h p in
-    more s (crashed s p) h (h ++ crash_deed p ∷ []) (Falls p) (world_crashed (as_world s h) p) lock (crash_takes (as_world s h) p (world_seated s h lock.seated) below)
-    (ap (λ processes. scene_of (record (as_world s h) { processes = processes })) (ap (λ (u : Stand). slice_set (as_world s h).processes p (stand_crashed u)) at ∙ sym (processes_set s p (variant_crashed t)))) refl refl refl seated
-    (set_each (λ _. IsPlain) s p (variant_crashed t) lock.seated.processes_each (record { variant = plain.variant; detour = refl; change = refl }) below lock.plain)
+-- a process with a next step has a call under way
 
-pub lock_advanced :
-    (s : VariantState) (h : List Deed) (p : ℕ) (a : Access) (ds : List Deed) → IsLockWorld s h → p < s.layout.procs → IsSeated (advanced_by s p a)
-    → variant_next_access (stand_at s.processes p) ≡ Some a → IsAllowed (stand_at s.processes p).stand a → StoresOwn (stand_at s.processes p).stand.index a
-    → spot_of (variant_stepped (stand_at s.processes p) (found_by s a)).stand ≡ spot_after (stand_at s.processes p).stand (next_access (stand_at s.processes p).stand) (found_by s a)
-    → ds ≡ or_else (variant_outcome (stand_at s.processes p) (found_by s a)).progress.outer (mail_by s.layout p (words_of s.cells) a)
-    → IsLockWorld (advanced_by s p a) (h ++ ds)
-lock_advanced s h p a ds lock below seated next allowed own goes told =
-    let t = stand_at s.processes p in
-    let v = found_by s a in
-    let plain = lock.plain p below in
-    let at = stand_is s h p in
-    let next' : next_access t.stand ≡ Some a = sym (plain_access t plain) ∙ next in
-    let goes' : spot_of (stand_stepped t.stand v) ≡ spot_after t.stand (next_access t.stand) v = ap (λ (u : VariantStand). spot_of u.stand) (sym (plain_stepped t v plain)) ∙ goes in
-    let step : IsStep (as_world s h) p a =
-    record {
-      filled = lock.seated.cells_each;
-      seated = world_seated s h lock.seated;
-      below = below;
-      next = ap next_access at ∙ next';
-      allowed = subst (λ (u : Stand). IsAllowed u a) (sym at) allowed;
-      own = subst (λ (u : Stand). StoresOwn u.index a) (sym at) own;
-      goes = subst (λ (u : Stand). spot_of (stand_stepped u v) ≡ spot_after u (next_access u) v) (sym at) goes';
-    } in
-    let outcomes : variant_outcome t v ≡ outcome (world_stand (as_world s h).processes p) (Some a) v = plain_outcome t v plain ∙ ap (λ o. outcome t.stand o v) next' ∙ ap (λ (u : Stand). outcome u (Some a) v) (sym at) in
-    let deeds_so : ds ≡ event_deeds s.layout (scene_of (as_world s h)) (happening (as_world s h) p a) =
-    told ∙ ap (λ (o : Outcome). or_else o.progress.outer (mail_by s.layout p (words_of s.cells) a)) outcomes
-    ∙ deeds_are (as_world s h) p a (world_stand (as_world s h).processes p).index (world_seated s h lock.seated) below (subst (λ (u : Stand). StoresOwn u.index a) (sym at) own) (ap next_access at ∙ next') in
-    let moved : slice_set (as_world s h).processes p (stand_stepped (world_stand (as_world s h).processes p) v) ≡ map (λ (u : VariantStand). u.stand) (slice_set s.processes p (variant_stepped t v)) =
-    ap (λ (u : Stand). slice_set (as_world s h).processes p (stand_stepped u v)) at ∙ ap (λ (u : VariantStand). slice_set (as_world s h).processes p u.stand) (sym (plain_stepped t v plain)) ∙ sym (processes_set s p (variant_stepped t v)) in
-    more s (advanced_by s p a) h (h ++ ds) (happening (as_world s h) p a) (world_advanced (as_world s h) p a) lock (step_takes (as_world s h) p a step)
-    (ap (λ processes. scene_of (record (as_world s h) { words = words_by s.words a; cells = cells_by s.cells a; processes = processes })) moved)
-    (ap (λ list. h ++ list) (sym deeds_so)) refl refl seated
-    (set_each (λ _. IsPlain) s p (variant_stepped t v) lock.seated.processes_each (still_plain t v plain) below lock.plain)
+place_is_busy : (limit p : ℕ) (s : Place) (a : Access) → access limit p s ≡ Some a → is_idle_place s ≡ false
+place_is_busy limit p Rest a is = cc
+place_is_busy limit p Dead a is = cc
+place_is_busy limit p Inside a is = cc
+place_is_busy limit p _ a is = refl
 
--- the same, by what the calls of its parts ensure
+is_busy : (t : Stand) (o : Option Access) → next_access t ≡ o → unless_step o ≡ None → is_idle (spot_of t) ≡ false
+is_busy t None is may = cc
+is_busy t (Some a) is may = by (errand_of t.errand) is
+  where
+    by : (e : Errand) → access_by t.limit t.index t.lock e ≡ Some a → is_idle_by t.lock e ≡ false
+    by Free is = place_is_busy t.limit t.index t.lock a is
+    by _ is = refl
 
-pub on_ok : {P Q R : Type 0} (r : Result Unit Refusal) → OnOk r P → OnOk r Q → (P → Q → R) → OnOk r R
-on_ok (Ok done) a b go = go a b
-on_ok (Err e) a b go = tt
+pub advanced_layout : (s : VariantState) (p : ℕ) → (advanced s p).layout ≡ s.layout
+advanced_layout s p = by (access_at s p)
+  where
+    by : (o : Option Access) → (advanced_if s p o).layout ≡ s.layout
+    by None = refl
+    by (Some a) = refl
 
-pub start_made :
-    (s : VariantState) (p : ℕ) (c : Call) (t new : VariantStand) → stand_at s.processes p ≡ t → p < s.layout.procs → new ≡ variant_started t c
-    → next_spot t.stand.layout t.stand.limit (spot_of t.stand) (Begins t.stand.index c) ≡ Some (spot_of new.stand) → (seated : IsSeated s → IsSeated (record s { processes = slice_set s.processes p new }))
-    → (h : List Deed) → IsLockWorld s h → IsLockWorld (record s { processes = slice_set s.processes p new }) h
-start_made s p c t new here below made spot seated h lock =
-    let is : new ≡ variant_started (stand_at s.processes p) c = made ∙ ap (λ u. variant_started u c) (sym here) in
-    let all : record s { processes = slice_set s.processes p new } ≡ started s p c = ap (λ u. record s { processes = slice_set s.processes p u }) is in
-    let to = subst (λ (u : VariantStand). next_spot u.stand.layout u.stand.limit (spot_of u.stand) (Begins u.stand.index c) ≡ Some (spot_of (stand_started u.stand c))) (sym here) (spot ∙ ap (λ (u : VariantStand). Some (spot_of u.stand)) made) in
-    subst (λ x. IsLockWorld x h) (sym all) (lock_started s h p c lock below (subst IsSeated all (seated lock.seated)) to)
+-- The lock's world of these sizes behind these deeds, as the world that it is.
+pub record IsLock (l : Layout) (s : VariantState) (history : List Deed) : Type 0 where
+  pub world : WorldState
+  pub same : as_variant world ≡ s
+  pub layout : s.layout ≡ l
+  pub follows : Follows at_first world history
 
-pub crash_made :
-    (s : VariantState) (p : ℕ) (t new : VariantStand) → stand_at s.processes p ≡ t → p < s.layout.procs → new ≡ variant_crashed t → (seated : IsSeated (record s { processes = slice_set s.processes p new }))
-    → (h : List Deed) → IsLockWorld s h → IsLockWorld (record s { processes = slice_set s.processes p new }) (h ++ crash_deed p ∷ [])
-crash_made s p t new here below made seated h lock =
-    let all : record s { processes = slice_set s.processes p new } ≡ crashed s p = ap (λ u. record s { processes = slice_set s.processes p u }) (made ∙ ap variant_crashed (sym here)) in
-    subst (λ x. IsLockWorld x (h ++ crash_deed p ∷ [])) (sym all) (lock_crashed s h p lock below (subst IsSeated all seated))
+pub lock_new : (l : Layout) (limit : ℕ) → new_refusal l limit ≡ None → IsLock l (new_world Right l limit) []
+lock_new l limit may =
+    record { world = world_new l limit; same = ap (λ ts. record (new_world Right l limit) { processes = ts }) (rests_are l limit 0 l.procs); layout = refl; follows = follows_new l limit may }
 
--- a step, with the process before and after it, the value that it found, and the words that it leaves
-pub record Stepped (s : VariantState) (p : ℕ) (a : Access) (t new : VariantStand) (v : ℕ) (o : Outcome) (ds : List Deed) : Type 0 where
-  pub here : stand_at s.processes p ≡ t
-  pub below : p < s.layout.procs
-  pub value : v ≡ found_by s a
-  pub next : variant_next_access t ≡ Some a
-  pub allowed : IsPlain t → IsAllowed t.stand a
-  pub own : IsPlain t → StoresOwn t.stand.index a
-  pub made : new ≡ variant_stepped t v
-  pub outcome : o ≡ variant_outcome t v
-  pub goes : IsPlain t → spot_of new.stand ≡ spot_after t.stand (next_access t.stand) v
-  pub deeds : or_else o.progress.outer (mail_by s.layout p (words_of s.cells) a) ≡ ds
+module _ (l : Layout) (s : VariantState) (h : List Deed) (p : ℕ) (lock : IsLock l s h) where
+  pub lock_started : (c : Call) → start_refusal s p c ≡ None → IsLock l (started s p c) h
+  lock_started c may =
+      let w : WorldState = lock.world in
+      let refusal : world.start_refusal w p c ≡ start_refusal (as_variant w) p c = ap (λ (u : VariantStand). if nat_lt p w.layout.procs then spot_refusal w.layout (spot_of u.stand) c else Some NoSuchProcess) (sym (stand_is w p)) in
+      record {
+        world = world.started w p c;
+        same = started_is w p c ∙ ap (λ x. started x p c) lock.same;
+        layout = lock.layout;
+        follows = follows_started w p c lock.follows (refusal ∙ ap (λ x. start_refusal x p c) lock.same ∙ may);
+      }
 
-pub step_made :
-    (s : VariantState) (p : ℕ) (a : Access) (t new : VariantStand) (v : ℕ) (o : Outcome) (ds : List Deed) (words : List Own) (cells : List ℕ) → Stepped s p a t new v o ds
-    → words ≡ words_by s.words a → cells ≡ cells_by s.cells a → IsSeated (record s { words = words; cells = cells; processes = slice_set s.processes p new })
-    → (h : List Deed) → IsLockWorld s h → IsLockWorld (record s { words = words; cells = cells; processes = slice_set s.processes p new }) (h ++ ds)
-step_made s p a t new v o ds words cells m words_now cells_now seated h lock =
-    let is : new ≡ variant_stepped (stand_at s.processes p) (found_by s a) = m.made ∙ (λ i. variant_stepped (sym m.here i) (m.value i)) in
-    let all : record s { words = words; cells = cells; processes = slice_set s.processes p new } ≡ advanced_by s p a = λ i. record s { words = words_now i; cells = cells_now i; processes = slice_set s.processes p (is i) } in
-    let plain : IsPlain t = subst IsPlain m.here (lock.plain p m.below) in
-    let goes : spot_of (variant_stepped (stand_at s.processes p) (found_by s a)).stand ≡ spot_after (stand_at s.processes p).stand (next_access (stand_at s.processes p).stand) (found_by s a) =
-    ap (λ (u : VariantStand). spot_of u.stand) (sym is) ∙ m.goes plain ∙ (λ i. spot_after (sym m.here i).stand (next_access (sym m.here i).stand) (m.value i)) in
-    let told : ds ≡ or_else (variant_outcome (stand_at s.processes p) (found_by s a)).progress.outer (mail_by s.layout p (words_of s.cells) a) =
-    sym m.deeds ∙ ap (λ (x : Outcome). or_else x.progress.outer (mail_by s.layout p (words_of s.cells) a)) (m.outcome ∙ (λ i. variant_outcome (sym m.here i) (m.value i))) in
-    subst (λ x. IsLockWorld x (h ++ ds)) (sym all)
-    (lock_advanced s h p a ds lock m.below (subst IsSeated all seated) (ap variant_next_access m.here ∙ m.next) (subst (λ (u : VariantStand). IsAllowed u.stand a) (sym m.here) (m.allowed plain))
-    (subst (λ (u : VariantStand). StoresOwn u.stand.index a) (sym m.here) (m.own plain)) goes told)
+  pub lock_crashed : crash_refusal s p ≡ None → IsLock l (crashed s p) (h ++ crash_deed p ∷ [])
+  lock_crashed may =
+      record {
+        world = world.crashed lock.world p;
+        same = crashed_is lock.world p ∙ ap (λ x. crashed x p) lock.same;
+        layout = lock.layout;
+        follows = follows_crashed lock.world p lock.follows (ap (λ x. crash_refusal x p) lock.same ∙ may);
+      }
+
+  pub lock_advanced : advance_refusal s p ≡ None → IsLock l (advanced s p) (h ++ list_of (stepped s p).deed)
+  lock_advanced may =
+      let w : WorldState = lock.world in
+      let has = below_if p w.layout.procs (unless_step (access_at (as_variant w) p)) (ap (λ x. advance_refusal x p) lock.same ∙ may) in
+      let idle = is_busy (world_stand w.processes p) (access_at (as_variant w) p) (sym (access_is w p)) has.1 in
+      let may' : world.advance_refusal w p ≡ None = rw (lt-ltb p w.layout.procs has.0) (ap (λ b. if b then Some NothingToDo else None) idle) in
+      let deed = deed_is w p lock.follows.world.seated has.0 ∙ ap (λ x. (stepped x p).deed) lock.same in
+      record {
+        world = world.advanced w p;
+        same = advanced_is w p ∙ ap (λ x. advanced x p) lock.same;
+        layout = advanced_layout s p ∙ lock.layout;
+        follows = subst (λ d. Follows at_first (world.advanced w p) (h ++ list_of d)) deed (follows_advanced w p lock.follows may');
+      }
+
+pub lock_legal : EveryStoryIsLegal → (l : Layout) (s : VariantState) (h : List Deed) → IsLock l s h → IsLegal l.procs l.cap h
+lock_legal law l s h lock =
+    let w : WorldState = lock.world in
+    let comes = lock.follows.comes in
+    subst (λ (x : Layout). IsLegal x.procs x.cap h) (ap (λ (x : VariantState). x.layout) lock.same ∙ lock.layout)
+    (subst (IsLegal w.layout.procs w.layout.cap) comes.done (law w.layout w.limit comes.story lock.follows.world.sized.layout comes.told))
+
+pub lock_world : {l : Layout} {s : VariantState} {h : List Deed} → IsLock l s h → IsLockWorld s h
+lock_world lock =
+    let comes = lock.follows.comes in
+    record { world = lock.world; same = lock.same; story = comes.story; told = comes.told; last = comes.last; done = comes.done }

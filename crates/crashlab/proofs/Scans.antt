@@ -1,30 +1,16 @@
 -- The next step of a scan, where nothing is changed of the process.
-use Rattle.std.proofs.Common.{◌≡◌, ◌<◌, ℕ, [], Option, Some, None, sym, ap, ◌∙◌, subst, lt-ltb}
-use Rattle.crashlab.proofs.Common.{Access, words_of, Outcome, GoesOn, mail_by, or_else, the_deed, outcome, IsPlain, VariantState, stand_at, access_at, advance_refusal, unless_step, stepped, found_by}
-use Rattle.crashlab.proofs.Common.{outcome_of, deeds_of, stepped_if}
+use Rattle.std.proofs.Common.{◌≡◌, ℕ, Some, None, sym, ap, ◌∙◌, subst}
+use Rattle.crashlab.proofs.Common.{Access, words_of, Outcome, GoesOn, mail_by, or_else, the_deed, outcome, IsPlain, VariantState, stand_at, stepped, found_by, outcome_of, stepped_if, access_beside, outcome_beside}
 use Rattle.rmecore.specs.declared.scan.Scan.{Scan}
 use Rattle.rmeworld.proofs.Advancing.{scan_is_quiet, scan_ends_nothing}
-use Rattle.crashlab.proofs.LockWorlds.{plain_access, plain_outcome}
 
-module _ (s : VariantState) (p : ℕ) (scan : Scan) (a : Access) (plain : IsPlain (stand_at s.processes p)) (goes : GoesOn (stand_at s.processes p).stand scan a) where
-  pub scan_next : access_at s p ≡ Some a
-  scan_next = plain_access (stand_at s.processes p) plain ∙ goes.next
-
-  pub accepted : p < s.layout.procs → advance_refusal s p ≡ None
-  accepted below = rw (lt-ltb p s.layout.procs below) (ap unless_step scan_next)
-
-  -- what it is
-  scan_outcome : outcome_of s p a ≡ outcome (stand_at s.processes p).stand (Some a) (found_by s a)
-  scan_outcome = plain_outcome (stand_at s.processes p) (found_by s a) plain ∙ ap (λ (o : Option Access). outcome (stand_at s.processes p).stand o (found_by s a)) goes.next
-
-  -- it is no deed
-  pub scan_deeds : deeds_of s p a ≡ []
-  scan_deeds =
-      ap (λ (o : Outcome). or_else o.progress.outer (mail_by s.layout p (words_of s.cells) a)) scan_outcome
-      ∙ scan_is_quiet (stand_at s.processes p).stand scan a s.layout p (words_of s.cells) (found_by s a) goes
-
-  -- and ends no call
-  pub scan_tells : ((stepped s p).deed ≡ None) × ((stepped s p).answer ≡ None)
-  scan_tells =
-      subst (λ (o : Option Access). ((stepped_if s p o).deed ≡ None) × ((stepped_if s p o).answer ≡ None)) (sym scan_next)
-      (ap the_deed scan_deeds, ap (λ (o : Outcome). o.answer) scan_outcome ∙ (scan_ends_nothing (stand_at s.processes p).stand scan a (found_by s a) goes).2)
+-- it is no deed, and ends no call
+pub scan_tells : (s : VariantState) (p : ℕ) (scan : Scan) (a : Access) → IsPlain (stand_at s.processes p) → GoesOn (stand_at s.processes p).stand scan a → ((stepped s p).deed ≡ None) × ((stepped s p).answer ≡ None)
+scan_tells s p scan a plain goes =
+    let t = stand_at s.processes p in
+    let next = ap (λ variant. access_beside variant t.detour t.change t.stand) plain.variant ∙ goes.next in
+    let what : outcome_of s p a ≡ outcome t.stand (Some a) (found_by s a) = ap (λ variant. outcome_beside variant t.detour t (found_by s a)) plain.variant ∙ ap (λ o. outcome t.stand o (found_by s a)) goes.next in
+    subst (λ o. ((stepped_if s p o).deed ≡ None) × ((stepped_if s p o).answer ≡ None)) (sym next) (
+      ap (λ (o : Outcome). the_deed (or_else o.progress.outer (mail_by s.layout p (words_of s.cells) a))) what ∙ ap the_deed (scan_is_quiet t.stand scan a s.layout p (words_of s.cells) (found_by s a) goes),
+      ap (λ (o : Outcome). o.answer) what ∙ (scan_ends_nothing t.stand scan a (found_by s a) goes).2,
+    )

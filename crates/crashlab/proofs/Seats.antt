@@ -133,6 +133,13 @@ seat_stays s t a h = (a.variant ∙ h.0, a.seat.layout ∙ h.1, a.seat.limit ∙
 pub seat_here : (s : VariantState) (p : ℕ) (t : VariantStand) → IsSeated s → t ≡ slice_index_or s.processes p t → p < s.layout.procs → HasSeat s.variant s.layout s.limit p t
 seat_here s p t h is below = subst (HasSeat s.variant s.layout s.limit p) (stand_here s.processes p s.layout.procs t is below h.processes_each) (h.seats p below)
 
+-- a step of p leaves a world seated
+pub seated_stepped :
+    (s : VariantState) (words : List Own) (cells : List ℕ) (p : ℕ) (t u : VariantStand) (v : ℕ) → IsSeated s → t ≡ slice_index_or s.processes p t → p < s.layout.procs → u ≡ variant_stepped t v
+    → length words ≡ length s.words → length cells ≡ length s.cells → IsSeated (record s { words = words; cells = cells; processes = slice_set s.processes p u })
+seated_stepped s words cells p t u v h at below is words_stay cells_stay =
+    seated s words cells p u h words_stay cells_stay below (seat_stays t u (subst (SameVariant t) (sym is) (variant_step_stays t v)) (seat_here s p t h at below))
+
 -- a start that is refused changes nothing
 pub start_keeps :
     {variant : Variant} {l : Layout} {limit p : ℕ} (r : Result Unit Refusal) (s t : VariantStand) (c : Call) → OnOk r (t ≡ variant_started s c) → OnErr r (t ≡ s)
@@ -140,12 +147,12 @@ pub start_keeps :
 start_keeps (Ok done) s t c ok err seat = seat_stays s t (subst (SameVariant s) (sym ok) (variant_start_stays s c)) seat
 start_keeps (Err e) s t c ok err seat = subst (HasSeat _ _ _ _) (sym err) seat
 
--- the word of a step that comes next
+-- the word of a step, for words that are as many as the processes
+pub seat_within : {variant : Variant} {l : Layout} {limit p n : ℕ} {word : Word} (t : VariantStand) (a : Access) → HasSeat variant l limit p t → InWords t.stand.layout.procs (word_of a) → word ≡ word_of a → n ≡ l.procs → InWords n word
+seat_within {n = n} t a seat within is each = subst (InWords n) (sym is) (subst (λ m. InWords m (word_of a)) (ap (λ (x : Layout). x.procs) seat.1 ∙ sym each) within)
+
+-- of the step that comes next
 pub in_words :
     (s : VariantState) (p : ℕ) (t : VariantStand) → IsSeated s → t ≡ slice_index_or s.processes p t → p < s.layout.procs → (o : Option Access) (a : Access) (word : Word)
     → IfSome o (λ a. InWords t.stand.layout.procs (word_of a)) → o ≡ Some a → word ≡ word_of a → (n : ℕ) → n ≡ s.layout.procs → InWords n word
-in_words s p t h is below o a word within some e n each =
-    let seat = seat_here s p t h is below in
-    let here : InWords t.stand.layout.procs (word_of a) = subst (λ o. IfSome o (λ a. InWords t.stand.layout.procs (word_of a))) some within in
-    let procs : t.stand.layout.procs ≡ n = ap (λ l. l.procs) seat.1 ∙ sym each in
-    subst (InWords n) (sym e) (subst (λ m. InWords m (word_of a)) procs here)
+in_words s p t h at below o a word within some is n each = seat_within t a (seat_here s p t h at below) (subst (λ x. IfSome x (λ b. InWords t.stand.layout.procs (word_of b))) some within) is each

@@ -12,8 +12,6 @@ use Rattle.schedule.specs.declared.line.Line.{Line}
 use Rattle.schedule.specs.declared.line.Line.TheVariants.{Start, Step, Crash}
 use Rattle.schedule.specs.Schedules.{Scheduled}
 use Rattle.crashlab.specs.declared.variant.Variant.{Variant}
-use Rattle.crashlab.specs.declared.variant.Variant.TheVariants.{Right}
-use Rattle.crashlab.specs.LockWorlds.{IsLockWorld}
 use Rattle.crashlab.specs.VariantWorlds.{VariantState, new_world, start_refusal, started, advance_refusal, stepped, advanced, crash_refusal, crash_deed, crashed}
 
 -- the world of a hunt
@@ -96,7 +94,4 @@ pub record IsPlayed (variant : Variant) (schedule : Scheduled) (world : VariantS
   pub size : IsOfHunt schedule
   pub runs : MayLines (first_world variant) schedule.lines
   pub reached : world ≡ after_lines (first_world variant) schedule.lines
-  pub layout : world.layout ≡ hunt_layout
-  -- the lock's world is what a story comes to
-  pub lock : variant ≡ Right → IsLockWorld world (deeds_of_lines (first_world variant) schedule.lines)
   pub stands : StandsAfter (empty 3 64) (deeds_of_lines (first_world variant) schedule.lines) judge

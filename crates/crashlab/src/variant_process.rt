@@ -159,6 +159,7 @@ impl VariantProcess {
     #[inline(always)]
     pub(crate) fn scan(&self) -> Option<(Scan, Access)>
         ensures plain { IfSome result (λ r. IsPlain self.now) }
+        ensures next { IfSome result (λ r. variant_next_access self.now ≡ Some r.1) }
         ensures goes_on { IfSome result (λ r. GoesOn self.now.stand r.0 r.1) }
     {
         match (self.variant, self.detour, self.change) {
@@ -180,7 +181,6 @@ impl VariantProcess {
         requires at { at_scan (standing self.old.stand) scan ≡ standing self.old.stand }
         ensures exact { self.new ≡ variant_stepped self.old value }
         ensures outcome { result ≡ variant_outcome self.old value }
-        ensures plain { spot_of self.new.stand ≡ spot_after self.old.stand (next_access self.old.stand) value }
     {
         self.process.scan_on(scan, value)
     }
@@ -191,8 +191,6 @@ impl VariantProcess {
         ensures plain { IfSome result (λ a. IsPlain self.now) }
         ensures next { IfSome result (λ a. variant_next_access self.now ≡ Some a) }
         ensures within { IfSome result (λ a. InWords self.now.stand.layout.procs (word_of a)) }
-        ensures allowed { IfSome result (IsAllowed self.now.stand) }
-        ensures own { IfSome result (StoresOwn self.now.stand.index) }
     {
         match (self.variant, self.detour, self.change) {
             (Variant::Right, Detour::Straight, Change::Nothing) => self.process.next_quietly(),
@@ -207,7 +205,6 @@ impl VariantProcess {
         requires plain { IsPlain self.old }
         ensures exact { IsTrue result → self.new ≡ variant_stepped self.old value }
         ensures quiet { IsTrue result → ((variant_outcome self.old value).progress.outer ≡ None) × ((variant_outcome self.old value).answer ≡ None) }
-        ensures plain { IsTrue result → spot_of self.new.stand ≡ spot_after self.old.stand (next_access self.old.stand) value }
         ensures same { result ≡ false → self.new ≡ self.old }
     {
         match self.process.feed_quietly(value) {
@@ -220,6 +217,7 @@ impl VariantProcess {
     #[inline(always)]
     pub(crate) fn job_next(&self) -> Option<Access>
         ensures plain { IfSome result (λ a. IsPlain self.now) }
+        ensures next { IfSome result (λ a. variant_next_access self.now ≡ Some a) }
         ensures works { IfSome result (Works self.now.stand) }
     {
         match (self.variant, self.detour, self.change) {
@@ -235,7 +233,6 @@ impl VariantProcess {
         requires working { IsWorking self.old.stand.errand }
         ensures exact { self.new ≡ variant_stepped self.old value }
         ensures outcome { variant_outcome self.old value ≡ record { progress = quiet; answer = result } }
-        ensures plain { spot_of self.new.stand ≡ spot_after self.old.stand (next_access self.old.stand) value }
     {
         self.process.job_on(value)
     }

@@ -104,18 +104,16 @@ impl VariantWorld {
 }
 
 impl VariantWorld {
-    ghost use Rattle.std.specs.Prelude.{List, [], ◌∷◌, ◌++◌};
+    ghost use Rattle.std.specs.Prelude.{List};
     ghost use Rattle.redomail.specs.declared.deed.Deed.{Deed as DeedOf};
     ghost use Rattle.judge.specs.Table.{empty};
     ghost use Rattle.judge.specs.Stands.{StandsAfter};
-    ghost use Rattle.rmeworld.specs.Replayed.{list_of};
     ghost use Rattle.crashlab.specs.Found.{Told};
     ghost use Rattle.crashlab.specs.VariantWorlds.{start_refusal, started, advance_refusal, stepped, advanced, crash_refusal, crash_deed, crashed};
     ghost use Rattle.crashlab.specs.VariantStands.{IsPlain};
-    ghost use Rattle.crashlab.specs.VariantWorlds.{stand_at};
+    ghost use Rattle.crashlab.specs.VariantWorlds.{stand_at, access_at};
     ghost use Rattle.rmeworld.specs.Advancing.{GoesOn};
     ghost use Rattle.rmeworld.specs.InPlace.{Works};
-    ghost use Rattle.crashlab.specs.LockWorlds.{IsLockWorld};
 
     /// Starts a call of process p.
     #[inline(always)]
@@ -125,7 +123,6 @@ impl VariantWorld {
         ensures memory { IsErrOf result Refusal.OutOfMemory → ⊥ }
         ensures ok { OnOk result (self.new ≡ started self.old p call) }
         ensures err { OnErr result (self.new ≡ self.old) }
-        ensures lock { OnOk result ((history : List DeedOf) → IsLockWorld self.old history → IsLockWorld self.new history) }
     {
         if p >= self.layout.procs {
             return Err(Refusal::NoSuchProcess);
@@ -141,7 +138,6 @@ impl VariantWorld {
         ensures told { IfOk result (λ s. s ≡ stepped self.old p) }
         ensures ok { OnOk result (self.new ≡ advanced self.old p) }
         ensures err { OnErr result (self.new ≡ self.old) }
-        ensures lock { IfOk result (λ s. (history : List DeedOf) → IsLockWorld self.old history → IsLockWorld self.new (history ++ list_of s.deed)) }
     {
         if p >= self.layout.procs {
             return Err(Refusal::NoSuchProcess);
@@ -178,7 +174,6 @@ impl VariantWorld {
         ensures told { (history : List DeedOf) → StandsAfter (empty 3 64) history judge.old → IfOk result (λ r. Told history (stepped self.old p).deed judge.new r.0) }
         ensures ok { OnOk result (self.new ≡ advanced self.old p) }
         ensures err { OnErr result ((self.new ≡ self.old) × (judge.new ≡ judge.old)) }
-        ensures lock { OnOk result ((history : List DeedOf) → IsLockWorld self.old history → IsLockWorld self.new (history ++ list_of (stepped self.old p).deed)) }
     {
         if p >= self.layout.procs {
             return Err(Refusal::NoSuchProcess);
@@ -199,6 +194,7 @@ impl VariantWorld {
     pub(crate) fn job_next(&self, p: u64) -> Option<Access>
         ensures below { IfSome result (λ a. p < self.now.layout.procs) }
         ensures plain { IfSome result (λ a. IsPlain (stand_at self.now.processes p)) }
+        ensures next { IfSome result (λ a. access_at self.now p ≡ Some a) }
         ensures works { IfSome result (Works (stand_at self.now.processes p).stand) }
     {
         if p >= self.layout.procs {
@@ -217,11 +213,11 @@ impl VariantWorld {
     ) -> (Made, Option<Answer>)
         requires below { p < self.old.layout.procs }
         requires plain { IsPlain (stand_at self.old.processes p) }
+        requires next { access_at self.old p ≡ Some access }
         requires works { Works (stand_at self.old.processes p).stand access }
         ensures accepted { advance_refusal self.old p ≡ None }
         ensures told { (history : List DeedOf) → StandsAfter (empty 3 64) history judge.old → Told history (stepped self.old p).deed judge.new result.0 }
         ensures ok { self.new ≡ advanced self.old p }
-        ensures lock { (history : List DeedOf) → IsLockWorld self.old history → IsLockWorld self.new (history ++ list_of (stepped self.old p).deed) }
     {
         let found = load(&self.words, &self.cells, access.word());
         let process = &mut self.processes[p as usize];
@@ -239,7 +235,6 @@ impl VariantWorld {
         ensures quiet { IsTrue result → ((stepped self.old p).deed ≡ None) × ((stepped self.old p).answer ≡ None) }
         ensures ok { IsTrue result → self.new ≡ advanced self.old p }
         ensures same { result ≡ false → self.new ≡ self.old }
-        ensures lock { IsTrue result → (history : List DeedOf) → IsLockWorld self.old history → IsLockWorld self.new history }
     {
         match self.scan(p) {
             Some((scan, access)) => {
@@ -257,7 +252,6 @@ impl VariantWorld {
         ensures quiet { IsTrue result → ((stepped self.old p).deed ≡ None) × ((stepped self.old p).answer ≡ None) }
         ensures ok { IsTrue result → self.new ≡ advanced self.old p }
         ensures same { result ≡ false → self.new ≡ self.old }
-        ensures lock { IsTrue result → (history : List DeedOf) → IsLockWorld self.old history → IsLockWorld self.new history }
     {
         if p >= self.layout.procs {
             return false;
@@ -281,6 +275,7 @@ impl VariantWorld {
     fn scan(&self, p: u64) -> Option<(Scan, Access)>
         ensures below { IfSome result (λ r. p < self.now.layout.procs) }
         ensures plain { IfSome result (λ r. IsPlain (stand_at self.now.processes p)) }
+        ensures next { IfSome result (λ r. access_at self.now p ≡ Some r.1) }
         ensures goes_on { IfSome result (λ r. GoesOn (stand_at self.now.processes p).stand r.0 r.1) }
     {
         if p >= self.layout.procs {
@@ -294,11 +289,11 @@ impl VariantWorld {
     fn scan_on(&mut self, p: u64, scan: Scan, access: Access)
         requires below { p < self.old.layout.procs }
         requires plain { IsPlain (stand_at self.old.processes p) }
+        requires next { access_at self.old p ≡ Some access }
         requires goes_on { GoesOn (stand_at self.old.processes p).stand scan access }
         ensures accepted { advance_refusal self.old p ≡ None }
         ensures quiet { ((stepped self.old p).deed ≡ None) × ((stepped self.old p).answer ≡ None) }
         ensures ok { self.new ≡ advanced self.old p }
-        ensures lock { (history : List DeedOf) → IsLockWorld self.old history → IsLockWorld self.new history }
     {
         let found = load(&self.words, &self.cells, access.word());
         let process = &mut self.processes[p as usize];
@@ -314,7 +309,6 @@ impl VariantWorld {
         ensures told { IfOk result (λ d. d ≡ crash_deed p) }
         ensures ok { OnOk result (self.new ≡ crashed self.old p) }
         ensures err { OnErr result (self.new ≡ self.old) }
-        ensures lock { OnOk result ((history : List DeedOf) → IsLockWorld self.old history → IsLockWorld self.new (history ++ crash_deed p ∷ [])) }
     {
         if p >= self.layout.procs {
             return Err(Refusal::NoSuchProcess);

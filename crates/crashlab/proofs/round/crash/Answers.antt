@@ -8,4 +8,4 @@ returns-in-Ok-clause-ends c =
     let it = c.in-Ok.ensures in
     λ variant schedule played.
     let told = subst (λ (d : Deed). Told (deeds_of_lines (first_world variant) schedule.lines) (Some d) c.tell-made.new.judge c.tell-made.result) it.told (c.tell-made.ensures _ played.stands) in
-    crash_ends variant _ _ _ played c.args.p it.accepted _ it.ok it.lock c.tell-made.result _ _ refl told
+    crash_ends variant _ _ _ played c.args.p it.accepted _ it.ok c.tell-made.result _ _ refl told

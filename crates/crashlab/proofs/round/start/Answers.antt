@@ -7,6 +7,6 @@ pub returns-in-Ok-clause-ends : goal.returns-in-Ok-clause-ends
 returns-in-Ok-clause-ends c =
     let it = c.in-Ok.ensures in
     λ variant schedule judge played.
-    start_ends variant _ _ _ played c.args.p c.args.call it.accepted _ it.ok it.lock On _ _
+    start_ends variant _ _ _ played c.args.p c.args.call it.accepted _ it.ok On _ _
     (ap (λ call. with_line schedule (Start c.args.p call)) (sym c.requires))
     (subst (λ list. StandsAfter (empty 3 64) list judge) (sym (append-nil (deeds_of_lines (first_world variant) schedule.lines))) played.stands)

@@ -1,7 +1,8 @@
-use Rattle.std.proofs.Common.{[], ◌≡◌, replicate, sym, ap, ◌∙◌, subst, rules}
+use Rattle.std.proofs.Common.{[], None, ◌≡◌, replicate, sym, ap, ◌∙◌, subst, rules}
 use Rattle.crashlab.proofs.Common.{zeros, Layout, size, IsSize, IsLockWorld, IsSeated, new_world}
+use Rattle.rmeworld.specs.WorldState.{new_refusal}
 use Rattle.rmeworld.proofs.Worlds.{size_held}
-use Rattle.crashlab.proofs.LockWorlds.{lock_new}
+use Rattle.crashlab.proofs.LockWorlds.{lock_new, lock_world}
 use Rattle.crashlab.proofs.Rests.{seated_new}
 use Rattle.crashlab.proofs.variant_world.VariantWorld.new.Goals as goal
 
@@ -28,4 +29,5 @@ returns-clause-ok c = is c
 
 pub returns-clause-lock : goal.returns-clause-lock
 returns-clause-lock c =
-    λ right. subst (λ x. IsLockWorld x []) (sym (is c)) (subst (λ variant. IsLockWorld (new_world variant (layout c) c.args.limit) []) (sym right) (lock_new (layout c) c.args.limit (sized c)))
+    let may : new_refusal (layout c) c.args.limit ≡ None = search rules in
+    λ right. subst (λ x. IsLockWorld x []) (sym (is c)) (subst (λ variant. IsLockWorld (new_world variant (layout c) c.args.limit) []) (sym right) (lock_world (lock_new (layout c) c.args.limit may)))

@@ -1,12 +1,9 @@
 use Rattle.std.proofs.Common.{refl, sym, subst, length-set}
-use Rattle.crashlab.proofs.Common.{VariantState, HasSeat}
+use Rattle.crashlab.proofs.Common.{HasSeat}
 use Rattle.crashlab.proofs.Seats.{seated, seat_here}
 use Rattle.crashlab.proofs.variant_world.VariantWorld.seam_set_process.Goals as goal
 
-abbrev state : (c : goal.After-self-2-1) → VariantState
-state c = record { variant = c.self.inside.variant; layout = c.self.inside.layout; limit = c.self.inside.limit; words = c.self.inside.words.items; cells = c.self.inside.cells.items; processes = c.self.inside.processes.items }
-
 pub invariant_of-self-2 : goal.invariant_of-self-2
 invariant_of-self-2 c =
-    let seat = seat_here (state c) c.args.p _ c.self.invariant c.index_mut.ensures.value c.if-p-self.false in
-    seated (state c) _ _ c.args.p _ c.self.invariant (length-set c.self.inside.words.items c.args.p c.args.own) refl c.if-p-self.false (subst (HasSeat _ _ _ _) (sym (c.if-not-seam_set.ensures.set refl)) seat)
+    let seat = seat_here _ c.args.p _ c.self.invariant c.index_mut.ensures.value c.if-p-self.false in
+    seated _ _ _ c.args.p _ c.self.invariant (length-set c.self.inside.words.items c.args.p c.args.own) refl c.if-p-self.false (subst (HasSeat _ _ _ _) (sym (c.if-not-seam_set.ensures.set refl)) seat)

@@ -1,30 +1,11 @@
--- A step that the code has made is the world's.
-use Rattle.std.proofs.Common.{◌≡◌, ℕ, false, if◌then◌else◌, List, [], Option, Some, None, IfSome, refl, sym, ap, ◌∙◌, subst}
-use Rattle.rmeworld.proofs.Common.{Access, Load, Store, Kind, Open as Opens, Own, Standing, first, at_scan, kind_of, word_of, answer, is_glance, Place, above, Door, Wait, tally_at, IsExact, is_store}
-use Rattle.rmeworld.proofs.Common.{step_deed, Layout, Words, Answer, Chore, Stepped, Advances, IsLoad, GoesOn, answer_at, answer_by, by_lock, done_by, errand_of, IsWorld, value_of, happening, or_else}
-use Rattle.rmeworld.proofs.Common.{mail_by, words_by, cells_by, the_deed, stepped_if, quiet_step, advanced_if, outer_by, Stand, standing, outcome, IsLeast, HasTaken, reading, event_deeds, WorldState}
-use Rattle.rmeworld.proofs.Common.{stand_at, spot_at, scene_of, Takes, happening_of, ChoosesLeast}
+-- A scan of a world goes on: its next load is no deed, and ends no call.
+use Rattle.std.proofs.Common.{◌≡◌, ℕ, false, if◌then◌else◌, List, [], Option, Some, None, refl, sym, ap, subst}
+use Rattle.rmeworld.proofs.Common.{Access, Load, Store, Kind, Open as Opens, Own, Standing, first, at_scan, answer, Place, above, Door, Wait, is_store}
+use Rattle.rmeworld.proofs.Common.{step_deed, Layout, Words, Chore, IsLoad, GoesOn, answer_by, by_lock, done_by, errand_of, or_else}
+use Rattle.rmeworld.proofs.Common.{mail_by, words_of, words_by, cells_by, the_deed, quiet_step, outer_by, Stand, standing, outcome, WorldState}
 use Rattle.rmecore.specs.declared.scan.Scan.{Scan}
 use Rattle.rmecore.specs.declared.scan.Scan.TheVariants.{Peeking, Waiting}
-use Rattle.rmeworld.specs.Replayed.{stepped, stepped_by}
-use Rattle.rmeworld.proofs.WorldSteps.{IsStep, step_takes}
-use Rattle.rmeworld.proofs.WorldTallies.{no_glance, answered_step}
-use Rattle.rmeworld.proofs.Worlds.{Made, made_is}
-
-pub advances : (s : WorldState) (p : ℕ) (a : Access) (told : Stepped) (new : WorldState) → IsWorld s → IsStep s p a → IsLeast (stand_at s.processes p) a → Made s p a new → told ≡ stepped_by s p a
-    → Advances s p told new
-advances s p a told new world step least made is =
-    let st : Stand = stand_at s.processes p in
-    let seat = step.seated.seats p step.below in
-    let Taken : Option Answer → WorldState → Type 0 = λ o. λ after. IfSome o (λ x. IsExact (tally_at after.tallies p) → HasTaken s.layout (spot_at s.processes p) (tally_at after.tallies p) x) in
-    record {
-      step = subst (λ (x : Stepped). Takes s (happening_of p x.happened) new) (sym is) (subst (Takes s (happening s p a)) (sym (made_is made)) (step_takes s p a step));
-      kind = ap (λ (x : Stepped). is_glance x.happened.kind) is ∙ no_glance st.limit st.index st.lock (errand_of st.errand) a step.next;
-      least = subst (λ (x : Stepped). ChoosesLeast s p x.happened) (sym is) (λ word v some. least word v (rw (seat.0, seat.1, seat.2) some));
-      told = is ∙ ap (stepped_if s p) (sym step.next);
-      ok = made_is made ∙ ap (advanced_if s p) (sym step.next);
-      taken = subst (λ (x : Stepped). Taken x.answer new) (sym is) (subst (Taken (answer_at (spot_at s.processes p) (kind_of a) (value_of s a))) (sym (made_is made)) (answered_step s p a step world.tallied));
-    }
+use Rattle.rmeworld.proofs.Taken.{told_by}
 
 -- a load is no deed at this place, and ends no call
 abbrev IsQuiet : ℕ → Place → Kind → ℕ → Type 0
@@ -62,13 +43,12 @@ scan_ends_nothing st scan (Load kind word) v goes =
     )
 
 -- what it tells
-pub scan_tells : (s : WorldState) (p : ℕ) (scan : Scan) (a : Access) → GoesOn (stand_at s.processes p) scan a → event_deeds s.layout (scene_of s) (happening s p a) ≡ [] → stepped s p ≡ quiet_step a (reading (scene_of s) (word_of a))
-scan_tells s p scan (Store kind word w) goes none = absurd goes.load
-scan_tells s p scan (Load kind word) goes none =
-    let v : ℕ = reading (scene_of s) word in
-    let ends = scan_ends_nothing (stand_at s.processes p) scan (Load kind word) v goes in
-    ap (stepped_if s p) goes.next
-    ∙ (λ i. record { happened = record { kind = kind; word = word; value = v; outer = ends.0 i; done = ends.1 i }; deed = the_deed (none i); answer = ends.2 i })
+pub scan_tells : (s : WorldState) (p : ℕ) (st : Stand) (scan : Scan) (a : Access) (v : ℕ) → GoesOn st scan a → quiet_step a v ≡ told_by s p a v (outcome st (Some a) v)
+scan_tells s p st scan (Store kind word w) v goes = absurd goes.load
+scan_tells s p st scan (Load kind word) v goes =
+    let ends = scan_ends_nothing st scan (Load kind word) v goes in
+    let none = scan_is_quiet st scan (Load kind word) s.layout p (words_of s.cells) v goes in
+    λ i. record { happened = record { kind = kind; word = word; value = v; outer = sym ends.0 i; done = sym ends.1 i }; deed = the_deed (sym none i); answer = sym ends.2 i }
 
 pub load_leaves : (a : Access) (words : List Own) (cells : List ℕ) → IsLoad a → (words_by words a ≡ words) × (cells_by cells a ≡ cells)
 load_leaves (Load kind word) words cells load = (refl, refl)

@@ -9,6 +9,7 @@ pub mod Stories
 pub mod WorldSteps
 pub mod StoryGrows
 pub mod Worlds
+pub mod Taken
 pub mod Advancing
 pub mod Reaching
 pub mod Holders

@@ -1,9 +1,9 @@
 -- What a world in memory keeps, at every call.
-use Rattle.std.proofs.Common.{◌≡◌, ℕ, zero, suc, ◌+◌, ◌<◌, ◌≤◌, ◌^◌, ◌++◌, [], ◌∷◌, List, Option, Some, None, IfSome, nat_lt, length, replicate, slice_index_or, slice_set, refl, sym, ap, ◌∙◌, subst, inl, inr, arith, length-set}
+use Rattle.std.proofs.Common.{◌≡◌, ℕ, zero, suc, ◌+◌, ◌<◌, ◌≤◌, ◌^◌, ◌++◌, [], ◌∷◌, List, Option, Some, None, IfSome, nat_lt, length, replicate, slice_index_or, refl, sym, ap, ◌∙◌, subst, inl, inr, arith, length-set}
 use Rattle.rmeworld.proofs.Common.{cases_Bool, cases_lt, get_or_past, get_or_default, get_or-replicate, length-replicate, Access, Load, Store, Outer, Own, Tally, kind_of, word_of, carried, access}
-use Rattle.rmeworld.proofs.Common.{Place, Door, Wait, Reread, tally_at, own_at, zeros, fresh, counted, step_deed, Deed, OuterDeed, Layout, Words, IsLayout, size, words_of, held, empty, Call}
-use Rattle.rmeworld.proofs.Common.{errand_of, IsWorld, IsReached, happening, or_else, mail_by, words_by, cells_by, the_deed, started, list_of, advanced_by, prospect_of, outer_by, Errand, Free, Doing}
-use Rattle.rmeworld.proofs.Common.{Happening, Begins, Falls, Moves, next_spot, at_rest, Stand, outcome, IsSize, resting, spot_of, stepped as stand_stepped, access_by, next_access, StoresOwn}
+use Rattle.rmeworld.proofs.Common.{Place, Door, Wait, Reread, tally_at, own_at, zeros, fresh, step_deed, Deed, OuterDeed, Layout, Words, IsLayout, size, words_of, held, empty, Call}
+use Rattle.rmeworld.proofs.Common.{errand_of, IsWorld, IsReached, happening, or_else, mail_by, the_deed, started, list_of, advanced_by, prospect_of, outer_by, Errand, Free, Doing}
+use Rattle.rmeworld.proofs.Common.{Happening, Begins, Falls, Moves, next_spot, at_rest, Stand, outcome, IsSize, resting, spot_of, access_by, next_access, StoresOwn}
 use Rattle.rmeworld.proofs.Common.{stand_started, IsTallied, reading, event_deeds, at_first, onward, outer_deeds, mail_deeds, WorldState, stand_at, spot_at, scene_of, Takes, new_world, absent}
 use Rattle.rmeworld.proofs.Common.{HasSeat, IsSeated, at_rest_from}
 use Rattle.rmeworld.specs.Replayed.{crashed}
@@ -117,19 +117,6 @@ own_found s p x world below is = get_or_default s.words p zeros x (subst (λ n. 
 
 pub tally_found : (s : WorldState) (p : ℕ) (t : Tally) → IsWorld s → p < s.layout.procs → t ≡ slice_index_or s.tallies p t → tally_at s.tallies p ≡ t
 tally_found s p t world below is = get_or_default s.tallies p _ t (subst (λ n. p < n) (sym world.seated.tallies_each) below) ∙ sym is
-
--- what the code of a step makes of a world
-pub record Made (s : WorldState) (p : ℕ) (a : Access) (new : WorldState) : Type 0 where
-  pub layout : new.layout ≡ s.layout
-  pub limit : new.limit ≡ s.limit
-  pub words : new.words ≡ words_by s.words a
-  pub cells : new.cells ≡ cells_by s.cells a
-  pub processes : new.processes ≡ slice_set s.processes p (stand_stepped (stand_at s.processes p) (reading (scene_of s) (word_of a)))
-  pub tallies : new.tallies ≡ slice_set s.tallies p (counted (tally_at s.tallies p) (outcome (stand_at s.processes p) (Some a) (reading (scene_of s) (word_of a))).progress.blocked)
-  pub history : new.history ≡ s.history ++ event_deeds s.layout (scene_of s) (happening s p a)
-
-pub made_is : {s : WorldState} {p : ℕ} {a : Access} {new : WorldState} → Made s p a new → new ≡ advanced_by s p a
-made_is m = λ i. record { layout = m.layout i; limit = m.limit i; words = m.words i; cells = m.cells i; processes = m.processes i; tallies = m.tallies i; history = m.history i }
 
 mails : (l : Layout) (p q : ℕ) (cells : Words) (a : Access) (x : ℕ) → StoresOwn q a → mail_by l p cells a ≡ mail_deeds l cells (Moves p (kind_of a) (word_of a) (carried a x))
 mails l p q cells (Load kind word) x own = rw own refl

@@ -5,7 +5,7 @@ ghost use Rattle.rmecore.specs.Machine.{word_of};
 ghost use Rattle.rmecore.specs.Simulated.{cause, fresh};
 ghost use Rattle.redomail.specs.Layout.{words_of};
 ghost use Rattle.rmeworld.specs.Spot.{Begins, Falls};
-ghost use Rattle.rmeworld.specs.Stand.{IsSize, IsAllowed, IsLeast, InWords, StoresOwn, next_access, outcome, resting, crashed};
+ghost use Rattle.rmeworld.specs.Stand.{IsSize, IsLeast, InWords, next_access, outcome, resting, crashed};
 ghost use Rattle.rmeworld.specs.World.{reading};
 ghost use Rattle.rmeworld.specs.WorldState.{absent, stand_at, spot_at, scene_of, Takes, happening_of, ChoosesLeast, new_world, new_refusal, image_world};
 
@@ -201,10 +201,8 @@ impl World {
         ensures named { IsErrOf result Refusal.OutOfMemory → ⊥ }
         ensures below { OnOk result (p < self.now.layout.procs) }
         ensures access { IfOk result (λ step. next_access (stand_at self.now.processes p) ≡ Some step.access) }
-        ensures allowed { IfOk result (λ step. IsAllowed (stand_at self.now.processes p) step.access) }
         ensures least { IfOk result (λ step. IsLeast (stand_at self.now.processes p) step.access) }
         ensures within { IfOk result (λ step. InWords self.now.layout.procs (word_of step.access)) }
-        ensures own { IfOk result (λ step. StoresOwn (stand_at self.now.processes p).index step.access) }
         ensures found { IfOk result (λ step. step.found ≡ reading (scene_of self.now) (word_of step.access)) }
     {
         if p >= self.layout.procs {

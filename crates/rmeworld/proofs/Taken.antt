@@ -1,0 +1,109 @@
+-- A step that the code of a world has taken is the definition's.
+use Rattle.std.proofs.Common.{◌≡◌, ℕ, ◌<◌, ◌++◌, slice_index_or, slice_set, Some, IfSome, sym, ap, ◌∙◌, subst}
+use Rattle.rmeworld.proofs.Common.{Access, Tally, kind_of, word_of, carried, counted, Stepped, Advances, errand_of, IsWorld, happening, words_by, cells_by, the_deed, stepped_if}
+use Rattle.rmeworld.proofs.Common.{advanced_if, advanced_by, prospect_of, Stand, outcome, IsLeast, IsAllowed, spot_of, stepped as stand_stepped, next_access, spot_after, StoresOwn, reading}
+use Rattle.rmeworld.proofs.Common.{event_deeds, WorldState, stand_at, scene_of}
+use Rattle.rmeworld.specs.declared.outcome.Outcome.{Outcome}
+use Rattle.rmeworld.specs.Replayed.{stepped_by}
+use Rattle.rmeworld.proofs.Ordered.{allowed, owns}
+use Rattle.rmeworld.proofs.Worlds.{found, tally_found, deeds_are, world_step}
+use Rattle.rmeworld.proofs.WorldSteps.{IsStep, step_takes}
+use Rattle.rmeworld.proofs.WorldTallies.{no_glance, answered_step}
+
+-- what p does next, and what its word holds
+pub record IsNext (s : WorldState) (p : ℕ) (a : Access) (v : ℕ) : Type 0 where
+  pub below : p < s.layout.procs
+  pub access : next_access (stand_at s.processes p) ≡ Some a
+  pub least : IsLeast (stand_at s.processes p) a
+  pub found : v ≡ reading (scene_of s) (word_of a)
+
+-- what is told of it, by what it was for its process
+abbrev pub told_by : WorldState → ℕ → Access → ℕ → Outcome → Stepped
+told_by s p a v o =
+    record {
+      happened = record { kind = kind_of a; word = word_of a; value = carried a v; outer = o.progress.outer; done = o.progress.done };
+      deed = the_deed (prospect_of s p a o);
+      answer = o.answer;
+    }
+
+-- The process was fed and its step counted, the words stored, the deeds noted, and this is told.
+pub record Fed (s : WorldState) (p : ℕ) (a : Access) (v : ℕ) (o : Outcome) (told : Stepped) (new : WorldState) : Type 0 where
+  pub before : Stand
+  pub after : Stand
+  pub tally : Tally
+  pub here : before ≡ slice_index_or s.processes p before
+  pub there : tally ≡ slice_index_or s.tallies p tally
+  pub exact : after ≡ stand_stepped before v
+  pub spot : spot_of after ≡ spot_after before (next_access before) v
+  pub what : o ≡ outcome before (next_access before) v
+  pub layout : new.layout ≡ s.layout
+  pub limit : new.limit ≡ s.limit
+  pub words : new.words ≡ words_by s.words a
+  pub cells : new.cells ≡ cells_by s.cells a
+  pub processes : new.processes ≡ slice_set s.processes p after
+  pub tallies : new.tallies ≡ slice_set s.tallies p (counted tally o.progress.blocked)
+  pub history : new.history ≡ s.history ++ prospect_of s p a o
+  pub tells : told ≡ told_by s p a v o
+
+module _ {s : WorldState} {p : ℕ} {a : Access} {v : ℕ} {o : Outcome} {told : Stepped} {new : WorldState} (world : IsWorld s) (next : IsNext s p a v) (fed : Fed s p a v o told new) where
+  abbrev stand : Stand
+  stand = stand_at s.processes p
+
+  abbrev value : ℕ
+  value = reading (scene_of s) (word_of a)
+
+  here : stand ≡ fed.before
+  here = found s p fed.before world next.below fed.here
+
+  after : fed.after ≡ stand_stepped stand value
+  after = fed.exact ∙ (λ i. stand_stepped (sym here i) (next.found i))
+
+  what : o ≡ outcome stand (Some a) value
+  what = fed.what ∙ (λ i. outcome (sym here i) (next_access (sym here i)) (next.found i)) ∙ ap (λ x. outcome stand x value) next.access
+
+  own : StoresOwn stand.index a
+  own = subst (λ x. IfSome x (StoresOwn stand.index)) next.access (owns stand)
+
+  noted : prospect_of s p a o ≡ event_deeds s.layout (scene_of s) (happening s p a)
+  noted = ap (prospect_of s p a) what ∙ deeds_are s p a stand.index world.seated next.below own next.access
+
+  step : IsStep s p a
+  step =
+      record {
+        filled = world.filled;
+        seated = world.seated;
+        below = next.below;
+        next = next.access;
+        allowed = subst (λ x. IfSome x (IsAllowed stand)) next.access (allowed stand);
+        own = own;
+        goes = ap spot_of (sym after) ∙ fed.spot ∙ (λ i. spot_after (sym here i) (next_access (sym here i)) (next.found i));
+      }
+
+  is : new ≡ advanced_by s p a
+  is =
+      let tallies = fed.tallies ∙ (λ i. slice_set s.tallies p (counted (sym (tally_found s p fed.tally world next.below fed.there) i) (what i).progress.blocked)) in
+      let processes = fed.processes ∙ ap (slice_set s.processes p) after in
+      let history = fed.history ∙ ap (λ ds. s.history ++ ds) noted in
+      λ i. record { layout = fed.layout i; limit = fed.limit i; words = fed.words i; cells = fed.cells i; processes = processes i; tallies = tallies i; history = history i }
+
+  tells : told ≡ stepped_by s p a
+  tells = fed.tells ∙ (λ i. record {
+    happened = record { kind = kind_of a; word = word_of a; value = carried a (next.found i); outer = (what i).progress.outer; done = (what i).progress.done };
+    deed = the_deed (noted i);
+    answer = (what i).answer;
+  })
+
+  pub stays : IsWorld new
+  stays = subst IsWorld (sym is) (world_step s p a world step)
+
+  pub takes : Advances s p told new
+  takes =
+      let seat = world.seated.seats p next.below in
+      subst (λ x. Advances s p x new) (sym tells) (subst (Advances s p (stepped_by s p a)) (sym is) (record {
+        step = step_takes s p a step;
+        kind = no_glance stand.limit stand.index stand.lock (errand_of stand.errand) a next.access;
+        least = λ word x some. next.least word x (rw (seat.0, seat.1, seat.2) some);
+        told = ap (stepped_if s p) (sym next.access);
+        ok = ap (advanced_if s p) (sym next.access);
+        taken = answered_step s p a step world.tallied;
+      }))

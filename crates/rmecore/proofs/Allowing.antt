@@ -1,6 +1,6 @@
 -- What the needs of a deed say, as facts of the abstract lock, and back.
 use Rattle.std.proofs.Common.{◌≡◌, ◌≢◌, ℕ, zero, suc, ◌<◌, Bool, true, false, if◌then◌else◌, ◌==◌, ◌⊎◌, refl, ap, inl, inr, arith, eq-eqb, eqb-true, lt-ltb, ltb-true, ◌≤◌}
-use Rattle.rmecore.proofs.Common.{or_cases, false_from_ne_true, cond_both, Outer, Begin, Enter, Crash, Reenter, Leave, Quit, Phase, Out, AtDoor as Door, Ready, Within as Inside, DeadIn, Abstract}
+use Rattle.rmecore.proofs.Common.{cases_Bool, or_cases, false_from_ne_true, cond_both, Outer, Begin, Enter, Crash, Reenter, Leave, Quit, Phase, Out, AtDoor as Door, Ready, Within as Inside, DeadIn, Abstract}
 use Rattle.rmecore.proofs.Common.{is_out, is_door, is_ready, is_inside, is_dead_in, needs, AllHold, least, none_below, put}
 use Rattle.rmecore.specs.declared.outer.Outer.TheVariants.{Ready as IsReady}
 
@@ -92,22 +92,10 @@ allows_from n a (Quit p) h = (ltb-true p n h.0, elim (or_cases _ _ h.1.0) [ inl 
 
 -- who leaves all ahead sets
 pub put_false : (f : ℕ → Bool) (p i : ℕ) → put f p false i ≡ true → f i ≡ true
-put_false f p i e = go (i == p) e
-  where
-    go : (b : Bool) → (if b then false else f i) ≡ true → f i ≡ true
-    go true e = cc
-    go false e = e
+put_false f p i e = elim (cases_Bool (i == p)) [ inl here ↦ (let no : false ≡ true = rw here at e in cc) | inr away ↦ rw away at e ]
 
 pub put_false_self : (f : ℕ → Bool) (p : ℕ) → put f p false p ≡ true → ⊥
-put_false_self f p e = let same : (p == p) ≡ true = eq-eqb p p refl in go (p == p) same e
-  where
-    go : (b : Bool) → b ≡ true → (if b then false else f p) ≡ true → ⊥
-    go true s e = cc
-    go false s e = cc
+put_false_self f p e = let same : (p == p) ≡ true = eq-eqb p p refl in let no : false ≡ true = rw same at e in cc
 
 pub put_false_kept : (f : ℕ → Bool) (p i : ℕ) → f i ≡ false → put f p false i ≡ false
-put_false_kept f p i e = go (i == p)
-  where
-    go : (b : Bool) → (if b then false else f i) ≡ false
-    go true = refl
-    go false = e
+put_false_kept f p i e = elim (cases_Bool (i == p)) [ inl here ↦ rw here refl | inr away ↦ rw away e ]

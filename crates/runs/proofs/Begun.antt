@@ -1,11 +1,12 @@
 -- A call that has been started is under way, and has not many steps left.
 use Rattle.std.proofs.Common.{◌≡◌, ℕ, zero, suc, ◌+◌, ◌*◌, ◌≤◌, Bool, true, false, ◌&&◌, ◌==◌, nat_lt, nat_le, if◌then◌else◌, List, [], ◌∷◌, ◌++◌, length, Some, None, IsSome, unwrap_or, refl, sym, ap, ◌∙◌, subst, arith, length-append, eqb-true}
-use Rattle.runs.proofs.Common.{and_parts, ltb-true, Place, Rest, Dead, Wait, Inside, Layout, Reply, IsLayout, last_at, held, place_at, Script, Get as Asks, Put as Writes, Done, puts, gets, in_row}
+use Rattle.runs.proofs.Common.{and_parts, ltb-true, Place, Rest, Dead, Wait, Inside, Layout, Reply, IsLayout, last_at, held, place_at, tail, Script, Get as Asks, Put as Writes, Done, puts, gets, in_row}
 use Rattle.runs.proofs.Common.{append, repair, redo, consistent, apply_steps, store_steps, record_of, Call, Lock, Unlock, Consistent, Recover, Append, Close, Withdraw, Why, Errand, Free, Doing, Spot}
 use Rattle.runs.proofs.Common.{begun_from, inside_only, Begins, next_spot, Setup, Within, Pass, IsPass, spot_now, Replies, Mends, Begun, Appends}
 use Rattle.redomail.specs.declared.reply.Reply.TheVariants as reply
 use Rattle.redomail.specs.declared.record.Record.{Record}
 use Rattle.rmeworld.specs.declared.call.Call.TheVariants.{Get, Put}
+use Rattle.redomail.proofs.Scripts.{length-in_row}
 use Rattle.runs.proofs.Running.{spot_begun}
 
 within_puts : (xs : List (ℕ × ℕ)) (r : Script Reply) (k : ℕ) → Within k r → Within (length xs + k) (puts xs r)
@@ -22,18 +23,14 @@ within_gets i (suc n) read next k h =
     let e : suc (n + k) ≡ suc n + k = omega arith in
     subst (λ (m : ℕ). Within m (gets i (suc n) read next)) e (λ x. within_gets (i + 1) n (read ++ x ∷ []) next k (λ ys e. h ys (let l = length-append read (x ∷ []) in omega arith)))
 
-row_length : (i : ℕ) (xs : List ℕ) → length (in_row i xs) ≡ length xs
-row_length i [] = refl
-row_length i (x ∷ xs) = ap suc (row_length (i + 1) xs)
-
 apply_length : (l : Layout) (p : ℕ) (r : Record) → length (apply_steps l p r) ≡ length r.value + 5
 apply_length l p r =
-    let row = row_length (place_at l r.at) (p ∷ r.seq ∷ r.value) in
+    let row = length-in_row (place_at l r.at) (p ∷ r.seq ∷ r.value) in
     let all = length-append (in_row (place_at l r.at) (p ∷ r.seq ∷ r.value)) ((last_at l p, r.seq) ∷ (2, held (r.at + 1)) ∷ (3, 0) ∷ []) in omega arith
 
 store_length : (l : Layout) (p : ℕ) (r : Record) → length (store_steps l p r) ≡ 2 * length r.value + 8
 store_length l p r =
-    let row = row_length 4 (r.at ∷ r.seq ∷ r.value) in
+    let row = length-in_row 4 (r.at ∷ r.seq ∷ r.value) in
     let rest = apply_length l p r in
     let all = length-append (in_row 4 (r.at ∷ r.seq ∷ r.value)) ((3, 1) ∷ apply_steps l p r) in omega arith
 
@@ -58,17 +55,26 @@ within_redo l p at seq value few = within_more (length (apply_steps l p (record_
 
 -- each reply of a script
 module _ (P : Reply → Type 0) where
-  replies_puts : (xs : List (ℕ × ℕ)) (r : Script Reply) → Replies P r → Replies P (puts xs r)
+  pub replies_puts : (xs : List (ℕ × ℕ)) (r : Script Reply) → Replies P r → Replies P (puts xs r)
   replies_puts [] r h = h
   replies_puts (x ∷ xs) r h = replies_puts xs r h
 
-  replies_gets : (i n : ℕ) (read : List ℕ) (next : List ℕ → Script Reply) → ((ys : List ℕ) → Replies P (next ys)) → Replies P (gets i n read next)
+  pub replies_gets : (i n : ℕ) (read : List ℕ) (next : List ℕ → Script Reply) → ((ys : List ℕ) → Replies P (next ys)) → Replies P (gets i n read next)
   replies_gets i zero read next h = h read
   replies_gets i (suc n) read next h = λ x. replies_gets (i + 1) n (read ++ x ∷ []) next h
 
   replies_if : (b : Bool) (x y : Script Reply) → (b ≡ true → Replies P x) → (b ≡ false → Replies P y) → Replies P (if b then x else y)
   replies_if true x y h i = h refl
   replies_if false x y h i = i refl
+
+  pub replies_repair : ((repaired : Bool) → P (reply.Mended repaired)) → (l : Layout) (p : ℕ) → Replies P (repair l p)
+  replies_repair h l p = λ armed.
+      replies_if (armed == 0) _ _ (λ e. h false) (λ e at seq. replies_gets 6 l.width [] (redo l p at seq) (λ ys. replies_puts (apply_steps l p (record_of at seq ys)) (Done (reply.Mended true)) (h true)))
+
+  pub replies_tail : (left : Script Reply) (v : ℕ) → Replies P left → Replies P (tail left v)
+  replies_tail (Done r) v h = h
+  replies_tail (Asks i rest) v h = h v
+  replies_tail (Writes i x rest) v h = h
 
 -- those of an append
 appends : (l : Layout) (p seq : ℕ) (value : List ℕ) → Replies (Appends seq) (append l p seq value)
@@ -84,73 +90,41 @@ within_repair l p narrow = λ armed.
     within_if 39 (armed == 0) _ _ tt (λ at seq.
     within_more (l.width + 20) 37 (gets 6 l.width [] (redo l p at seq)) (omega arith) (within_gets 6 l.width [] (redo l p at seq) 20 (λ ys e. within_redo l p at seq ys (omega arith))))
 
-mends_repair : (l : Layout) (p : ℕ) → Replies Mends (repair l p)
-mends_repair l p = λ armed. replies_if Mends (armed == 0) _ _ (λ e. tt) (λ e at seq. replies_gets Mends 6 l.width [] (redo l p at seq) (λ ys. replies_puts Mends (apply_steps l p (record_of at seq ys)) (Done (reply.Mended true)) tt))
-
 within_consistent : (l : Layout) (p : ℕ) → l.width ≤ 8 → Within 41 (consistent l p)
 within_consistent l p narrow = λ ruined. within_if 40 (ruined == 1) _ _ tt (within_repair l p narrow)
 
 pub mends_consistent : (l : Layout) (p : ℕ) → Replies Mends (consistent l p)
-mends_consistent l p = λ ruined. replies_if Mends (ruined == 1) _ _ (λ e. tt) (λ e. mends_repair l p)
+mends_consistent l p = λ ruined. replies_if Mends (ruined == 1) _ _ (λ e. tt) (λ e. replies_repair Mends (λ repaired. tt) l p)
+
+-- a start from inside
+pub guard_inside : (P : Spot → Type 0) (s : Place) (b fits : Bool) (why : Why) (left : Script Reply) (d : Spot) → (fits ≡ true → P (record { lock = Inside; mended = b; barred = false; errand = Doing why left })) → IsSome (inside_only s b fits why left) → P (unwrap_or (inside_only s b fits why left) d)
+guard_inside P Inside b true why left d h some = h refl
+guard_inside P Inside b false why left d h some = absurd (cc)
+guard_inside P _ b fits why left d h some = absurd (cc)
 
 module _ (l : Layout) (p : ℕ) (fits : IsLayout l) where
   lock_few : 3 * l.procs + 11 ≤ 256
   lock_few = let f = fits.few in omega arith
 
-  begins_lock : (s : Place) (b : Bool) (d : Spot) → IsSome (begun_from l p s b Free Lock) → Begun Lock l.procs (unwrap_or (begun_from l p s b Free Lock) d)
-  begins_lock Rest b d some = (refl, refl, (tt, lock_few))
-  begins_lock Dead b d some = (refl, refl, (tt, lock_few))
-  begins_lock _ b d some = absurd (cc)
-
-  begins_recover : (s : Place) (b : Bool) (d : Spot) → IsSome (begun_from l p s b Free Recover) → Begun Recover l.procs (unwrap_or (begun_from l p s b Free Recover) d)
-  begins_recover Rest b d some = (refl, refl, (tt, lock_few))
-  begins_recover Dead b d some = (refl, refl, (tt, lock_few))
-  begins_recover _ b d some = absurd (cc)
-
-  begins_withdraw : (s : Place) (b : Bool) (d : Spot) → IsSome (begun_from l p s b Free Withdraw) → Begun Withdraw l.procs (unwrap_or (begun_from l p s b Free Withdraw) d)
-  begins_withdraw (Wait k unpassed looked) b d some = (refl, refl, (tt, omega arith))
-  begins_withdraw _ b d some = absurd (cc)
-
-  begins_unlock : (s : Place) (b : Bool) (d : Spot) → IsSome (begun_from l p s b Free Unlock) → Begun Unlock l.procs (unwrap_or (begun_from l p s b Free Unlock) d)
-  begins_unlock Inside true d some = (refl, refl, (tt, omega arith))
-  begins_unlock Inside false d some = (refl, refl, (1, tt, omega arith, tt))
-  begins_unlock _ true d some = absurd (cc)
-  begins_unlock _ false d some = absurd (cc)
-
-  begins_consistent : (s : Place) (b : Bool) (d : Spot) → IsSome (begun_from l p s b Free Consistent) → Begun Consistent l.procs (unwrap_or (begun_from l p s b Free Consistent) d)
-  begins_consistent Inside false d some = (mends_consistent l p, refl, (41, within_consistent l p fits.most, omega arith, tt))
-  begins_consistent _ true d some = absurd (cc)
-  begins_consistent _ false d some = absurd (cc)
-
-  -- a script of the mailbox or the board
-  works : (call : Call) (k : ℕ) (why : Why) (left : Script Reply) (s : Place) (b fit : Bool) (d : Spot) → (fit ≡ true → Begun call l.procs (record { lock = Inside; mended = b; barred = false; errand = Doing why left })) → IsSome (inside_only s b fit why left) → Begun call l.procs (unwrap_or (inside_only s b fit why left) d)
-  works call k why left Inside b true d h some = h refl
-  works call k why left Inside b false d h some = absurd (cc)
-  works call k why left _ b fit d h some = absurd (cc)
-
   pub begins : (call : Call) (s : Place) (b : Bool) (e : Errand) (d : Spot) → IsSome (begun_from l p s b e call) → Begun call l.procs (unwrap_or (begun_from l p s b e call) d)
-  begins Lock s b Free d some = begins_lock s b d some
-  begins Recover s b Free d some = begins_recover s b d some
-  begins Withdraw s b Free d some = begins_withdraw s b d some
-  begins Unlock s b Free d some = begins_unlock s b d some
-  begins Consistent s b Free d some = begins_consistent s b d some
+  begins Lock Rest b Free d some = (refl, refl, (tt, lock_few))
+  begins Lock Dead b Free d some = (refl, refl, (tt, lock_few))
+  begins Recover Rest b Free d some = (refl, refl, (tt, lock_few))
+  begins Recover Dead b Free d some = (refl, refl, (tt, lock_few))
+  begins Withdraw (Wait k unpassed looked) b Free d some = (refl, refl, (tt, omega arith))
+  begins Unlock Inside true Free d some = (refl, refl, (tt, omega arith))
+  begins Unlock Inside false Free d some = (refl, refl, (1, tt, omega arith, tt))
+  begins Consistent Inside false Free d some = (mends_consistent l p, refl, (41, within_consistent l p fits.most, omega arith, tt))
   begins (Append seq value) s b Free d some =
-      works (Append seq value) 43 _ (append l p seq value) s b (b && (length value == l.width)) d (λ fit. let wide : length value ≡ l.width = eqb-true (length value) l.width (and_parts b (length value == l.width) fit).1 in
+      guard_inside (Begun (Append seq value) l.procs) s b (b && (length value == l.width)) _ (append l p seq value) d (λ fit. let wide : length value ≡ l.width = eqb-true (length value) l.width (and_parts b (length value == l.width) fit).1 in
       (appends l p seq value, refl, (43, within_append l p seq value (let m = fits.most in omega arith), omega arith, tt))) some
-  begins Close s b Free d some = works Close 2 _ _ s b b d (λ fit. (tt, refl, (2, (λ closed. within_if 1 (closed == 1) _ _ tt tt), omega arith, tt))) some
-  begins (Get i) s b Free d some = works (Get i) 1 _ _ s b (nat_lt i 4) d (λ fit. ((λ x. tt), refl, (1, (λ x. tt), omega arith, tt))) some
-  begins (Put i v) s b Free d some = works (Put i v) 1 _ _ s b (nat_lt i 4) d (λ fit. (tt, refl, (1, tt, omega arith, tt))) some
-  begins Lock s b (Doing why left) d some = absurd (cc)
-  begins Recover s b (Doing why left) d some = absurd (cc)
-  begins Withdraw s b (Doing why left) d some = absurd (cc)
-  begins Unlock s true (Doing why left) d some = absurd (cc)
-  begins Unlock s false (Doing why left) d some = absurd (cc)
-  begins Consistent s true (Doing why left) d some = absurd (cc)
-  begins Consistent s false (Doing why left) d some = absurd (cc)
-  begins (Append seq value) s b (Doing why left) d some = absurd (cc)
-  begins Close s b (Doing why left) d some = absurd (cc)
-  begins (Get i) s b (Doing why left) d some = absurd (cc)
-  begins (Put i v) s b (Doing why left) d some = absurd (cc)
+  begins Close s b Free d some = guard_inside (Begun Close l.procs) s b b _ _ d (λ fit. (tt, refl, (2, (λ closed. within_if 1 (closed == 1) _ _ tt tt), omega arith, tt))) some
+  begins (Get i) s b Free d some = guard_inside (Begun (Get i) l.procs) s b (nat_lt i 4) _ _ d (λ fit. ((λ x. tt), refl, (1, (λ x. tt), omega arith, tt))) some
+  begins (Put i v) s b Free d some = guard_inside (Begun (Put i v) l.procs) s b (nat_lt i 4) _ _ d (λ fit. (tt, refl, (1, tt, omega arith, tt))) some
+  begins _ _ true Free d some = absurd (cc)
+  begins _ _ false Free d some = absurd (cc)
+  begins _ _ true (Doing why left) d some = absurd (cc)
+  begins _ _ false (Doing why left) d some = absurd (cc)
 
 pub begun_now : (x y : Pass) (call : Call) → x.start ≡ None → y ≡ record x { start = Some call } → IsPass y → IsSome (next_spot x.setup.layout x.setup.limit (spot_now x) (Begins x.by call)) → Begun call x.setup.layout.procs (spot_now y)
 begun_now x y call none e pass some =

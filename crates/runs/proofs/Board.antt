@@ -1,9 +1,8 @@
 -- The words of the board are what was put there last; and since its Enter a process's own puts are the last.
-use Rattle.std.proofs.Common.{◌≡◌, ℕ, ◌+◌, ◌*◌, ◌<◌, ◌==◌, ◌&&◌, nat_lt, lt-ltb, Bool, true, false, if◌then◌else◌, List, [], ◌∷◌, ◌++◌, Option, Some, None, refl, sym, ap, ◌∙◌, subst, arith, append_assoc, eqb-true, eq-eqb}
-use Rattle.runs.proofs.Common.{and_parts, eqb-false, true≢false, Kind, Word, Choosing as ChoosingOf, Number as NumberOf, Data as DataAt, put, is_store, put_same, put_other, Layout, IsLayout, Words}
+use Rattle.std.proofs.Common.{◌≡◌, ℕ, ◌+◌, ◌*◌, ◌<◌, ◌==◌, ◌&&◌, nat_lt, lt-ltb, Bool, true, false, if◌then◌else◌, List, [], ◌∷◌, ◌++◌, Option, Some, None, refl, sym, ap, ◌∙◌, subst, arith, append_assoc, eqb-true, eq-eqb, inl, inr}
+use Rattle.runs.proofs.Common.{and_parts, cases_Bool, eqb-false, true≢false, Kind, Word, Data as DataAt, put, is_store, put_same, put_other, Layout, IsLayout, Words}
 use Rattle.runs.proofs.Common.{board_at, size, place_at, Answer, Call, Happening, Scene, at_first, Story, last_scene, put_cell, holders_put, TakenStep, Setup, is_data, or_earlier, last_put, value_or}
 use Rattle.runs.proofs.Common.{LastIsOwn, Served, IsPass, Seated, began, before, taken, happenings, spelled, own, IsRun, end_of}
-use Rattle.rmecore.specs.declared.word.Word.TheVariants.{Inside as InsideOf}
 use Rattle.rmeworld.specs.Holders.{puts_data, AllPutBy}
 use Rattle.runs.specs.Board.{puts}
 use Rattle.runs.proofs.Runs.{spelled-append, by_kind, who_taken, scene-append, cells_entry, cells_now}
@@ -44,16 +43,10 @@ module _ (s : Setup) (i : ℕ) (low : i < 4) where
       go true is false above = absurd (let same = eqb-true j at is in let no : nat_lt j (size s.layout) ≡ true = ap (λ (k : ℕ). nat_lt k (size s.layout)) same ∙ lt-ltb at (size s.layout) (board_within s.layout i low) in true≢false (sym no ∙ above))
       go false is true below = rw (is, below) (put_other cells j v at (λ (e : at ≡ j). eqb-false j at is (sym e)))
       go false is false above = rw (is, above) refl
-  put_at cells (ChoosingOf p) v = refl
-  put_at cells (NumberOf p) v = refl
-  put_at cells (InsideOf p) v = refl
+  put_at cells _ v = refl
 
   cell_now : (cells : Words) (kind : Kind) (word : Word) (v : ℕ) → cells_now s.layout cells kind word v at ≡ (if is_store kind && is_data at word then v else cells at)
-  cell_now cells kind word v = go (is_store kind) refl
-    where
-      go : (b : Bool) → is_store kind ≡ b → (if is_store kind then put_cell s.layout cells word v else cells) at ≡ (if is_store kind && is_data at word then v else cells at)
-      go true is = rw is (put_at cells word v)
-      go false is = rw is refl
+  cell_now cells kind word v = elim (cases_Bool (is_store kind)) [ inl is ↦ rw is (put_at cells word v) | inr is ↦ rw is refl ]
 
   if_value : (b : Bool) (e : TakenStep) (v : ℕ) → (if b then e.value else v) ≡ value_or (if b then Some e else None) v
   if_value true e v = refl
@@ -78,9 +71,7 @@ all_back p (x ∷ xs) ys h = all_back p xs ys h.1
 -- a put of the board stores in a data word
 stores_data : (k : ℕ) (word : Word) (kind : Kind) → (is_store kind && is_data k word) ≡ true → (word ≡ DataAt k) × (is_store kind ≡ true)
 stores_data k (DataAt j) kind e = let both = and_parts (is_store kind) (j == k) e in (ap DataAt (eqb-true j k both.1), both.0)
-stores_data k (ChoosingOf q) kind e = absurd (true≢false (sym (and_parts (is_store kind) false e).1))
-stores_data k (NumberOf q) kind e = absurd (true≢false (sym (and_parts (is_store kind) false e).1))
-stores_data k (InsideOf q) kind e = absurd (true≢false (sym (and_parts (is_store kind) false e).1))
+stores_data k _ kind e = absurd (true≢false (sym (and_parts (is_store kind) false e).1))
 
 taken_puts : (k q : ℕ) (word : Word) (v : ℕ) (kind : Kind) → (is_store kind && is_data k word) ≡ true → puts_data (taken q kind word v) ≡ true
 taken_puts k q word v kind = by_kind (λ kind h. (is_store kind && is_data k word) ≡ true → puts_data h ≡ true) q word v (λ e. absurd (cc)) (λ kind e. let r = stores_data k word kind e in rw r.0 r.1) kind

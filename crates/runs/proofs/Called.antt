@@ -59,35 +59,27 @@ grows_taken x y (e ∷ es) h =
 pub calls_of : (x y : Pass) (mine : List TakenStep) → IsRun x.setup x.seen → Takes x mine y → Calls x mine y
 calls_of x y mine run h = calls_grown x y mine run (grows_taken x y mine h)
 
-starts_none : (z y : Pass) (es : List TakenStep) → Takes z es y → z.start ≡ None → starts es ≡ []
-starts_none z y [] h none = refl
-starts_none z y (e ∷ es) h none =
+-- where nothing is owed, the steps carry nothing
+nothing_carried : (z y : Pass) (es : List TakenStep) → Takes z es y → z.fallen ≡ false → z.start ≡ None → All (λ (f : TakenStep). f.step.crashed ≡ false) es × All (λ (f : TakenStep). f.step.start ≡ None) es × (starts es ≡ [])
+nothing_carried z y [] h calm none = (All-nil _, All-nil _, refl)
+nothing_carried z y (e ∷ es) h calm none =
+    let later = nothing_carried h.0 y es h.3 h.2.fallen h.2.start in
     let first : e.step.start ≡ None = ap (λ (f : TakenStep). f.step.start) h.1 ∙ none in
-    ap (λ (o : Option Call). and_call o (starts es)) first ∙ starts_none h.0 y es h.3 h.2.start
-
-crashes_none : (z y : Pass) (es : List TakenStep) → Takes z es y → z.fallen ≡ false → All (λ (f : TakenStep). f.step.crashed ≡ false) es
-crashes_none z y [] h none = All-nil _
-crashes_none z y (e ∷ es) h none =
-    All-cons (λ (f : TakenStep). f.step.crashed ≡ false) e es (ap (λ (f : TakenStep). f.step.crashed) h.1 ∙ none) (crashes_none h.0 y es h.3 h.2.fallen)
+    (All-cons (λ (f : TakenStep). f.step.crashed ≡ false) e es (ap (λ (f : TakenStep). f.step.crashed) h.1 ∙ calm) later.0, All-cons (λ (f : TakenStep). f.step.start ≡ None) e es first later.1, ap (λ (o : Option Call). and_call o (starts es)) first ∙ later.2)
 
 pub first_crash : (x y : Pass) (mine : List TakenStep) → Takes x mine y → FirstCrash x.fallen mine
 first_crash x y [] h = tt
-first_crash x y (e ∷ es) h = (ap (λ (f : TakenStep). f.step.crashed) h.1, crashes_none h.0 y es h.3 h.2.fallen)
+first_crash x y (e ∷ es) h = (ap (λ (f : TakenStep). f.step.crashed) h.1, (nothing_carried h.0 y es h.3 h.2.fallen h.2.start).0)
 
 pub started_as : (x y : Pass) (mine : List TakenStep) (call : Call) → Takes x mine y → x.start ≡ Some call → (mine ≡ []) ⊎ (starts mine ≡ call ∷ [])
 started_as x y [] call h is = inl refl
 started_as x y (e ∷ es) call h is =
     let first : e.step.start ≡ Some call = ap (λ (f : TakenStep). f.step.start) h.1 ∙ is in
-    inr (ap (λ (o : Option Call). and_call o (starts es)) first ∙ ap (λ (cs : List Call). call ∷ cs) (starts_none h.0 y es h.3 h.2.start))
-
-all_start_none : (z y : Pass) (es : List TakenStep) → Takes z es y → z.start ≡ None → All (λ (f : TakenStep). f.step.start ≡ None) es
-all_start_none z y [] h none = All-nil _
-all_start_none z y (e ∷ es) h none =
-    All-cons (λ (f : TakenStep). f.step.start ≡ None) e es (ap (λ (f : TakenStep). f.step.start) h.1 ∙ none) (all_start_none h.0 y es h.3 h.2.start)
+    inr (ap (λ (o : Option Call). and_call o (starts es)) first ∙ ap (λ (cs : List Call). call ∷ cs) (nothing_carried h.0 y es h.3 h.2.fallen h.2.start).2)
 
 pub first_start : (x y : Pass) (mine : List TakenStep) (call : Call) → Takes x mine y → x.start ≡ Some call → (mine ≡ [] → ⊥) → FirstStart call mine
 first_start x y [] call h is some = some refl
-first_start x y (e ∷ es) call h is some = (ap (λ (f : TakenStep). f.step.start) h.1 ∙ is, all_start_none h.0 y es h.3 h.2.start)
+first_start x y (e ∷ es) call h is some = (ap (λ (f : TakenStep). f.step.start) h.1 ∙ is, (nothing_carried h.0 y es h.3 h.2.fallen h.2.start).1)
 
 pub are_moves : (x y : Pass) (mine : List TakenStep) → Takes x mine y → AreMoves mine
 are_moves x y [] h = All-nil _

@@ -1,11 +1,12 @@
 -- What a member counts of its calls is the table's.
-use Rattle.std.proofs.Common.{Bool, true, false, if◌then◌else◌, ◌≡◌, ℕ, zero, suc, ◌+◌, ◌^◌, ◌<◌, ◌≤◌, List, [], ◌∷◌, ◌++◌, length, drop, Option, Some, None, Result, Ok, Err, IfOk, IfErr, OnOk, refl, sym, ap, ◌∙◌, subst, arith}
-use Rattle.runs.proofs.Common.{one_more, Layout, IsLayout, Answer, Call, Lock, Unlock, Consistent, Recover, Append, Close, Withdraw, most_steps, is_idle, IsSize, TakenStep, LockFault, Setup, Served}
-use Rattle.runs.proofs.Common.{answers_of, blocked_of, Takes, blocks, Ran, CutOff, Calm, Turning, LockEnds, ready, Pass, IsPass, spot_now, Calls, Seated, began, many_more, fell, own, KeepsTable}
+use Rattle.std.proofs.Common.{◌≡◌, ℕ, zero, suc, ◌+◌, ◌^◌, ◌<◌, ◌≤◌, List, [], ◌∷◌, ◌++◌, length, drop, Option, Some, None, Result, Ok, Err, IfOk, IfErr, OnOk, refl, sym, ap, ◌∙◌, subst, arith}
+use Rattle.runs.proofs.Common.{one_more, Layout, IsLayout, Answer, Call, Lock, Consistent, Append, most_steps, is_idle, IsSize, TakenStep, LockFault, Setup, Served}
+use Rattle.runs.proofs.Common.{answers_of, blocked_of, Takes, blocks, Ran, CutOff, Calm, Turning, LockEnds, ready, Pass, IsPass, spot_now, Calls, Seated, began, many_more, own, KeepsTable}
 use Rattle.runs.proofs.Common.{CountsAtMost, words_begun, spot_begun, table_steps, blocked_since, LockCounts}
-use Rattle.rmeworld.specs.declared.call.Call.TheVariants.{Get, Put}
+use Rattle.std.proofs.Math.Seq.{drop-append_seam}
 use Rattle.rmeworld.proofs.CallBounds.{table_most}
 use Rattle.runs.proofs.Turned.{later_blocked, turned_served, turned_cut, turned_out}
+use Rattle.runs.proofs.Outside.{ready_same}
 use Rattle.runs.proofs.Called.{first_crash, first_start, are_moves, calls_of}
 use Rattle.runs.proofs.Tabled.{keeps_the_table, calls_keep_the_table}
 
@@ -15,14 +16,9 @@ many_small (suc k) h = let e : many_more k 0 ≡ k = many_small k (omega arith) 
 
 most_small : (l : Layout) → IsLayout l → (call : Call) → most_steps l call < 2 ^ 64
 most_small l size Lock = let few = size.few in omega arith
-most_small l size Recover = omega arith
-most_small l size Unlock = omega arith
-most_small l size Withdraw = omega arith
 most_small l size Consistent = let few = size.most in omega arith
 most_small l size (Append seq value) = let few = size.most in omega arith
-most_small l size Close = omega arith
-most_small l size (Get i) = omega arith
-most_small l size (Put i v) = omega arith
+most_small l size _ = omega arith
 
 -- a call that is never blocked
 served_counts : (x y : Seated) (call : Call) (a : Answer) (mine : List TakenStep) → IsSize x.pass.setup.layout → Served (began x call) call (a ∷ []) 0 y mine → table_steps x.pass call a ≡ Some y.steps
@@ -43,12 +39,8 @@ called_counts x z y call a b c d (Ok answer) is pass h =
     served_counts x y call answer h.0 at.0.size at.1
 
 -- the entries between two passes
-dropped : (xs ys : List TakenStep) → drop (length xs) (xs ++ ys) ≡ ys
-dropped [] ys = refl
-dropped (x ∷ xs) ys = dropped xs ys
-
 since_is : (x y : Pass) (mine : List TakenStep) → Calls x mine y → own x.by (drop (length x.seen) y.seen) ≡ mine
-since_is x y mine c = ap (λ (es : List TakenStep). own x.by (drop (length x.seen) es)) c.seen ∙ ap (own x.by) (dropped x.seen c.since) ∙ c.mine_are
+since_is x y mine c = ap (λ (es : List TakenStep). own x.by (drop (length x.seen) es)) c.seen ∙ ap (own x.by) (drop-append_seam x.seen c.since) ∙ c.mine_are
 
 blocked_is : (x y : Seated) (call : Call) (answers : List Answer) (blocked : ℕ) (mine : List TakenStep) → Served x call answers blocked y mine → blocked_since x.pass y.pass ≡ blocked
 blocked_is x y call answers blocked mine r = ap (blocked_of x.pass) (since_is x.pass y.pass mine r.calls) ∙ r.blocks
@@ -109,15 +101,11 @@ few_now x z call most h = let low = many_at_most h.0 in let few = h.1 in let is 
 pub few_begun : (x u z : Seated) (call : Call) → u ≡ began x call → CountsAtMost (most_steps u.pass.setup.layout call) u z → z.steps ≤ most_steps x.pass.setup.layout call
 few_begun x u z call is h = few_now x z call (most_steps x.pass.setup.layout call) (subst (λ (w : Seated). CountsAtMost (most_steps w.pass.setup.layout call) w z) is h)
 
-pub ready_setup : (b : Bool) (x : Seated) → (if b then x else fell x).pass.setup ≡ x.pass.setup
-ready_setup true x = refl
-ready_setup false x = refl
-
 -- the same of a call that sets out from anywhere
 pub few_out : (x u z : Seated) (call : Call) (most : Layout → ℕ) → u ≡ began (ready x) call → CountsAtMost (most u.pass.setup.layout) u z → z.steps ≤ most x.pass.setup.layout
 few_out x u z call most is h =
     let few : z.steps ≤ most (ready x).pass.setup.layout = few_now (ready x) z call (most (ready x).pass.setup.layout) (subst (λ (w : Seated). CountsAtMost (most w.pass.setup.layout) w z) is h) in
-    subst (λ (s : Setup). z.steps ≤ most s.layout) (ready_setup (is_idle (spot_now x.pass)) x) few
+    subst (λ (s : Setup). z.steps ≤ most s.layout) (ready_same (is_idle (spot_now x.pass)) x).0 few
 
 pub err_any : {T E : Type 0} (r : Result T E) (Q : E → Type 0) (P : Type 0) → P → IfErr r (λ e. Q e → P)
 err_any (Ok x) Q P p = tt

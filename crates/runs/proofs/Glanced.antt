@@ -27,17 +27,13 @@ are_glances x ws y h = are_by x x.pass ws y h refl
 pub calls_glanced : (x : Seated) (ws : List Word) (y : Seated) (h : Glances x ws y) → IsRun x.pass.setup x.pass.seen → Calls x.pass (entries_of x ws y h) y.pass
 calls_glanced x ws y h run = calls_grown x.pass y.pass (entries_of x ws y h) run (grows_glanced x ws y h)
 
-pub fallen_same : (x : Seated) (ws : List Word) (y : Seated) → Glances x ws y → y.pass.fallen ≡ x.pass.fallen
-fallen_same x [] y h = ap (λ (s : Seated). s.pass.fallen) h
-fallen_same x (w ∷ ws) y h = fallen_same h.0 ws y h.4 ∙ h.2.fallen
+-- glances leave the sizes, what is owed, and the count
+same_glanced : (x : Seated) (ws : List Word) (y : Seated) → Glances x ws y → (y.pass.setup ≡ x.pass.setup) × (y.pass.fallen ≡ x.pass.fallen) × (y.pass.start ≡ x.pass.start) × (y.steps ≡ x.steps)
+same_glanced x [] y h = (ap (λ (s : Seated). s.pass.setup) h, ap (λ (s : Seated). s.pass.fallen) h, ap (λ (s : Seated). s.pass.start) h, ap (λ (s : Seated). s.steps) h)
+same_glanced x (w ∷ ws) y h = let later = same_glanced h.0 ws y h.4 in (later.0 ∙ h.2.adds.setup, later.1 ∙ h.2.fallen, later.2 ∙ h.2.start, later.3 ∙ h.3)
 
-pub start_same : (x : Seated) (ws : List Word) (y : Seated) → Glances x ws y → y.pass.start ≡ x.pass.start
-start_same x [] y h = ap (λ (s : Seated). s.pass.start) h
-start_same x (w ∷ ws) y h = start_same h.0 ws y h.4 ∙ h.2.start
-
-pub steps_glanced : (x : Seated) (ws : List Word) (y : Seated) (h : Glances x ws y) → y.steps ≡ x.steps
-steps_glanced x [] y h = ap (λ (s : Seated). s.steps) h
-steps_glanced x (w ∷ ws) y h = steps_glanced h.0 ws y h.4 ∙ h.3
+pub setup_same : (x : Seated) (ws : List Word) (y : Seated) → Glances x ws y → y.pass.setup ≡ x.pass.setup
+setup_same x ws y h = (same_glanced x ws y h).0
 
 pub length_glanced : (x : Seated) (ws : List Word) (y : Seated) (h : Glances x ws y) → length (entries_of x ws y h) ≡ length ws
 length_glanced x [] y h = refl
@@ -134,10 +130,6 @@ read_more xs k v w p long read is j h =
       | inr ne ↦ get_or-set_other xs k j v 0 ne ∙ read j (omega (arith, ne))
     ]
 
-pub setup_same : (x : Seated) (ws : List Word) (y : Seated) → Glances x ws y → y.pass.setup ≡ x.pass.setup
-setup_same x [] y h = ap (λ (s : Seated). s.pass.setup) h
-setup_same x (w ∷ ws) y h = setup_same h.0 ws y h.4 ∙ h.2.adds.setup
-
 -- where an entry below count stands
 pub place_is : (x : Pass) (s : Setup) (a r : ℕ) → IsPass x → s ≡ x.setup → a < cells_of x.setup x.seen 2 → r ≡ held (place_at s.layout a + 0)
     → (r ≡ place_at x.setup.layout a) × (place_at x.setup.layout a + 2 + x.setup.layout.width ≤ size x.setup.layout) × (size x.setup.layout ≤ 900000)
@@ -193,6 +185,7 @@ module _ (x : Seated) (place count : ℕ) (y z : Seated) (messages : List Messag
       let words : List Word = DataAt 2 ∷ entry_words s.layout place (length messages) in
       let whole : Glances x words z = (y, count, looks, steps, glances) in
       let rest = calls_glanced y (entry_words s.layout place (length messages)) z glances looks.adds.run in
+      let same = same_glanced x words z whole in
       let n : ℕ = length messages in
       let turned : suc (n * (2 + s.layout.width)) ≡ 1 + (2 + s.layout.width) * n = grind arith in
       let own : length (entries_of x words z whole) ≡ 1 + (2 + s.layout.width) * length messages = length_glanced x words z whole ∙ ap suc (length_entries s.layout place n) ∙ turned in
@@ -210,9 +203,9 @@ module _ (x : Seated) (place count : ℕ) (y z : Seated) (messages : List Messag
         calls = calls_glanced x words z whole pass.run;
         glances = are_glances x words z whole;
         own_steps = own;
-        steps = steps_glanced x words z whole;
-        fallen = fallen_same x words z whole;
-        start = start_same x words z whole;
+        steps = same.3;
+        fallen = same.1;
+        start = same.2;
       }
 
 -- the same, as the loop over the entries tells it

@@ -1,14 +1,16 @@
 -- What a step leads to, from a spot of a call.
 use Rattle.std.proofs.Common.{◌≡◌, ℕ, zero, suc, ◌+◌, ◌<◌, ◌≤◌, Bool, true, false, ◌||◌, ◌==◌, if◌then◌else◌, Option, Some, None, IsSome, unwrap_or, refl, sym, ap, ◌∙◌, subst, inl, inr, arith}
-use Rattle.runs.proofs.Common.{cases_Bool, Kind, Look as Looks, Weigh as Weighs, Word, Choosing as ChoosingOf, Number as NumberOf, Data as DataAt, answer, is_blocked, is_glance, Place, Rest, Dead}
-use Rattle.runs.proofs.Common.{Wait, Inside, Reread, Opening, Door, Shutting, Leaving, Withdrawing, Unmarking, is_before, next, Layout, Reply, Script, Get as Asks, Put as Writes, Done, Answer, Mail}
+use Rattle.runs.proofs.Common.{cases_Bool, Kind, Look as Looks, Weigh as Weighs, Word, Choosing as ChoosingOf, Number as NumberOf, Data as DataAt, answer, is_blocked, is_glance, Place, Rest}
+use Rattle.runs.proofs.Common.{Wait, Inside, Leaving, is_before, next, Layout, Reply, Script, Get as Asks, Put as Writes, Done, Answer, Mail}
 use Rattle.runs.proofs.Common.{Call, Lock, Unlock, Consistent, Append, Close, Why, Checking, Ruining, Mending, Working, by_lock, by_reply, by_script, answer_at, blocked_by, is_entry, is_idle}
-use Rattle.runs.proofs.Common.{is_waiting, Errand, Free, Doing, Spot, next_spot, Moves, at_lock, only_spot, settled, mended_entered, entry_inside, Within, lock_left, IsFair, exit_of, Lasts, Replies}
+use Rattle.runs.proofs.Common.{is_waiting, Errand, Free, Doing, Spot, next_spot, Moves, at_lock, settled, mended_entered, entry_inside, Within, lock_left, IsFair, exit_of, Lasts, Replies}
 use Rattle.runs.proofs.Common.{Mends, under_place, IsWord, UnderScript, IsUnder, Fits, Leaves}
 use Rattle.rmecore.specs.Place.{has}
 use Rattle.rmecore.specs.declared.kind.Kind.TheVariants.{Get as Gets, Put as Puts}
 use Rattle.redomail.specs.declared.reply.Reply.TheVariants as reply
 use Rattle.rmeworld.specs.declared.call.Call.TheVariants.{Get, Put}
+use Rattle.rmeworld.proofs.CallSteps.{guard_spot}
+use Rattle.rmeworld.proofs.WorldTallies.{at_lock_some}
 use Rattle.runs.proofs.Lasting.{Burns, burns}
 use Rattle.runs.proofs.Under.{LockTo, lock_to}
 
@@ -19,16 +21,7 @@ SpotTo call n k None blocked t = (is_idle t ≡ false) × IsUnder call t × Last
 
 not_itself : (s : Place) → is_entry s s ≡ false
 not_itself Rest = refl
-not_itself Dead = refl
-not_itself (Reread call seen) = refl
-not_itself Opening = refl
-not_itself (Door unread m) = refl
-not_itself (Shutting call k) = refl
-not_itself (Wait k unpassed looked) = refl
-not_itself Inside = refl
-not_itself Leaving = refl
-not_itself Withdrawing = refl
-not_itself (Unmarking call) = refl
+not_itself _ = refl
 
 module _ (l : Layout) (p k : ℕ) where
   abbrev lock_spot : Place → Bool → Bool → Place → Errand → Spot
@@ -54,56 +47,18 @@ module _ (l : Layout) (p k : ℕ) where
 
   -- the end of a script
   check_ends : (b c : Bool) (r : Reply) (m : ℕ) → m + 2 ≤ k → SpotTo Lock l.procs k (by_reply Checking b r) false (settled b c Checking (Done r))
-  check_ends true c reply.Stored m few = (tt, ((refl, refl), refl))
-  check_ends false c reply.Stored m few = (tt, ((refl, refl), refl))
-  check_ends true c reply.Already m few = (tt, ((refl, refl), refl))
-  check_ends false c reply.Already m few = (tt, ((refl, refl), refl))
-  check_ends true c reply.OutOfOrder m few = (tt, ((refl, refl), refl))
-  check_ends false c reply.OutOfOrder m few = (tt, ((refl, refl), refl))
-  check_ends true c reply.Full m few = (tt, ((refl, refl), refl))
-  check_ends false c reply.Full m few = (tt, ((refl, refl), refl))
-  check_ends true c reply.Closed m few = (tt, ((refl, refl), refl))
-  check_ends false c reply.Closed m few = (tt, ((refl, refl), refl))
-  check_ends true c reply.ClosedNow m few = (tt, ((refl, refl), refl))
-  check_ends false c reply.ClosedNow m few = (tt, ((refl, refl), refl))
-  check_ends true c reply.AlreadyClosed m few = (tt, ((refl, refl), refl))
-  check_ends false c reply.AlreadyClosed m few = (tt, ((refl, refl), refl))
-  check_ends true c (reply.Mended x) m few = (tt, ((refl, refl), refl))
-  check_ends false c (reply.Mended x) m few = (tt, ((refl, refl), refl))
-  check_ends true c (reply.Word x) m few = (tt, ((refl, refl), refl))
-  check_ends false c (reply.Word x) m few = (tt, ((refl, refl), refl))
-  check_ends true c reply.Done m few = (tt, ((refl, refl), refl))
-  check_ends false c reply.Done m few = (tt, ((refl, refl), refl))
-  check_ends true c (reply.Ruined true) m few = (refl, refl, (tt, omega arith))
-  check_ends true c (reply.Ruined false) m few = (tt, ((refl, refl), refl))
-  check_ends false c (reply.Ruined true) m few = (refl, refl, (tt, omega arith))
-  check_ends false c (reply.Ruined false) m few = (tt, ((refl, refl), refl))
+  check_ends b c (reply.Ruined true) m few = (refl, refl, (tt, omega arith))
+  check_ends true c _ m few = (tt, ((refl, refl), refl))
+  check_ends false c _ m few = (tt, ((refl, refl), refl))
 
   mend_ends : (b c : Bool) (r : Reply) → Replies Mends (Done r) → SpotTo Consistent l.procs k (by_reply Mending b r) false (settled b c Mending (Done r))
   mend_ends b c (reply.Mended x) h = (tt, ((refl, refl), refl))
   mend_ends b c (reply.Ruined x) h = (tt, (refl, refl))
-  mend_ends b c reply.Stored h = absurd h
-  mend_ends b c reply.Already h = absurd h
-  mend_ends b c reply.OutOfOrder h = absurd h
-  mend_ends b c reply.Full h = absurd h
-  mend_ends b c reply.Closed h = absurd h
-  mend_ends b c reply.ClosedNow h = absurd h
-  mend_ends b c reply.AlreadyClosed h = absurd h
-  mend_ends b c (reply.Word x) h = absurd h
-  mend_ends b c reply.Done h = absurd h
+  mend_ends b c _ h = absurd h
 
   word_ends : (i : ℕ) (r : Reply) → Replies IsWord (Done r) → Fits (Get i) (Mail r)
   word_ends i (reply.Word x) h = tt
-  word_ends i reply.Stored h = absurd h
-  word_ends i reply.Already h = absurd h
-  word_ends i reply.OutOfOrder h = absurd h
-  word_ends i reply.Full h = absurd h
-  word_ends i reply.Closed h = absurd h
-  word_ends i reply.ClosedNow h = absurd h
-  word_ends i reply.AlreadyClosed h = absurd h
-  word_ends i (reply.Mended x) h = absurd h
-  word_ends i reply.Done h = absurd h
-  word_ends i (reply.Ruined x) h = absurd h
+  word_ends i _ h = absurd h
 
   -- what is left of a script after a step
   goes : (call : Call) (b c : Bool) (why : Why) (left : Script Reply) (m : ℕ) → UnderScript call c why left → Within m left → m + exit_of why ≤ k → SpotTo call l.procs k (by_script why b left) false (settled b c why left)
@@ -138,17 +93,13 @@ module _ (l : Layout) (p k : ℕ) where
   under_put (Put j x) c (Working task) i v rest u = tt
   under_put _ c _ i v rest u = absurd u
 
-  only_is : (b : Bool) (x y : Spot) → IsSome (only_spot b x) → unwrap_or (only_spot b x) y ≡ x
-  only_is true x y some = refl
-  only_is false x y some = absurd (cc)
-
   script_step : (call : Call) (s : Place) (b c : Bool) (limit : ℕ) (why : Why) (left : Script Reply) (kind : Kind) (word : Word) (v : ℕ) → IsSome (next_spot l limit (record { lock = s; mended = b; barred = c; errand = Doing why left }) (Moves p kind word v))
       → UnderScript call c why left → (m : ℕ) → Within m left → m + exit_of why ≤ suc k
       → SpotTo call l.procs k (answer_at (record { lock = s; mended = b; barred = c; errand = Doing why left }) kind v) false (unwrap_or (next_spot l limit (record { lock = s; mended = b; barred = c; errand = Doing why left }) (Moves p kind word v)) (record { lock = s; mended = b; barred = c; errand = Doing why left }))
   script_step call s b c limit why (Asks j rest) Gets (DataAt i) v some u (suc m) w few =
-      subst (SpotTo call l.procs k (by_script why b (rest v)) false) (sym (only_is _ (settled b c why (rest v)) _ some)) (goes call b c why (rest v) m (under_next call c why j v rest u) (w v) (omega arith))
+      guard_spot _ (settled b c why (rest v)) _ (SpotTo call l.procs k (by_script why b (rest v)) false) some (λ is. goes call b c why (rest v) m (under_next call c why j v rest u) (w v) (omega arith))
   script_step call s b c limit why (Writes j x rest) Puts (DataAt i) v some u (suc m) w few =
-      subst (SpotTo call l.procs k (by_script why b rest) false) (sym (only_is _ (settled b c why rest) _ some)) (goes call b c why rest m (under_put call c why j x rest u) w (omega arith))
+      guard_spot _ (settled b c why rest) _ (SpotTo call l.procs k (by_script why b rest) false) some (λ is. goes call b c why rest m (under_put call c why j x rest u) w (omega arith))
   script_step call s b c limit why (Asks j rest) kind word v some u zero w few = absurd w
   script_step call s b c limit why (Writes j x rest) kind word v some u zero w few = absurd w
   script_step call s b c limit why left kind word v some u m w few = absurd (cc)
@@ -157,12 +108,8 @@ module _ (l : Layout) (p k : ℕ) where
       → IsUnder call (record { lock = s; mended = b; barred = c; errand = e }) → Lasts l.procs (suc k) (record { lock = s; mended = b; barred = c; errand = e })
       → SpotTo call l.procs k (answer_at (record { lock = s; mended = b; barred = c; errand = e }) kind v) (blocked_by p s e kind v) (unwrap_or (next_spot l limit (record { lock = s; mended = b; barred = c; errand = e }) (Moves p kind word v)) (record { lock = s; mended = b; barred = c; errand = e }))
   spot_step call limit s b c Free kind word v some moves u lasts =
-      let place : IsSome (next l.procs limit p s kind word v) = some_place (next l.procs limit p s kind word v) some in
+      let place : IsSome (next l.procs limit p s kind word v) = at_lock_some l p s b c (next l.procs limit p s kind word v) some in
       lock_step call s b c (by_lock c (answer s kind v)) (is_blocked p s kind v) (next l.procs limit p s kind word v) some (lock_to l.procs limit p call c s kind word v u place moves) (burns l.procs p limit s kind word v place moves lasts.0) lasts.0 lasts.1
-    where
-      some_place : (o : Option Place) → IsSome (at_lock l p s b c o) → IsSome o
-      some_place None h = absurd (cc)
-      some_place (Some t) h = refl
   spot_step call limit s b c (Doing why left) kind word v some moves u lasts = script_step call s b c limit why left kind word v some u lasts.0 lasts.1 lasts.2
 
   -- a blocked reading leaves the process in the line

@@ -1,11 +1,12 @@
 -- The lock theorem over a run: where an append is answered it is shown.
-use Rattle.std.proofs.Common.{◌≡◌, ℕ, Bool, true, false, ◌⊎◌, List, [], ◌∷◌, ◌++◌, Option, Some, None, refl, sym, ap, ◌∙◌, subst, inl, inr, append_assoc, append-nil, eq-eqb}
+use Rattle.std.proofs.Common.{◌≡◌, ℕ, Bool, true, false, ◌⊎◌, List, [], ◌∷◌, ◌++◌, Option, None, refl, sym, ap, ◌∙◌, subst, inl, inr, append_assoc, append-nil, eq-eqb}
 use Rattle.runs.proofs.Common.{Layout, Message, Reply, Stored, Already, IsAmong, Script, Done, tail, all_after, State, empty, state_led, Call, Working, answer_by, Errand, Doing, Spot, Happening}
 use Rattle.runs.proofs.Common.{Moves, Scene, at_first, last_scene, onward, event_deeds, deeds, own_happenings, all_after-append, sound_ends, answers, TakenStep, Setup, deeds_of, judged_by, shown_by}
 use Rattle.runs.proofs.Common.{spot_at, AnsweredIsShown, before, taken, spelled, end_of, gone}
 use Rattle.redomail.specs.declared.task.Task.TheVariants as task
 use Rattle.rmeworld.specs.Law.{AppendTells, ErrandTells, Tells, Sound, Sits}
-use Rattle.runs.proofs.Runs.{spelled-append, spelled_snoc, spot_own, spot_in_run, scene-append}
+use Rattle.rmeworld.proofs.StoryGrows.{spots_are_own}
+use Rattle.runs.proofs.Runs.{spelled-append, spelled_snoc, spot_in_run, scene-append}
 use Rattle.runs.proofs.Running.{taken_moves}
 
 -- what the happening at some place of a sound story tells
@@ -23,9 +24,8 @@ tells_at l limit w s (x ∷ xs) h ys k =
 -- a process's own crash and start
 own_before : (c : Bool) (o : Option Call) (q : ℕ) → own_happenings q (before c o q) ≡ before c o q
 own_before false None q = refl
-own_before false (Some call) q = rw (eq-eqb q q refl) refl
 own_before true None q = rw (eq-eqb q q refl) refl
-own_before true (Some call) q = rw (eq-eqb q q refl) refl
+own_before _ _ q = rw (eq-eqb q q refl) refl
 
 -- the scene right before the step of e, after these entries
 abbrev pub scene_at : Setup → List TakenStep → TakenStep → Scene
@@ -33,7 +33,7 @@ scene_at s es e = last_scene s.layout s.limit (end_of s es) (before e.step.crash
 
 pub spot_is : (s : Setup) (es : List TakenStep) (e : TakenStep) → (scene_at s es e).spots e.by ≡ spot_at s es e
 spot_is s es e =
-    spot_own s (end_of s es) (before e.step.crashed e.step.start e.by) e.by ∙ ap (gone s ((end_of s es).spots e.by)) (own_before e.step.crashed e.step.start e.by)
+    spots_are_own s.layout s.limit e.by (end_of s es) (before e.step.crashed e.step.start e.by) ∙ ap (gone s ((end_of s es).spots e.by)) (own_before e.step.crashed e.step.start e.by)
     ∙ ap (λ (q : Spot). gone s q (before e.step.crashed e.step.start e.by)) (spot_in_run s es e.by)
 
 -- how far a run is spelled out before the step of e

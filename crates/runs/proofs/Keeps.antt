@@ -1,12 +1,14 @@
 -- Each step keeps the rule. What is proved here knows nothing of the automaton.
-use Rattle.std.proofs.Common.{◌≡◌, ◌≢◌, ◌⊎◌, ℕ, zero, suc, ◌+◌, ◌<◌, ◌≤◌, ◌==◌, ◌||◌, ltb, Bool, true, false, cond, All, true≢false, List, [], ◌∷◌, ◌++◌, length, set, replicate, refl, sym, ap, ◌∙◌, subst, inl, inr, ⊎_elim, arith, eqb-true, eq-eqb, ne_eqb, length-set, length-append, append_assoc, append-nil, ltb-true, ltb-false}
-use Rattle.runs.proofs.Common.{set-get_or, All-nil, All-append, slice_index, dite, ℕ_discrete, keeps, Allows, Splits, Joins, opening, Spot, at_rest, at_first, reading, Known, Step, TakenStep, View}
+use Rattle.std.proofs.Common.{◌≡◌, ◌≢◌, ◌⊎◌, ℕ, zero, suc, ◌+◌, ◌<◌, ◌≤◌, ◌==◌, ltb, Bool, true, false, cond, All, true≢false, List, [], ◌∷◌, ◌++◌, length, set, replicate, refl, sym, ap, ◌∙◌, subst, inl, inr, ⊎_elim, arith, eqb-true, eq-eqb, ne_eqb, length-set, length-append, append_assoc, append-nil, ltb-true, ltb-false}
+use Rattle.runs.proofs.Common.{set-get_or, or_cases, All-nil, All-cons, All-append, slice_index, dite, ℕ_discrete, keeps, Allows, Splits, Joins, opening, Spot, at_rest, at_first, reading, Known, Step, TakenStep, View}
 use Rattle.runs.proofs.Common.{Setup, count_from, joined, IsIn, Did, MayLoad, stepper, entry_of, opening_known, longer, spent_known, IsAnswered, AllFit, IsMember, IsKept, Kept, May, MayStore, MayPass}
 use Rattle.runs.proofs.Common.{happenings, spelled, own, IsRun, end_of, gone, spot_of, has, index, InTable, Goes, word_count, IsBeyond, Shows, stores}
 use mathlib.Core.Option.{some, some-injective, some-ne-none}
 use lib.ListN.{get_elem?}
 use Rattle.atomic_table.proofs.Lists.{at_set, at_longer, at_last, set_here, set_else}
 use Rattle.runs.specs.Rule.{Begins, Fits}
+use Rattle.std.proofs.lemmas.Bool.{or_left, or_right}
+use Rattle.runs.proofs.Leads.{has_one}
 use Rattle.runs.proofs.Runs.{own-append, own_other, prolongs, shows_load, shows_store, shows_beyond, reads_beyond, shows_rest}
 
 nothing_after : (xs ys zs : List TakenStep) → xs ≡ ys ++ zs → length xs ≡ length ys → zs ≡ []
@@ -24,34 +26,22 @@ begins_more log xs e b = (b.0 ++ e ∷ [], ap (λ (l : List TakenStep). l ++ e �
 own_kept : (p : ℕ) (log : List TakenStep) (e : TakenStep) → e.by ≢ p → own p (log ++ e ∷ []) ≡ own p log
 own_kept p log e h = own-append p log (e ∷ []) ∙ ap (λ (l : List TakenStep). own p log ++ l) (own_other p e h) ∙ append-nil (own p log)
 
-has_or : (b : Bool) (c : Bool) → (b || c) ≡ true → (b ≡ true) ⊎ (c ≡ true)
-has_or true c h = inl refl
-has_or false c h = inr h
-
 pub has-append : (p : ℕ) (xs ys : List ℕ) → has p (xs ++ ys) ≡ true → (has p xs ≡ true) ⊎ (has p ys ≡ true)
 has-append p [] ys h = inr h
 has-append p (x ∷ xs) ys h =
-    ⊎_elim (λ (k : (x == p) ≡ true). inl (rw k)) (λ (k : has p (xs ++ ys) ≡ true). ⊎_elim (λ (m : has p xs ≡ true). inl (rw m (or_true (x == p)))) (λ m. inr m) (has-append p xs ys k)) (has_or (x == p) (has p (xs ++ ys)) h)
-  where
-    or_true : (b : Bool) → (b || true) ≡ true
-    or_true true = refl
-    or_true false = refl
+    elim (or_cases (x == p) (has p (xs ++ ys)) h) [
+      | inl here ↦ inl (or_left (x == p) (has p xs) here)
+      | inr later ↦ elim (has-append p xs ys later) [ inl first ↦ inl (or_right (x == p) (has p xs) first) | inr last ↦ inr last ]
+    ]
 
 pub has-append_left : (p : ℕ) (xs ys : List ℕ) → has p xs ≡ true → has p (xs ++ ys) ≡ true
-has-append_left p [] ys h = absurd (true≢false (sym h))
-has-append_left p (x ∷ xs) ys h = ⊎_elim (λ (k : (x == p) ≡ true). rw k) (λ (k : has p xs ≡ true). rw (has-append_left p xs ys k) (or_true (x == p))) (has_or (x == p) (has p xs) h)
-  where
-    or_true : (b : Bool) → (b || true) ≡ true
-    or_true true = refl
-    or_true false = refl
+has-append_left p [] ys h = absurd (cc)
+has-append_left p (x ∷ xs) ys h =
+    elim (or_cases (x == p) (has p xs) h) [ inl here ↦ or_left (x == p) (has p (xs ++ ys)) here | inr later ↦ or_right (x == p) (has p (xs ++ ys)) (has-append_left p xs ys later) ]
 
 pub has-append_right : (p : ℕ) (xs ys : List ℕ) → has p ys ≡ true → has p (xs ++ ys) ≡ true
 has-append_right p [] ys h = h
-has-append_right p (x ∷ xs) ys h = rw (has-append_right p xs ys h) (or_true (x == p))
-  where
-    or_true : (b : Bool) → (b || true) ≡ true
-    or_true true = refl
-    or_true false = refl
+has-append_right p (x ∷ xs) ys h = or_right (x == p) (has p (xs ++ ys)) (has-append_right p xs ys h)
 
 within : {A : Type 0} (l : List A) (i : ℕ) (x : A) → get_elem? l i ≡ some x → i < length l
 within [] i x h = absurd (some-ne-none x (sym h))
@@ -221,7 +211,7 @@ has_count p k (suc n) h =
     ⊎_elim
     (λ (e : (k == p) ≡ true). let s : k ≡ p = eqb-true k p e in (omega arith, omega arith))
     (λ (e : has p (count_from (suc k) n) ≡ true). let r = has_count p (suc k) n e in (omega arith, omega arith))
-    (has_or (k == p) (has p (count_from (suc k) n)) h)
+    (or_cases (k == p) (has p (count_from (suc k) n)) h)
 
 pub count_has : (p k n : ℕ) → k ≤ p → p < k + n → has p (count_from k n) ≡ true
 count_has p k zero l h = absurd (omega arith)
@@ -319,7 +309,7 @@ module _ (sizes : Setup) (log : List TakenStep) (owner : ℕ → ℕ) (words : L
       (
         (k.fits id whole at).0.0,
         λ q h.
-            let e : p ≡ q = ⊎_elim (λ (m : (p == q) ≡ true). eqb-true p q m) (λ (m : false ≡ true). absurd (true≢false (sym m))) (has_or (p == q) false h) in
+            let e : p ≡ q = ⊎_elim (λ (m : (p == q) ≡ true). eqb-true p q m) (λ (m : false ≡ true). absurd (true≢false (sym m))) (or_cases (p == q) false h) in
             subst (λ (r : ℕ). IsAnswered sizes log now (length views) right.view r) e (own_seat sizes log owner now id (length views) whole.view right.view p first_is (given_it owner p (length views)) refl refl),
       ),
       All-nil _,
@@ -350,11 +340,8 @@ module _ (sizes : Setup) (log : List TakenStep) (owner : ℕ → ℕ) (words : L
         dite (ℕ_discrete q p)
         (λ (e : q ≡ p). (right, ap (get_elem? cut_views) (ap now e ∙ given_it owner p (length views)) ∙ at_last (set views id left) right (length views) (length-set views id left), ap (λ (r : ℕ). has r (p ∷ [])) e ∙ has_one p))
         (λ (e : q ≢ p).
-        let m = member_set views owner id whole left q at (λ (t : has q (p ∷ ps) ≡ true). ⊎_elim (λ (s : (p == q) ≡ true). absurd (e (sym (eqb-true p q s)))) (λ s. s) (has_or (p == q) (has q ps) t)) (k.members q h) in
+        let m = member_set views owner id whole left q at (λ (t : has q (p ∷ ps) ≡ true). ⊎_elim (λ (s : (p == q) ≡ true). absurd (e (sym (eqb-true p q s)))) (λ s. s) (or_cases (p == q) (has q ps) t)) (k.members q h) in
         (m.0, ap (get_elem? cut_views) (given_other owner p (length views) q e) ∙ at_longer (set views id left) (right ∷ []) (owner q) m.0 m.1, m.2))
-      where
-        has_one : (r : ℕ) → has r (r ∷ []) ≡ true
-        has_one r = rw (eq-eqb r r refl)
 
     cut_kept : IsKept sizes log now words cut_views
     cut_kept = record { run = k.run; shows = k.shows; fits = cut_fits; members = cut_members }
@@ -401,16 +388,12 @@ module _ (sizes : Setup) (log : List TakenStep) (owner : ℕ → ℕ) (words : L
         let x = (that_fits w.view (k.fits other w there).0).1 q h in
         record { setup = same ∙ x.setup; within = x.within; seat = x.seat; own_is = own_same q log w.view.seen (longer v.view.seen w.view.seen) begins.2.0 begins.2.1 x.own_is begins.1.0 begins.1.1 }
 
-    all_cons : (P : View → Type 0) (x : View) (xs : List View) → P x → All P xs → All P (x ∷ xs)
-    all_cons P x xs p ps zero d h = p
-    all_cons P x xs p ps (suc i) d h = ps i d (omega arith)
-
     both_fits : AllFit sizes log seats id both
     both_fits = (
       (begins.2, λ q h. both_answers q (has-append q v.view.answers w.view.answers h)),
       All-append (Fits sizes log seats id) (v.view ∷ v.told) (w.view ∷ w.told)
-          (all_cons (Fits sizes log seats id) v.view v.told (this_fits id v.view one (k.fits id v at).0) (λ i d h. this_fits id _ one ((k.fits id v at).1 i d h)))
-          (all_cons (Fits sizes log seats id) w.view w.told (that_fits w.view (k.fits other w there).0) (λ i d h. that_fits _ ((k.fits other w there).1 i d h))),
+          (All-cons (Fits sizes log seats id) v.view v.told (this_fits id v.view one (k.fits id v at).0) (λ i d h. this_fits id _ one ((k.fits id v at).1 i d h)))
+          (All-cons (Fits sizes log seats id) w.view w.told (that_fits w.view (k.fits other w there).0) (λ i d h. that_fits _ ((k.fits other w there).1 i d h))),
     )
 
     spent_fits : AllFit sizes log seats other spent_known

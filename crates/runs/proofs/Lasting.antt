@@ -5,7 +5,7 @@ use Rattle.runs.proofs.Common.{Word, Choosing as ChoosingOf, Number as NumberOf,
 use Rattle.runs.proofs.Common.{is_before, next, without, span, others, relocked, recovered, restart, shut, unmarked, guard, lock_left, IsFair}
 use Rattle.rmecore.specs.Place.{has}
 use Rattle.rmecore.specs.declared.core_call.CoreCall.{CoreCall}
-use Rattle.rmecore.specs.declared.core_call.CoreCall.TheVariants.{Lock, Recover, Unlock, Withdraw}
+use Rattle.rmecore.specs.declared.core_call.CoreCall.TheVariants.{Lock, Unlock}
 use Rattle.rmecore.specs.declared.kind.Kind.TheVariants.{Reread as Rereads}
 use Rattle.rmecore.specs.declared.word.Word.TheVariants.{Inside as InsideOf}
 
@@ -50,38 +50,28 @@ module _ (n p : ℕ) where
   short = others_few n p
 
   relocks : (c k i : ℕ) → IsFair (relocked n p c k i) × (lock_left n (relocked n p c k i) < 3 * n + 9)
-  relocks (suc c) zero i = let l = short in (tt, omega arith)
-  relocks (suc c) (suc k) i = (tt, omega arith)
   relocks zero zero zero = (tt, omega arith)
-  relocks zero zero (suc i) = (tt, omega arith)
   relocks zero (suc k) zero = let l = short in (tt, omega arith)
-  relocks zero (suc k) (suc i) = (tt, omega arith)
+  relocks (suc c) zero i = let l = short in (tt, omega arith)
+  relocks _ _ _ = (tt, omega arith)
 
   recovers : (c k i : ℕ) → IsFair (recovered c k i) × (lock_left n (recovered c k i) < 3 * n + 9)
-  recovers (suc c) zero i = (tt, omega arith)
-  recovers (suc c) (suc k) i = (tt, omega arith)
   recovers zero zero zero = (tt, omega arith)
-  recovers zero zero (suc i) = (tt, omega arith)
   recovers zero (suc k) zero = (tt, omega arith)
-  recovers zero (suc k) (suc i) = (tt, omega arith)
+  recovers (suc c) zero i = (tt, omega arith)
+  recovers _ _ _ = (tt, omega arith)
 
   restarts : (call : CoreCall) (c k i : ℕ) → IsFair (restart n p call c k i) × (lock_left n (restart n p call c k i) < 3 * n + 9)
   restarts Lock c k i = relocks c k i
-  restarts Recover c k i = recovers c k i
-  restarts Unlock c k i = recovers c k i
-  restarts Withdraw c k i = recovers c k i
+  restarts _ c k i = recovers c k i
 
   shuts : (call : CoreCall) (k : ℕ) → IsFair (shut n p call k) × (lock_left n (shut n p call k) < 2 * n + 5)
   shuts Lock k = let l = short in (tt, omega arith)
-  shuts Recover k = (tt, omega arith)
-  shuts Unlock k = (tt, omega arith)
-  shuts Withdraw k = (tt, omega arith)
+  shuts _ k = (tt, omega arith)
 
   unmarks : (call : CoreCall) → IsFair (unmarked call) × (lock_left n (unmarked call) < lock_left n (Unmarking call))
   unmarks Lock = (tt, omega arith)
-  unmarks Recover = (tt, omega arith)
-  unmarks Unlock = (tt, omega arith)
-  unmarks Withdraw = (tt, omega arith)
+  unmarks _ = (tt, omega arith)
 
   pub burns : (limit : ℕ) (s : Place) (kind : Kind) (word : Word) (v : ℕ) → IsSome (next n limit p s kind word v) → is_glance kind ≡ false → IsFair s → Burns n (is_blocked p s kind v) s (unwrap_or (next n limit p s kind word v) s)
   burns limit (Reread call []) Rereads (ChoosingOf q) v some moves fair = guard _ (Reread call (v ∷ [])) _ (Burns n false (Reread call [])) some (λ e. (tt, omega arith))

@@ -1,14 +1,14 @@
 -- A task leaves a holder that has nothing to mend so, and a mending that finds the lock ruined leaves the holder unmended.
-use Rattle.std.proofs.Common.{◌≡◌, ℕ, ◌==◌, ◌&&◌, Bool, true, false, List, [], ◌∷◌, ◌++◌, length, Option, Some, None, unwrap_or, All, refl, sym, ap, ◌∙◌, subst, append_assoc, append-nil}
+use Rattle.std.proofs.Common.{◌≡◌, ℕ, ◌==◌, ◌&&◌, Bool, true, false, List, [], ◌∷◌, length, Option, Some, None, unwrap_or, All, refl, sym, ap, ◌∙◌, subst, append-nil}
 use Rattle.runs.proofs.Common.{All-nil, All-cons, All-head, All-tail, Kind, Glance as Glancing, Word, Data as DataAt, is_glance, Place, Inside, next, Layout, Reply, Mended, Task, Script, Get as Asks}
 use Rattle.runs.proofs.Common.{Put as Writes, Done, script, Answer, NotRecoverable, Mail, Call, Consistent, Append, Close, Mending, Working, by_script, answer_at, answer_by, next_or_same, and_answer}
-use Rattle.runs.proofs.Common.{answers_in, Errand, Free, Doing, Spot, begun_from, Begins, Happening, Moves, at_lock, only_spot, settled, Falls, Glances, moved_by, TakenStep, Setup, Served, FirstStart}
-use Rattle.runs.proofs.Common.{AreMoves, FirstCrash, answers_of, spot_before, Pass, spot_now, Calls, Seated, before, spelled, gone, spot_of, crash_first, spot_begun, IsHolder, IsTask}
+use Rattle.runs.proofs.Common.{answers_in, Errand, Free, Doing, Spot, begun_from, Begins, Happening, Moves, at_lock, only_spot, settled, moved_by, TakenStep, Setup, Served}
+use Rattle.runs.proofs.Common.{Pass, spot_now, Seated, before, gone, spot_of, crash_first, spot_begun, IsHolder, IsTask}
 use Rattle.rmecore.specs.declared.kind.Kind.TheVariants.{Get as Gets, Put as Puts}
 use Rattle.redomail.specs.declared.task.Task.TheVariants as task
 use Rattle.runs.proofs.Chained.{calls_spot}
 use Rattle.runs.proofs.Leads.{gone-append}
-use Rattle.runs.proofs.Tabled.{steps_of, ArePlain, plain_all, own_moves, own_are, taken_own, spelled_plain, answers_first, answers_plain, start_leads}
+use Rattle.runs.proofs.Tabled.{start_leads, start_of, Stepped, stepped}
 use Rattle.runs.proofs.Walked.{OwnMoves}
 
 -- who is inside with nothing to do takes no step
@@ -40,8 +40,7 @@ either_spot P false u v h k = k
 
 task_settles : (m b c : Bool) (t : Task) (left : Script Reply) → b ≡ m → AtTask m (settled b c (Working t) left)
 task_settles m b c t (Done a) h = h
-task_settles m b c t (Asks i rest) h = h
-task_settles m b c t (Writes i v rest) h = h
+task_settles m b c t _ h = h
 
 task_step : (l : Layout) (limit p : ℕ) (m : Bool) (s : Place) (b c : Bool) (e : Errand) (kind : Kind) (word : Word) (v : ℕ) → is_glance kind ≡ false → TaskBy m s b e
     → AtTask m (unwrap_or (moved_by l limit p s b c e kind word v) (record { lock = s; mended = b; barred = c; errand = e }))
@@ -56,9 +55,7 @@ task_step l limit p m _ b c _ kind word v moves h = absurd h
 
 mending_settles : (c : Bool) (left : Script Reply) → ((r : Reply) → by_script Mending false left ≡ Some (Mail r) → ⊥) → AtMending (settled false c Mending left)
 mending_settles c (Done (Mended x)) never = absurd (never (Mended x) refl)
-mending_settles c (Done _) never = refl
-mending_settles c (Asks i rest) never = refl
-mending_settles c (Writes i v rest) never = refl
+mending_settles c _ never = refl
 
 mending_step : (l : Layout) (limit p : ℕ) (s : Place) (b c : Bool) (e : Errand) (kind : Kind) (word : Word) (v : ℕ) → is_glance kind ≡ false → MendingBy s b e → ((r : Reply) → answer_by s b c e kind v ≡ Some (Mail r) → ⊥)
     → AtMending (unwrap_or (moved_by l limit p s b c e kind word v) (record { lock = s; mended = b; barred = c; errand = e }))
@@ -77,9 +74,7 @@ task_gone : (s : Setup) (p : ℕ) (m : Bool) (t : Spot) (ms : List Happening) �
 task_gone s p m t [] moves h = h
 task_gone s p m t (Moves q kind word v ∷ ms) moves h =
     task_gone s p m (next_or_same s.layout s.limit t (Moves q kind word v)) ms moves.1 (task_step s.layout s.limit q m t.lock t.mended t.barred t.errand kind word v moves.0.1 h)
-task_gone s p m t (Begins q call ∷ ms) moves h = absurd moves.0
-task_gone s p m t (Falls q ∷ ms) moves h = absurd moves.0
-task_gone s p m t (Glances q word v ∷ ms) moves h = absurd moves.0
+task_gone s p m t (_ ∷ ms) moves h = absurd moves.0
 
 abbrev Ruins : Answer → Type 0
 Ruins a = a ≡ NotRecoverable
@@ -99,9 +94,7 @@ mending_gone s p t (Moves q kind word v ∷ ms) moves all h =
     let o : Option Answer = answer_at t kind v in
     let later : List Answer = answers_in s.layout s.limit next_to ms in
     mending_gone s p next_to ms moves.1 (later_ruins o later all) (mending_step s.layout s.limit q t.lock t.mended t.barred t.errand kind word v moves.0.1 h (no_mail o later all))
-mending_gone s p t (Begins q call ∷ ms) moves all h = absurd moves.0
-mending_gone s p t (Falls q ∷ ms) moves all h = absurd moves.0
-mending_gone s p t (Glances q word v ∷ ms) moves all h = absurd moves.0
+mending_gone s p t (_ ∷ ms) moves all h = absurd moves.0
 
 -- the starts
 task_starts : (l : Layout) (p : ℕ) (c : Bool) (call : Call) → IsTask l call → AtTask true (unwrap_or (begun_from l p Inside true Free call) (record { lock = Inside; mended = true; barred = c; errand = Free }))
@@ -131,33 +124,6 @@ mending_is Inside b Free h = h
 mending_is Inside b (Doing Mending left) h = h
 mending_is _ b _ h = absurd h
 
--- the own steps of a call, from its start
-abbrev Stepped : Pass → Call → List TakenStep → Spot → Type 0
-Stepped x call mine t =
-    (ms : List Happening) × OwnMoves x.by ms × (answers_in x.setup.layout x.setup.limit (next_or_same x.setup.layout x.setup.limit (spot_begun x) (Begins x.by call)) ms ≡ answers_of x mine)
-    × (t ≡ gone x.setup (next_or_same x.setup.layout x.setup.limit (spot_begun x) (Begins x.by call)) ms)
-
-stepped : (x y : Pass) (call : Call) (mine : List TakenStep) → Calls x mine y → FirstCrash x.fallen mine → FirstStart call mine → AreMoves mine → Stepped x call mine (spot_of y.setup y.by y.seen)
-stepped x y call [] calls crash started moved = absurd started
-stepped x y call (e ∷ es) calls crash started moved =
-    let s : Setup = x.setup in
-    let p : ℕ = x.by in
-    let q : Spot = spot_of s p x.seen in
-    let by = subst (All (λ (e : TakenStep). e.by ≡ p)) calls.mine_are (own_are p calls.since) in
-    let mine : e.by ≡ p = All-head (λ (e : TakenStep). e.by ≡ p) e es by in
-    let move : is_glance e.step.kind ≡ false = All-head (λ (e : TakenStep). is_glance e.step.kind ≡ false) e es moved in
-    let plain : ArePlain p es = plain_all p es (All-tail (λ (e : TakenStep). e.by ≡ p) e es by) crash.1 started.1 (All-tail (λ (e : TakenStep). is_glance e.step.kind ≡ false) e es moved) in
-    let ms : List Happening = steps_of p (e ∷ es) in
-    let first = taken_own p e mine move in
-    let later = spelled_plain p es plain in
-    let are : spelled (e ∷ es) ≡ (before x.fallen (Some call) p ++ Moves p e.step.kind e.step.word e.value ∷ []) ++ steps_of p es = λ i. (before (crash.0 i) (started.0 i) (mine i) ++ first i ∷ []) ++ later i in
-    let start : Spot = next_or_same s.layout s.limit (spot_begun x) (Begins p call) in
-    let there : spot_before s q e ≡ start = (λ i. gone s q (before (crash.0 i) (started.0 i) (mine i))) ∙ start_leads s p q x.fallen call in
-    let answers : answers_in s.layout s.limit start ms ≡ answers_of x (e ∷ es) = sym (answers_first s p q e es mine move (answers_plain s p es plain) ∙ ap (λ (t : Spot). answers_in s.layout s.limit t ms) there) in
-    let ends : spot_of y.setup y.by y.seen ≡ gone s start ms =
-    calls_spot x y (e ∷ es) calls ∙ ap (gone s q) (are ∙ append_assoc (before x.fallen (Some call) p) (Moves p e.step.kind e.step.word e.value ∷ []) (steps_of p es)) ∙ gone-append s q (before x.fallen (Some call) p) ms ∙ ap (λ (t : Spot). gone s t ms) (start_leads s p q x.fallen call) in
-    (ms, ((refl, move), own_moves p es plain), answers, ends)
-
 -- a process that owes no start stands where it begins
 begins_here : (x : Pass) → x.start ≡ None → spot_now x ≡ spot_begun x
 begins_here x none = ap (λ (o : Option Call). gone x.setup (spot_of x.setup x.by x.seen) (before x.fallen o x.by)) none ∙ ap (gone x.setup (spot_of x.setup x.by x.seen)) (append-nil (crash_first x.fallen x.by))
@@ -166,11 +132,15 @@ alive_spot : (y : Pass) → y.fallen ≡ false → spot_begun y ≡ spot_of y.se
 alive_spot y alive = ap (λ (b : Bool). gone y.setup (spot_of y.setup y.by y.seen) (crash_first b y.by)) alive
 
 module _ (x y : Seated) (call : Call) (a : Answer) (blocked : ℕ) (mine : List TakenStep) (idle : x.pass.start ≡ None) (r : Served x call (a ∷ []) blocked y mine) where
-  walked : Stepped x.pass call mine (spot_of y.pass.setup y.pass.by y.pass.seen)
+  walked : Stepped x.pass call mine
   walked = stepped x.pass y.pass call mine r.calls r.crash r.first r.moves
 
-  ends_at : spot_begun y.pass ≡ gone x.pass.setup (next_or_same x.pass.setup.layout x.pass.setup.limit (spot_begun x.pass) (Begins x.pass.by call)) walked.0
-  ends_at = alive_spot y.pass r.alive ∙ walked.3
+  ends_at : spot_begun y.pass ≡ gone x.pass.setup (start_of x.pass call) walked.steps
+  ends_at =
+      let s : Setup = x.pass.setup in
+      let q : Spot = spot_of s x.pass.by x.pass.seen in
+      alive_spot y.pass r.alive ∙ calls_spot x.pass y.pass mine r.calls ∙ ap (gone s q) walked.spelled_as ∙ gone-append s q (before x.pass.fallen (Some call) x.pass.by) walked.steps
+      ∙ ap (λ (t : Spot). gone s t walked.steps) (start_leads s x.pass.by q x.pass.fallen call)
 
   -- a task of a holder with nothing to mend leaves it so
   pub still_mended : IsTask x.pass.setup.layout call → IsHolder (spot_now x.pass) → (spot_now x.pass).mended ≡ true → (spot_begun y.pass).mended ≡ true
@@ -178,15 +148,15 @@ module _ (x y : Seated) (call : Call) (a : Answer) (blocked : ℕ) (mine : List 
       let here = begins_here x.pass idle in
       let begun = task_begun x.pass.setup x.pass.by (spot_begun x.pass) call is (subst IsHolder here holder) (subst (λ (t : Spot). t.mended ≡ true) here mended) in
       let t = spot_begun y.pass in
-      task_is true t.lock t.mended t.errand (subst (AtTask true) (sym ends_at) (task_gone x.pass.setup x.pass.by true (next_or_same x.pass.setup.layout x.pass.setup.limit (spot_begun x.pass) (Begins x.pass.by call)) walked.0 walked.1 begun))
+      task_is true t.lock t.mended t.errand (subst (AtTask true) (sym ends_at) (task_gone x.pass.setup x.pass.by true (start_of x.pass call) walked.steps walked.own begun))
 
   -- a mending that finds the lock ruined leaves the holder unmended
   pub still_unmended : call ≡ Consistent → a ≡ NotRecoverable → IsHolder (spot_now x.pass) → (spot_now x.pass).mended ≡ false → (spot_begun y.pass).mended ≡ false
   still_unmended is ruined holder unmended =
       let here = begins_here x.pass idle in
-      let start : Spot = next_or_same x.pass.setup.layout x.pass.setup.limit (spot_begun x.pass) (Begins x.pass.by call) in
+      let start : Spot = start_of x.pass call in
       let begun : AtMending start = subst (λ (c : Call). AtMending (next_or_same x.pass.setup.layout x.pass.setup.limit (spot_begun x.pass) (Begins x.pass.by c))) (sym is) (mending_begun x.pass.setup x.pass.by (spot_begun x.pass) (subst IsHolder here holder) (subst (λ (t : Spot). t.mended ≡ false) here unmended)) in
-      let told : answers_in x.pass.setup.layout x.pass.setup.limit start walked.0 ≡ a ∷ [] = walked.2 ∙ r.answered in
+      let told : answers_in x.pass.setup.layout x.pass.setup.limit start walked.steps ≡ a ∷ [] = walked.answers ∙ r.answered in
       let all = subst (All Ruins) (sym told) (All-cons Ruins a [] ruined (All-nil Ruins)) in
       let t = spot_begun y.pass in
-      mending_is t.lock t.mended t.errand (subst AtMending (sym ends_at) (mending_gone x.pass.setup x.pass.by start walked.0 walked.1 all begun))
+      mending_is t.lock t.mended t.errand (subst AtMending (sym ends_at) (mending_gone x.pass.setup x.pass.by start walked.steps walked.own all begun))

@@ -1,8 +1,8 @@
 -- A call of one step, as a get or a put of the board is: the run ends with that step.
-use Rattle.std.proofs.Common.{◌≡◌, ℕ, ◌<◌, ◌==◌, ◌&&◌, nat_lt, ltb-true, Bool, true, false, if◌then◌else◌, List, [], ◌∷◌, ◌++◌, Option, Some, None, IsSome, All, unwrap_or, refl, sym, ap, ◌∙◌, subst, eqb-true, eq-eqb}
-use Rattle.runs.proofs.Common.{and_parts, eqb-false, All-head, All-tail, Kind, Glance as Glances, Word, Data as DataAt, is_glance, Place, Rest, Dead, Wait, Inside, Reread, Opening, Door, Shutting}
-use Rattle.runs.proofs.Common.{Leaving, Withdrawing, Unmarking, next, is_store, put_same, put_other, Layout, Reply, Task, board_at, Script, Get as Asks, Put as Writes, Done, script, Answer, Mail}
-use Rattle.runs.proofs.Common.{Call, Working, answer_at, and_answer, start_refusal, Errand, Free, Doing, Spot, Begins, next_spot, Happening, at_rest, Moves, at_lock, only_spot, who, working, Scene}
+use Rattle.std.proofs.Common.{◌≡◌, ℕ, ◌<◌, ◌==◌, ◌&&◌, nat_lt, ltb-true, Bool, true, false, if◌then◌else◌, List, [], ◌∷◌, ◌++◌, Option, Some, None, IsSome, All, unwrap_or, refl, sym, ap, ◌∙◌, subst, eqb-true, eq-eqb, inl, inr}
+use Rattle.runs.proofs.Common.{and_parts, cases_Bool, All-head, All-tail, Kind, Glance as Glances, Word, Data as DataAt, is_glance, Place, Inside}
+use Rattle.runs.proofs.Common.{next, is_store, Layout, Reply, Task, board_at, Script, Get as Asks, Put as Writes, Done, script, Answer, Mail}
+use Rattle.runs.proofs.Common.{Call, Working, answer_at, and_answer, start_refusal, Errand, Free, Doing, Spot, Begins, next_spot, Happening, at_rest, Moves, only_spot, who, working, Scene}
 use Rattle.runs.proofs.Common.{at_first, Story, reading, onward, own_happenings, TakenStep, Setup, is_data, or_earlier, last_put, value_or, Served, FirstStart, AreMoves, FirstCrash, answers_of}
 use Rattle.runs.proofs.Common.{spot_before, refusal_now, Pass, spot_now, Calls, Seated, began, before, taken, happenings, spelled, own, IsRun, end_of, gone, spot_of, Goes, stores}
 use Rattle.rmecore.specs.declared.kind.Kind.TheVariants.{Get as Gets, Put as Puts}
@@ -10,6 +10,8 @@ use Rattle.rmecore.specs.declared.refusal.Refusal.TheVariants.{BadIndex}
 use Rattle.redomail.specs.declared.reply.Reply.TheVariants as reply
 use Rattle.redomail.specs.declared.task.Task.TheVariants as task
 use Rattle.rmeworld.specs.declared.call.Call.TheVariants.{Get, Put}
+use Rattle.rmeworld.proofs.StoryGrows.{spots_are_own}
+use Rattle.rmeworld.proofs.WorldTallies.{at_lock_some}
 use Rattle.runs.specs.Board.{puts}
 use Rattle.runs.proofs.Runs.{own-append, own_spelled, spelled-append, last_reads}
 use Rattle.runs.proofs.Leads.{gone-append}
@@ -20,21 +22,19 @@ use Rattle.runs.proofs.Board.{last-append, board_holds}
 module _ (s : Setup) where
   own_goes : (w : Scene) (hs : List Happening) (p : ℕ) → Story s.layout s.limit w hs → Goes s (w.spots p) (own_happenings p hs)
   own_goes w [] p story = tt
-  own_goes w (h ∷ hs) p story = go (own_goes (onward s.layout s.limit w h) hs p story.1) (who h == p) refl
-    where
-      u : Scene
-      u = onward s.layout s.limit w h
-
-      go : Goes s (u.spots p) (own_happenings p hs) → (b : Bool) → (who h == p) ≡ b → Goes s (w.spots p) (own_happenings p (h ∷ hs))
-      go later true is =
-          let same : who h ≡ p = eqb-true (who h) p is in
-          let some : IsSome (next_spot s.layout s.limit (w.spots p) h) = subst (λ (q : ℕ). IsSome (next_spot s.layout s.limit (w.spots q) h)) same story.0.1 in
-          let here : u.spots p ≡ unwrap_or (next_spot s.layout s.limit (w.spots p) h) (w.spots p) =
-          ap u.spots (sym same) ∙ put_same w.spots (who h) _ ∙ ap (λ (q : ℕ). unwrap_or (next_spot s.layout s.limit (w.spots q) h) (w.spots q)) same in
-          rw is (some, subst (λ (x : Spot). Goes s x (own_happenings p hs)) here later)
-      go later false is =
-          let here : u.spots p ≡ w.spots p = put_other w.spots (who h) _ p (λ e. eqb-false (who h) p is (sym e)) in
-          rw is (subst (λ (x : Spot). Goes s x (own_happenings p hs)) here later)
+  own_goes w (h ∷ hs) p story =
+      let u : Scene = onward s.layout s.limit w h in
+      let later = own_goes u hs p story.1 in
+      elim (cases_Bool (who h == p)) [
+        | inl is ↦
+            let same : who h ≡ p = eqb-true (who h) p is in
+            let some : IsSome (next_spot s.layout s.limit (w.spots p) h) = subst (λ (q : ℕ). IsSome (next_spot s.layout s.limit (w.spots q) h)) same story.0.1 in
+            let here : u.spots p ≡ unwrap_or (next_spot s.layout s.limit (w.spots p) h) (w.spots p) = spots_are_own s.layout s.limit p w (h ∷ []) ∙ rw is refl in
+            rw is (some, subst (λ (x : Spot). Goes s x (own_happenings p hs)) here later)
+        | inr is ↦
+            let here : u.spots p ≡ w.spots p = spots_are_own s.layout s.limit p w (h ∷ []) ∙ rw is refl in
+            rw is (subst (λ (x : Spot). Goes s x (own_happenings p hs)) here later)
+      ]
 
   pub run_goes : (es : List TakenStep) (p : ℕ) → IsRun s es → Goes s at_rest (spelled (own p es))
   run_goes es p run = subst (Goes s at_rest) (own_spelled p es) (own_goes at_first (spelled es) p run)
@@ -54,17 +54,11 @@ module _ (s : Setup) where
 
 own_by : (p : ℕ) (es : List TakenStep) (e : TakenStep) (rest : List TakenStep) → own p es ≡ e ∷ rest → e.by ≡ p
 own_by p [] e rest h = absurd (cc)
-own_by p (x ∷ xs) e rest h = go (λ later. own_by p xs e rest later) (x.by == p) refl
-  where
-    go : (own p xs ≡ e ∷ rest → e.by ≡ p) → (b : Bool) → (x.by == p) ≡ b → e.by ≡ p
-    go later true is =
-        let there : own p (x ∷ xs) ≡ x ∷ own p xs = rw is refl in
-        let all : x ∷ own p xs ≡ e ∷ rest = sym there ∙ h in
-        let same : x ≡ e = cc in
-        ap (λ (y : TakenStep). y.by) (sym same) ∙ eqb-true x.by p is
-    go later false is =
-        let there : own p (x ∷ xs) ≡ own p xs = rw is refl in
-        later (sym there ∙ h)
+own_by p (x ∷ xs) e rest h =
+    elim (cases_Bool (x.by == p)) [
+      | inl is ↦ let all : x ∷ own p xs ≡ e ∷ rest = rw is at h in let same : x ≡ e = cc in ap (λ (y : TakenStep). y.by) (sym same) ∙ eqb-true x.by p is
+      | inr is ↦ own_by p xs e rest (rw is at h)
+    ]
 
 -- a process inside with no call under way steps no more by itself
 still_inside : (n limit p : ℕ) (kind : Kind) (word : Word) (v : ℕ) → IsSome (next n limit p Inside kind word v) → is_glance kind ≡ false → ⊥
@@ -75,11 +69,7 @@ abbrev pub inside_free : Bool → Spot
 inside_free b = record { lock = Inside; mended = b; barred = false; errand = Free }
 
 no_more : (l : Layout) (limit p : ℕ) (b : Bool) (kind : Kind) (word : Word) (v : ℕ) → IsSome (next_spot l limit (inside_free b) (Moves p kind word v)) → is_glance kind ≡ false → ⊥
-no_more l limit p b kind word v some move = still_inside l.procs limit p kind word v (some_place (next l.procs limit p Inside kind word v) some) move
-  where
-    some_place : (o : Option Place) → IsSome (at_lock l p Inside b false o) → IsSome o
-    some_place None h = absurd (cc)
-    some_place (Some t) h = refl
+no_more l limit p b kind word v some move = still_inside l.procs limit p kind word v (at_lock_some l p Inside b false (next l.procs limit p Inside kind word v) some) move
 
 -- the entry of such a call
 pub record Single (x : Pass) (start : Spot) (answers : List Answer) (y : Pass) (mine : List TakenStep) : Type 0 where
@@ -176,57 +166,36 @@ abbrev pub writes_word : Layout → ℕ → ℕ → Script Reply
 writes_word l i v = Writes (board_at l i) v (Done reply.Done)
 
 works : (l : Layout) (p : ℕ) (s : Place) (b : Bool) (i : ℕ) (t : Task) → (if nat_lt i 4 then None else Some BadIndex) ≡ None → working l p Inside b (nat_lt i 4) t ≡ Some (board_spot b t (script l p t)) × (i < 4)
-works l p s b i t h = go (nat_lt i 4) refl
-  where
-    go : (c : Bool) → nat_lt i 4 ≡ c → (working l p Inside b (nat_lt i 4) t ≡ Some (board_spot b t (script l p t))) × (i < 4)
-    go true is = (rw is refl, ltb-true i 4 is)
-    go false is = absurd (let bad : Some BadIndex ≡ None = sym (ap (λ (c : Bool). if c then None else Some BadIndex) is) ∙ h in cc)
+works l p s b i t h =
+    elim (cases_Bool (nat_lt i 4)) [ inl is ↦ (rw is refl, ltb-true i 4 is) | inr is ↦ absurd (let bad : Some BadIndex ≡ None = rw is at h in cc) ]
 
 get_begins : (l : Layout) (limit p : ℕ) (s : Place) (b c : Bool) (e : Errand) (i : ℕ) → start_refusal l (record { lock = s; mended = b; barred = c; errand = e }) (Get i) ≡ None
     → (next_spot l limit (record { lock = s; mended = b; barred = c; errand = e }) (Begins p (Get i)) ≡ Some (board_spot b (task.BoardGet i) (reads_word l i))) × (i < 4)
 get_begins l limit p Inside b c Free i h = works l p Inside b i (task.BoardGet i) h
-get_begins l limit p Rest b c Free i h = absurd (cc)
-get_begins l limit p Dead b c Free i h = absurd (cc)
-get_begins l limit p (Reread call seen) b c Free i h = absurd (cc)
-get_begins l limit p Opening b c Free i h = absurd (cc)
-get_begins l limit p (Door unread m) b c Free i h = absurd (cc)
-get_begins l limit p (Shutting call k) b c Free i h = absurd (cc)
-get_begins l limit p (Wait k unpassed looked) b c Free i h = absurd (cc)
-get_begins l limit p Leaving b c Free i h = absurd (cc)
-get_begins l limit p Withdrawing b c Free i h = absurd (cc)
-get_begins l limit p (Unmarking call) b c Free i h = absurd (cc)
+get_begins l limit p _ b c Free i h = absurd (cc)
 get_begins l limit p s b c (Doing why left) i h = absurd (cc)
 
 put_begins : (l : Layout) (limit p : ℕ) (s : Place) (b c : Bool) (e : Errand) (i v : ℕ) → start_refusal l (record { lock = s; mended = b; barred = c; errand = e }) (Put i v) ≡ None
     → (next_spot l limit (record { lock = s; mended = b; barred = c; errand = e }) (Begins p (Put i v)) ≡ Some (board_spot b (task.BoardPut i v) (writes_word l i v))) × (i < 4)
 put_begins l limit p Inside b c Free i v h = works l p Inside b i (task.BoardPut i v) h
-put_begins l limit p Rest b c Free i v h = absurd (cc)
-put_begins l limit p Dead b c Free i v h = absurd (cc)
-put_begins l limit p (Reread call seen) b c Free i v h = absurd (cc)
-put_begins l limit p Opening b c Free i v h = absurd (cc)
-put_begins l limit p (Door unread m) b c Free i v h = absurd (cc)
-put_begins l limit p (Shutting call k) b c Free i v h = absurd (cc)
-put_begins l limit p (Wait k unpassed looked) b c Free i v h = absurd (cc)
-put_begins l limit p Leaving b c Free i v h = absurd (cc)
-put_begins l limit p Withdrawing b c Free i v h = absurd (cc)
-put_begins l limit p (Unmarking call) b c Free i v h = absurd (cc)
+put_begins l limit p _ b c Free i v h = absurd (cc)
 put_begins l limit p s b c (Doing why left) i v h = absurd (cc)
 
 -- the one step that each allows, and where it ends
 get_step : (l : Layout) (limit p : ℕ) (b : Bool) (i : ℕ) (kind : Kind) (word : Word) (v : ℕ) → IsSome (next_spot l limit (board_spot b (task.BoardGet i) (reads_word l i)) (Moves p kind word v)) → (kind ≡ Gets) × (word ≡ DataAt (board_at l i)) × (unwrap_or (next_spot l limit (board_spot b (task.BoardGet i) (reads_word l i)) (Moves p kind word v)) (board_spot b (task.BoardGet i) (reads_word l i)) ≡ inside_free b)
-get_step l limit p b i Gets (DataAt j) v some = go (j == board_at l i) refl
-  where
-    go : (c : Bool) → (j == board_at l i) ≡ c → (Gets ≡ Gets) × (DataAt j ≡ DataAt (board_at l i)) × (unwrap_or (only_spot (j == board_at l i) (inside_free b)) (board_spot b (task.BoardGet i) (reads_word l i)) ≡ inside_free b)
-    go true is = (refl, ap DataAt (eqb-true j (board_at l i) is), rw is refl)
-    go false is = absurd (let bad : IsSome (only_spot false (inside_free b)) = subst (λ (c : Bool). IsSome (only_spot c (inside_free b))) is some in cc)
+get_step l limit p b i Gets (DataAt j) v some =
+    elim (cases_Bool (j == board_at l i)) [
+      | inl is ↦ (refl, ap DataAt (eqb-true j (board_at l i) is), rw is refl)
+      | inr is ↦ absurd (let bad : IsSome (only_spot false (inside_free b)) = rw is at some in cc)
+    ]
 get_step l limit p b i _ _ v some = absurd (cc)
 
 put_step : (l : Layout) (limit p : ℕ) (b : Bool) (i x : ℕ) (kind : Kind) (word : Word) (v : ℕ) → IsSome (next_spot l limit (board_spot b (task.BoardPut i x) (writes_word l i x)) (Moves p kind word v)) → (kind ≡ Puts) × (word ≡ DataAt (board_at l i)) × (v ≡ x) × (unwrap_or (next_spot l limit (board_spot b (task.BoardPut i x) (writes_word l i x)) (Moves p kind word v)) (board_spot b (task.BoardPut i x) (writes_word l i x)) ≡ inside_free b)
-put_step l limit p b i x Puts (DataAt j) v some = go ((j == board_at l i) && (v == x)) refl
-  where
-    go : (c : Bool) → ((j == board_at l i) && (v == x)) ≡ c → (Puts ≡ Puts) × (DataAt j ≡ DataAt (board_at l i)) × (v ≡ x) × (unwrap_or (only_spot ((j == board_at l i) && (v == x)) (inside_free b)) (board_spot b (task.BoardPut i x) (writes_word l i x)) ≡ inside_free b)
-    go true is = let both = and_parts (j == board_at l i) (v == x) is in (refl, ap DataAt (eqb-true j (board_at l i) both.0), eqb-true v x both.1, rw is refl)
-    go false is = absurd (let bad : IsSome (only_spot false (inside_free b)) = subst (λ (c : Bool). IsSome (only_spot c (inside_free b))) is some in cc)
+put_step l limit p b i x Puts (DataAt j) v some =
+    elim (cases_Bool ((j == board_at l i) && (v == x))) [
+      | inl is ↦ let both = and_parts (j == board_at l i) (v == x) is in (refl, ap DataAt (eqb-true j (board_at l i) both.0), eqb-true v x both.1, rw is refl)
+      | inr is ↦ absurd (let bad : IsSome (only_spot false (inside_free b)) = rw is at some in cc)
+    ]
 put_step l limit p b i x _ _ v some = absurd (cc)
 
 -- what a get answers is what the run has put there last

@@ -1,6 +1,7 @@
 -- The members of a new table, and how many words it has.
-use Rattle.std.proofs.Common.{◌≡◌, ℕ, zero, suc, ◌+◌, ◌-◌, ◌<◌, List, [], ◌∷◌, ◌++◌, map, refl, sym, ap, ◌∙◌, subst, arith}
+use Rattle.std.proofs.Common.{◌≡◌, ℕ, zero, suc, ◌+◌, ◌-◌, ◌<◌, List, [], ◌∷◌, ◌++◌, map, sym, ap, ◌∙◌, subst, arith}
 use Rattle.runs.proofs.Common.{Splits, Layout, IsLayout, size, place_at, Known, Setup, rest_known, count_from, Kept, without_first, first_alone}
+use Rattle.std.proofs.lemmas.List.{map-append}
 use Rattle.std.proofs.lemmas.Nat.{mul-le}
 use Rattle.runs.proofs.Runs.{count_step, above_absent}
 use Rattle.runs.proofs.Keeps.{cuts}
@@ -24,9 +25,5 @@ count_snoc : (k n : ℕ) → count_from k (suc n) ≡ count_from k n ++ (k + n) 
 count_snoc k zero = ap (λ (x : ℕ). x ∷ []) (omega arith)
 count_snoc k (suc n) = ap (λ (l : List ℕ). k ∷ l) (count_snoc (suc k) n ∙ ap (λ (x : ℕ). count_from (suc k) n ++ x ∷ []) (omega arith))
 
-map_snoc : {A : Type 0} (f : ℕ → A) (xs : List ℕ) (x : ℕ) → map f (xs ++ x ∷ []) ≡ map f xs ++ f x ∷ []
-map_snoc f [] x = refl
-map_snoc f (y ∷ ys) x = ap (λ l. f y ∷ l) (map_snoc f ys x)
-
 pub mapped_more : {A : Type 0} (f : ℕ → A) (p : ℕ) → map f (count_from 0 (p + 1)) ≡ map f (count_from 0 p) ++ f p ∷ []
-mapped_more f p = (let e : p + 1 ≡ suc p = omega arith in ap (λ (q : ℕ). map f (count_from 0 q)) e) ∙ ap (map f) (count_snoc 0 p ∙ (let e : 0 + p ≡ p = omega arith in ap (λ (x : ℕ). count_from 0 p ++ x ∷ []) e)) ∙ map_snoc f (count_from 0 p) p
+mapped_more f p = (let e : p + 1 ≡ suc p = omega arith in ap (λ (q : ℕ). map f (count_from 0 q)) e) ∙ ap (map f) (count_snoc 0 p ∙ (let e : 0 + p ≡ p = omega arith in ap (λ (x : ℕ). count_from 0 p ++ x ∷ []) e)) ∙ map-append f (count_from 0 p) (p ∷ [])

@@ -1,8 +1,9 @@
 -- A worker's appends start their calls in order, and one that is told of a ruin has read it.
-use Rattle.std.proofs.Common.{◌≡◌, ◌⊎◌, ℕ, Bool, true, false, if◌then◌else◌, List, [], ◌∷◌, ◌++◌, Option, Some, None, Result, Ok, Err, IfOk, IfErr, All, refl, sym, ap, ◌∙◌, subst, inl, inr}
+use Rattle.std.proofs.Common.{◌≡◌, ◌⊎◌, ℕ, Bool, true, false, List, [], ◌∷◌, ◌++◌, Option, Some, None, Result, Ok, Err, IfOk, IfErr, All, refl, sym, ap, ◌∙◌, subst, inl, inr}
 use Rattle.runs.proofs.Common.{All-head, All-tail, Reply, Answer, Call, Lock, Unlock, Consistent, Append, is_idle, TakenStep, Entry as Entering, LockFault, and_call, starts, FirstCrash, ready}
-use Rattle.runs.proofs.Common.{IsGlance, spot_now, Calls, own_of, last_call, last_of, MayStart, AreInOrder, Seated, began, fell, own, WholeEnds, AppendFails, Comes, IsFront, IsWithin, calls_inside}
+use Rattle.runs.proofs.Common.{IsGlance, spot_now, Calls, own_of, last_call, last_of, MayStart, AreInOrder, Seated, began, own, WholeEnds, AppendFails, Comes, IsFront, IsWithin, calls_inside}
 use Rattle.runs.specs.declared.entry_kind.Entry.TheVariants as entering
+use Rattle.runs.proofs.Outside.{ready_same}
 use Rattle.runs.proofs.Runs.{own-append}
 
 -- calls in order, one after the other, without a crash between
@@ -95,17 +96,13 @@ module _ (seq : ℕ) (value : List ℕ) (l : Option Call) where
   cut_order mine (inl none) = subst (λ (es : List TakenStep). CallsInOrder l (starts es)) (sym none) tt
   cut_order mine (inr h) = within_order (starts mine) h
 
-either_own : (b : Bool) (x : Seated) → own_of (if b then x else fell x).pass ≡ own_of x.pass
-either_own true x = refl
-either_own false x = refl
-
 abbrev pub InOrder : Seated → Type 0
 InOrder x = AreInOrder None (own_of x.pass)
 
 pub own_now : (x y : Seated) (mine : List TakenStep) → Calls (began (ready x) Lock).pass mine y.pass → own_of y.pass ≡ own_of x.pass ++ mine
 own_now x y mine c =
     let z = began (ready x) Lock in
-    ap (λ (p : ℕ). own p y.pass.seen) c.by ∙ ap (own z.pass.by) c.seen ∙ own-append z.pass.by z.pass.seen c.since ∙ ap (λ (l : List TakenStep). own_of z.pass ++ l) c.mine_are ∙ ap (λ (l : List TakenStep). l ++ mine) (either_own (is_idle (spot_now x.pass)) x)
+    ap (λ (p : ℕ). own p y.pass.seen) c.by ∙ ap (own z.pass.by) c.seen ∙ own-append z.pass.by z.pass.seen c.since ∙ ap (λ (l : List TakenStep). own_of z.pass ++ l) c.mine_are ∙ ap (λ (l : List TakenStep). l ++ mine) (ready_same (is_idle (spot_now x.pass)) x).2
 
 orders_calls : (x y : Seated) (c : Bool) (mine : List TakenStep) → Calls (began (ready x) Lock).pass mine y.pass → FirstCrash c mine → ((other : Option Call) → CallsInOrder other (starts mine)) → InOrder x → InOrder y
 orders_calls x y c mine calls crash any old = subst (AreInOrder None) (sym (own_now x y mine calls)) (order_append None (own_of x.pass) mine old (mine_in_order (last_of None (own_of x.pass)) c mine crash any))

@@ -1,6 +1,11 @@
 -- A process that isn't in the section may set out on another lock.
 use Rattle.std.proofs.Common.{◌≡◌, ℕ, List, Bool, true, false, if◌then◌else◌, Option, None, refl, sym, ap, ◌∙◌}
-use Rattle.runs.proofs.Common.{Dead, Call, Lock, Withdraw, is_idle, is_waiting, is_inside, CutBy, ready, refusal_now, spot_now, Seated, fell, before, gone, spot_of}
+use Rattle.runs.proofs.Common.{Dead, Call, Lock, Withdraw, is_idle, is_waiting, is_inside, CutBy, ready, refusal_now, spot_now, own_of, Seated, fell, before, gone, spot_of}
+
+-- a call that sets out from anywhere has the sizes, the process and the entries that there were
+pub ready_same : (b : Bool) (x : Seated) → ((if b then x else fell x).pass.setup ≡ x.pass.setup) × ((if b then x else fell x).pass.by ≡ x.pass.by) × (own_of (if b then x else fell x).pass ≡ own_of x.pass)
+ready_same true x = (refl, refl, refl)
+ready_same false x = (refl, refl, refl)
 
 either_out : (b : Bool) (x : Seated) → is_idle (spot_now x.pass) ≡ b → (b ≡ true → is_inside (spot_now x.pass).lock ≡ false) → refusal_now (if b then x else fell x) Lock ≡ None
 either_out true x idle away = rw idle (rw (away refl) refl)

@@ -1,9 +1,9 @@
 -- A worker ruins no lock: it starts an unlock only behind an append or a mending. So it is told of a ruin only where it has
 -- read one, and it leaves nothing unmended unless it has read one.
-use Rattle.std.proofs.Common.{◌≡◌, ℕ, zero, suc, ◌+◌, ◌==◌, ◌&&◌, Bool, true, false, if◌then◌else◌, ◌⊎◌, List, [], ◌∷◌, ◌++◌, length, Option, Some, None, IsSome, unwrap_or, refl, sym, ap, ◌∙◌, subst, inl, inr, eqb-true}
+use Rattle.std.proofs.Common.{◌≡◌, ℕ, ◌==◌, ◌&&◌, Bool, true, false, if◌then◌else◌, ◌⊎◌, List, [], ◌∷◌, length, Option, Some, None, IsSome, unwrap_or, refl, sym, ap, ◌∙◌, subst, inl, inr, eqb-true}
 use Rattle.runs.proofs.Common.{and_parts, cases_Bool, Kind, Glance as Looks, Word, Choosing as ChoosingOf, Number as NumberOf, Data as DataAt, Place, Dead, Inside, next, started, is_store, Layout}
-use Rattle.runs.proofs.Common.{Reply, Task, Script, Get as Asks, Put as Writes, Done, puts, gets, repair, redo, consistent, apply_steps, record_of, script, Call, Lock, Unlock, Consistent, Append, Why}
-use Rattle.runs.proofs.Common.{Checking, Ruining, Mending, Working, is_entry, Errand, Free, Doing, Spot, begun_from, inside_only, Begins, next_spot, Happening, at_lock, only_spot, settled}
+use Rattle.runs.proofs.Common.{Reply, Task, Script, Get as Asks, Put as Writes, Done, repair, consistent, script, Call, Lock, Unlock, Consistent, Append, Why}
+use Rattle.runs.proofs.Common.{Checking, Ruining, Mending, Working, is_entry, Errand, Free, Doing, Spot, begun_from, Begins, next_spot, Happening, at_lock, only_spot, settled}
 use Rattle.runs.proofs.Common.{mended_entered, moved_by, dead, TakenStep, Setup, last_call, last_of, MayStart, AreInOrder, ReadsRuin, HasReadRuin, settles, before, taken, happenings, spelled, gone}
 use Rattle.runs.proofs.Common.{Goes, Replies}
 use Rattle.rmecore.specs.declared.core_call.CoreCall.TheVariants as core
@@ -11,6 +11,8 @@ use Rattle.rmecore.specs.declared.kind.Kind.TheVariants.{Get as Gets, Put as Put
 use Rattle.rmecore.specs.declared.word.Word.TheVariants.{Inside as InsideOf}
 use Rattle.redomail.specs.declared.reply.Reply.TheVariants as reply
 use Rattle.redomail.specs.declared.task.Task.TheVariants as task
+use Rattle.rmeworld.proofs.CallSteps.{guard_spot}
+use Rattle.runs.proofs.Begun.{replies_repair, guard_inside}
 use Rattle.runs.proofs.Leads.{gone-append}
 use Rattle.runs.proofs.OneStep.{goes_front, goes_back}
 use Rattle.runs.proofs.Runs.{by_kind}
@@ -41,22 +43,6 @@ settled_not calm on = absurd (let k : false ≡ true = sym calm ∙ on in cc)
 module _ (l : Layout) where
   abbrev pub StandsAt : Option Call → Spot → Type 0
   StandsAt last t = Stands l last t.lock t.mended t.barred t.errand
-
-  -- a script of a repair replies that it has mended
-  mended_puts : (xs : List (ℕ × ℕ)) (r : Script Reply) → Replies IsMended r → Replies IsMended (puts xs r)
-  mended_puts [] r h = h
-  mended_puts (x ∷ xs) r h = mended_puts xs r h
-
-  mended_gets : (i n : ℕ) (read : List ℕ) (rest : List ℕ → Script Reply) → ((ys : List ℕ) → Replies IsMended (rest ys)) → Replies IsMended (gets i n read rest)
-  mended_gets i zero read rest h = h read
-  mended_gets i (suc n) read rest h = λ x. mended_gets (i + 1) n (read ++ x ∷ []) rest h
-
-  mended_if : (b : Bool) (x y : Script Reply) → Replies IsMended x → Replies IsMended y → Replies IsMended (if b then x else y)
-  mended_if true x y h i = h
-  mended_if false x y h i = i
-
-  mended_repair : (p : ℕ) → Replies IsMended (repair l p)
-  mended_repair p = λ armed. mended_if (armed == 0) _ _ tt (λ at seq. mended_gets 6 l.width [] (redo l p at seq) (λ ys. mended_puts (apply_steps l p (record_of at seq ys)) (Done (reply.Mended true)) tt))
 
   -- the lock's part, outside
   placed_by : (p : ℕ) (last : Option Call) (t : Place) (b c enters : Bool) → c ≡ false → settles last ≡ false → Stands l last t b c (if enters then Doing Checking (script l p task.Check) else Free)
@@ -110,7 +96,7 @@ module _ (l : Layout) where
 
         go : (x y : Bool) → (i == 0) ≡ x → (v == 1) ≡ y → IsSome (only_spot x (settled b c Mending (rest y))) → IsRuin Gets (DataAt i) v ⊎ StandsAt last (unwrap_or (only_spot x (settled b c Mending (rest y))) d)
         go true true is ruined k = inl (refl, ap DataAt (eqb-true i 0 is), eqb-true v 1 ruined)
-        go true false is other k = inr (calm, inr (mended_repair q))
+        go true false is other k = inr (calm, inr (replies_repair IsMended (λ repaired. tt) l q))
         go false y is other k = absurd (cc)
     mends_first q _ _ v calm some = absurd (cc)
 
@@ -126,18 +112,14 @@ module _ (l : Layout) where
     worked_then t (Asks i rest) calm fine = (calm, fine)
     worked_then t (Writes i v rest) calm fine = (calm, fine)
 
-    only_at : (x : Bool) (t : Spot) → IsSome (only_spot x t) → StandsAt last t → StandsAt last (unwrap_or (only_spot x t) d)
-    only_at true t some h = h
-    only_at false t some h = absurd (cc)
-
     mends_on : (left : Script Reply) (kind : Kind) (word : Word) (v : ℕ) → c ≡ false → Replies IsMended left → After Mending left kind word v
-    mends_on (Asks j rest) Gets (DataAt i) v calm h some = inr (only_at (i == j) (settled b c Mending (rest v)) some (mended_then (rest v) calm (h v)))
-    mends_on (Writes j x rest) Puts (DataAt i) v calm h some = inr (only_at ((i == j) && (v == x)) (settled b c Mending rest) some (mended_then rest calm h))
+    mends_on (Asks j rest) Gets (DataAt i) v calm h some = inr (guard_spot _ (settled b c Mending (rest v)) d (StandsAt last) some (λ is. mended_then (rest v) calm (h v)))
+    mends_on (Writes j x rest) Puts (DataAt i) v calm h some = inr (guard_spot _ (settled b c Mending rest) d (StandsAt last) some (λ is. mended_then rest calm h))
     mends_on _ _ _ v calm h some = absurd (cc)
 
     works_on : (t : Task) (left : Script Reply) (kind : Kind) (word : Word) (v : ℕ) → c ≡ false → (settles last ≡ true → b ≡ true) → After (Working t) left kind word v
-    works_on t (Asks j rest) Gets (DataAt i) v calm h some = inr (only_at (i == j) (settled b c (Working t) (rest v)) some (worked_then t (rest v) calm h))
-    works_on t (Writes j x rest) Puts (DataAt i) v calm h some = inr (only_at ((i == j) && (v == x)) (settled b c (Working t) rest) some (worked_then t rest calm h))
+    works_on t (Asks j rest) Gets (DataAt i) v calm h some = inr (guard_spot _ (settled b c (Working t) (rest v)) d (StandsAt last) some (λ is. worked_then t (rest v) calm h))
+    works_on t (Writes j x rest) Puts (DataAt i) v calm h some = inr (guard_spot _ (settled b c (Working t) rest) d (StandsAt last) some (λ is. worked_then t rest calm h))
     works_on t _ _ _ v calm h some = absurd (cc)
 
     moves : (e : Errand) (kind : Kind) (word : Word) (v : ℕ) → Stands l last s b c e → IsSome (moved_by l limit p s b c e kind word v) → IsRuin kind word v ⊎ StandsAt last (unwrap_or (moved_by l limit p s b c e kind word v) d)
@@ -149,25 +131,15 @@ module _ (l : Layout) where
     moves (Doing (Working t) left) kind word v h some = works_on t left kind word v h.0 h.1 some
 
   -- a start
-  inside_stands : (call : Call) (s : Place) (b fits : Bool) (why : Why) (left : Script Reply) (d : Spot) → (fits ≡ true → Stands l (Some call) Inside b false (Doing why left)) → IsSome (inside_only s b fits why left) → StandsAt (Some call) (unwrap_or (inside_only s b fits why left) d)
-  inside_stands call Inside b true why left d h some = h refl
-  inside_stands call Inside b false why left d h some = absurd (cc)
-  inside_stands call _ b fits why left d h some = absurd (cc)
-
   starts_stand : (p : ℕ) (last : Option Call) (call : Call) (s : Place) (b c : Bool) (e : Errand) (d : Spot) → Stands l last s b c e → MayStart last false (Some call) → IsSome (begun_from l p s b e call) → StandsAt (Some call) (unwrap_or (begun_from l p s b e call) d)
   starts_stand p last Lock s b c Free d h may some = placed p (Some Lock) s b false (started s core.Lock) d refl refl some
   starts_stand p last Unlock s true c Free d h may some = placed p (Some Unlock) s true false (started s core.Unlock) d refl refl some
   starts_stand p last Unlock s false c Free d h may some = absurd (let k : false ≡ true = (h.1 may.1).1 in cc)
   starts_stand p last Consistent s true c Free d h may some = absurd (cc)
-  starts_stand p last Consistent s false c Free d h may some = inside_stands Consistent s false true Mending (consistent l p) d (λ fits. (refl, inl (p, refl))) some
+  starts_stand p last Consistent s false c Free d h may some = guard_inside (StandsAt (Some Consistent)) s false true Mending (consistent l p) d (λ fits. (refl, inl (p, refl))) some
   starts_stand p last (Append seq value) s b c Free d h may some =
-      inside_stands (Append seq value) s b (b && (length value == l.width)) (Working (task.Append seq value)) (script l p (task.Append seq value)) d (λ fits. (refl, λ e. (and_parts b (length value == l.width) fits).0)) some
-  starts_stand p last Lock s b c (Doing why left) d h may some = absurd (cc)
-  starts_stand p last Unlock s true c (Doing why left) d h may some = absurd (cc)
-  starts_stand p last Unlock s false c (Doing why left) d h may some = absurd (cc)
-  starts_stand p last Consistent s true c (Doing why left) d h may some = absurd (cc)
-  starts_stand p last Consistent s false c (Doing why left) d h may some = absurd (cc)
-  starts_stand p last (Append seq value) s b c (Doing why left) d h may some = absurd (cc)
+      guard_inside (StandsAt (Some (Append seq value))) s b (b && (length value == l.width)) (Working (task.Append seq value)) (script l p (task.Append seq value)) d (λ fits. (refl, λ e. (and_parts b (length value == l.width) fits).0)) some
+  starts_stand p last _ s b c (Doing why left) d h may some = absurd (cc)
   starts_stand p last _ s b c e d h may some = absurd may
 
 module _ (s : Setup) where

@@ -1,7 +1,7 @@
 -- The machine and the pass stay together.
 use Rattle.std.proofs.Common.{◌≡◌, ℕ, ◌+◌, ◌*◌, Bool, true, false, nat_lt, [], ◌∷◌, Option, Some, None, IsSome, unwrap_or, if◌then◌else◌, refl, sym, ap, ◌∙◌, subst}
-use Rattle.runs.proofs.Common.{Kind, Word, access, kind_of, word_of, carried, is_glance, Place, Rest, Dead, Wait, Inside, Reread, Opening, Door, Shutting, Leaving, Withdrawing, Unmarking, Layout}
-use Rattle.runs.proofs.Common.{Reply, size, place_at, Script, Get, Put, Done, Call, Why, Ruining, answer_at, Errand, Free, Doing, Spot, Begins, next_spot, Moves, Stand, access_by}
+use Rattle.runs.proofs.Common.{Kind, Word, access, kind_of, word_of, carried, is_glance, Place, Rest, Dead, Wait, Inside, Reread, Door, Leaving, Layout, Reply, size, place_at, Script, Get, Put, Done}
+use Rattle.runs.proofs.Common.{Call, Why, Ruining, answer_at, Errand, Free, Doing, Spot, Begins, next_spot, Moves, Stand, access_by}
 use Rattle.runs.proofs.Common.{next_access, outcome, spot_after, IsAllowed, progress_by, stepped, stepped_by, job_left, placed, works, calm, Setup, Pass, spot_now, Looks, moved_spot, Advances}
 use Rattle.runs.proofs.Common.{IsRunBy, next_of, outcome_of, before, taken, gone, spot_of}
 use Rattle.rmecore.specs.declared.access.Access.{Access}
@@ -26,18 +26,8 @@ run_by_look x y word v s a r = record {
 }
 
 pub taken_moves : (p : ℕ) (k : Kind) (word : Word) (v : ℕ) → is_glance k ≡ false → taken p k word v ≡ Moves p k word v
-taken_moves p kind.Open word v h = refl
-taken_moves p kind.Peek word v h = refl
-taken_moves p kind.Take word v h = refl
-taken_moves p kind.Shut word v h = refl
-taken_moves p kind.Look word v h = refl
-taken_moves p kind.Weigh word v h = refl
-taken_moves p kind.Mark word v h = refl
-taken_moves p kind.Drop word v h = refl
-taken_moves p kind.Reread word v h = refl
-taken_moves p kind.Get word v h = refl
-taken_moves p kind.Put word v h = refl
 taken_moves p kind.Glance word v h = absurd (cc)
+taken_moves p _ word v h = refl
 
 -- no step of the machine is a glance
 abbrev IsMove : Option Access → Type 0
@@ -49,23 +39,14 @@ if_moves true a c h k = h
 if_moves false a c h k = k
 
 lock_moves : (limit p : ℕ) (s : Place) → IsMove (access limit p s)
-lock_moves limit p (Reread call []) = refl
-lock_moves limit p (Reread call (c ∷ [])) = refl
-lock_moves limit p (Reread call (c ∷ k ∷ [])) = refl
 lock_moves limit p (Reread call (c ∷ k ∷ i ∷ more)) = tt
-lock_moves limit p Opening = refl
-lock_moves limit p (Door (j ∷ js) m) = refl
 lock_moves limit p (Door [] m) = if_moves (nat_lt m limit) _ _ refl refl
-lock_moves limit p (Shutting call k) = refl
-lock_moves limit p (Wait k unpassed (Some j)) = refl
 lock_moves limit p (Wait k (j ∷ js) None) = refl
 lock_moves limit p (Wait k [] None) = refl
-lock_moves limit p Leaving = refl
-lock_moves limit p Withdrawing = refl
-lock_moves limit p (Unmarking call) = refl
 lock_moves limit p Rest = tt
 lock_moves limit p Dead = tt
 lock_moves limit p Inside = tt
+lock_moves limit p _ = refl
 
 moves_by : (limit p : ℕ) (s : Place) (e : Errand) → IsMove (access_by limit p s e)
 moves_by limit p s Free = lock_moves limit p s
@@ -131,8 +112,7 @@ Keeps s t = (t.layout ≡ s.layout) × (t.limit ≡ s.limit) × (t.index ≡ s.i
 
 keeps_job : (s : Stand) (why : Why) (job : Pending) (left : Script Reply) → Keeps s (job_left s why job left)
 keeps_job s why job (Get i rest) = (refl, refl, refl)
-keeps_job s why job (Put i v rest) = (refl, refl, refl)
-keeps_job s why job (Done reply) = (refl, refl, refl)
+keeps_job s why job _ = (refl, refl, refl)
 
 keeps_by : (s : Stand) (e : Chore) (v : ℕ) → Keeps s (stepped_by s e v)
 keeps_by s IsFree v = (refl, refl, refl)
@@ -146,15 +126,8 @@ keeps_mended s true = (refl, refl, refl)
 keeps_mended s false = (refl, refl, refl)
 
 keeps_call : (s : Stand) (c : Call) → Keeps s (started s c)
-keeps_call s call.Lock = (refl, refl, refl)
-keeps_call s call.Recover = (refl, refl, refl)
-keeps_call s call.Withdraw = (refl, refl, refl)
 keeps_call s call.Unlock = keeps_mended s s.mended
-keeps_call s call.Consistent = (refl, refl, refl)
-keeps_call s (call.Append seq value) = (refl, refl, refl)
-keeps_call s call.Close = (refl, refl, refl)
-keeps_call s (call.Get i) = (refl, refl, refl)
-keeps_call s (call.Put i v) = (refl, refl, refl)
+keeps_call s _ = (refl, refl, refl)
 
 pub keeps_start : (s t : Stand) (c : Call) → t ≡ started s c → Keeps s t
 keeps_start s t c e = subst (Keeps s) (sym e) (keeps_call s c)

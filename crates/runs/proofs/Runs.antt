@@ -1,13 +1,13 @@
 -- Two laws of runs of entries: the spot of a process follows from its own entries, and an allowed entry prolongs a run.
-use Rattle.std.proofs.Common.{◌≡◌, ◌≢◌, ℕ, zero, suc, ◌-◌, ◌<◌, ◌==◌, ◌≤◌, nat_lt, lt-ltb, le-ltb, ltb-true, Bool, true, false, if◌then◌else◌, List, [], ◌∷◌, ◌++◌, length, set, get_or, replicate, Option, Some, None, IsSome, unwrap_or, refl, sym, ap, ◌∙◌, subst, inl, inr, arith, append_assoc, append-nil, eqb-true, eq-eqb, ne_eqb, length-set, get_or-set_same, get_or-set_other}
-use Rattle.runs.proofs.Common.{eqb-false, cases_eq, length-replicate, get_or-replicate, filter-append, dite, ℕ_discrete, Kind, Look, Weigh, Open, Peek, Take, Shut, Mark, Drop, Glance, Own, Word}
+use Rattle.std.proofs.Common.{◌≡◌, ◌≢◌, ℕ, zero, suc, ◌-◌, ◌<◌, ◌==◌, ◌≤◌, nat_lt, lt-ltb, le-ltb, ltb-true, Bool, true, false, if◌then◌else◌, List, [], ◌∷◌, ◌++◌, length, set, get_or, replicate, Option, Some, None, IsSome, unwrap_or, refl, sym, ap, ◌∙◌, subst, inl, inr, arith, append_assoc, append-nil, eq-eqb, ne_eqb, length-set, get_or-set_same, get_or-set_other}
+use Rattle.runs.proofs.Common.{cases_Bool, cases_eq, length-replicate, get_or-replicate, filter-append, dite, ℕ_discrete, Kind, Glance, Own, Word}
 use Rattle.runs.proofs.Common.{Choosing as ChoosingOf, Number as NumberOf, Data as DataAt, put, is_store, write, put_same, put_other, Layout, Words, size, Call, Spot, Begins, next_spot, Happening}
 use Rattle.runs.proofs.Common.{at_rest, Moves, Falls, Glances, who, dead, Scene, at_first, Story, last_scene, put_cell, reading, onward, own_happenings, words_after, cells_after, story_front}
 use Rattle.runs.proofs.Common.{story_back, TakenStep, Setup, count_from, before, taken, happenings, spelled, own, IsRun, end_of, gone, spot_of, has, index, InTable, Goes, word_count, IsBeyond, Shows}
 use Rattle.runs.proofs.Common.{stores}
-use Rattle.rmecore.specs.declared.kind.Kind.TheVariants.{Reread, Get, Put}
 use Rattle.rmecore.specs.declared.word.Word.TheVariants.{Inside as InsideOf}
 use Rattle.rmeworld.specs.World.{Reads}
+use Rattle.rmeworld.proofs.StoryGrows.{spots_are_own}
 
 pub own-append : (p : ℕ) (xs ys : List TakenStep) → own p (xs ++ ys) ≡ own p xs ++ own p ys
 own-append p xs ys = filter-append (λ (e : TakenStep). e.by == p) xs ys
@@ -36,75 +36,37 @@ spelled_snoc xs e = spelled-append xs (e ∷ []) ∙ ap (λ (l : List Happening)
 
 -- a step is a glance, or a move of its kind
 pub by_kind : (P : Kind → Happening → Type 0) (p : ℕ) (word : Word) (v : ℕ) → P Glance (Glances p word v) → ((kind : Kind) → P kind (Moves p kind word v)) → (kind : Kind) → P kind (taken p kind word v)
-by_kind P p word v glance move Open = move Open
-by_kind P p word v glance move Peek = move Peek
-by_kind P p word v glance move Take = move Take
-by_kind P p word v glance move Shut = move Shut
-by_kind P p word v glance move Look = move Look
-by_kind P p word v glance move Weigh = move Weigh
-by_kind P p word v glance move Mark = move Mark
-by_kind P p word v glance move Drop = move Drop
-by_kind P p word v glance move Reread = move Reread
-by_kind P p word v glance move Get = move Get
-by_kind P p word v glance move Put = move Put
 by_kind P p word v glance move Glance = glance
+by_kind P p word v glance move kind = move kind
 
 pub who_taken : (p : ℕ) (kind : Kind) (word : Word) (v : ℕ) → who (taken p kind word v) ≡ p
 who_taken p kind word v = by_kind (λ _ h. who h ≡ p) p word v refl (λ _. refl) kind
 
 own_happenings-append : (p : ℕ) (xs ys : List Happening) → own_happenings p (xs ++ ys) ≡ own_happenings p xs ++ own_happenings p ys
 own_happenings-append p [] ys = refl
-own_happenings-append p (x ∷ xs) ys = go (own_happenings-append p xs ys) (who x == p) refl
-  where
-    go : own_happenings p (xs ++ ys) ≡ own_happenings p xs ++ own_happenings p ys → (b : Bool) → (who x == p) ≡ b → own_happenings p ((x ∷ xs) ++ ys) ≡ own_happenings p (x ∷ xs) ++ own_happenings p ys
-    go later true is = rw is (ap (λ (l : List Happening). x ∷ l) later)
-    go later false is = rw is later
+own_happenings-append p (x ∷ xs) ys =
+    let later = own_happenings-append p xs ys in
+    elim (cases_Bool (who x == p)) [ inl is ↦ rw is (ap (λ (l : List Happening). x ∷ l) later) | inr is ↦ rw is later ]
 
 -- all that an entry is spelled out to is its process's
 own_all : (p q : ℕ) (h : Happening) → who h ≡ q → (c : Bool) (o : Option Call) (b : Bool) → (q == p) ≡ b → own_happenings p (before c o q ++ h ∷ []) ≡ (if b then before c o q ++ h ∷ [] else [])
 own_all p q h e false None true is = rw (e, is) refl
-own_all p q h e false None false is = rw (e, is) refl
 own_all p q h e false (Some call) true is = rw (e, is) refl
-own_all p q h e false (Some call) false is = rw (e, is) refl
 own_all p q h e true None true is = rw (e, is) refl
-own_all p q h e true None false is = rw (e, is) refl
 own_all p q h e true (Some call) true is = rw (e, is) refl
-own_all p q h e true (Some call) false is = rw (e, is) refl
+own_all p q h e _ _ _ is = rw (e, is) refl
 
 pub own_spelled : (p : ℕ) (es : List TakenStep) → own_happenings p (spelled es) ≡ spelled (own p es)
 own_spelled p [] = refl
 own_spelled p (e ∷ es) =
+    let later = own_spelled p es in
     own_happenings-append p (happenings e) (spelled es)
     ∙ ap (λ (l : List Happening). l ++ own_happenings p (spelled es)) (own_all p e.by (taken e.by e.step.kind e.step.word e.value) (who_taken e.by e.step.kind e.step.word e.value) e.step.crashed e.step.start (e.by == p) refl)
-    ∙ last (own_spelled p es) (e.by == p) refl
-  where
-    last : own_happenings p (spelled es) ≡ spelled (own p es) → (b : Bool) → (e.by == p) ≡ b → (if b then happenings e else []) ++ own_happenings p (spelled es) ≡ spelled (own p (e ∷ es))
-    last later true is = rw is (ap (λ (l : List Happening). happenings e ++ l) later)
-    last later false is = rw is later
-
-module _ (s : Setup) where
-  abbrev next_scene : Scene → Happening → Scene
-  next_scene w h = onward s.layout s.limit w h
-
-  -- a spot follows from the process's own happenings
-  pub spot_own : (w : Scene) (hs : List Happening) (p : ℕ) → (last_scene s.layout s.limit w hs).spots p ≡ gone s (w.spots p) (own_happenings p hs)
-  spot_own w [] p = refl
-  spot_own w (h ∷ hs) p = go (spot_own (next_scene w h) hs p) (who h == p) refl
-    where
-      go : (last_scene s.layout s.limit (next_scene w h) hs).spots p ≡ gone s ((next_scene w h).spots p) (own_happenings p hs) → (b : Bool) → (who h == p) ≡ b
-          → (last_scene s.layout s.limit (next_scene w h) hs).spots p ≡ gone s (w.spots p) (own_happenings p (h ∷ hs))
-      go later true is =
-          let same : who h ≡ p = eqb-true (who h) p is in
-          let here : (next_scene w h).spots p ≡ unwrap_or (next_spot s.layout s.limit (w.spots p) h) (w.spots p) =
-          ap (next_scene w h).spots (sym same) ∙ put_same w.spots (who h) _ ∙ ap (λ (q : ℕ). unwrap_or (next_spot s.layout s.limit (w.spots q) h) (w.spots q)) same in
-          rw is (later ∙ ap (λ (spot : Spot). gone s spot (own_happenings p hs)) here)
-      go later false is =
-          let here : (next_scene w h).spots p ≡ w.spots p = put_other w.spots (who h) _ p (λ e. eqb-false (who h) p is (sym e)) in
-          rw is (later ∙ ap (λ (spot : Spot). gone s spot (own_happenings p hs)) here)
+    ∙ elim (cases_Bool (e.by == p)) [ inl is ↦ rw is (ap (λ (l : List Happening). happenings e ++ l) later) | inr is ↦ rw is later ]
 
 -- the first law
 pub spot_in_run : (s : Setup) (es : List TakenStep) (p : ℕ) → (end_of s es).spots p ≡ spot_of s p es
-spot_in_run s es p = spot_own s at_first (spelled es) p ∙ ap (gone s at_rest) (own_spelled p es)
+spot_in_run s es p = spots_are_own s.layout s.limit p at_first (spelled es) ∙ ap (gone s at_rest) (own_spelled p es)
 
 module _ (l : Layout) (limit : ℕ) where
   pub scene-append : (w : Scene) (xs ys : List Happening) → last_scene l limit w (xs ++ ys) ≡ last_scene l limit (last_scene l limit w xs) ys
@@ -174,15 +136,13 @@ cells_now l cells kind word v = if is_store kind then put_cell l cells word v el
 module _ (l : Layout) (limit : ℕ) where
   words_entry : (w : Scene) (q : ℕ) (kind : Kind) (word : Word) (v : ℕ) (c : Bool) (o : Option Call) → (last_scene l limit w (before c o q ++ taken q kind word v ∷ [])).words ≡ words_now w.words kind word v
   words_entry w q kind word v false None = by_kind (λ kind h. words_after w.words h ≡ words_now w.words kind word v) q word v refl (λ _. refl) kind
-  words_entry w q kind word v false (Some call) = by_kind (λ kind h. words_after w.words h ≡ words_now w.words kind word v) q word v refl (λ _. refl) kind
   words_entry w q kind word v true None = by_kind (λ kind h. words_after w.words h ≡ words_now w.words kind word v) q word v refl (λ _. refl) kind
-  words_entry w q kind word v true (Some call) = by_kind (λ kind h. words_after w.words h ≡ words_now w.words kind word v) q word v refl (λ _. refl) kind
+  words_entry w q kind word v _ _ = by_kind (λ kind h. words_after w.words h ≡ words_now w.words kind word v) q word v refl (λ _. refl) kind
 
   pub cells_entry : (w : Scene) (q : ℕ) (kind : Kind) (word : Word) (v : ℕ) (c : Bool) (o : Option Call) → (last_scene l limit w (before c o q ++ taken q kind word v ∷ [])).cells ≡ cells_now l w.cells kind word v
   cells_entry w q kind word v false None = by_kind (λ kind h. cells_after l w.cells h ≡ cells_now l w.cells kind word v) q word v refl (λ _. refl) kind
-  cells_entry w q kind word v false (Some call) = by_kind (λ kind h. cells_after l w.cells h ≡ cells_now l w.cells kind word v) q word v refl (λ _. refl) kind
   cells_entry w q kind word v true None = by_kind (λ kind h. cells_after l w.cells h ≡ cells_now l w.cells kind word v) q word v refl (λ _. refl) kind
-  cells_entry w q kind word v true (Some call) = by_kind (λ kind h. cells_after l w.cells h ≡ cells_now l w.cells kind word v) q word v refl (λ _. refl) kind
+  cells_entry w q kind word v _ _ = by_kind (λ kind h. cells_after l w.cells h ≡ cells_now l w.cells kind word v) q word v refl (λ _. refl) kind
 
 scene_snoc : (s : Setup) (es : List TakenStep) (e : TakenStep) → end_of s (es ++ e ∷ []) ≡ last_scene s.layout s.limit (end_of s es) (happenings e)
 scene_snoc s es e = ap (last_scene s.layout s.limit at_first) (spelled_snoc es e) ∙ scene-append s.layout s.limit at_first (spelled es) (happenings e)
@@ -215,59 +175,37 @@ read_written_same s words cells (DataAt i) v t = let below : nat_lt i (size s.la
 
 read_written_other : (s : Setup) (words : ℕ → Own) (cells : Words) (a b : Word) (v : ℕ) → b ≢ a → reading (written s words cells a v) b ≡ reading (standing words cells) b
 read_written_other s words cells (ChoosingOf p) (ChoosingOf q) v ne = ap (λ (x : Own). x.choosing) (put_other words p _ q (λ e. ne (ap ChoosingOf e)))
-read_written_other s words cells (ChoosingOf p) (NumberOf q) v ne = put_keeps (λ (x : Own). x.number) words p _ q refl
-read_written_other s words cells (ChoosingOf p) (InsideOf q) v ne = put_keeps (λ (x : Own). x.inside) words p _ q refl
-read_written_other s words cells (NumberOf p) (ChoosingOf q) v ne = put_keeps (λ (x : Own). x.choosing) words p _ q refl
 read_written_other s words cells (NumberOf p) (NumberOf q) v ne = ap (λ (x : Own). x.number) (put_other words p _ q (λ e. ne (ap NumberOf e)))
-read_written_other s words cells (NumberOf p) (InsideOf q) v ne = put_keeps (λ (x : Own). x.inside) words p _ q refl
-read_written_other s words cells (InsideOf p) (ChoosingOf q) v ne = put_keeps (λ (x : Own). x.choosing) words p _ q refl
-read_written_other s words cells (InsideOf p) (NumberOf q) v ne = put_keeps (λ (x : Own). x.number) words p _ q refl
 read_written_other s words cells (InsideOf p) (InsideOf q) v ne = ap (λ (x : Own). x.inside) (put_other words p _ q (λ e. ne (ap InsideOf e)))
 read_written_other s words cells (DataAt i) (DataAt j) v ne = kept (nat_lt i (size s.layout))
   where
     kept : (b : Bool) → (if b then put cells i v else cells) j ≡ cells j
     kept true = put_other cells i v j (λ e. ne (ap DataAt e))
     kept false = refl
-read_written_other s words cells (DataAt i) (ChoosingOf q) v ne = refl
-read_written_other s words cells (DataAt i) (NumberOf q) v ne = refl
-read_written_other s words cells (DataAt i) (InsideOf q) v ne = refl
-read_written_other s words cells (ChoosingOf p) (DataAt j) v ne = refl
-read_written_other s words cells (NumberOf p) (DataAt j) v ne = refl
-read_written_other s words cells (InsideOf p) (DataAt j) v ne = refl
+read_written_other s words cells (DataAt i) _ v ne = refl
+read_written_other s words cells _ (DataAt j) v ne = refl
+read_written_other s words cells _ (ChoosingOf q) v ne = put_keeps (λ (x : Own). x.choosing) words _ _ q refl
+read_written_other s words cells _ (NumberOf q) v ne = put_keeps (λ (x : Own). x.number) words _ _ q refl
+read_written_other s words cells _ (InsideOf q) v ne = put_keeps (λ (x : Own). x.inside) words _ _ q refl
 
 pub index_within : (s : Setup) (word : Word) → InTable s word → index s word < word_count s
 index_within s (ChoosingOf p) h = omega arith
-index_within s (NumberOf p) h = omega arith
-index_within s (InsideOf p) h = omega arith
-index_within s (DataAt i) h = omega arith
+index_within s _ h = omega arith
 
 index_apart : (s : Setup) (a b : Word) → InTable s a → InTable s b → index s a ≡ index s b → a ≡ b
 index_apart s (ChoosingOf p) (ChoosingOf q) h k e = ap ChoosingOf (omega arith)
-index_apart s (ChoosingOf p) (NumberOf q) h k e = absurd (omega arith)
-index_apart s (ChoosingOf p) (InsideOf q) h k e = absurd (omega arith)
-index_apart s (ChoosingOf p) (DataAt j) h k e = absurd (omega arith)
-index_apart s (NumberOf p) (ChoosingOf q) h k e = absurd (omega arith)
 index_apart s (NumberOf p) (NumberOf q) h k e = ap NumberOf (omega arith)
-index_apart s (NumberOf p) (InsideOf q) h k e = absurd (omega arith)
-index_apart s (NumberOf p) (DataAt j) h k e = absurd (omega arith)
-index_apart s (InsideOf p) (ChoosingOf q) h k e = absurd (omega arith)
-index_apart s (InsideOf p) (NumberOf q) h k e = absurd (omega arith)
 index_apart s (InsideOf p) (InsideOf q) h k e = ap InsideOf (omega arith)
-index_apart s (InsideOf p) (DataAt j) h k e = absurd (omega arith)
-index_apart s (DataAt i) (ChoosingOf q) h k e = absurd (omega arith)
-index_apart s (DataAt i) (NumberOf q) h k e = absurd (omega arith)
-index_apart s (DataAt i) (InsideOf q) h k e = absurd (omega arith)
 index_apart s (DataAt i) (DataAt j) h k e = ap DataAt (omega arith)
+index_apart s _ _ h k e = absurd (omega arith)
 
 -- a new table
 pub shows_rest : (s : Setup) → Shows s at_first (replicate (word_count s) 0)
 shows_rest s = (length-replicate (word_count s) 0, λ word t. get_or-replicate (word_count s) (index s word) 0 0 (index_within s word t) ∙ zero_at word)
   where
     zero_at : (word : Word) → 0 ≡ reading at_first word
-    zero_at (ChoosingOf p) = refl
-    zero_at (NumberOf p) = refl
-    zero_at (InsideOf p) = refl
     zero_at (DataAt i) = refl
+    zero_at _ = refl
 
 -- a load leaves the words
 pub shows_load : (s : Setup) (es : List TakenStep) (e : TakenStep) (words : List ℕ) → stores e ≡ false → Shows s (end_of s es) words → Shows s (end_of s (es ++ e ∷ [])) words
@@ -309,25 +247,19 @@ beyond_zero s (x ∷ xs) w i h z = beyond_zero s xs (onward s.layout s.limit w x
         kept : (b : Bool) → nat_lt j (size s.layout) ≡ b → (if b then put w.cells j v else w.cells) i ≡ 0
         kept true e = put_other w.cells j v i (λ (k : i ≡ j). let l : j < size s.layout = ltb-true j (size s.layout) e in absurd (omega arith)) ∙ z
         kept false e = z
-    put_one (ChoosingOf p) v = z
-    put_one (NumberOf p) v = z
-    put_one (InsideOf p) v = z
+    put_one _ v = z
 
     by : (b : Bool) (word : Word) (v : ℕ) → (if b then put_cell s.layout w.cells word v else w.cells) i ≡ 0
     by true word v = put_one word v
     by false word v = z
 
     after_one : (x : Happening) → cells_after s.layout w.cells x i ≡ 0
-    after_one (Begins p call) = z
-    after_one (Falls p) = z
     after_one (Moves p kind word v) = by (is_store kind) word v
-    after_one (Glances p word v) = z
+    after_one _ = z
 
 pub reads_beyond : (s : Setup) (es : List TakenStep) (word : Word) → IsBeyond s word → reading (end_of s es) word ≡ 0
 reads_beyond s es (DataAt i) h = beyond_zero s (spelled es) at_first i h refl
-reads_beyond s es (ChoosingOf p) h = absurd h
-reads_beyond s es (NumberOf p) h = absurd h
-reads_beyond s es (InsideOf p) h = absurd h
+reads_beyond s es _ h = absurd h
 
 -- a step there leaves the words
 pub shows_beyond : (s : Setup) (es : List TakenStep) (e : TakenStep) (words : List ℕ) → IsBeyond s e.step.word → Shows s (end_of s es) words → Shows s (end_of s (es ++ e ∷ [])) words
@@ -335,15 +267,11 @@ shows_beyond s es e words t h = by (is_store e.step.kind) refl
   where
     same_words : (word : Word) → IsBeyond s word → (ws : ℕ → Own) (v : ℕ) → write ws word v ≡ ws
     same_words (DataAt i) k ws v = refl
-    same_words (ChoosingOf p) k ws v = absurd k
-    same_words (NumberOf p) k ws v = absurd k
-    same_words (InsideOf p) k ws v = absurd k
+    same_words _ k ws v = absurd k
 
     same_cells : (word : Word) → IsBeyond s word → (cells : Words) (v : ℕ) → put_cell s.layout cells word v ≡ cells
     same_cells (DataAt i) k cells v = let above : nat_lt i (size s.layout) ≡ false = le-ltb i (size s.layout) k in rw above refl
-    same_cells (ChoosingOf p) k cells v = absurd k
-    same_cells (NumberOf p) k cells v = absurd k
-    same_cells (InsideOf p) k cells v = absurd k
+    same_cells _ k cells v = absurd k
 
     by : (b : Bool) → is_store e.step.kind ≡ b → Shows s (end_of s (es ++ e ∷ [])) words
     by false is = shows_load s es e words is h
@@ -368,9 +296,7 @@ last_reads s es e run loads = last_entry s.layout s.limit (end_of s es) e.by e.s
 
 first_within : (l : Layout) (limit : ℕ) (w : Scene) (q : ℕ) (h : Happening) → who h ≡ q → (c : Bool) (o : Option Call) (rest : List Happening) → Story l limit w ((before c o q ++ h ∷ []) ++ rest) → q < l.procs
 first_within l limit w q h e false None rest run = subst (λ (p : ℕ). p < l.procs) e run.0.0
-first_within l limit w q h e false (Some call) rest run = run.0.0
-first_within l limit w q h e true None rest run = run.0.0
-first_within l limit w q h e true (Some call) rest run = run.0.0
+first_within l limit w q h e _ _ rest run = run.0.0
 
 -- each entry of a run is of one of its processes
 pub run_within : (s : Setup) (xs es : List TakenStep) → IsRun s (xs ++ es) → ((p : ℕ) → p < s.layout.procs → own p es ≡ []) → es ≡ []

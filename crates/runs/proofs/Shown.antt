@@ -4,7 +4,7 @@ use Rattle.runs.proofs.Common.{cases_eq, Layout, Message, IsLayout, message, ent
 use Rattle.runs.proofs.Common.{Arrived, origin, arrives, deeds-append, TakenStep, Setup, deeds_of, shown_by, cells_of, AreShown, RunsShow, EntriesStandInRuns, spelled, IsRun, end_of}
 use Rattle.rmecore.specs.Sole.{IsIn}
 use Rattle.redomail.specs.declared.deed.Deed.{Deed}
-use Rattle.redomail.specs.declared.deed.Deed.TheVariants.{Outer, Commit, Show, Close, Ruin}
+use Rattle.redomail.specs.declared.deed.Deed.TheVariants.{Show}
 use Rattle.redomail.proofs.Stands.{stand_by}
 use Rattle.judge.specs.Legal.{Leads, judged_all}
 use Rattle.judge.specs.Table.{after}
@@ -14,11 +14,8 @@ use Rattle.runs.proofs.Runs.{spelled-append, legal_front}
 
 -- deeds take no message away that is shown
 one_more_shown : (s : State) (d : Deed) → (more : List Message) × ((after s d).mail.shown ≡ s.mail.shown ++ more)
-one_more_shown s (Outer d) = ([], sym (append-nil s.mail.shown))
-one_more_shown s (Commit p seq v) = ([], sym (append-nil s.mail.shown))
 one_more_shown s (Show p at seq v) = (message p seq v ∷ [], refl)
-one_more_shown s (Close p) = ([], sym (append-nil s.mail.shown))
-one_more_shown s (Ruin p) = ([], sym (append-nil s.mail.shown))
+one_more_shown s _ = ([], sym (append-nil s.mail.shown))
 
 all_shown : (s : State) (ds : List Deed) → (more : List Message) × ((all_after s ds).mail.shown ≡ s.mail.shown ++ more)
 all_shown s [] = ([], sym (append-nil s.mail.shown))

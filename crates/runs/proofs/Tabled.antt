@@ -1,6 +1,6 @@
 -- The own steps of a member's call are those of the table.
-use Rattle.std.proofs.Common.{◌≡◌, ℕ, suc, ◌+◌, ◌==◌, Bool, true, false, if◌then◌else◌, List, [], ◌∷◌, ◌++◌, length, Some, None, All, refl, sym, ap, ◌∙◌, subst, append_assoc, eqb-true}
-use Rattle.runs.proofs.Common.{All-nil, All-cons, All-head, All-tail, is_glance, Answer, Call, answer_at, blocked_by, next_or_same, and_answer, answers_in, blocked_in, last_spot, Tells, Spot, Begins}
+use Rattle.std.proofs.Common.{◌≡◌, ℕ, suc, ◌+◌, ◌==◌, Bool, true, false, if◌then◌else◌, List, [], ◌∷◌, ◌++◌, length, Some, None, All, refl, sym, ap, ◌∙◌, subst, append_assoc, eqb-true, inl, inr}
+use Rattle.runs.proofs.Common.{cases_Bool, All-nil, All-cons, All-head, All-tail, is_glance, Answer, Call, answer_at, blocked_by, next_or_same, and_answer, answers_in, blocked_in, last_spot, Tells, Spot, Begins}
 use Rattle.runs.proofs.Common.{Happening, Moves, Scene, Story, own_happenings, TakenStep, Setup, FirstStart, AreMoves, FirstCrash, answers_of, blocked_of, answers_from, blocked_from, spot_before}
 use Rattle.runs.proofs.Common.{Pass, Calls, before, taken, happenings, spelled, own, IsRun, end_of, gone, spot_of, crash_first, KeepsTable, words_begun, spot_begun, CallsKeepTheTable}
 use Rattle.rmeworld.proofs.CallWalks.{calls_take_their_steps}
@@ -10,26 +10,26 @@ use Rattle.runs.proofs.Running.{taken_moves}
 use Rattle.runs.proofs.Walked.{OwnMoves, StartsAt, starts_calm, starts_fallen}
 
 -- entries of p as its steps
-abbrev pub steps_of : ℕ → List TakenStep → List Happening
+abbrev steps_of : ℕ → List TakenStep → List Happening
 steps_of p [] = []
 steps_of p (e ∷ es) = Moves p e.step.kind e.step.word e.value ∷ steps_of p es
 
 -- a step of p, no glance, that carries nothing
-abbrev pub IsPlain : ℕ → TakenStep → Type 0
+abbrev IsPlain : ℕ → TakenStep → Type 0
 IsPlain p e = (e.by ≡ p) × (e.step.crashed ≡ false) × (e.step.start ≡ None) × (is_glance e.step.kind ≡ false)
 
-abbrev pub ArePlain : ℕ → List TakenStep → Type 0
+abbrev ArePlain : ℕ → List TakenStep → Type 0
 ArePlain p [] = Unit {0}
 ArePlain p (e ∷ es) = IsPlain p e × ArePlain p es
 
-pub plain_all : (p : ℕ) (es : List TakenStep) → All (λ (e : TakenStep). e.by ≡ p) es → All (λ (e : TakenStep). e.step.crashed ≡ false) es → All (λ (e : TakenStep). e.step.start ≡ None) es → AreMoves es → ArePlain p es
+plain_all : (p : ℕ) (es : List TakenStep) → All (λ (e : TakenStep). e.by ≡ p) es → All (λ (e : TakenStep). e.step.crashed ≡ false) es → All (λ (e : TakenStep). e.step.start ≡ None) es → AreMoves es → ArePlain p es
 plain_all p [] by crashed start moves = tt
 plain_all p (e ∷ es) by crashed start moves = (
   (All-head (λ (e : TakenStep). e.by ≡ p) e es by, All-head (λ (e : TakenStep). e.step.crashed ≡ false) e es crashed, All-head (λ (e : TakenStep). e.step.start ≡ None) e es start, All-head (λ (e : TakenStep). is_glance e.step.kind ≡ false) e es moves),
   plain_all p es (All-tail (λ (e : TakenStep). e.by ≡ p) e es by) (All-tail (λ (e : TakenStep). e.step.crashed ≡ false) e es crashed) (All-tail (λ (e : TakenStep). e.step.start ≡ None) e es start) (All-tail (λ (e : TakenStep). is_glance e.step.kind ≡ false) e es moves),
 )
 
-pub own_moves : (p : ℕ) (es : List TakenStep) → ArePlain p es → OwnMoves p (steps_of p es)
+own_moves : (p : ℕ) (es : List TakenStep) → ArePlain p es → OwnMoves p (steps_of p es)
 own_moves p [] plain = tt
 own_moves p (e ∷ es) plain = ((refl, plain.0.3), own_moves p es plain.1)
 
@@ -38,18 +38,16 @@ steps_length p [] = refl
 steps_length p (e ∷ es) = ap suc (steps_length p es)
 
 -- the own entries are of the process
-pub own_are : (p : ℕ) (es : List TakenStep) → All (λ (e : TakenStep). e.by ≡ p) (own p es)
+own_are : (p : ℕ) (es : List TakenStep) → All (λ (e : TakenStep). e.by ≡ p) (own p es)
 own_are p [] = All-nil _
-own_are p (e ∷ es) = go (own_are p es) (e.by == p) refl
-  where
-    go : All (λ (e : TakenStep). e.by ≡ p) (own p es) → (b : Bool) → (e.by == p) ≡ b → All (λ (e : TakenStep). e.by ≡ p) (own p (e ∷ es))
-    go later true is = rw is (All-cons (λ (e : TakenStep). e.by ≡ p) e (own p es) (eqb-true e.by p is) later)
-    go later false is = rw is later
+own_are p (e ∷ es) =
+    let later = own_are p es in
+    elim (cases_Bool (e.by == p)) [ inl is ↦ rw is (All-cons (λ (e : TakenStep). e.by ≡ p) e (own p es) (eqb-true e.by p is) later) | inr is ↦ rw is later ]
 
-pub taken_own : (p : ℕ) (e : TakenStep) → e.by ≡ p → is_glance e.step.kind ≡ false → taken e.by e.step.kind e.step.word e.value ≡ Moves p e.step.kind e.step.word e.value
+taken_own : (p : ℕ) (e : TakenStep) → e.by ≡ p → is_glance e.step.kind ≡ false → taken e.by e.step.kind e.step.word e.value ≡ Moves p e.step.kind e.step.word e.value
 taken_own p e by moves = taken_moves e.by e.step.kind e.step.word e.value moves ∙ ap (λ (q : ℕ). Moves q e.step.kind e.step.word e.value) by
 
-pub spelled_plain : (p : ℕ) (es : List TakenStep) → ArePlain p es → spelled es ≡ steps_of p es
+spelled_plain : (p : ℕ) (es : List TakenStep) → ArePlain p es → spelled es ≡ steps_of p es
 spelled_plain p [] plain = refl
 spelled_plain p (e ∷ es) plain =
     let here = taken_own p e plain.0.0 plain.0.3 in
@@ -68,27 +66,22 @@ module _ (s : Setup) (p : ℕ) where
   nothing_before : (q : Spot) (e : TakenStep) → IsPlain p e → spot_before s q e ≡ q
   nothing_before q e plain = λ i. gone s q (before (plain.1 i) (plain.2 i) e.by)
 
-  pub answers_first : (q : Spot) (e : TakenStep) (es : List TakenStep) → e.by ≡ p → is_glance e.step.kind ≡ false → ((t : Spot) → answers_from s t es ≡ answers_in s.layout s.limit t (steps_of p es))
-      → answers_from s q (e ∷ es) ≡ answers_in s.layout s.limit (spot_before s q e) (steps_of p (e ∷ es))
-  answers_first q e es by moves later =
-      ap (and_answer (answer_at (spot_before s q e) e.step.kind e.value)) (ap (λ (t : Spot). answers_from s t es) (step_leads q e by moves) ∙ later (from (spot_before s q e) e))
+  -- what these entries tell from spot q is what their steps tell from spot t
+  abbrev Alike : List TakenStep → Spot → Spot → Type 0
+  Alike es q t = (answers_from s q es ≡ answers_in s.layout s.limit t (steps_of p es)) × (blocked_from s q es ≡ blocked_in s.layout s.limit t (steps_of p es))
 
-  pub answers_plain : (es : List TakenStep) → ArePlain p es → (q : Spot) → answers_from s q es ≡ answers_in s.layout s.limit q (steps_of p es)
-  answers_plain [] plain q = refl
-  answers_plain (e ∷ es) plain q =
-      answers_first q e es plain.0.0 plain.0.3 (answers_plain es plain.1) ∙ ap (λ (t : Spot). answers_in s.layout s.limit t (steps_of p (e ∷ es))) (nothing_before q e plain.0)
-
-  blocked_first : (q : Spot) (e : TakenStep) (es : List TakenStep) → e.by ≡ p → is_glance e.step.kind ≡ false → ((t : Spot) → blocked_from s t es ≡ blocked_in s.layout s.limit t (steps_of p es))
-      → blocked_from s q (e ∷ es) ≡ blocked_in s.layout s.limit (spot_before s q e) (steps_of p (e ∷ es))
-  blocked_first q e es by moves later =
+  told_first : (q : Spot) (e : TakenStep) (es : List TakenStep) → e.by ≡ p → is_glance e.step.kind ≡ false → ((t : Spot) → Alike es t t) → Alike (e ∷ es) q (spot_before s q e)
+  told_first q e es by moves later =
       let t = spot_before s q e in
-      ap (λ (r : ℕ). (if blocked_by r t.lock t.errand e.step.kind e.value then 1 else 0) + blocked_from s (gone s q (happenings e)) es) by
-      ∙ ap (λ (n : ℕ). (if blocked_by p t.lock t.errand e.step.kind e.value then 1 else 0) + n) (ap (λ (u : Spot). blocked_from s u es) (step_leads q e by moves) ∙ later (from t e))
+      let rest : Alike es (gone s q (happenings e)) (from t e) = subst (λ (u : Spot). Alike es u (from t e)) (sym (step_leads q e by moves)) (later (from t e)) in (
+        ap (and_answer (answer_at t e.step.kind e.value)) rest.0,
+        ap (λ (r : ℕ). (if blocked_by r t.lock t.errand e.step.kind e.value then 1 else 0) + blocked_from s (gone s q (happenings e)) es) by
+            ∙ ap (λ (n : ℕ). (if blocked_by p t.lock t.errand e.step.kind e.value then 1 else 0) + n) rest.1,
+      )
 
-  blocked_plain : (es : List TakenStep) → ArePlain p es → (q : Spot) → blocked_from s q es ≡ blocked_in s.layout s.limit q (steps_of p es)
-  blocked_plain [] plain q = refl
-  blocked_plain (e ∷ es) plain q =
-      blocked_first q e es plain.0.0 plain.0.3 (blocked_plain es plain.1) ∙ ap (λ (t : Spot). blocked_in s.layout s.limit t (steps_of p (e ∷ es))) (nothing_before q e plain.0)
+  told_plain : (es : List TakenStep) → ArePlain p es → (q : Spot) → Alike es q q
+  told_plain [] plain q = (refl, refl)
+  told_plain (e ∷ es) plain q = subst (Alike (e ∷ es) q) (nothing_before q e plain.0) (told_first q e es plain.0.0 plain.0.3 (told_plain es plain.1))
 
   -- a start, with the crash that was owed
   pub start_leads : (q : Spot) (c : Bool) (call : Call) → gone s q (before c (Some call) p) ≡ next_or_same s.layout s.limit (gone s q (crash_first c p)) (Begins p call)
@@ -105,10 +98,21 @@ keeps x call [] t blocked steps h = (h.1.0, h.1.2, h.1.3)
 keeps x call (a ∷ []) t blocked steps h = h.1
 keeps x call (a ∷ b ∷ more) t blocked steps h = h
 
--- steps of a call, from what is known of them
-pub keeps_the_table : (x y : Pass) (call : Call) (answers : List Answer) (blocked : ℕ) (mine : List TakenStep) → Calls x mine y → FirstCrash x.fallen mine → FirstStart call mine → AreMoves mine → answers_of x mine ≡ answers → blocked_of x mine ≡ blocked → KeepsTable x call answers blocked (length mine)
-keeps_the_table x y call answers blocked [] calls crash started moved answered blocks = absurd started
-keeps_the_table x y call answers blocked (e ∷ es) calls crash started moved answered blocks =
+-- the steps of a call, from its start
+abbrev pub start_of : Pass → Call → Spot
+start_of x call = next_or_same x.setup.layout x.setup.limit (spot_begun x) (Begins x.by call)
+
+pub record Stepped (x : Pass) (call : Call) (mine : List TakenStep) : Type 0 where
+  pub steps : List Happening
+  pub own : OwnMoves x.by steps
+  pub spelled_as : spelled mine ≡ before x.fallen (Some call) x.by ++ steps
+  pub long : length steps ≡ length mine
+  pub answers : answers_in x.setup.layout x.setup.limit (start_of x call) steps ≡ answers_of x mine
+  pub blocked : blocked_in x.setup.layout x.setup.limit (start_of x call) steps ≡ blocked_of x mine
+
+pub stepped : (x y : Pass) (call : Call) (mine : List TakenStep) → Calls x mine y → FirstCrash x.fallen mine → FirstStart call mine → AreMoves mine → Stepped x call mine
+stepped x y call [] calls crash started moved = absurd started
+stepped x y call (e ∷ es) calls crash started moved =
     let s : Setup = x.setup in
     let p : ℕ = x.by in
     let q : Spot = spot_of s p x.seen in
@@ -116,24 +120,33 @@ keeps_the_table x y call answers blocked (e ∷ es) calls crash started moved an
     let mine : e.by ≡ p = All-head (λ (e : TakenStep). e.by ≡ p) e es by in
     let move : is_glance e.step.kind ≡ false = All-head (λ (e : TakenStep). is_glance e.step.kind ≡ false) e es moved in
     let plain : ArePlain p es = plain_all p es (All-tail (λ (e : TakenStep). e.by ≡ p) e es by) crash.1 started.1 (All-tail (λ (e : TakenStep). is_glance e.step.kind ≡ false) e es moved) in
-    let ms : List Happening = steps_of p (e ∷ es) in
-    let run : IsRun s (x.seen ++ calls.since) = subst (λ (t : Setup × List TakenStep). IsRun t.0 t.1) (λ i. (calls.setup i, calls.seen i)) calls.run in
     let first = taken_own p e mine move in
     let later = spelled_plain p es plain in
-    let are : spelled (e ∷ es) ≡ (before x.fallen (Some call) p ++ Moves p e.step.kind e.step.word e.value ∷ []) ++ steps_of p es = λ i. (before (crash.0 i) (started.0 i) (mine i) ++ first i ∷ []) ++ later i in
-    let own_is : own_happenings p (spelled calls.since) ≡ before x.fallen (Some call) p ++ ms = own_spelled p calls.since ∙ ap spelled calls.mine_are ∙ are ∙ append_assoc (before x.fallen (Some call) p) (Moves p e.step.kind e.step.word e.value ∷ []) (steps_of p es) in
-    let moves : OwnMoves p ms = ((refl, move), own_moves p es plain) in
-    let begun = starts s p (spelled calls.since) (end_of s x.seen) x.fallen call ms (legal_back s x.seen calls.since run) own_is moves in
-    let told = subst (λ (t : Spot). StartsAt s.layout s.limit p (words_begun x) (gone s t (crash_first x.fallen p)) call ms) (spot_in_run s x.seen p) begun in
-    let start : Spot = next_or_same s.layout s.limit (spot_begun x) (Begins p call) in
-    let there : spot_before s q e ≡ start = (λ i. gone s q (before (crash.0 i) (started.0 i) (mine i))) ∙ start_leads s p q x.fallen call in
-    let answers_are : answers_in s.layout s.limit start ms ≡ answers =
-    sym (answers_first s p q e es mine move (answers_plain s p es plain) ∙ ap (λ (t : Spot). answers_in s.layout s.limit t ms) there) ∙ answered in
-    let blocked_are : blocked_in s.layout s.limit start ms ≡ blocked =
-    sym (blocked_first s p q e es mine move (blocked_plain s p es plain) ∙ ap (λ (t : Spot). blocked_in s.layout s.limit t ms) there) ∙ blocks in
-    keeps x call answers (last_spot s.layout s.limit start ms) blocked (length (e ∷ es))
-    (subst (λ (t : List Answer × ℕ × ℕ). Tells s.layout (words_begun x) (spot_begun x).mended call t.0 (last_spot s.layout s.limit start ms) t.1 t.2) (λ i. (answers_are i, steps_length p (e ∷ es) i, blocked_are i))
-    (calls_take_their_steps s.layout s.limit p (words_begun x) (spot_begun x) call ms told.0 told.1 told.2))
+    let there : spot_before s q e ≡ start_of x call = (λ i. gone s q (before (crash.0 i) (started.0 i) (mine i))) ∙ start_leads s p q x.fallen call in
+    let told = subst (Alike s p (e ∷ es) q) there (told_first s p q e es mine move (told_plain s p es plain)) in
+    record {
+      steps = steps_of p (e ∷ es);
+      own = ((refl, move), own_moves p es plain);
+      spelled_as = (λ i. (before (crash.0 i) (started.0 i) (mine i) ++ first i ∷ []) ++ later i) ∙ append_assoc (before x.fallen (Some call) p) (Moves p e.step.kind e.step.word e.value ∷ []) (steps_of p es);
+      long = steps_length p (e ∷ es);
+      answers = sym told.0;
+      blocked = sym told.1;
+    }
+
+-- steps of a call, from what is known of them
+pub keeps_the_table : (x y : Pass) (call : Call) (answers : List Answer) (blocked : ℕ) (mine : List TakenStep) → Calls x mine y → FirstCrash x.fallen mine → FirstStart call mine → AreMoves mine → answers_of x mine ≡ answers → blocked_of x mine ≡ blocked → KeepsTable x call answers blocked (length mine)
+keeps_the_table x y call answers blocked mine calls crash started moved answered blocks =
+    let s : Setup = x.setup in
+    let p : ℕ = x.by in
+    let m = stepped x y call mine calls crash started moved in
+    let run : IsRun s (x.seen ++ calls.since) = subst (λ (t : Setup × List TakenStep). IsRun t.0 t.1) (λ i. (calls.setup i, calls.seen i)) calls.run in
+    let own_is = own_spelled p calls.since ∙ ap spelled calls.mine_are ∙ m.spelled_as in
+    let begun = starts s p (spelled calls.since) (end_of s x.seen) x.fallen call m.steps (legal_back s x.seen calls.since run) own_is m.own in
+    let told = subst (λ (t : Spot). StartsAt s.layout s.limit p (words_begun x) (gone s t (crash_first x.fallen p)) call m.steps) (spot_in_run s x.seen p) begun in
+    let last : Spot = last_spot s.layout s.limit (start_of x call) m.steps in
+    keeps x call answers last blocked (length mine)
+    (subst (λ (t : List Answer × ℕ × ℕ). Tells s.layout (words_begun x) (spot_begun x).mended call t.0 last t.1 t.2) (λ i. ((m.answers ∙ answered) i, m.long i, (m.blocked ∙ blocks) i))
+    (calls_take_their_steps s.layout s.limit p (words_begun x) (spot_begun x) call m.steps told.0 told.1 told.2))
 
 pub calls_keep_the_table : CallsKeepTheTable
 calls_keep_the_table x call answers blocked y mine r = keeps_the_table x.pass y.pass call answers blocked mine r.calls r.crash r.first r.moves r.answered r.blocks

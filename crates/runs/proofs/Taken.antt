@@ -1,8 +1,8 @@
 -- Steps one after another, and what they tell.
 use Rattle.std.proofs.Common.{◌≡◌, ℕ, suc, ◌+◌, ◌≤◌, Bool, true, false, if◌then◌else◌, List, [], ◌∷◌, ◌++◌, length, Option, Some, None, IsSome, unwrap_or, refl, sym, ap, ◌∙◌, subst, arith, length-append}
-use Rattle.runs.proofs.Common.{Kind, Look, Weigh, Word, answer, is_blocked, kind_of, word_of, carried, is_glance, Place, Wait, one_more, Answer, Call, Lock, by_lock, answer_at, blocked_by, and_answer}
+use Rattle.runs.proofs.Common.{Kind, Look, Weigh, Word, answer, is_blocked, kind_of, word_of, carried, Place, Wait, one_more, Answer, Call, Lock, by_lock, answer_at, blocked_by, and_answer}
 use Rattle.runs.proofs.Common.{is_idle, is_waiting, Errand, Free, Doing, Spot, next_spot, Moves, TakenStep, Setup, answers_of, blocked_of, Takes, Ran, answers_from, blocked_from, spot_before}
-use Rattle.runs.proofs.Common.{is_blocked_at, Going, Still, Lasts, LastsBy, Pass, spot_now, next_entry, moved_spot, Advances, Seated, many_more, TakesStep, before, happenings, spelled, gone, spot_of}
+use Rattle.runs.proofs.Common.{is_blocked_at, Going, Still, Lasts, LastsBy, Pass, spot_now, next_entry, moved_spot, Seated, many_more, TakesStep, before, happenings, spelled, gone, spot_of}
 use Rattle.runs.proofs.Common.{IsUnder, Fits, Leaves, UnderBy}
 use Rattle.rmeworld.specs.declared.outcome.Outcome.{Outcome}
 use Rattle.runs.proofs.Under.{blocked_lock}
@@ -21,36 +21,36 @@ takes_spot x y (e ∷ es) h =
     let here : spot_of z.setup z.by z.seen ≡ gone x.setup (spot_of x.setup x.by x.seen) (happenings e) = spot_after x z (next_entry x e.step.kind e.step.word e.value) refl h.2.adds ∙ ap (λ (f : TakenStep). gone x.setup (spot_of x.setup x.by x.seen) (happenings f)) (sym h.1) in
     takes_spot z y es h.3 ∙ ap (λ (t : Setup × Spot). gone t.0 t.1 (spelled es)) (λ i. (h.2.adds.setup i, here i)) ∙ sym (gone-append x.setup (spot_of x.setup x.by x.seen) (happenings e) (spelled es))
 
-pub takes_snoc : (x y z : Pass) (mine : List TakenStep) (kind : Kind) (word : Word) (v : ℕ) → Takes x mine y → Advances y kind word v z → is_glance kind ≡ false → Takes x (mine ++ next_entry y kind word v ∷ []) z
-takes_snoc x y z [] kind word v h a move = subst (λ (p : Pass). Takes p (next_entry y kind word v ∷ []) z) h (z, refl, a, refl, move)
-takes_snoc x y z (e ∷ es) kind word v h a move = (h.0, h.1, h.2, takes_snoc h.0 y z es kind word v h.3 a move, h.4)
-
 pub and_append : (o : Option Answer) (xs ys : List Answer) → and_answer o (xs ++ ys) ≡ and_answer o xs ++ ys
 and_append None xs ys = refl
 and_append (Some a) xs ys = refl
 
-answers_snoc : (s : Setup) (q : Spot) (es : List TakenStep) (e : TakenStep) → answers_from s q (es ++ e ∷ []) ≡ answers_from s q es ++ and_answer (answer_at (spot_before s (gone s q (spelled es)) e) e.step.kind e.value) []
-answers_snoc s q [] e = refl
-answers_snoc s q (x ∷ xs) e =
-    ap (and_answer (answer_at (spot_before s q x) x.step.kind x.value)) (answers_snoc s (gone s q (happenings x)) xs e ∙ ap (λ (r : Spot). answers_from s (gone s q (happenings x)) xs ++ and_answer (answer_at (spot_before s r e) e.step.kind e.value) []) (sym (gone-append s q (happenings x) (spelled xs))))
-    ∙ and_append (answer_at (spot_before s q x) x.step.kind x.value) (answers_from s (gone s q (happenings x)) xs) (and_answer (answer_at (spot_before s (gone s q (spelled (x ∷ xs))) e) e.step.kind e.value) [])
+pub takes-append : (x y z : Pass) (a b : List TakenStep) → Takes x a y → Takes y b z → Takes x (a ++ b) z
+takes-append x y z [] b h k = subst (λ (p : Pass). Takes p b z) h k
+takes-append x y z (e ∷ es) b h k = (h.0, h.1, h.2, takes-append h.0 y z es b h.3 k, h.4)
 
-blocked_snoc : (s : Setup) (q : Spot) (es : List TakenStep) (e : TakenStep) → blocked_from s q (es ++ e ∷ []) ≡ blocked_from s q es + (if is_blocked_at (spot_before s (gone s q (spelled es)) e) e then 1 else 0)
-blocked_snoc s q [] e = omega arith
-blocked_snoc s q (x ∷ xs) e =
-    let later = blocked_snoc s (gone s q (happenings x)) xs e ∙ ap (λ (r : Spot). blocked_from s (gone s q (happenings x)) xs + (if is_blocked_at (spot_before s r e) e then 1 else 0)) (sym (gone-append s q (happenings x) (spelled xs))) in
+pub answers-append : (s : Setup) (q : Spot) (a b : List TakenStep) → answers_from s q (a ++ b) ≡ answers_from s q a ++ answers_from s (gone s q (spelled a)) b
+answers-append s q [] b = refl
+answers-append s q (x ∷ xs) b =
+    ap (and_answer (answer_at (spot_before s q x) x.step.kind x.value)) (answers-append s (gone s q (happenings x)) xs b ∙ ap (λ (r : Spot). answers_from s (gone s q (happenings x)) xs ++ answers_from s r b) (sym (gone-append s q (happenings x) (spelled xs))))
+    ∙ and_append (answer_at (spot_before s q x) x.step.kind x.value) (answers_from s (gone s q (happenings x)) xs) (answers_from s (gone s q (spelled (x ∷ xs))) b)
+
+assoc : (a b c : ℕ) → a + (b + c) ≡ (a + b) + c
+assoc a b c = omega arith
+
+pub blocked-append : (s : Setup) (q : Spot) (a b : List TakenStep) → blocked_from s q (a ++ b) ≡ blocked_from s q a + blocked_from s (gone s q (spelled a)) b
+blocked-append s q [] b = omega arith
+blocked-append s q (x ∷ xs) b =
+    let later = blocked-append s (gone s q (happenings x)) xs b ∙ ap (λ (r : Spot). blocked_from s (gone s q (happenings x)) xs + blocked_from s r b) (sym (gone-append s q (happenings x) (spelled xs))) in
     let first = if is_blocked_at (spot_before s q x) x then 1 else 0 in
-    ap (λ (m : ℕ). first + m) later ∙ assoc first (blocked_from s (gone s q (happenings x)) xs) (if is_blocked_at (spot_before s (gone s q (spelled (x ∷ xs))) e) e then 1 else 0)
-  where
-    assoc : (a b c : ℕ) → a + (b + c) ≡ (a + b) + c
-    assoc a b c = omega arith
+    ap (λ (m : ℕ). first + m) later ∙ assoc first (blocked_from s (gone s q (happenings x)) xs) (blocked_from s (gone s q (spelled (x ∷ xs))) b)
 
 -- the spot at the next step of a pass
 at_now : (x y : Pass) (mine : List TakenStep) (kind : Kind) (word : Word) (v : ℕ) → Takes x mine y → spot_before x.setup (gone x.setup (spot_of x.setup x.by x.seen) (spelled mine)) (next_entry y kind word v) ≡ spot_now y
 at_now x y mine kind word v h = ap (λ (t : Setup × Spot). gone t.0 t.1 (before y.fallen y.start y.by)) (λ i. (sym (takes_sizes x y mine h).0 i, sym (takes_spot x y mine h) i))
 
-none_before : (m : ℕ) → 0 + m ≡ m
-none_before m = omega arith
+alone : (m : ℕ) → 0 + (m + 0) ≡ m
+alone m = omega arith
 
 -- one step more
 module _ (x y z : Seated) (mine : List TakenStep) (o : Outcome) (g : Going x mine y) (s : TakesStep y o z) where
@@ -64,17 +64,17 @@ module _ (x y z : Seated) (mine : List TakenStep) (o : Outcome) (g : Going x min
       s.steps ∙ ap one_more g.steps ∙ ap (λ (k : ℕ). many_more k x.steps) k
 
   pub takes_more : Takes x.pass (mine ++ last ∷ []) z.pass
-  takes_more = takes_snoc x.pass y.pass z.pass mine (kind_of s.access) (word_of s.access) (carried s.access s.value) g.takes s.advances (next_moves y.pass s.access s.next)
+  takes_more = takes-append x.pass y.pass z.pass mine (last ∷ []) g.takes (z.pass, refl, s.advances, refl, next_moves y.pass s.access s.next)
 
   pub answers_more : answers_of x.pass (mine ++ last ∷ []) ≡ and_answer o.answer []
   answers_more =
-      answers_snoc x.pass.setup (spot_of x.pass.setup x.pass.by x.pass.seen) mine last ∙ ap (λ (l : List Answer). l ++ and_answer (answer_at (spot_before x.pass.setup (gone x.pass.setup (spot_of x.pass.setup x.pass.by x.pass.seen) (spelled mine)) last) (kind_of s.access) (carried s.access s.value)) []) g.answers
+      answers-append x.pass.setup (spot_of x.pass.setup x.pass.by x.pass.seen) mine (last ∷ []) ∙ ap (λ (l : List Answer). l ++ and_answer (answer_at (spot_before x.pass.setup (gone x.pass.setup (spot_of x.pass.setup x.pass.by x.pass.seen) (spelled mine)) last) (kind_of s.access) (carried s.access s.value)) []) g.answers
       ∙ ap (λ (q : Spot). and_answer (answer_at q (kind_of s.access) (carried s.access s.value)) []) (at_now x.pass y.pass mine (kind_of s.access) (word_of s.access) (carried s.access s.value) g.takes) ∙ ap (λ (u : Outcome). and_answer u.answer []) (sym s.told)
 
   pub blocked_more : blocked_of x.pass (mine ++ last ∷ []) ≡ (if o.progress.blocked then 1 else 0)
   blocked_more =
-      blocked_snoc x.pass.setup (spot_of x.pass.setup x.pass.by x.pass.seen) mine last ∙ ap (λ (m : ℕ). m + (if is_blocked_at (spot_before x.pass.setup (gone x.pass.setup (spot_of x.pass.setup x.pass.by x.pass.seen) (spelled mine)) last) last then 1 else 0)) g.blocked
-      ∙ none_before (if is_blocked_at (spot_before x.pass.setup (gone x.pass.setup (spot_of x.pass.setup x.pass.by x.pass.seen) (spelled mine)) last) last then 1 else 0)
+      blocked-append x.pass.setup (spot_of x.pass.setup x.pass.by x.pass.seen) mine (last ∷ []) ∙ ap (λ (m : ℕ). m + blocked_from x.pass.setup (gone x.pass.setup (spot_of x.pass.setup x.pass.by x.pass.seen) (spelled mine)) (last ∷ [])) g.blocked
+      ∙ alone (if is_blocked_at (spot_before x.pass.setup (gone x.pass.setup (spot_of x.pass.setup x.pass.by x.pass.seen) (spelled mine)) last) last then 1 else 0)
       ∙ ap (λ (q : Spot). if is_blocked_at q last then 1 else 0) (at_now x.pass y.pass mine (kind_of s.access) (word_of s.access) (carried s.access s.value) g.takes) ∙ ap (λ (u : Outcome). if u.progress.blocked then 1 else 0) (sym s.told)
 
 -- where a step of a call leads to

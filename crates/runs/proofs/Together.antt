@@ -1,6 +1,6 @@
 -- What holds of each member's own entries holds of its process's entries in the one run that gathering finds.
-use Rattle.std.proofs.Common.{◌≡◌, ℕ, ◌==◌, ◌||◌, Bool, true, false, List, [], ◌∷◌, ◌++◌, All, refl, sym, subst, inl, inr, eqb-true}
-use Rattle.runs.proofs.Common.{cases_eq, All-nil, All-cons, All-head, All-tail, All-weaker, TakenStep, has_member, IsGlance, IsWhole, IsTold, own_of, Seated, own}
+use Rattle.std.proofs.Common.{◌≡◌, ℕ, ◌==◌, true, List, [], ◌∷◌, ◌++◌, All, sym, subst, inl, inr, eqb-true}
+use Rattle.runs.proofs.Common.{cases_eq, cases_Bool, All-nil, All-cons, All-head, All-tail, All-weaker, TakenStep, has_member, IsGlance, IsWhole, IsTold, own_of, Seated, own}
 use Rattle.runs.specs.Rule.{Begins}
 
 pub all_both : {X : Type 0} (P Q : X → Type 0) (xs : List X) → All P xs → All Q xs → All (λ (x : X). P x × Q x) xs
@@ -10,11 +10,8 @@ all_both P Q (x ∷ xs) h g = All-cons (λ x. P x × Q x) x xs (All-head P x xs 
 -- a member of each process
 pub member_at : (P : Seated → Type 0) (p : ℕ) (xs : List Seated) → has_member p xs ≡ true → All P xs → (x : Seated) × (x.pass.by ≡ p) × P x
 member_at P p [] h all = absurd (cc)
-member_at P p (x ∷ xs) h all = go (x.pass.by == p) refl (member_at P p xs)
-  where
-    go : (b : Bool) → (x.pass.by == p) ≡ b → (has_member p xs ≡ true → All P xs → (x : Seated) × (x.pass.by ≡ p) × P x) → (x : Seated) × (x.pass.by ≡ p) × P x
-    go true is later = (x, eqb-true x.pass.by p is, All-head P x xs all)
-    go false is later = later (subst (λ (b : Bool). (b || has_member p xs) ≡ true) is h) (All-tail P x xs all)
+member_at P p (x ∷ xs) h all =
+    elim (cases_Bool (x.pass.by == p)) [ inl is ↦ (x, eqb-true x.pass.by p is, All-head P x xs all) | inr is ↦ member_at P p xs (rw is at h) (All-tail P x xs all) ]
 
 module _ (Q : ℕ → List TakenStep → Type 0) (more : (p : ℕ) (es glances : List TakenStep) → All IsGlance glances → Q p es → Q p (es ++ glances)) (first : Seated) (others : List Seated) (count : ℕ) (run : List TakenStep) (told : IsTold first others count run) where
   abbrev pub Keeps : Seated → Type 0

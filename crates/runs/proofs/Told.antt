@@ -1,17 +1,19 @@
 -- A worker that is told of a ruined lock has read that it is.
 use Rattle.std.proofs.Common.{◌≡◌, ℕ, ◌==◌, Bool, true, false, if◌then◌else◌, List, [], ◌∷◌, ◌++◌, Option, Some, None, Result, Ok, Err, IfErr, IsSome, refl, sym, ap, ◌∙◌, subst, inl, inr, append_assoc, eqb-true}
-use Rattle.runs.proofs.Common.{All-head, All-tail, Kind, Word, Data as DataAt, answer, is_glance, Place, Layout, Reply, Task, Script, Get as Asks, Put as Writes, Done, tail, repair, consistent}
+use Rattle.runs.proofs.Common.{All-head, All-tail, Kind, Word, Data as DataAt, answer, is_glance, Place, Layout, Reply, Task, Script, Done, tail, repair, consistent}
 use Rattle.runs.proofs.Common.{Answer, NotRecoverable as RuinedAnswer, OwnerDied, Unlocked, Call, Lock, Append, Checking, Ruining, Mending, Working, by_lock, by_reply, by_script, answer_at, answer_by}
 use Rattle.runs.proofs.Common.{and_answer, is_idle, Errand, Free, Doing, Spot, next_spot, Happening, at_rest, Moves, only_spot, settled, moved_by, TakenStep, LockFault, Setup, AreMoves, answers_from}
-use Rattle.runs.proofs.Common.{ServedAll, spot_before, ready, spot_now, own_of, last_call, last_of, AreInOrder, ReadsRuin, HasReadRuin, Seated, began, fell, before, taken, happenings, spelled, own}
+use Rattle.runs.proofs.Common.{ServedAll, spot_before, ready, spot_now, own_of, last_call, last_of, AreInOrder, ReadsRuin, HasReadRuin, Seated, began, before, taken, happenings, spelled}
 use Rattle.runs.proofs.Common.{IsRun, gone, Goes, Replies, WholeEnds, AppendFails, Comes}
 use Rattle.rmecore.specs.declared.core_done.CoreDone.{CoreDone}
 use Rattle.rmecore.specs.declared.core_done.CoreDone.TheVariants as ends
 use Rattle.rmecore.specs.declared.kind.Kind.TheVariants.{Get as Gets}
 use Rattle.redomail.specs.declared.reply.Reply.TheVariants as reply
 use Rattle.runs.specs.declared.lock_fault.LockFault.TheVariants.{NumbersSpent, NotRecoverable, NotYet}
+use Rattle.runs.proofs.Begun.{replies_tail}
 use Rattle.runs.proofs.OneStep.{run_goes, goes_front, goes_back}
 use Rattle.runs.proofs.Ordered.{own_now, mine_order}
+use Rattle.runs.proofs.Outside.{ready_same}
 use Rattle.runs.proofs.Ruins.{IsMended, IsRuin, Stands, StandsAt, entry_stands, before_stands, walk, later_ruin}
 use Rattle.runs.proofs.Running.{taken_moves}
 use Rattle.runs.proofs.Runs.{spelled-append}
@@ -19,11 +21,7 @@ use Rattle.runs.proofs.Runs.{spelled-append}
 lock_calm : (o : Option CoreDone) → by_lock false o ≡ Some RuinedAnswer → ⊥
 lock_calm None e = absurd (cc)
 lock_calm (Some ends.In) e = absurd (cc)
-lock_calm (Some ends.InAgain) e = absurd (cc)
-lock_calm (Some ends.Spent) e = absurd (cc)
-lock_calm (Some ends.Out) e = absurd (cc)
-lock_calm (Some (ends.Found found)) e = absurd (cc)
-lock_calm (Some ends.Withdrawn) e = absurd (cc)
+lock_calm _ e = absurd (cc)
 
 check_calm : (b ruined : Bool) → by_reply Checking b (reply.Ruined ruined) ≡ Some RuinedAnswer → ⊥
 check_calm b true e = absurd (cc)
@@ -32,19 +30,12 @@ check_calm false false e = absurd (cc)
 
 mended_calm : (left : Script Reply) (b : Bool) → Replies IsMended left → by_script Mending b left ≡ Some RuinedAnswer → ⊥
 mended_calm (Done (reply.Mended x)) b h e = absurd (cc)
-mended_calm (Asks i rest) b h e = absurd (cc)
-mended_calm (Writes i x rest) b h e = absurd (cc)
 mended_calm (Done _) b h e = absurd h
+mended_calm _ b h e = absurd (cc)
 
 work_calm : (t : Task) (left : Script Reply) (b : Bool) → by_script (Working t) b left ≡ Some RuinedAnswer → ⊥
 work_calm t (Done r) b e = absurd (cc)
-work_calm t (Asks i rest) b e = absurd (cc)
-work_calm t (Writes i x rest) b e = absurd (cc)
-
-mended_tail : (left : Script Reply) (v : ℕ) → Replies IsMended left → Replies IsMended (tail left v)
-mended_tail (Done r) v h = h
-mended_tail (Asks i rest) v h = h v
-mended_tail (Writes i x rest) v h = h
+work_calm t _ b e = absurd (cc)
 
 module _ (l : Layout) (last : Option Call) (s : Place) (b c : Bool) (limit p : ℕ) where
   -- the reading that a mending begins with
@@ -66,7 +57,7 @@ module _ (l : Layout) (last : Option Call) (s : Place) (b c : Bool) (limit p : �
   ruin_told (Doing Ruining left) kind word v h some a = absurd h
   ruin_told (Doing Mending left) kind word v (calm, inl (q, is)) some a =
       first_ruin q kind word v (subst (λ (r : Script Reply). IsSome (moved_by l limit p s b c (Doing Mending r) kind word v)) is some) (subst (λ (r : Script Reply). by_script Mending b (tail r v) ≡ Some RuinedAnswer) is a)
-  ruin_told (Doing Mending left) kind word v (calm, inr h) some a = absurd (mended_calm (tail left v) b (mended_tail left v h) a)
+  ruin_told (Doing Mending left) kind word v (calm, inr h) some a = absurd (mended_calm (tail left v) b (replies_tail IsMended left v h) a)
   ruin_told (Doing (Working t) left) kind word v h some a = absurd (work_calm t (tail left v) b a)
 
 module _ (s : Setup) where
@@ -118,10 +109,6 @@ module _ (s : Setup) where
   right_ruin : (xs ys : List TakenStep) → HasReadRuin ys → HasReadRuin (xs ++ ys)
   right_ruin xs ys h = record { front = xs ++ h.front; entry = h.entry; back = h.back; is = ap (λ (l : List TakenStep). xs ++ l) h.is ∙ sym (append_assoc xs h.front (h.entry ∷ h.back)); reads = h.reads }
 
-either_sizes : (b : Bool) (x : Seated) → ((if b then x else fell x).pass.setup ≡ x.pass.setup) × ((if b then x else fell x).pass.by ≡ x.pass.by) × ((if b then x else fell x).pass.seen ≡ x.pass.seen)
-either_sizes true x = (refl, refl, refl)
-either_sizes false x = (refl, refl, refl)
-
 -- calls of which one answers so
 served_told : (x y : Seated) (order : List Call) (answers told rest : List Answer) (blocked : ℕ) (mine : List TakenStep) → ServedAll (began (ready x) Lock) order answers blocked y mine → AreInOrder None (own_of x.pass) → AreInOrder None (own_of x.pass ++ mine) → answers ≡ told ++ RuinedAnswer ∷ rest
     → HasReadRuin (own_of y.pass)
@@ -129,7 +116,7 @@ served_told x y order answers told rest blocked mine served old all is =
     let z = began (ready x) Lock in
     let s = z.pass.setup in
     let own_y = own_now x y mine served.calls in
-    let own_z = ap (λ (u : ℕ × List TakenStep). own u.0 u.1) (λ i. (sizes.1 i, sizes.2 i)) in
+    let own_z = (ready_same (is_idle (spot_now x.pass)) x).2 in
     let run : IsRun s y.pass.seen = subst (λ (u : Setup). IsRun u y.pass.seen) served.calls.setup served.calls.run in
     let goes : Goes s at_rest (spelled (own_of x.pass) ++ spelled mine) = subst (Goes s at_rest) (ap spelled own_y ∙ spelled-append (own_of x.pass) mine) (run_goes s y.pass.seen y.pass.by run) in
     subst HasReadRuin (sym own_y) (elim (walk s None at_rest (own_of x.pass) (refl, λ e. absurd (cc)) old (goes_front s at_rest (spelled (own_of x.pass)) (spelled mine) goes)) [
@@ -139,9 +126,6 @@ served_told x y order answers told rest blocked mine served old all is =
           (told_ruin s (last_of None (own_of x.pass)) (gone s at_rest (spelled (own_of x.pass))) mine told rest stands (mine_order None (own_of x.pass) mine all) (goes_back s at_rest (spelled (own_of x.pass)) (spelled mine) goes) served.moves
           (subst (λ (es : List TakenStep). answers_from s (gone s at_rest (spelled es)) mine ≡ told ++ RuinedAnswer ∷ rest) own_z (served.answered ∙ is)))
     ])
-  where
-    sizes : ((began (ready x) Lock).pass.setup ≡ x.pass.setup) × ((began (ready x) Lock).pass.by ≡ x.pass.by) × ((began (ready x) Lock).pass.seen ≡ x.pass.seen)
-    sizes = either_sizes (is_idle (spot_now x.pass)) x
 
 module _ (x y : Seated) (seq : ℕ) (value : List ℕ) (a b c d : ℕ) (old : AreInOrder None (own_of x.pass)) (now : AreInOrder None (own_of y.pass)) where
   whole_told : (turns : ℕ) (e : LockFault) → e ≡ NotRecoverable → WholeEnds (began (ready x) Lock) turns (Append seq value) (Err e) y a b c d → HasReadRuin (own_of y.pass)

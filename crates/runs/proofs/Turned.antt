@@ -1,33 +1,10 @@
 -- Some steps and then some more.
-use Rattle.std.proofs.Common.{◌≡◌, ℕ, zero, suc, ◌+◌, if◌then◌else◌, List, [], ◌∷◌, ◌++◌, length, Option, Some, None, refl, sym, ap, ◌∙◌, subst, arith, length-append}
-use Rattle.runs.proofs.Common.{one_more, Answer, Call, answer_at, and_answer, Spot, TakenStep, Setup, Served, answers_of, blocked_of, Takes, blocks, Ran, CutOff, answers_from, blocked_from, Turning}
-use Rattle.runs.proofs.Common.{spot_before, is_blocked_at, Pass, IsPass, Seated, many_more, happenings, spelled, gone, spot_of}
-use Rattle.runs.proofs.Leads.{gone-append}
-use Rattle.runs.proofs.Taken.{takes_sizes, takes_spot, and_append}
+use Rattle.std.proofs.Common.{◌≡◌, ℕ, zero, suc, ◌+◌, List, [], ◌∷◌, ◌++◌, length, Option, Some, None, refl, sym, ap, ◌∙◌, arith, length-append}
+use Rattle.runs.proofs.Common.{one_more, Answer, Call, and_answer, Spot, TakenStep, Setup, Served, answers_of, blocked_of, blocks, Ran, CutOff, answers_from, blocked_from, Turning}
+use Rattle.runs.proofs.Common.{IsPass, Seated, many_more, spelled, gone, spot_of}
+pub use Rattle.runs.proofs.Taken.{answers-append, blocked-append}
+use Rattle.runs.proofs.Taken.{takes_sizes, takes_spot, takes-append}
 use Rattle.runs.proofs.Called.{served_of}
-
-takes-append : (x y z : Pass) (a b : List TakenStep) → Takes x a y → Takes y b z → Takes x (a ++ b) z
-takes-append x y z [] b h k = subst (λ (p : Pass). Takes p b z) h k
-takes-append x y z (e ∷ es) b h k = (h.0, h.1, h.2, takes-append h.0 y z es b h.3 k, h.4)
-
-pub answers-append : (s : Setup) (q : Spot) (a b : List TakenStep) → answers_from s q (a ++ b) ≡ answers_from s q a ++ answers_from s (gone s q (spelled a)) b
-answers-append s q [] b = refl
-answers-append s q (x ∷ xs) b =
-    ap (and_answer (answer_at (spot_before s q x) x.step.kind x.value)) (answers-append s (gone s q (happenings x)) xs b ∙ ap (λ (r : Spot). answers_from s (gone s q (happenings x)) xs ++ answers_from s r b) (sym (gone-append s q (happenings x) (spelled xs))))
-    ∙ and_append (answer_at (spot_before s q x) x.step.kind x.value) (answers_from s (gone s q (happenings x)) xs) (answers_from s (gone s q (spelled (x ∷ xs))) b)
-
-none_before : (m : ℕ) → m ≡ 0 + m
-none_before m = omega arith
-
-assoc : (a b c : ℕ) → a + (b + c) ≡ (a + b) + c
-assoc a b c = omega arith
-
-pub blocked-append : (s : Setup) (q : Spot) (a b : List TakenStep) → blocked_from s q (a ++ b) ≡ blocked_from s q a + blocked_from s (gone s q (spelled a)) b
-blocked-append s q [] b = none_before (blocked_from s q b)
-blocked-append s q (x ∷ xs) b =
-    let later = blocked-append s (gone s q (happenings x)) xs b ∙ ap (λ (r : Spot). blocked_from s (gone s q (happenings x)) xs + blocked_from s r b) (sym (gone-append s q (happenings x) (spelled xs))) in
-    let first = if is_blocked_at (spot_before s q x) x then 1 else 0 in
-    ap (λ (m : ℕ). first + m) later ∙ assoc first (blocked_from s (gone s q (happenings x)) xs) (blocked_from s (gone s q (spelled (x ∷ xs))) b)
 
 pub many_add : (j k c : ℕ) → many_more k (many_more j c) ≡ many_more (j + k) c
 many_add j zero c = ap (λ (m : ℕ). many_more m c) (let e : j ≡ j + 0 = omega arith in e)

@@ -17,20 +17,16 @@ LockTo call c s None t = ((is_entry s t ≡ true) × (call ≡ Lock)) ⊎ ((is_e
 
 module _ (n limit p : ℕ) where
   relock : (x y v : ℕ) → LockTo Lock false (Reread core.Lock (x ∷ y ∷ [])) (by_lock false (again x y v)) (relocked n p x y v)
-  relock (suc x) zero v = inr (refl, refl, refl)
-  relock (suc x) (suc y) v = inr (refl, refl, refl)
-  relock zero zero zero = inr (refl, refl, refl)
-  relock zero zero (suc v) = inr (refl, refl, refl)
-  relock zero (suc y) zero = inr (refl, refl, refl)
   relock zero (suc y) (suc v) = inl (refl, refl)
+  relock zero zero zero = inr (refl, refl, refl)
+  relock (suc x) zero v = inr (refl, refl, refl)
+  relock _ _ _ = inr (refl, refl, refl)
 
   recover : (x y v : ℕ) → LockTo Recover false (Reread core.Recover (x ∷ y ∷ [])) (by_lock false (found x y v)) (recovered x y v)
-  recover (suc x) zero v = (tt, λ u e. tt)
   recover (suc x) (suc y) v = inr (refl, refl, refl)
-  recover zero zero zero = (tt, λ u e. tt)
   recover zero zero (suc v) = inr (refl, refl, refl)
   recover zero (suc y) zero = (tt, λ u e. tt)
-  recover zero (suc y) (suc v) = (tt, λ u e. tt)
+  recover _ _ _ = (tt, λ u e. tt)
 
   -- a step of a lock on its way in
   lock_in : (s : Place) (kind : Kind) (word : Word) (v : ℕ) → under_place Lock false s ≡ true → IsSome (next n limit p s kind word v) → is_glance kind ≡ false → LockTo Lock false s (by_lock false (answer s kind v)) (unwrap_or (next n limit p s kind word v) s)

@@ -1,11 +1,11 @@
 -- The steps of one process in a story are a walk: each comes where it may, and a reread finds its word as it stood when the
 -- call began, since nobody else stores into the lock words of a process.
-use Rattle.std.proofs.Common.{◌≡◌, ◌≢◌, ℕ, ◌+◌, ◌<◌, ◌==◌, ◌&&◌, nat_lt, nat_le, Bool, true, false, if◌then◌else◌, List, [], ◌∷◌, Option, Some, None, IsSome, unwrap_or, refl, sym, ◌∙◌, subst, eqb-true}
-use Rattle.runs.proofs.Common.{and_parts, eqb-false, Kind, Look as Looks, Weigh as Weighs, Open as Opens, Peek as Peeks, Take as Takes, Shut as Shuts, Mark as Marks, Drop as Drops, Glance as Glancing}
-use Rattle.runs.proofs.Common.{Own, Word, Choosing as ChoosingOf, Number as NumberOf, Data as DataAt, is_glance, ReadsBegun, Place, Rest, Dead, Wait, Inside, Reread, Opening, Door, Shutting, Leaving}
+use Rattle.std.proofs.Common.{◌≡◌, ◌≢◌, ℕ, ◌+◌, ◌<◌, ◌==◌, ◌&&◌, nat_lt, nat_le, Bool, true, false, if◌then◌else◌, List, [], ◌∷◌, Option, Some, None, IsSome, unwrap_or, refl, sym, ◌∙◌, subst, eqb-true, inl, inr}
+use Rattle.runs.proofs.Common.{and_parts, cases_Bool, eqb-false, Kind, Look as Looks, Weigh as Weighs, Open as Opens, Peek as Peeks, Take as Takes, Shut as Shuts, Mark as Marks, Drop as Drops, Glance as Glancing}
+use Rattle.runs.proofs.Common.{Own, Word, Choosing as ChoosingOf, Number as NumberOf, Data as DataAt, is_glance, ReadsBegun, Place, Wait, Reread, Opening, Door, Shutting, Leaving}
 use Rattle.runs.proofs.Common.{Withdrawing, Unmarking, next, started, only, Steps, is_store, write, Reads as CoreReads, put_same, put_other, Layout, Reply, Script, Get as Asks, Put as Writes, Call}
-use Rattle.runs.proofs.Common.{Lock, Unlock, Consistent, Recover, Append, Close, Withdraw, Why, next_or_same, Walks, Errand, Free, Doing, Spot, begun_from, inside_only, Begins, next_spot, Happening}
-use Rattle.runs.proofs.Common.{Moves, at_lock, only_spot, settled, Falls, Glances, moved_by, who, dead, errand_entered, Scene, Story, onward, own_happenings, Can, reading_of}
+use Rattle.runs.proofs.Common.{Lock, Unlock, Consistent, Recover, Withdraw, Why, next_or_same, Walks, Errand, Free, Doing, Spot, begun_from, inside_only, Begins, next_spot, Happening}
+use Rattle.runs.proofs.Common.{Moves, at_lock, settled, Falls, moved_by, who, dead, errand_entered, Scene, Story, onward, own_happenings, Can, reading_of}
 use Rattle.rmecore.specs.Tallied.{IsRereading}
 use Rattle.rmecore.specs.declared.core_call.CoreCall.TheVariants as core
 use Rattle.rmecore.specs.declared.kind.Kind.TheVariants.{Reread as Rereads, Get as Gets, Put as Puts}
@@ -13,8 +13,9 @@ use Rattle.rmecore.specs.declared.word.Word.TheVariants.{Inside as InsideOf}
 use Rattle.rmecore.proofs.Accesses.{passed}
 use Rattle.rmecore.proofs.Tallies.{rereads_on, reads_begun}
 use Rattle.rmecore.proofs.Turns.{not_data}
-use Rattle.rmeworld.specs.declared.call.Call.TheVariants.{Get, Put}
+use Rattle.rmeworld.proofs.CallSteps.{guard_spot}
 use Rattle.rmeworld.proofs.WorldTallies.{at_lock_some, settled_not}
+use Rattle.runs.proofs.Begun.{guard_inside}
 
 -- nobody else's step stores into the lock words of p
 apart : (p q r : ℕ) (b : Bool) (t : Place) → p ≢ q → IsSome (only ((r == q) && b) t) → p ≢ r
@@ -44,22 +45,9 @@ moved_apart l limit p q s b c (Doing why (Asks j rest)) Gets (DataAt i) v words 
 moved_apart l limit p q s b c (Doing why (Writes j x rest)) Puts (DataAt i) v words ne some store = refl
 moved_apart l limit p q s b c (Doing why left) _ _ v words ne some store = absurd (cc)
 
-only_settled : (fits b c : Bool) (why : Why) (left : Script Reply) (d : Spot) → IsSome (only_spot fits (settled b c why left)) → IsRereading (unwrap_or (only_spot fits (settled b c why left)) d).lock → ⊥
-only_settled true b c why left d some h = settled_not b c why left h
-only_settled false b c why left d some h = absurd (cc)
-
 not_entered : (l : Layout) (p : ℕ) (s t : Place) → IsRereading t → errand_entered l p s t ≡ Free
 not_entered l p s (Reread call seen) h = refl
-not_entered l p s Rest h = absurd h
-not_entered l p s Dead h = absurd h
-not_entered l p s Opening h = absurd h
-not_entered l p s (Door unread m) h = absurd h
-not_entered l p s (Shutting call k) h = absurd h
-not_entered l p s (Wait k unpassed looked) h = absurd h
-not_entered l p s Inside h = absurd h
-not_entered l p s Leaving h = absurd h
-not_entered l p s Withdrawing h = absurd h
-not_entered l p s (Unmarking call) h = absurd h
+not_entered l p s _ h = absurd h
 
 locked_free : (l : Layout) (p : ℕ) (s : Place) (b c : Bool) (o : Option Place) (d : Spot) → IsSome (at_lock l p s b c o) → IsRereading (unwrap_or (at_lock l p s b c o) d).lock → (unwrap_or (at_lock l p s b c o) d).errand ≡ Free
 locked_free l p s b c None d some h = absurd (cc)
@@ -78,27 +66,20 @@ still l limit p s b c Free kind word v d some moves = λ h.
     let o = next l.procs limit p s kind word v in
     let was = rereads_on l.procs limit p s kind word v (at_lock_some l p s b c o some) moves (locked_was l p s b c o d some h) in
     (was.0, was.1, locked_free l p s b c o d some h)
-still l limit p s b c (Doing why (Asks j rest)) Gets (DataAt i) v d some moves = λ h. absurd (only_settled (i == j) b c why (rest v) d some h)
-still l limit p s b c (Doing why (Writes j x rest)) Puts (DataAt i) v d some moves = λ h. absurd (only_settled ((i == j) && (v == x)) b c why rest d some h)
+still l limit p s b c (Doing why (Asks j rest)) Gets (DataAt i) v d some moves = λ h. absurd (guard_spot _ (settled b c why (rest v)) d (λ t. IsRereading t.lock → ⊥) some (λ is. settled_not b c why (rest v)) h)
+still l limit p s b c (Doing why (Writes j x rest)) Puts (DataAt i) v d some moves = λ h. absurd (guard_spot _ (settled b c why rest) d (λ t. IsRereading t.lock → ⊥) some (λ is. settled_not b c why rest) h)
 still l limit p s b c (Doing why left) _ _ v d some moves = absurd (cc)
 
 inside_not : (s : Place) (b fits : Bool) (why : Why) (left : Script Reply) (d : Spot) → IsSome (inside_only s b fits why left) → IsRereading (unwrap_or (inside_only s b fits why left) d).lock → ⊥
-inside_not Inside b true why left d some h = h
-inside_not Inside b false why left d some h = absurd (cc)
-inside_not _ b fits why left d some h = absurd (cc)
+inside_not s b fits why left d some = guard_inside (λ t. IsRereading t.lock → ⊥) s b fits why left d (λ is h. h) some
 
 begun_free : (l : Layout) (p : ℕ) (s : Place) (b : Bool) (e : Errand) (call : Call) (d : Spot) → IsSome (begun_from l p s b e call) → IsRereading (unwrap_or (begun_from l p s b e call) d).lock → (unwrap_or (begun_from l p s b e call) d).errand ≡ Free
 begun_free l p s b Free Lock d some h = locked_free l p s b false (started s core.Lock) d some h
 begun_free l p s b Free Recover d some h = locked_free l p s b false (started s core.Recover) d some h
 begun_free l p s b Free Withdraw d some h = locked_free l p s b false (started s core.Withdraw) d some h
 begun_free l p s true Free Unlock d some h = locked_free l p s true false (started s core.Unlock) d some h
-begun_free l p s false Free Unlock d some h = absurd (inside_not s false _ _ _ d some h)
 begun_free l p s true Free Consistent d some h = absurd (cc)
-begun_free l p s false Free Consistent d some h = absurd (inside_not s false _ _ _ d some h)
-begun_free l p s b Free (Append seq value) d some h = absurd (inside_not s b _ _ _ d some h)
-begun_free l p s b Free Close d some h = absurd (inside_not s b _ _ _ d some h)
-begun_free l p s b Free (Get i) d some h = absurd (inside_not s b _ _ _ d some h)
-begun_free l p s b Free (Put i v) d some h = absurd (inside_not s b _ _ _ d some h)
+begun_free l p s b Free _ d some h = absurd (inside_not s b _ _ _ d some h)
 begun_free l p s b (Doing why left) call d some h = absurd (cc)
 
 -- the steps of p alone
@@ -112,17 +93,10 @@ OwnMoves p (h ∷ hs) = OwnMove p h × OwnMoves p hs
 
 module _ (l : Layout) (limit p : ℕ) where
   others_keep : (w : Scene) (h : Happening) → Can l limit w h → p ≢ who h → (onward l limit w h).words p ≡ w.words p
-  others_keep w (Begins q call) can ne = refl
-  others_keep w (Falls q) can ne = refl
-  others_keep w (Glances q word v) can ne = refl
-  others_keep w (Moves q kind word v) can ne = by (is_store kind) refl
-    where
-      spot : Spot
-      spot = w.spots q
-
-      by : (b : Bool) → is_store kind ≡ b → (if is_store kind then write w.words word v else w.words) p ≡ w.words p
-      by true e = rw e (moved_apart l limit p q spot.lock spot.mended spot.barred spot.errand kind word v w.words ne can.1 e)
-      by false e = rw e refl
+  others_keep w (Moves q kind word v) can ne =
+      let spot = w.spots q in
+      elim (cases_Bool (is_store kind)) [ inl store ↦ rw store (moved_apart l limit p q spot.lock spot.mended spot.barred spot.errand kind word v w.words ne can.1 store) | inr load ↦ rw load refl ]
+  others_keep w _ can ne = refl
 
   -- the next happening of p in a story: up to it its spot and its words stay
   pub record Comes (w : Scene) (h : Happening) (later : List Happening) : Type 0 where
@@ -136,19 +110,17 @@ module _ (l : Layout) (limit p : ℕ) where
 
   comes : (hs : List Happening) (w : Scene) (h : Happening) (later : List Happening) → Story l limit w hs → own_happenings p hs ≡ h ∷ later → Comes w h later
   comes [] w h later story is = absurd (cc)
-  comes (x ∷ xs) w h later story is = go (λ k. comes xs (onward l limit w x) h later story.1 k) (who x == p) refl
-    where
-      go : (own_happenings p xs ≡ h ∷ later → Comes (onward l limit w x) h later) → (b : Bool) → (who x == p) ≡ b → Comes w h later
-      go next true e =
-          let here : own_happenings p (x ∷ xs) ≡ x ∷ own_happenings p xs = rw e refl in
-          let all : x ∷ own_happenings p xs ≡ h ∷ later = sym here ∙ is in
-          let same : x ≡ h = cc in
-          record { scene = w; spot = refl; words = refl; can = subst (Can l limit w) same story.0; rest = xs; story = subst (λ (y : Happening). Story l limit (onward l limit w y) xs) same story.1; own = cc }
-      go next false e =
-          let here : own_happenings p (x ∷ xs) ≡ own_happenings p xs = rw e refl in
-          let far : p ≢ who x = λ k. eqb-false (who x) p e (sym k) in
-          let n = next (sym here ∙ is) in
-          record { scene = n.scene; spot = n.spot ∙ put_other w.spots (who x) _ p far; words = n.words ∙ others_keep w x story.0 far; can = n.can; rest = n.rest; story = n.story; own = n.own }
+  comes (x ∷ xs) w h later story is =
+      elim (cases_Bool (who x == p)) [
+        | inl e ↦
+            let all : x ∷ own_happenings p xs ≡ h ∷ later = rw e at is in
+            let same : x ≡ h = cc in
+            record { scene = w; spot = refl; words = refl; can = subst (Can l limit w) same story.0; rest = xs; story = subst (λ (y : Happening). Story l limit (onward l limit w y) xs) same story.1; own = cc }
+        | inr e ↦
+            let far : p ≢ who x = λ k. eqb-false (who x) p e (sym k) in
+            let n = comes xs (onward l limit w x) h later story.1 (rw e at is) in
+            record { scene = n.scene; spot = n.spot ∙ put_other w.spots (who x) _ p far; words = n.words ∙ others_keep w x story.0 far; can = n.can; rest = n.rest; story = n.story; own = n.own }
+      ]
 
   -- own words as they stood when the call began, for a process that rereads
   abbrev Fresh : Own → Spot → Own → Type 0
@@ -156,22 +128,11 @@ module _ (l : Layout) (limit p : ℕ) where
 
   core_reads : (w : Scene) (s : Place) (kind : Kind) (word : Word) (v : ℕ) → IsSome (next l.procs limit p s kind word v) → (is_store kind ≡ false → reading_of w.words w.cells word ≡ v) → CoreReads w.words (Steps p kind word v)
   core_reads w s kind (DataAt i) v some reads = λ load. absurd (not_data l.procs limit p s kind i v some)
-  core_reads w s kind (ChoosingOf q) v some reads = reads
-  core_reads w s kind (NumberOf q) v some reads = reads
-  core_reads w s kind (InsideOf q) v some reads = reads
+  core_reads w s kind _ v some reads = reads
 
   any_reads : (s : Place) (began : Own) (v : ℕ) → (IsRereading s → ⊥) → ReadsBegun began.choosing began.number began.inside s v
   any_reads (Reread call seen) began v h = absurd (h tt)
-  any_reads Rest began v h = tt
-  any_reads Dead began v h = tt
-  any_reads Opening began v h = tt
-  any_reads (Door unread m) began v h = tt
-  any_reads (Shutting call k) began v h = tt
-  any_reads (Wait k unpassed looked) began v h = tt
-  any_reads Inside began v h = tt
-  any_reads Leaving began v h = tt
-  any_reads Withdrawing began v h = tt
-  any_reads (Unmarking call) began v h = tt
+  any_reads _ began v h = tt
 
   reads : (w : Scene) (began : Own) (e : Errand) (s : Place) (b c : Bool) (kind : Kind) (word : Word) (v : ℕ) → IsSome (moved_by l limit p s b c e kind word v) → (is_store kind ≡ false → reading_of w.words w.cells word ≡ v) → is_glance kind ≡ false
       → (IsRereading s → (e ≡ Free) × (began ≡ w.words p)) → ReadsBegun began.choosing began.number began.inside s v
@@ -205,9 +166,7 @@ module _ (l : Layout) (limit p : ℕ) where
   walks : (began : Own) (ms : List Happening) → OwnMoves p ms → Walking began ms
   walks began [] moves = λ hs w story is fresh. tt
   walks began (Moves q kind word v ∷ ms) moves = subst (λ (r : ℕ). Walking began (Moves r kind word v ∷ ms)) (sym moves.0.0) (walk_one began kind word v ms moves.0.1 (walks began ms moves.1))
-  walks began (Begins q call ∷ ms) moves = absurd moves.0
-  walks began (Falls q ∷ ms) moves = absurd moves.0
-  walks began (Glances q word v ∷ ms) moves = absurd moves.0
+  walks began (_ ∷ ms) moves = absurd moves.0
 
   -- a call that p starts at this spot, with these words
   abbrev pub StartsAt : Own → Spot → Call → List Happening → Type 0

@@ -10,7 +10,7 @@ use Rattle.runs.specs.declared.lock_fault.LockFault.TheVariants as fault
 use Rattle.runs.specs.declared.entry_kind.Entry.TheVariants as entering
 use Rattle.runs.proofs.WholeSteps.{whole_counts}
 use Rattle.runs.proofs.Chained.{asked_behind, cut_asked, answered-append, cut_after, ran_behind, cut_behind, lock_setup}
-use Rattle.runs.proofs.Counted.{ready_setup}
+use Rattle.runs.proofs.Outside.{ready_same}
 
 pub unlocked_is : (a : Answer) → Fits call.Unlock a → a ≡ answer.Unlocked
 unlocked_is answer.Unlocked f = refl
@@ -169,7 +169,7 @@ module _ (x w y : Seated) (turns : ℕ) (task : Call) (a0 a1 f0 f1 : ℕ) (e : w
 -- the task fits as it did before
 pub task_fits : (x w y : Seated) (turns : ℕ) (o : Option Answer) (task : Call) (a0 a1 f0 f1 : ℕ) → w ≡ began (ready x) call.Lock → LockBy 0 w turns o y a0 a1 f0 f1 → IsTask x.pass.setup.layout task → IsTask y.pass.setup.layout task
 task_fits x w y turns o task a0 a1 f0 f1 e h fits =
-    let same : y.pass.setup ≡ x.pass.setup = lock_setup w y turns o a0 a1 f0 f1 h ∙ ap (λ (u : Seated). u.pass.setup) e ∙ ready_setup (is_idle (spot_now x.pass)) x in
+    let same : y.pass.setup ≡ x.pass.setup = lock_setup w y turns o a0 a1 f0 f1 h ∙ ap (λ (u : Seated). u.pass.setup) e ∙ (ready_same (is_idle (spot_now x.pass)) x).0 in
     subst (λ (s : Setup). IsTask s.layout task) (sym same) fits
 
 -- a fact of an answer, with the number of turns that it stands for

@@ -141,6 +141,16 @@ few_behind y w z call e h = subst (λ (u : Seated). CountsAtMost (most_steps u.p
 pub owes : (y w : Seated) (call : Call) → w ≡ behind y call → w.pass.start ≡ Some call
 owes y w call e = ap (λ (u : Seated). u.pass.start) e
 
+-- sums of what parts take at most
+sum_joined : (a b c : ℕ) → a + (b + c) ≤ (a + b) + c
+sum_joined a b c = omega arith
+
+sum_moved : (a b c : ℕ) → (a + b) + c ≤ (a + c) + b
+sum_moved a b c = omega arith
+
+sum_less : (a b c : ℕ) → a + b ≤ (a + c) + b
+sum_less a b c = omega arith
+
 -- a mending, and the calls behind it
 pub mend_few : (x y z : Seated) (task : Call) → y.pass.setup ≡ x.pass.setup → CountsAtMost (most_steps x.pass.setup.layout Consistent) x y → CountsAtMost (most_steps y.pass.setup.layout task + 3) y z → CountsAtMost (most_inside x.pass.setup.layout task) x z
 mend_few x y z task same h t =
@@ -148,19 +158,13 @@ mend_few x y z task same h t =
     let mended : ℕ = most_steps l Consistent in
     let worked : ℕ = most_steps l task in
     let later : CountsAtMost (worked + 3) y z = subst (λ (s : Setup). CountsAtMost (most_steps s.layout task + 3) y z) same t in
-    at_most_more x z z (mended + (worked + 3)) (most_inside l task) (sums mended worked) (at_most_both x y z mended (worked + 3) h later) refl
-  where
-    sums : (a b : ℕ) → a + (b + 3) ≤ (a + b) + 3
-    sums a b = omega arith
+    at_most_more x z z (mended + (worked + 3)) (most_inside l task) (sum_joined mended worked 3) (at_most_both x y z mended (worked + 3) h later) refl
 
 pub ruined_few : (x y z : Seated) (task : Call) → CountsAtMost (most_steps x.pass.setup.layout Consistent) x y → CountsAtMost 3 y z → CountsAtMost (most_inside x.pass.setup.layout task) x z
 ruined_few x y z task h t =
     let l : Layout = x.pass.setup.layout in
     let mended : ℕ = most_steps l Consistent in
-    at_most_more x z z (mended + 3) (most_inside l task) (sums mended (most_steps l task)) (at_most_both x y z mended 3 h t) refl
-  where
-    sums : (a b : ℕ) → a + 3 ≤ (a + b) + 3
-    sums a b = omega arith
+    at_most_more x z z (mended + 3) (most_inside l task) (sum_less mended 3 (most_steps l task)) (at_most_both x y z mended 3 h t) refl
 
 -- what a lock answers that came to nothing else
 pub ruined_is : (a : Answer) → Fits Lock a → (a ≡ answer.Clean → ⊥) → (a ≡ answer.OwnerDied → ⊥) → (a ≡ answer.NumbersSpent → ⊥) → a ≡ answer.NotRecoverable
@@ -182,19 +186,13 @@ module _ (x u y z : Seated) (task : Call) (turns : ℕ) (e : u ≡ began (ready 
   few_whole same h t =
       let l : Layout = u.pass.setup.layout in
       let later : CountsAtMost (most_inside l task) y z = subst (λ (s : Setup). CountsAtMost (most_inside s.layout task) y z) same t in
-      few_out x u z Lock most_of e (at_most_more u z z ((most_steps l Lock + turns) + most_inside l task) (most_of l) (sums (most_steps l Lock) turns (most_inside l task)) (at_most_both u y z (most_steps l Lock + turns) (most_inside l task) h later) refl)
-    where
-      sums : (a b c : ℕ) → (a + b) + c ≤ (a + c) + b
-      sums a b c = omega arith
+      few_out x u z Lock most_of e (at_most_more u z z ((most_steps l Lock + turns) + most_inside l task) (most_of l) (sum_moved (most_steps l Lock) turns (most_inside l task)) (at_most_both u y z (most_steps l Lock + turns) (most_inside l task) h later) refl)
 
   -- a lock that is cut off
   pub few_lock : CountsAtMost (most_steps u.pass.setup.layout Lock + turns) u y → y.steps ≤ most_whole x.pass.setup.layout task + turns
   few_lock h =
       let l : Layout = u.pass.setup.layout in
-      few_out x u y Lock most_of e (at_most_more u y y (most_steps l Lock + turns) (most_of l) (sums (most_steps l Lock) turns (most_inside l task)) h refl)
-    where
-      sums : (a b c : ℕ) → a + b ≤ (a + c) + b
-      sums a b c = omega arith
+      few_out x u y Lock most_of e (at_most_more u y y (most_steps l Lock + turns) (most_of l) (sum_less (most_steps l Lock) turns (most_inside l task)) h refl)
 
 -- an append that stores, in numbers
 pub stored_append_steps : StoredAppendSteps

@@ -55,22 +55,10 @@ module _ (p : RmeProcess) (eight : length p.value ≡ 8) where
 
   -- a chore has a step left
   pub has_chore : (c : Chore) → Fits p (Within c) → is_none (next_access (stand_at p (Within c))) ≡ false
-  has_chore chore.Asking h = refl
-  has_chore chore.Checking h = refl
-  has_chore chore.Ruining h = refl
-  has_chore chore.Armed h = refl
-  has_chore chore.At h = refl
-  has_chore (chore.Seq at) h = refl
   has_chore (chore.Value at seq read) h = wants p.limit p.index Place.Inside Mending _ (reading l p.index at seq read (padded read p.value) h.1.1.1)
   has_chore (chore.Redo at seq step) h = let wide = wide h.1.1.0 in let within = h.1.1.1 in wants p.limit p.index Place.Inside Mending _ (storing l p.index _ step (Mended true) (omega (arith, wide, within)))
-  has_chore (chore.Closed seq) h = refl
-  has_chore (chore.Count seq closed) h = refl
-  has_chore (chore.Last seq closed count) h = refl
   has_chore (chore.Store at seq step) h = let wide = wide h.1.1.0 in let within = h.1.1.1 in wants p.limit p.index Place.Inside (why_of l p.value (chore.Store at seq step)) _ (storing l p.index _ step Stored (omega (arith, wide, within)))
-  has_chore chore.Closing h = refl
-  has_chore chore.Close h = refl
-  has_chore (chore.Getting i) h = refl
-  has_chore (chore.Putting i v) h = refl
+  has_chore _ h = refl
 
   goes_on_storing : (at seq step v : ℕ) (reply : Reply) → step + 1 < 8 + 2 * p.width
       → stage_after l (stage.Write (record_of at seq (take l.width p.value)) step reply) v ≡ stage.Write (record_of at seq (take l.width p.value)) (step + 1) reply

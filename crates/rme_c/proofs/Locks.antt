@@ -1,28 +1,16 @@
 -- A step of the lock's part, in the numbers of C.
 use Rattle.std.proofs.Common.{◌≡◌, ◌≢◌, ℕ, ◌+◌, ◌<◌, Bool, true, false, nat_lt, if◌then◌else◌, List, [], ◌∷◌, Option, Some, None, IfSome, is_none, refl, sym, ap, ◌∙◌, inl, inr, arith}
-use Rattle.rme_c.proofs.Common.{cases_Bool, cases_eq, Access, Stage, Inside as AtInside, Rest as AtRest, Dead as AtDead, ReadingChoosing, ReadingNumber, ReadingInside, Opening as AtOpening}
-use Rattle.rme_c.proofs.Common.{Door as AtDoor, Shutting as AtShutting, Wait as AtWait, Leaving as AtLeaving, Withdrawing as AtWithdrawing, Unmarking as AtUnmarking, place_of, first, access, word_of}
-use Rattle.rme_c.proofs.Common.{InLock, Place, Reread, above, above_skip, above_past, Layout, Check, begun, Free as IsFree, Doing as Does, Checking, is_entry, InWords, landing, lock_at, errand_at}
-use Rattle.rmecore.specs.Place.{Rest, Dead, Opening, Door, Shutting, Wait, Inside, Leaving, Withdrawing, Unmarking}
+use Rattle.rme_c.proofs.Common.{cases_Bool, cases_eq, Access, Stage}
+use Rattle.rme_c.proofs.Common.{Door as AtDoor, Wait as AtWait, place_of, first, access, word_of}
+use Rattle.rme_c.proofs.Common.{InLock, Place, above, above_skip, above_past, Layout, Check, begun, Free as IsFree, Doing as Does, Checking, is_entry, InWords, landing, lock_at, errand_at}
+use Rattle.rmeworld.proofs.Projection.{entry_inside}
+use Rattle.rmecore.specs.Place.{Door, Wait}
 use Rattle.rmecore.specs.Refused.{is_idle}
 use Rattle.rmecore.specs.declared.word.Word.{Word}
-use Rattle.rmecore.specs.declared.word.Word.TheVariants.{Choosing, Number, Inside as InsideOf, Data}
-
-entered_inside : (s t : Place) → is_entry s t ≡ true → t ≡ Inside
-entered_inside s Inside e = refl
-entered_inside s Rest e = cc
-entered_inside s Dead e = cc
-entered_inside s (Reread call seen) e = cc
-entered_inside s Opening e = cc
-entered_inside s (Door unread m) e = cc
-entered_inside s (Shutting call k) e = cc
-entered_inside s (Wait k unpassed looked) e = cc
-entered_inside s Leaving e = cc
-entered_inside s Withdrawing e = cc
-entered_inside s (Unmarking call) e = cc
+use Rattle.rmecore.specs.declared.word.Word.TheVariants.{Data}
 
 pub lands : (n p : ℕ) (s t : Place) (to : Stage) (checks : Bool) → checks ≡ is_entry s t → place_of n p to ≡ t → lock_at n p (landing checks to) ≡ t
-lands n p s t to true e place = sym (entered_inside s t (sym e))
+lands n p s t to true e place = sym (entry_inside s t (sym e))
 lands n p s t to false e place = place
 
 pub has_errand : (l : Layout) (p : ℕ) (words : List ℕ) (s t : Place) (to : Stage) (checks : Bool) → checks ≡ is_entry s t
@@ -31,10 +19,8 @@ has_errand l p words s t to true e = rw (← e) refl
 has_errand l p words s t to false e = rw (← e) refl
 
 in_words : (n : ℕ) (word : Word) → InLock n word → InWords n word
-in_words n (Choosing q) h = h
-in_words n (Number q) h = h
-in_words n (InsideOf q) h = h
 in_words n (Data i) h = tt
+in_words n _ h = h
 
 pub words_of : (n : ℕ) (o : Option Access) → IfSome o (λ a. InLock n (word_of a)) → IfSome o (λ a. InWords n (word_of a))
 words_of n None h = tt
@@ -45,10 +31,9 @@ door_wants limit p m [] = elim (cases_Bool (nat_lt m limit)) [ inl e ↦ rw e re
 door_wants limit p m (j ∷ js) = refl
 
 wait_wants : (limit p k : ℕ) (js : List ℕ) (looked : Bool) → is_none (access limit p (Wait k js (if looked then first js else None))) ≡ false
-wait_wants limit p k [] false = refl
 wait_wants limit p k [] true = refl
-wait_wants limit p k (j ∷ js) false = refl
 wait_wants limit p k (j ∷ js) true = refl
+wait_wants limit p k _ _ = refl
 
 -- the first of those that are left stands for where the scan stands
 pub above_again : (n p i j : ℕ) → (i ≢ p → j ≡ i) → (i ≡ p → j ≡ i + 1) → p < n → above n p j ≡ above n p i
@@ -68,16 +53,6 @@ above_none n p i e = above_past n p n (omega arith) ∙ sym (empty (above n p i)
 
 -- no step comes next just where no call is under way
 pub idle_access : (limit n p : ℕ) (t : Stage) → is_idle (place_of n p t) ≡ is_none (access limit p (place_of n p t))
-idle_access limit n p AtRest = refl
-idle_access limit n p AtDead = refl
-idle_access limit n p (ReadingChoosing call) = refl
-idle_access limit n p (ReadingNumber call c) = refl
-idle_access limit n p (ReadingInside call c k) = refl
-idle_access limit n p AtOpening = refl
 idle_access limit n p (AtDoor i m) = sym (door_wants limit p m (above n p i))
-idle_access limit n p (AtShutting call k) = refl
 idle_access limit n p (AtWait k i looked) = sym (wait_wants limit p k (above n p i) looked)
-idle_access limit n p AtInside = refl
-idle_access limit n p AtLeaving = refl
-idle_access limit n p AtWithdrawing = refl
-idle_access limit n p (AtUnmarking call) = refl
+idle_access limit n p _ = refl

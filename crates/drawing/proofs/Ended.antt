@@ -1,5 +1,5 @@
 -- A run that is told step by step, and how that ends.
-use Rattle.std.proofs.Common.{◌≡◌, ℕ, ◌+◌, ◌-◌, List, [], ◌++◌, Option, Some, None, Result, Ok, Err, refl, sym, ap, subst, ◌∙◌, append_assoc}
+use Rattle.std.proofs.Common.{◌≡◌, ℕ, List, [], ◌++◌, Option, Some, None, Result, Ok, Err, refl, sym, ap, subst, ◌∙◌, append_assoc}
 use Rattle.drawing.proofs.Common.{append-nil, Refusal, State, Image, ReplayFault, Verdict, Tape, Writes, Begins, Part, deeds_of, verdict_on, begins_further, begins_wider, End, Judged, Refused, Spells}
 use Rattle.drawing.proofs.Common.{Ending, Follows, IsAllFollowed, EndsAs, IsJudged}
 use Rattle.schedule.specs.declared.replay_fault.ReplayFault.TheVariants as faults
@@ -10,9 +10,7 @@ use Rattle.schedule.specs.Reports.{IsEnd}
 pub not_closed : (t u : Tape) (image : Image) (verdict : Verdict) (fault : ReplayFault) → Closes {A = Unit {0}} t u image verdict (Err fault) → Ending t u image (Judged verdict) (Err fault)
 not_closed t u image verdict faults.Write h = h
 not_closed t u image verdict faults.OutOfMemory h = (λ end is. ((h.0 end is).0, (h.0 end is).1), h.1)
-not_closed t u image verdict (faults.Text line number) h = absurd h
-not_closed t u image verdict (faults.Refused line number) h = absurd h
-not_closed t u image verdict faults.Read h = absurd h
+not_closed t u image verdict _ h = absurd h
 
 module _ {S : Type 0} (t u : Tape) (start : State) (image_of : S → Image) (run : Part S (ℕ × Refusal)) (steps : List ℕ) where
   -- a beginning of the steps is one of all that is written
@@ -24,9 +22,7 @@ module _ {S : Type 0} (t u : Tape) (start : State) (image_of : S → Image) (run
   pub steps_fail : (fault : ReplayFault) → Spells {A = Unit {0}} t u steps (Err fault) → Follows t u start image_of run steps (Err fault)
   steps_fail faults.Write h = (λ text all. begins_all run.refused text all h.0, h.1)
   steps_fail faults.OutOfMemory h = (λ text all. begins_all run.refused text all h.0, h.1)
-  steps_fail (faults.Text line number) h = absurd h
-  steps_fail (faults.Refused line number) h = absurd h
-  steps_fail faults.Read h = absurd h
+  steps_fail _ h = absurd h
 
 -- what is written behind the steps is a beginning of the end, and so is the whole
 begins_end : {S : Type 0} (t u v : Tape) (start : State) (image_of : S → Image) (run : Part S (ℕ × Refusal)) (s : S) (steps : List ℕ) (verdict : Verdict) → Writes t u steps
@@ -58,10 +54,6 @@ steps_end t u v start image_of run s steps (Judged verdict) (Err faults.Write) w
     (begins_end t u v start image_of run s steps verdict written h.0 ends.0 ends.1 (left tt), rw (← written.fine) h.1)
 steps_end t u v start image_of run s steps (Judged verdict) (Err faults.OutOfMemory) written h ends left =
     (begins_end t u v start image_of run s steps verdict written h.0 ends.0 ends.1 (left tt), h.1 ∙ written.fine)
-steps_end t u v start image_of run s steps (Judged verdict) (Err (faults.Text line number)) written h ends left = absurd h
-steps_end t u v start image_of run s steps (Judged verdict) (Err (faults.Refused line number)) written h ends left = absurd h
-steps_end t u v start image_of run s steps (Judged verdict) (Err faults.Read) written h ends left = absurd h
-steps_end t u v start image_of run s steps (Refused line number verdict) (Ok said) written h ends left = absurd h
 steps_end t u v start image_of run s steps (Refused line number verdict) (Err (faults.Refused at why)) written h ends left =
     (record { taken = h.2.taken ∙ append-nil u.taken ∙ written.taken; fine = h.2.fine ∙ written.fine }, rw (h.0, h.1) ends.0)
 steps_end t u v start image_of run s steps (Refused line number verdict) (Err faults.Write) written h ends left = (
@@ -70,6 +62,4 @@ steps_end t u v start image_of run s steps (Refused line number verdict) (Err fa
       rw same ([], record { front = steps; written = h.0 ∙ written.taken; left = sym (append-nil steps) }),
   rw (← written.fine) h.1,
 )
-steps_end t u v start image_of run s steps (Refused line number verdict) (Err faults.OutOfMemory) written h ends left = absurd h
-steps_end t u v start image_of run s steps (Refused line number verdict) (Err (faults.Text at why)) written h ends left = absurd h
-steps_end t u v start image_of run s steps (Refused line number verdict) (Err faults.Read) written h ends left = absurd h
+steps_end t u v start image_of run s steps _ _ written h ends left = absurd h

@@ -1,7 +1,7 @@
 -- Texts that are written a part at a time.
 use Rattle.std.proofs.Common.{◌≡◌, ℕ, ◌+◌, ◌-◌, ◌^◌, min, List, [], ◌++◌, Result, Ok, Err, refl, sym, ap, ◌∙◌, append_assoc}
 use Rattle.drawing.proofs.Common.{append-nil, ReplayFault, WritesFront, Tape, Writes, begins_further, begins_wider, begins_nothing, Spells}
-use Rattle.schedule.specs.declared.replay_fault.ReplayFault.TheVariants.{Text, Refused, Read, Write, OutOfMemory}
+use Rattle.schedule.specs.declared.replay_fault.ReplayFault.TheVariants.{Write, OutOfMemory}
 
 -- a part behind what was written, and no more
 pub spells_last : (t u v : Tape) (text part whole : List ℕ) (r : Result (Unit {0}) ReplayFault) → Writes t u text → whole ≡ text ++ part → Spells u v part r → Spells t v whole r
@@ -11,9 +11,7 @@ spells_last t u v text part whole (Err Write) written e h =
     (rw e (begins_further t.taken u.taken v.taken text part written.taken h.0), rw (← written.fine) h.1)
 spells_last t u v text part whole (Err OutOfMemory) written e h =
     (rw e (begins_further t.taken u.taken v.taken text part written.taken h.0), h.1 ∙ written.fine)
-spells_last t u v text part whole (Err (Text line number)) written e h = absurd h
-spells_last t u v text part whole (Err (Refused line number)) written e h = absurd h
-spells_last t u v text part whole (Err Read) written e h = absurd h
+spells_last t u v text part whole _ written e h = absurd h
 
 -- nothing is written yet
 pub nothing_yet : (t : Tape) (whole : List ℕ) → WritesFront t.taken t.taken whole whole
@@ -40,9 +38,7 @@ stops_within t u v whole part after Write so_far fine h =
     (rw so_far.left (begins_further t.taken u.taken v.taken so_far.front (part ++ after) so_far.written (begins_wider u.taken v.taken part after h.0)), rw (← fine) h.1)
 stops_within t u v whole part after OutOfMemory so_far fine h =
     (rw so_far.left (begins_further t.taken u.taken v.taken so_far.front (part ++ after) so_far.written (begins_wider u.taken v.taken part after h.0)), h.1 ∙ fine)
-stops_within t u v whole part after (Text line number) so_far fine h = absurd h
-stops_within t u v whole part after (Refused line number) so_far fine h = absurd h
-stops_within t u v whole part after Read so_far fine h = absurd h
+stops_within t u v whole part after _ so_far fine h = absurd h
 
 pub wants_memory : (t : Tape) (text : List ℕ) → Spells {A = Unit {0}} t t text (Err OutOfMemory)
 wants_memory t text = (begins_nothing t.taken text, refl)

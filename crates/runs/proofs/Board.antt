@@ -5,7 +5,7 @@ use Rattle.runs.proofs.Common.{board_at, size, place_at, Answer, Call, Happening
 use Rattle.runs.proofs.Common.{LastIsOwn, Served, IsPass, Seated, began, before, taken, happenings, spelled, own, IsRun, end_of}
 use Rattle.rmeworld.specs.Holders.{puts_data, AllPutBy}
 use Rattle.runs.specs.Board.{puts}
-use Rattle.runs.proofs.Runs.{spelled-append, by_kind, who_taken, scene-append, cells_entry, cells_now}
+use Rattle.runs.proofs.Runs.{spelled-append, by_kind, who_taken, scene-append, entry_leaves, cells_now}
 
 pub none_earlier : (o : Option TakenStep) → or_earlier o None ≡ o
 none_earlier None = refl
@@ -57,7 +57,7 @@ module _ (s : Setup) (i : ℕ) (low : i < 4) where
   board_after w (e ∷ es) =
       let u = last_scene s.layout s.limit w (happenings e) in
       let here : u.cells at ≡ value_or (if puts s i e then Some e else None) (w.cells at) =
-      ap (λ (c : Words). c at) (cells_entry s.layout s.limit w e.by e.step.kind e.step.word e.value e.step.crashed e.step.start) ∙ cell_now w.cells e.step.kind e.step.word e.value ∙ if_value (puts s i e) e (w.cells at) in
+      ap (λ (c : Words). c at) (entry_leaves s.layout s.limit w e.by e.step.kind e.step.word e.value e.step.crashed e.step.start).1 ∙ cell_now w.cells e.step.kind e.step.word e.value ∙ if_value (puts s i e) e (w.cells at) in
       ap (λ (x : Scene). x.cells at) (scene-append s.layout s.limit w (happenings e) (spelled es)) ∙ board_after u es ∙ ap (value_or (last_put s i es)) here ∙ value_joins (last_put s i es) (if puts s i e then Some e else None) (w.cells at)
 
   -- a word of the board holds what the run has put there last

@@ -112,9 +112,6 @@ served_of x y call answers blocked mine pass start takes answered blocks steps s
     at_all (inl e) = absurd (some e)
     at_all (inr e) = e
 
-none_taken : (x y : Pass) (mine : List TakenStep) → mine ≡ [] → Takes x mine y → y ≡ x
-none_taken x y mine none h = subst (λ (es : List TakenStep). Takes x es y) none h
-
 pub calls_fell : (x z y : Pass) (mine : List TakenStep) → Calls x mine z → y ≡ record z { fallen = true; start = None } → Calls x mine y
 calls_fell x z y mine c e = subst (Calls x mine) (sym e) (record { table = c.table; setup = c.setup; by = c.by; since = c.since; seen = c.seen; mine_are = c.mine_are; last = c.last; run = c.run })
 
@@ -123,7 +120,7 @@ crashes_of x y call mine pass start cut =
     let is = ap (λ (s : Seated). s.pass) cut.crash in
     record {
       calls = calls_fell x.pass cut.last.pass y.pass mine (calls_of x.pass cut.last.pass mine pass.run cut.takes) is;
-      unmoved = λ none. ap (λ (p : Pass). p.seen) is ∙ ap (λ (p : Pass). p.seen) (none_taken x.pass cut.last.pass mine none cut.takes);
+      unmoved = λ none. ap (λ (p : Pass). p.seen) is ∙ ap (λ (p : Pass). p.seen) (subst (λ (es : List TakenStep). Takes x.pass es cut.last.pass) none cut.takes);
       crash = first_crash x.pass cut.last.pass mine cut.takes;
       started = started_as x.pass cut.last.pass mine call cut.takes start;
       steps = ap (λ (s : Seated). s.steps) cut.crash ∙ cut.steps;

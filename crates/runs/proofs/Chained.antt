@@ -73,9 +73,6 @@ first_more : (c d : Call) (cs ds : List Call) (a b : List TakenStep) → FirstSt
 first_more c d [] ds a b h = starts_on c a b (starts_alone c a h)
 first_more c d (k ∷ ks) ds a b h = starts_on c a b h
 
-none_started : (mine : List TakenStep) → mine ≡ [] → starts mine ≡ []
-none_started mine none = ap starts none
-
 -- the base is the same where only a start is owed
 calls_from : (y z : Pass) (c : Call) (n : List TakenStep) → Calls (record y { start = Some c }) n z → Calls y n z
 calls_from y z c n d = record { table = d.table; setup = d.setup; by = d.by; since = d.since; seen = d.seen; mine_are = d.mine_are; last = d.last; run = d.run }
@@ -126,7 +123,7 @@ module _ (x y z : Seated) (c : Call) (cs : List Call) (told : List Answer) (j : 
       }
     where
       either : (n ≡ []) ⊎ P (starts n) → Q (c ∷ cs ++ starts n)
-      either (inl none) = subst (λ (l : List Call). Q (c ∷ cs ++ l)) (sym (none_started n none)) (subst Q (sym (append-nil (c ∷ cs))) first)
+      either (inl none) = subst (λ (l : List Call). Q (c ∷ cs ++ l)) (sym (ap starts none)) (subst Q (sym (append-nil (c ∷ cs))) first)
       either (inr p) = more (starts n) p
 
   -- a crash right behind them

@@ -4,13 +4,14 @@ use Rattle.runs.proofs.Common.{cases_Bool, Kind, Look as Looks, Weigh as Weighs,
 use Rattle.runs.proofs.Common.{Wait, Inside, Leaving, is_before, next, Layout, Reply, Script, Get as Asks, Put as Writes, Done, Answer, Mail}
 use Rattle.runs.proofs.Common.{Call, Lock, Unlock, Consistent, Append, Close, Why, Checking, Ruining, Mending, Working, by_lock, by_reply, by_script, answer_at, blocked_by, is_entry, is_idle}
 use Rattle.runs.proofs.Common.{is_waiting, Errand, Free, Doing, Spot, next_spot, Moves, at_lock, settled, mended_entered, entry_inside, Within, lock_left, IsFair, exit_of, Lasts, Replies}
-use Rattle.runs.proofs.Common.{Mends, under_place, IsWord, UnderScript, IsUnder, Fits, Leaves}
+use Rattle.runs.proofs.Common.{tail, Mends, Appends, under_place, IsWord, UnderScript, IsUnder, Fits, Leaves}
 use Rattle.rmecore.specs.Place.{has}
 use Rattle.rmecore.specs.declared.kind.Kind.TheVariants.{Get as Gets, Put as Puts}
 use Rattle.redomail.specs.declared.reply.Reply.TheVariants as reply
 use Rattle.rmeworld.specs.declared.call.Call.TheVariants.{Get, Put}
 use Rattle.rmeworld.proofs.CallSteps.{guard_spot}
 use Rattle.rmeworld.proofs.WorldTallies.{at_lock_some}
+use Rattle.runs.proofs.Begun.{replies_tail}
 use Rattle.runs.proofs.Lasting.{Burns, burns}
 use Rattle.runs.proofs.Under.{LockTo, lock_to}
 
@@ -73,33 +74,24 @@ module _ (l : Layout) (p k : ℕ) where
   goes (Put i v) b c (Working task) (Done r) m u w few = (tt, tt)
   goes _ b c _ (Done r) m u w few = absurd u
 
-  under_next : (call : Call) (c : Bool) (why : Why) (i x : ℕ) (rest : ℕ → Script Reply) → UnderScript call c why (Asks i rest) → UnderScript call c why (rest x)
-  under_next Lock c Checking i x rest u = tt
-  under_next Unlock c Ruining i x rest u = u
-  under_next Consistent c Mending i x rest u = u x
-  under_next (Append seq value) c (Working task) i x rest u = u x
-  under_next Close c (Working task) i x rest u = tt
-  under_next (Get j) c (Working task) i x rest u = u x
-  under_next (Put j v) c (Working task) i x rest u = tt
-  under_next _ c _ i x rest u = absurd u
-
-  under_put : (call : Call) (c : Bool) (why : Why) (i v : ℕ) (rest : Script Reply) → UnderScript call c why (Writes i v rest) → UnderScript call c why rest
-  under_put Lock c Checking i v rest u = tt
-  under_put Unlock c Ruining i v rest u = u
-  under_put Consistent c Mending i v rest u = u
-  under_put (Append seq value) c (Working task) i v rest u = u
-  under_put Close c (Working task) i v rest u = tt
-  under_put (Get j) c (Working task) i v rest u = u
-  under_put (Put j x) c (Working task) i v rest u = tt
-  under_put _ c _ i v rest u = absurd u
+  -- what is left of a script after a step is the call's too
+  under_tail : (call : Call) (c : Bool) (why : Why) (left : Script Reply) (v : ℕ) → UnderScript call c why left → UnderScript call c why (tail left v)
+  under_tail Lock c Checking left v u = tt
+  under_tail Unlock c Ruining left v u = u
+  under_tail Consistent c Mending left v u = replies_tail Mends left v u
+  under_tail (Append seq value) c (Working task) left v u = replies_tail (Appends seq) left v u
+  under_tail Close c (Working task) left v u = tt
+  under_tail (Get i) c (Working task) left v u = replies_tail IsWord left v u
+  under_tail (Put i x) c (Working task) left v u = tt
+  under_tail _ c _ left v u = absurd u
 
   script_step : (call : Call) (s : Place) (b c : Bool) (limit : ℕ) (why : Why) (left : Script Reply) (kind : Kind) (word : Word) (v : ℕ) → IsSome (next_spot l limit (record { lock = s; mended = b; barred = c; errand = Doing why left }) (Moves p kind word v))
       → UnderScript call c why left → (m : ℕ) → Within m left → m + exit_of why ≤ suc k
       → SpotTo call l.procs k (answer_at (record { lock = s; mended = b; barred = c; errand = Doing why left }) kind v) false (unwrap_or (next_spot l limit (record { lock = s; mended = b; barred = c; errand = Doing why left }) (Moves p kind word v)) (record { lock = s; mended = b; barred = c; errand = Doing why left }))
   script_step call s b c limit why (Asks j rest) Gets (DataAt i) v some u (suc m) w few =
-      guard_spot _ (settled b c why (rest v)) _ (SpotTo call l.procs k (by_script why b (rest v)) false) some (λ is. goes call b c why (rest v) m (under_next call c why j v rest u) (w v) (omega arith))
+      guard_spot _ (settled b c why (rest v)) _ (SpotTo call l.procs k (by_script why b (rest v)) false) some (λ is. goes call b c why (rest v) m (under_tail call c why (Asks j rest) v u) (w v) (omega arith))
   script_step call s b c limit why (Writes j x rest) Puts (DataAt i) v some u (suc m) w few =
-      guard_spot _ (settled b c why rest) _ (SpotTo call l.procs k (by_script why b rest) false) some (λ is. goes call b c why rest m (under_put call c why j x rest u) w (omega arith))
+      guard_spot _ (settled b c why rest) _ (SpotTo call l.procs k (by_script why b rest) false) some (λ is. goes call b c why rest m (under_tail call c why (Writes j x rest) v u) w (omega arith))
   script_step call s b c limit why (Asks j rest) kind word v some u zero w few = absurd w
   script_step call s b c limit why (Writes j x rest) kind word v some u zero w few = absurd w
   script_step call s b c limit why left kind word v some u m w few = absurd (cc)

@@ -281,24 +281,18 @@ module _ (sizes : Setup) (log : List TakenStep) (owner : ℕ → ℕ) (words : L
   now = given owner p (length views)
 
   module _ (at : get_elem? views id ≡ some whole) (once : has p ps ≡ false) where
-    has_first : has p (p ∷ ps) ≡ true
-    has_first = rw (eq-eqb p p refl)
-
-    has_later : (q : ℕ) → has q ps ≡ true → has q (p ∷ ps) ≡ true
-    has_later q h = has-append_right q (p ∷ []) ps h
-
     apart : (q : ℕ) → has q ps ≡ true → q ≢ p
     apart q h e = true≢false (sym h ∙ ap (λ (r : ℕ). has r ps) e ∙ once)
 
     first_is : IsAnswered sizes log owner id whole.view p
-    first_is = (k.fits id whole at).0.1 p has_first
+    first_is = (k.fits id whole at).0.1 p (or_left (p == p) (has p ps) (eq-eqb p p refl))
 
     left_fits : AllFit sizes log now id left
     left_fits = (
       (
         (k.fits id whole at).0.0,
         λ q h.
-            let x = (k.fits id whole at).0.1 q (has_later q h) in
+            let x = (k.fits id whole at).0.1 q (has-append_right q (p ∷ []) ps h) in
             own_seat sizes log owner now id id whole.view left.view q x (given_other owner p (length views) q (apart q h) ∙ x.seat) refl refl,
       ),
       All-nil _,

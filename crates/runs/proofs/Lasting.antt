@@ -13,10 +13,7 @@ without_less : (js : List ℕ) (j : ℕ) → length (without j js) ≤ length js
 without_less [] j = omega arith
 without_less (i ∷ is) j =
     let later = without_less is j in
-    elim (cases_eq i j) [
-      | inl e ↦ let yes : (i == j) ≡ true = eq-eqb i j e in rw yes (omega arith)
-      | inr ne ↦ let no : (i == j) ≡ false = ne_eqb i j ne in rw no (omega arith)
-    ]
+    elim (cases_Bool (i == j)) [ inl e ↦ rw e (omega arith) | inr e ↦ rw e (omega arith) ]
 
 without_fewer : (js : List ℕ) (j : ℕ) → has js j ≡ true → length (without j js) + 1 ≤ length js
 without_fewer [] j h = absurd (cc)
@@ -37,9 +34,6 @@ span_short p i (suc k) =
     let later = span_short p (i + 1) k in
     elim (cases_Bool (i == p)) [ inl e ↦ rw e (omega arith) | inr e ↦ rw e (omega arith) ]
 
-others_few : (n p : ℕ) → length (others n p) ≤ n
-others_few n p = let h = span_short p 0 (n - 0) in omega arith
-
 -- what a step leaves: where it is blocked the place, else fewer steps
 abbrev pub Burns : ℕ → Bool → Place → Place → Type 0
 Burns n true s t = t ≡ s
@@ -47,7 +41,7 @@ Burns n false s t = IsFair t × (lock_left n t < lock_left n s)
 
 module _ (n p : ℕ) where
   short : length (others n p) ≤ n
-  short = others_few n p
+  short = let h = span_short p 0 (n - 0) in omega arith
 
   relocks : (c k i : ℕ) → IsFair (relocked n p c k i) × (lock_left n (relocked n p c k i) < 3 * n + 9)
   relocks zero zero zero = (tt, omega arith)

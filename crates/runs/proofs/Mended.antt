@@ -103,16 +103,13 @@ task_starts l p c (Append seq value) is =
 task_starts l p c Close is = refl
 task_starts l p c _ is = absurd is
 
-mending_starts : (l : Layout) (p : ℕ) (c : Bool) → AtMending (unwrap_or (begun_from l p Inside false Free Consistent) (record { lock = Inside; mended = false; barred = c; errand = Free }))
-mending_starts l p c = refl
-
 task_begun : (s : Setup) (p : ℕ) (t : Spot) (call : Call) → IsTask s.layout call → IsHolder t → t.mended ≡ true → AtTask true (next_or_same s.layout s.limit t (Begins p call))
 task_begun s p t call is h m =
     subst (λ (u : Place × Bool × Errand). AtTask true (unwrap_or (begun_from s.layout p u.0 u.1 u.2 call) (record { lock = u.0; mended = u.1; barred = t.barred; errand = u.2 }))) (λ i. (sym h.0 i, sym m i, sym h.1 i)) (task_starts s.layout p t.barred call is)
 
 mending_begun : (s : Setup) (p : ℕ) (t : Spot) → IsHolder t → t.mended ≡ false → AtMending (next_or_same s.layout s.limit t (Begins p Consistent))
 mending_begun s p t h m =
-    subst (λ (u : Place × Bool × Errand). AtMending (unwrap_or (begun_from s.layout p u.0 u.1 u.2 Consistent) (record { lock = u.0; mended = u.1; barred = t.barred; errand = u.2 }))) (λ i. (sym h.0 i, sym m i, sym h.1 i)) (mending_starts s.layout p t.barred)
+    subst (λ (u : Place × Bool × Errand). AtMending (unwrap_or (begun_from s.layout p u.0 u.1 u.2 Consistent) (record { lock = u.0; mended = u.1; barred = t.barred; errand = u.2 }))) (λ i. (sym h.0 i, sym m i, sym h.1 i)) refl
 
 task_is : (m : Bool) (s : Place) (b : Bool) (e : Errand) → TaskBy m s b e → b ≡ m
 task_is m Inside b Free h = h

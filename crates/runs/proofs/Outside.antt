@@ -11,9 +11,6 @@ either_out : (b : Bool) (x : Seated) → is_idle (spot_now x.pass) ≡ b → (b 
 either_out true x idle away = rw idle (rw (away refl) refl)
 either_out false x idle away = refl
 
-away_out : (x : Seated) → is_inside (spot_now x.pass).lock ≡ false → refusal_now (ready x) Lock ≡ None
-away_out x away = either_out (is_idle (spot_now x.pass)) x refl (λ e. away)
-
 -- one whose lock still waits
 pub busy_out : (x : Seated) → is_idle (spot_now x.pass) ≡ false → refusal_now (ready x) Lock ≡ None
 busy_out x busy = either_out (is_idle (spot_now x.pass)) x refl (λ idle. absurd (let no : false ≡ true = sym busy ∙ idle in cc))
@@ -27,7 +24,7 @@ pub fallen_out : (x : Seated) → x.pass.fallen ≡ true → x.pass.start ≡ No
 fallen_out x fallen none =
     let s = x.pass.setup in
     let dead : (spot_now x.pass).lock ≡ Dead = ap (λ (u : Bool × Option Call). (gone s (spot_of s x.pass.by x.pass.seen) (before u.0 u.1 x.pass.by)).lock) (λ i. (fallen i, none i)) in
-    away_out x (ap is_inside dead)
+    either_out (is_idle (spot_now x.pass)) x refl (λ e. ap is_inside dead)
 
 -- one that a crash cut off
 pub cut_out : (x y : Seated) (P : List Call → Type 0) (a b c d : ℕ) → CutBy x P y a b c d → refusal_now (ready y) Lock ≡ None

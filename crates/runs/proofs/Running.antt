@@ -1,16 +1,15 @@
 -- The machine and the pass stay together.
-use Rattle.std.proofs.Common.{◌≡◌, ℕ, ◌+◌, ◌*◌, Bool, true, false, nat_lt, [], ◌∷◌, Option, Some, None, IsSome, unwrap_or, if◌then◌else◌, refl, sym, ap, ◌∙◌, subst}
-use Rattle.runs.proofs.Common.{Kind, Word, access, kind_of, word_of, carried, is_glance, Place, Rest, Dead, Wait, Inside, Reread, Door, Leaving, Layout, Reply, size, place_at, Script, Get, Put, Done}
-use Rattle.runs.proofs.Common.{Call, Why, Ruining, answer_at, Errand, Free, Doing, Spot, Begins, next_spot, Moves, Stand, access_by}
-use Rattle.runs.proofs.Common.{next_access, outcome, spot_after, IsAllowed, progress_by, stepped, stepped_by, job_left, placed, works, calm, Setup, Pass, spot_now, Looks, moved_spot, Advances}
+use Rattle.std.proofs.Common.{◌≡◌, ℕ, ◌+◌, ◌*◌, Bool, true, false, Option, Some, None, IsSome, unwrap_or, refl, sym, ap, ◌∙◌, subst}
+use Rattle.runs.proofs.Common.{Kind, Word, kind_of, word_of, carried, is_glance, Layout, size, place_at, Call, answer_at, Spot, Begins, next_spot, Moves, Stand, access_by, next_access, outcome, stepped}
+use Rattle.runs.proofs.Common.{spot_after, IsAllowed, progress_by, Setup, Pass, spot_now, Looks, moved_spot, Advances}
 use Rattle.runs.proofs.Common.{IsRunBy, next_of, outcome_of, before, taken, gone, spot_of}
 use Rattle.rmecore.specs.declared.access.Access.{Access}
 use Rattle.rmecore.specs.declared.kind.Kind.TheVariants as kind
 use Rattle.rmeworld.specs.Stand.{spot_of as standing_at, started}
-use Rattle.rmeworld.specs.declared.errand.Errand.{Errand as Chore}
-use Rattle.rmeworld.specs.declared.errand.Errand.TheVariants.{Free as IsFree, Doing as Does}
 use Rattle.rmeworld.specs.declared.call.Call.TheVariants as call
-use Rattle.redomail.specs.Left.{Pending, left, fed}
+use Rattle.rmeworld.specs.WorldState.{HasSeat}
+use Rattle.rmeworld.proofs.WorldSteps.{keeps_stepped, keeps_started}
+use Rattle.rmeworld.proofs.WorldTallies.{no_glance}
 use Rattle.runs.proofs.Leads.{spot_moves, spot_stays}
 
 pub size_is : (l : Layout) → 10 + l.width + l.procs + (2 + l.width) * l.cap ≡ size l
@@ -29,33 +28,8 @@ pub taken_moves : (p : ℕ) (k : Kind) (word : Word) (v : ℕ) → is_glance k �
 taken_moves p kind.Glance word v h = absurd (cc)
 taken_moves p _ word v h = refl
 
--- no step of the machine is a glance
-abbrev IsMove : Option Access → Type 0
-IsMove None = Unit {0}
-IsMove (Some a) = is_glance (kind_of a) ≡ false
-
-if_moves : (b : Bool) (a c : Access) → is_glance (kind_of a) ≡ false → is_glance (kind_of c) ≡ false → IsMove (if b then Some a else Some c)
-if_moves true a c h k = h
-if_moves false a c h k = k
-
-lock_moves : (limit p : ℕ) (s : Place) → IsMove (access limit p s)
-lock_moves limit p (Reread call (c ∷ k ∷ i ∷ more)) = tt
-lock_moves limit p (Door [] m) = if_moves (nat_lt m limit) _ _ refl refl
-lock_moves limit p (Wait k (j ∷ js) None) = refl
-lock_moves limit p (Wait k [] None) = refl
-lock_moves limit p Rest = tt
-lock_moves limit p Dead = tt
-lock_moves limit p Inside = tt
-lock_moves limit p _ = refl
-
-moves_by : (limit p : ℕ) (s : Place) (e : Errand) → IsMove (access_by limit p s e)
-moves_by limit p s Free = lock_moves limit p s
-moves_by limit p s (Doing why (Get i rest)) = refl
-moves_by limit p s (Doing why (Put i v rest)) = refl
-moves_by limit p s (Doing why (Done reply)) = tt
-
 pub next_moves : (x : Pass) (a : Access) → next_of x ≡ Some a → is_glance (kind_of a) ≡ false
-next_moves x a e = subst IsMove e (moves_by x.setup.limit x.by (spot_now x).lock (spot_now x).errand)
+next_moves x a e = no_glance x.setup.limit x.by (spot_now x).lock (spot_now x).errand a e
 
 -- the machine's next step is the pass's
 pub next_same : (x : Pass) (s : Stand) → IsRunBy x s → next_access s ≡ next_of x
@@ -106,28 +80,9 @@ run_by_start x s t call none r layout limit index spot =
     let here : next_spot x.setup.layout x.setup.limit (spot_now x) (Begins x.by call) ≡ Some (standing_at t) = sym (start_same x s call r) ∙ spot in
     record { layout = layout ∙ r.layout; limit = limit ∙ r.limit; index = index ∙ r.index; spot = sym (spot_begun x call none ∙ ap (λ (o : Option Spot). unwrap_or o (spot_now x)) here) }
 
--- a step keeps the sizes and the number
-abbrev Keeps : Stand → Stand → Type 0
-Keeps s t = (t.layout ≡ s.layout) × (t.limit ≡ s.limit) × (t.index ≡ s.index)
+-- a step and a start keep the sizes and the number
+pub keeps : (s t : Stand) (v : ℕ) → t ≡ stepped s v → HasSeat s.layout s.limit s.index t
+keeps s t v e = subst (HasSeat s.layout s.limit s.index) (sym e) (keeps_stepped s s.errand v)
 
-keeps_job : (s : Stand) (why : Why) (job : Pending) (left : Script Reply) → Keeps s (job_left s why job left)
-keeps_job s why job (Get i rest) = (refl, refl, refl)
-keeps_job s why job _ = (refl, refl, refl)
-
-keeps_by : (s : Stand) (e : Chore) (v : ℕ) → Keeps s (stepped_by s e v)
-keeps_by s IsFree v = (refl, refl, refl)
-keeps_by s (Does why job) v = keeps_job s why (fed job v) (left (fed job v))
-
-pub keeps : (s t : Stand) (v : ℕ) → t ≡ stepped s v → Keeps s t
-keeps s t v e = subst (Keeps s) (sym e) (keeps_by s s.errand v)
-
-keeps_mended : (s : Stand) (b : Bool) → Keeps s (if b then placed s Leaving else works (calm s) Ruining)
-keeps_mended s true = (refl, refl, refl)
-keeps_mended s false = (refl, refl, refl)
-
-keeps_call : (s : Stand) (c : Call) → Keeps s (started s c)
-keeps_call s call.Unlock = keeps_mended s s.mended
-keeps_call s _ = (refl, refl, refl)
-
-pub keeps_start : (s t : Stand) (c : Call) → t ≡ started s c → Keeps s t
-keeps_start s t c e = subst (Keeps s) (sym e) (keeps_call s c)
+pub keeps_start : (s t : Stand) (c : Call) → t ≡ started s c → HasSeat s.layout s.limit s.index t
+keeps_start s t c e = subst (HasSeat s.layout s.limit s.index) (sym e) (keeps_started s s.mended c refl)

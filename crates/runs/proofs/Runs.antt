@@ -134,24 +134,20 @@ abbrev pub cells_now : Layout → Words → Kind → Word → ℕ → Words
 cells_now l cells kind word v = if is_store kind then put_cell l cells word v else cells
 
 module _ (l : Layout) (limit : ℕ) where
-  words_entry : (w : Scene) (q : ℕ) (kind : Kind) (word : Word) (v : ℕ) (c : Bool) (o : Option Call) → (last_scene l limit w (before c o q ++ taken q kind word v ∷ [])).words ≡ words_now w.words kind word v
-  words_entry w q kind word v false None = by_kind (λ kind h. words_after w.words h ≡ words_now w.words kind word v) q word v refl (λ _. refl) kind
-  words_entry w q kind word v true None = by_kind (λ kind h. words_after w.words h ≡ words_now w.words kind word v) q word v refl (λ _. refl) kind
-  words_entry w q kind word v _ _ = by_kind (λ kind h. words_after w.words h ≡ words_now w.words kind word v) q word v refl (λ _. refl) kind
-
-  pub cells_entry : (w : Scene) (q : ℕ) (kind : Kind) (word : Word) (v : ℕ) (c : Bool) (o : Option Call) → (last_scene l limit w (before c o q ++ taken q kind word v ∷ [])).cells ≡ cells_now l w.cells kind word v
-  cells_entry w q kind word v false None = by_kind (λ kind h. cells_after l w.cells h ≡ cells_now l w.cells kind word v) q word v refl (λ _. refl) kind
-  cells_entry w q kind word v true None = by_kind (λ kind h. cells_after l w.cells h ≡ cells_now l w.cells kind word v) q word v refl (λ _. refl) kind
-  cells_entry w q kind word v _ _ = by_kind (λ kind h. cells_after l w.cells h ≡ cells_now l w.cells kind word v) q word v refl (λ _. refl) kind
+  pub entry_leaves : (w : Scene) (q : ℕ) (kind : Kind) (word : Word) (v : ℕ) (c : Bool) (o : Option Call)
+      → ((last_scene l limit w (before c o q ++ taken q kind word v ∷ [])).words ≡ words_now w.words kind word v) × ((last_scene l limit w (before c o q ++ taken q kind word v ∷ [])).cells ≡ cells_now l w.cells kind word v)
+  entry_leaves w q kind word v false None = by_kind (λ kind h. (words_after w.words h ≡ words_now w.words kind word v) × (cells_after l w.cells h ≡ cells_now l w.cells kind word v)) q word v (refl, refl) (λ _. (refl, refl)) kind
+  entry_leaves w q kind word v true None = by_kind (λ kind h. (words_after w.words h ≡ words_now w.words kind word v) × (cells_after l w.cells h ≡ cells_now l w.cells kind word v)) q word v (refl, refl) (λ _. (refl, refl)) kind
+  entry_leaves w q kind word v _ _ = by_kind (λ kind h. (words_after w.words h ≡ words_now w.words kind word v) × (cells_after l w.cells h ≡ cells_now l w.cells kind word v)) q word v (refl, refl) (λ _. (refl, refl)) kind
 
 scene_snoc : (s : Setup) (es : List TakenStep) (e : TakenStep) → end_of s (es ++ e ∷ []) ≡ last_scene s.layout s.limit (end_of s es) (happenings e)
 scene_snoc s es e = ap (last_scene s.layout s.limit at_first) (spelled_snoc es e) ∙ scene-append s.layout s.limit at_first (spelled es) (happenings e)
 
 pub words_snoc : (s : Setup) (es : List TakenStep) (e : TakenStep) → (end_of s (es ++ e ∷ [])).words ≡ words_now (end_of s es).words e.step.kind e.step.word e.value
-words_snoc s es e = ap (λ (w : Scene). w.words) (scene_snoc s es e) ∙ words_entry s.layout s.limit (end_of s es) e.by e.step.kind e.step.word e.value e.step.crashed e.step.start
+words_snoc s es e = ap (λ (w : Scene). w.words) (scene_snoc s es e) ∙ (entry_leaves s.layout s.limit (end_of s es) e.by e.step.kind e.step.word e.value e.step.crashed e.step.start).0
 
 pub cells_snoc : (s : Setup) (es : List TakenStep) (e : TakenStep) → (end_of s (es ++ e ∷ [])).cells ≡ cells_now s.layout (end_of s es).cells e.step.kind e.step.word e.value
-cells_snoc s es e = ap (λ (w : Scene). w.cells) (scene_snoc s es e) ∙ cells_entry s.layout s.limit (end_of s es) e.by e.step.kind e.step.word e.value e.step.crashed e.step.start
+cells_snoc s es e = ap (λ (w : Scene). w.cells) (scene_snoc s es e) ∙ (entry_leaves s.layout s.limit (end_of s es) e.by e.step.kind e.step.word e.value e.step.crashed e.step.start).1
 
 put_keeps : (g : Own → ℕ) (words : ℕ → Own) (p : ℕ) (x : Own) (q : ℕ) → g x ≡ g (words p) → g (put words p x q) ≡ g (words q)
 put_keeps g words p x q h =

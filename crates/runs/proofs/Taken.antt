@@ -174,15 +174,12 @@ module _ (x y z : Seated) (mine : List TakenStep) (o : Outcome) (g : Going x min
 pub fits_answer : (call : Call) (y z : Seated) (o : Outcome) (k : ℕ) (a : Answer) → TakesStep y o z → IsUnder call (spot_now y.pass) → Lasts y.pass.setup.layout.procs (suc k) (spot_now y.pass) → o.answer ≡ Some a → Fits call a × Leaves call a (spot_now z.pass)
 fits_answer call y z o k a s u lasts e = subst (λ (t : Option Answer). SpotTo call y.pass.setup.layout.procs k t o.progress.blocked (spot_now z.pass)) e (step_to call y z o k s u lasts)
 
-same_procs : (y z : Seated) (o : Outcome) → TakesStep y o z → y.pass.setup.layout.procs ≡ z.pass.setup.layout.procs
-same_procs y z o s = ap (λ (t : Setup). t.layout.procs) (sym s.advances.adds.setup)
-
 pub goes_with : (call : Call) (y z : Seated) (o : Outcome) (k : ℕ) (b : Bool) → TakesStep y o z → IsUnder call (spot_now y.pass) → Lasts y.pass.setup.layout.procs (suc k) (spot_now y.pass) → o.answer ≡ None → o.progress.blocked ≡ b
     → IsUnder call (spot_now z.pass) × (is_idle (spot_now z.pass) ≡ false) × Lasts z.pass.setup.layout.procs (if b then suc k else k) (spot_now z.pass)
 goes_with call y z o k b s u lasts e h =
     let n = y.pass.setup.layout.procs in
     let t : SpotTo call n k None b (spot_now z.pass) = subst (λ (t : Option Answer × Bool). SpotTo call n k t.0 t.1 (spot_now z.pass)) (λ i. (e i, h i)) (step_to call y z o k s u lasts) in
-    (t.1, t.0, subst (λ (m : ℕ). Lasts m (if b then suc k else k) (spot_now z.pass)) (same_procs y z o s) t.2)
+    (t.1, t.0, subst (λ (m : ℕ). Lasts m (if b then suc k else k) (spot_now z.pass)) (ap (λ (t : Setup). t.layout.procs) (sym s.advances.adds.setup)) t.2)
 
 pub still_blocked : (call : Call) (y z : Seated) (o : Outcome) (k : ℕ) → suc k ≤ 256 → TakesStep y o z → IsUnder call (spot_now y.pass) → Lasts y.pass.setup.layout.procs (suc k) (spot_now y.pass) → o.answer ≡ None → o.progress.blocked ≡ true → Still call z None
 still_blocked call y z o k few s u lasts e h =

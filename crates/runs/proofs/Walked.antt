@@ -3,8 +3,8 @@
 use Rattle.std.proofs.Common.{◌≡◌, ◌≢◌, ℕ, ◌+◌, ◌<◌, ◌==◌, ◌&&◌, nat_lt, nat_le, Bool, true, false, if◌then◌else◌, List, [], ◌∷◌, Option, Some, None, IsSome, unwrap_or, refl, sym, ◌∙◌, subst, eqb-true, inl, inr}
 use Rattle.runs.proofs.Common.{and_parts, cases_Bool, eqb-false, Kind, Look as Looks, Weigh as Weighs, Open as Opens, Peek as Peeks, Take as Takes, Shut as Shuts, Mark as Marks, Drop as Drops, Glance as Glancing}
 use Rattle.runs.proofs.Common.{Own, Word, Choosing as ChoosingOf, Number as NumberOf, Data as DataAt, is_glance, ReadsBegun, Place, Wait, Reread, Opening, Door, Shutting, Leaving}
-use Rattle.runs.proofs.Common.{Withdrawing, Unmarking, next, started, only, Steps, is_store, write, Reads as CoreReads, put_same, put_other, Layout, Reply, Script, Get as Asks, Put as Writes, Call}
-use Rattle.runs.proofs.Common.{Lock, Unlock, Consistent, Recover, Withdraw, Why, next_or_same, Walks, Errand, Free, Doing, Spot, begun_from, inside_only, Begins, next_spot, Happening}
+use Rattle.runs.proofs.Common.{Withdrawing, Unmarking, next, started, only, Steps, is_store, write, Reads as CoreReads, put_same, put_other, Layout, Get as Asks, Put as Writes, Call}
+use Rattle.runs.proofs.Common.{Lock, Unlock, Consistent, Recover, Withdraw, next_or_same, Walks, Errand, Free, Doing, Spot, begun_from, Begins, next_spot, Happening}
 use Rattle.runs.proofs.Common.{Moves, at_lock, settled, Falls, moved_by, who, dead, errand_entered, Scene, Story, onward, own_happenings, Can, reading_of}
 use Rattle.rmecore.specs.Tallied.{IsRereading}
 use Rattle.rmecore.specs.declared.core_call.CoreCall.TheVariants as core
@@ -70,16 +70,13 @@ still l limit p s b c (Doing why (Asks j rest)) Gets (DataAt i) v d some moves =
 still l limit p s b c (Doing why (Writes j x rest)) Puts (DataAt i) v d some moves = λ h. absurd (guard_spot _ (settled b c why rest) d (λ t. IsRereading t.lock → ⊥) some (λ is. settled_not b c why rest) h)
 still l limit p s b c (Doing why left) _ _ v d some moves = absurd (cc)
 
-inside_not : (s : Place) (b fits : Bool) (why : Why) (left : Script Reply) (d : Spot) → IsSome (inside_only s b fits why left) → IsRereading (unwrap_or (inside_only s b fits why left) d).lock → ⊥
-inside_not s b fits why left d some = guard_inside (λ t. IsRereading t.lock → ⊥) s b fits why left d (λ is h. h) some
-
 begun_free : (l : Layout) (p : ℕ) (s : Place) (b : Bool) (e : Errand) (call : Call) (d : Spot) → IsSome (begun_from l p s b e call) → IsRereading (unwrap_or (begun_from l p s b e call) d).lock → (unwrap_or (begun_from l p s b e call) d).errand ≡ Free
 begun_free l p s b Free Lock d some h = locked_free l p s b false (started s core.Lock) d some h
 begun_free l p s b Free Recover d some h = locked_free l p s b false (started s core.Recover) d some h
 begun_free l p s b Free Withdraw d some h = locked_free l p s b false (started s core.Withdraw) d some h
 begun_free l p s true Free Unlock d some h = locked_free l p s true false (started s core.Unlock) d some h
 begun_free l p s true Free Consistent d some h = absurd (cc)
-begun_free l p s b Free _ d some h = absurd (inside_not s b _ _ _ d some h)
+begun_free l p s b Free _ d some h = absurd (guard_inside (λ t. IsRereading t.lock → ⊥) s b _ _ _ d (λ is on. on) some h)
 begun_free l p s b (Doing why left) call d some h = absurd (cc)
 
 -- the steps of p alone

@@ -51,16 +51,13 @@ inside_first x y z m n c a order answers k same mends told steps h = (
   h.2 ∙ ap (many_more h.0) steps ∙ many_add (k + 0) h.0 x.steps ∙ ap (λ (t : ℕ). many_more t x.steps) (let j = h.0 in let e : (k + 0) + j ≡ k + j = omega arith in e),
 )
 
-nothing_inside : (z : Seated) (m : Bool) → InsideCounts z m [] [] z
-nothing_inside z m = (0, (λ w. refl), refl)
-
 module _ (x y : Seated) (a : Answer) (a0 a1 f0 f1 : ℕ) where
   -- the unlock
   left_counts : (m : Bool) → a ≡ answer.Unlocked → (spot_begun x.pass).mended ≡ m → AnsweredBy 0 x (Unlock ∷ []) (a ∷ []) 0 y a0 a1 f0 f1 → InsideCounts x m (Unlock ∷ []) (answer.Unlocked ∷ []) y
   left_counts m is mended h =
       let t : AnsweredBy 0 x (Unlock ∷ []) (answer.Unlocked ∷ []) 0 y a0 a1 f0 f1 = subst (λ (u : Answer). AnsweredBy 0 x (Unlock ∷ []) (u ∷ []) 0 y a0 a1 f0 f1) is h in
       let one = one_counts x y Unlock answer.Unlocked 0 0 a0 a1 f0 f1 t in
-      inside_first x y y m m Unlock answer.Unlocked [] [] one.0 t.1.calls.setup refl (λ w. unlock_words x.pass.setup.layout x.pass.setup.layout w (words_begun x.pass) (spot_begun x.pass).mended m one.0 mended one.1) one.2 (nothing_inside y m)
+      inside_first x y y m m Unlock answer.Unlocked [] [] one.0 t.1.calls.setup refl (λ w. unlock_words x.pass.setup.layout x.pass.setup.layout w (words_begun x.pass) (spot_begun x.pass).mended m one.0 mended one.1) one.2 (0, (λ w. refl), refl)
 
 module _ (x y z : Seated) (a b : Answer) (a0 a1 a2 f0 f1 f2 : ℕ) (idle : x.pass.start ≡ None) where
   -- the task and the unlock

@@ -7,12 +7,9 @@ use Rattle.runs.proofs.Runs.{own-append, own_mine}
 calls_none : (x : Pass) → IsRun x.setup x.seen → Calls x [] x
 calls_none x run = record { table = refl; setup = refl; by = refl; since = []; seen = sym (append-nil x.seen); mine_are = refl; last = ends_none x.seen; run = run }
   where
-    no_end : (front : List TakenStep) (e : TakenStep) → [] ≡ front ++ e ∷ [] → ⊥
-    no_end [] e h = cc
-    no_end (f ∷ fs) e h = cc
-
     ends_none : (es : List TakenStep) → EndsWith [] es
-    ends_none es front e h = absurd (no_end front e h)
+    ends_none es [] e h = absurd (cc)
+    ends_none es (f ∷ fs) e h = absurd (cc)
 
 ends_one : (e : TakenStep) (es xs : List TakenStep) → es ≡ xs ++ e ∷ [] → EndsWith (e ∷ []) es
 ends_one e es xs h [] last k = (xs, h ∙ ap (λ (l : TakenStep). xs ++ l ∷ []) (let s : e ≡ last = cc in s))

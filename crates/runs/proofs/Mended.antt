@@ -1,6 +1,6 @@
 -- A task leaves a holder that has nothing to mend so, and a mending that finds the lock ruined leaves the holder unmended.
 use Rattle.std.proofs.Common.{◌≡◌, ℕ, ◌==◌, ◌&&◌, Bool, true, false, List, [], ◌∷◌, length, Option, Some, None, unwrap_or, All, refl, sym, ap, ◌∙◌, subst, append-nil}
-use Rattle.runs.proofs.Common.{All-nil, All-cons, All-head, All-tail, Kind, Glance as Glancing, Word, Data as DataAt, is_glance, Place, Inside, next, Layout, Reply, Mended, Task, Script, Get as Asks}
+use Rattle.runs.proofs.Common.{All-nil, All-cons, All-head, All-tail, Kind, Word, Data as DataAt, is_glance, Place, Inside, Layout, Reply, Mended, Task, Script, Get as Asks}
 use Rattle.runs.proofs.Common.{Put as Writes, Done, script, Answer, NotRecoverable, Mail, Call, Consistent, Append, Close, Mending, Working, by_script, answer_at, answer_by, next_or_same, and_answer}
 use Rattle.runs.proofs.Common.{answers_in, Errand, Free, Doing, Spot, begun_from, Begins, Happening, Moves, at_lock, only_spot, settled, moved_by, TakenStep, Setup, Served}
 use Rattle.runs.proofs.Common.{Pass, spot_now, Seated, before, gone, spot_of, crash_first, spot_begun, IsHolder, IsTask}
@@ -8,13 +8,9 @@ use Rattle.rmecore.specs.declared.kind.Kind.TheVariants.{Get as Gets, Put as Put
 use Rattle.redomail.specs.declared.task.Task.TheVariants as task
 use Rattle.runs.proofs.Chained.{calls_spot}
 use Rattle.runs.proofs.Leads.{gone-append}
+use Rattle.runs.proofs.OneStep.{inside_stays}
 use Rattle.runs.proofs.Tabled.{start_leads, start_of, Stepped, stepped}
 use Rattle.runs.proofs.Walked.{OwnMoves}
-
--- who is inside with nothing to do takes no step
-stays : (n limit p : ℕ) (kind : Kind) (word : Word) (v : ℕ) → is_glance kind ≡ false → next n limit p Inside kind word v ≡ None
-stays n limit p Glancing word v moves = absurd (cc)
-stays n limit p _ word v moves = refl
 
 -- inside with this to mend or not, and with what is left of a task, or nothing to do
 abbrev TaskBy : Bool → Place → Bool → Errand → Type 0
@@ -45,7 +41,7 @@ task_settles m b c t _ h = h
 task_step : (l : Layout) (limit p : ℕ) (m : Bool) (s : Place) (b c : Bool) (e : Errand) (kind : Kind) (word : Word) (v : ℕ) → is_glance kind ≡ false → TaskBy m s b e
     → AtTask m (unwrap_or (moved_by l limit p s b c e kind word v) (record { lock = s; mended = b; barred = c; errand = e }))
 task_step l limit p m Inside b c Free kind word v moves h =
-    subst (λ (o : Option Place). AtTask m (unwrap_or (at_lock l p Inside b c o) (record { lock = Inside; mended = b; barred = c; errand = Free }))) (sym (stays l.procs limit p kind word v moves)) h
+    subst (λ (o : Option Place). AtTask m (unwrap_or (at_lock l p Inside b c o) (record { lock = Inside; mended = b; barred = c; errand = Free }))) (sym (inside_stays l.procs limit p kind word v moves)) h
 task_step l limit p m Inside b c (Doing (Working t) (Asks j rest)) Gets (DataAt i) v moves h =
     either_spot (AtTask m) (i == j) (settled b c (Working t) (rest v)) (record { lock = Inside; mended = b; barred = c; errand = Doing (Working t) (Asks j rest) }) (task_settles m b c t (rest v) h) h
 task_step l limit p m Inside b c (Doing (Working t) (Writes j x rest)) Puts (DataAt i) v moves h =
@@ -60,7 +56,7 @@ mending_settles c _ never = refl
 mending_step : (l : Layout) (limit p : ℕ) (s : Place) (b c : Bool) (e : Errand) (kind : Kind) (word : Word) (v : ℕ) → is_glance kind ≡ false → MendingBy s b e → ((r : Reply) → answer_by s b c e kind v ≡ Some (Mail r) → ⊥)
     → AtMending (unwrap_or (moved_by l limit p s b c e kind word v) (record { lock = s; mended = b; barred = c; errand = e }))
 mending_step l limit p Inside b c Free kind word v moves h never =
-    subst (λ (o : Option Place). AtMending (unwrap_or (at_lock l p Inside b c o) (record { lock = Inside; mended = b; barred = c; errand = Free }))) (sym (stays l.procs limit p kind word v moves)) h
+    subst (λ (o : Option Place). AtMending (unwrap_or (at_lock l p Inside b c o) (record { lock = Inside; mended = b; barred = c; errand = Free }))) (sym (inside_stays l.procs limit p kind word v moves)) h
 mending_step l limit p Inside false c (Doing Mending (Asks j rest)) Gets (DataAt i) v moves h never =
     either_spot AtMending (i == j) (settled false c Mending (rest v)) (record { lock = Inside; mended = false; barred = c; errand = Doing Mending (Asks j rest) }) (mending_settles c (rest v) never) refl
 mending_step l limit p Inside false c (Doing Mending (Writes j x rest)) Puts (DataAt i) v moves h never =

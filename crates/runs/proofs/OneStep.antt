@@ -61,15 +61,15 @@ own_by p (x ∷ xs) e rest h =
     ]
 
 -- a process inside with no call under way steps no more by itself
-still_inside : (n limit p : ℕ) (kind : Kind) (word : Word) (v : ℕ) → IsSome (next n limit p Inside kind word v) → is_glance kind ≡ false → ⊥
-still_inside n limit p Glances word v some move = cc
-still_inside n limit p _ _ v some move = cc
+pub inside_stays : (n limit p : ℕ) (kind : Kind) (word : Word) (v : ℕ) → is_glance kind ≡ false → next n limit p Inside kind word v ≡ None
+inside_stays n limit p Glances word v move = absurd (cc)
+inside_stays n limit p _ word v move = refl
 
 abbrev pub inside_free : Bool → Spot
 inside_free b = record { lock = Inside; mended = b; barred = false; errand = Free }
 
 no_more : (l : Layout) (limit p : ℕ) (b : Bool) (kind : Kind) (word : Word) (v : ℕ) → IsSome (next_spot l limit (inside_free b) (Moves p kind word v)) → is_glance kind ≡ false → ⊥
-no_more l limit p b kind word v some move = still_inside l.procs limit p kind word v (at_lock_some l p Inside b false (next l.procs limit p Inside kind word v) some) move
+no_more l limit p b kind word v some move = let none = subst (λ (o : Option Place). IsSome o) (inside_stays l.procs limit p kind word v move) (at_lock_some l p Inside b false (next l.procs limit p Inside kind word v) some) in cc
 
 -- the entry of such a call
 pub record Single (x : Pass) (start : Spot) (answers : List Answer) (y : Pass) (mine : List TakenStep) : Type 0 where

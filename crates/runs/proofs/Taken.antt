@@ -1,7 +1,7 @@
 -- Steps one after another, and what they tell.
 use Rattle.std.proofs.Common.{◌≡◌, ℕ, suc, ◌+◌, ◌≤◌, Bool, true, false, if◌then◌else◌, List, [], ◌∷◌, ◌++◌, length, Option, Some, None, IsSome, unwrap_or, refl, sym, ap, ◌∙◌, subst, arith, length-append}
 use Rattle.runs.proofs.Common.{Kind, Look, Weigh, Word, answer, is_blocked, kind_of, word_of, carried, Place, Wait, one_more, Answer, Call, Lock, by_lock, answer_at, blocked_by, and_answer}
-use Rattle.runs.proofs.Common.{is_idle, is_waiting, Errand, Free, Doing, Spot, next_spot, Moves, TakenStep, Setup, answers_of, blocked_of, Takes, Ran, answers_from, blocked_from, spot_before}
+use Rattle.runs.proofs.Common.{is_idle, is_waiting, Errand, Free, Doing, Spot, next_spot, Moves, TakenStep, Setup, answers_of, blocked_of, Takes, blocks, Ran, answers_from, blocked_from, spot_before}
 use Rattle.runs.proofs.Common.{is_blocked_at, Going, Still, Lasts, LastsBy, Pass, spot_now, next_entry, moved_spot, Seated, many_more, TakesStep, before, happenings, spelled, gone, spot_of}
 use Rattle.runs.proofs.Common.{IsUnder, Fits, Leaves, UnderBy}
 use Rattle.rmeworld.specs.declared.outcome.Outcome.{Outcome}
@@ -141,23 +141,19 @@ module _ (x y z : Seated) (mine : List TakenStep) (o : Outcome) (g : Going x min
   abbrev pub more : List TakenStep
   more = mine ++ last x y z mine o g s ∷ []
 
-  pub ran_answered : (a : Answer) → o.answer ≡ Some a → Ran x (Some a) z more
-  ran_answered a e =
-      let free : o.progress.blocked ≡ false = not_both o.progress.blocked o.answer a silent e in
-      record {
-        takes = takes_more x y z mine o g s;
-        answers = answers_more x y z mine o g s ∙ ap (λ (u : Option Answer). and_answer u []) e;
-        blocked = blocked_more x y z mine o g s ∙ ap (λ (b : Bool). if b then 1 else 0) free;
-        steps = steps_more x y z mine o g s;
-      }
-
-  pub ran_blocked : o.progress.blocked ≡ true → Ran x None z more
-  ran_blocked h = record {
+  ran_by : (t : Option Answer) → o.answer ≡ t → (if o.progress.blocked then 1 else 0) ≡ blocks t → Ran x t z more
+  ran_by t e b = record {
     takes = takes_more x y z mine o g s;
-    answers = answers_more x y z mine o g s ∙ ap (λ (u : Option Answer). and_answer u []) (silent h);
-    blocked = blocked_more x y z mine o g s ∙ ap (λ (b : Bool). if b then 1 else 0) h;
+    answers = answers_more x y z mine o g s ∙ ap (λ (u : Option Answer). and_answer u []) e;
+    blocked = blocked_more x y z mine o g s ∙ b;
     steps = steps_more x y z mine o g s;
   }
+
+  pub ran_answered : (a : Answer) → o.answer ≡ Some a → Ran x (Some a) z more
+  ran_answered a e = ran_by (Some a) e (ap (λ (b : Bool). if b then 1 else 0) (not_both o.progress.blocked o.answer a silent e))
+
+  pub ran_blocked : o.progress.blocked ≡ true → Ran x None z more
+  ran_blocked h = ran_by None (silent h) (ap (λ (b : Bool). if b then 1 else 0) h)
 
   pub goes_on : o.answer ≡ None → o.progress.blocked ≡ false → Going x more z
   goes_on e h = record {

@@ -173,11 +173,7 @@ read_written_other : (s : Setup) (words : ℕ → Own) (cells : Words) (a b : Wo
 read_written_other s words cells (ChoosingOf p) (ChoosingOf q) v ne = ap (λ (x : Own). x.choosing) (put_other words p _ q (λ e. ne (ap ChoosingOf e)))
 read_written_other s words cells (NumberOf p) (NumberOf q) v ne = ap (λ (x : Own). x.number) (put_other words p _ q (λ e. ne (ap NumberOf e)))
 read_written_other s words cells (InsideOf p) (InsideOf q) v ne = ap (λ (x : Own). x.inside) (put_other words p _ q (λ e. ne (ap InsideOf e)))
-read_written_other s words cells (DataAt i) (DataAt j) v ne = kept (nat_lt i (size s.layout))
-  where
-    kept : (b : Bool) → (if b then put cells i v else cells) j ≡ cells j
-    kept true = put_other cells i v j (λ e. ne (ap DataAt e))
-    kept false = refl
+read_written_other s words cells (DataAt i) (DataAt j) v ne = elim (cases_Bool (nat_lt i (size s.layout))) [ inl e ↦ rw e (put_other cells i v j (λ e. ne (ap DataAt e))) | inr e ↦ rw e refl ]
 read_written_other s words cells (DataAt i) _ v ne = refl
 read_written_other s words cells _ (DataAt j) v ne = refl
 read_written_other s words cells _ (ChoosingOf q) v ne = put_keeps (λ (x : Own). x.choosing) words _ _ q refl
@@ -238,11 +234,8 @@ beyond_zero s [] w i h z = z
 beyond_zero s (x ∷ xs) w i h z = beyond_zero s xs (onward s.layout s.limit w x) i h (after_one x)
   where
     put_one : (word : Word) (v : ℕ) → put_cell s.layout w.cells word v i ≡ 0
-    put_one (DataAt j) v = kept (nat_lt j (size s.layout)) refl
-      where
-        kept : (b : Bool) → nat_lt j (size s.layout) ≡ b → (if b then put w.cells j v else w.cells) i ≡ 0
-        kept true e = put_other w.cells j v i (λ (k : i ≡ j). let l : j < size s.layout = ltb-true j (size s.layout) e in absurd (omega arith)) ∙ z
-        kept false e = z
+    put_one (DataAt j) v =
+        elim (cases_Bool (nat_lt j (size s.layout))) [ inl e ↦ rw e (put_other w.cells j v i (λ (k : i ≡ j). let l : j < size s.layout = ltb-true j (size s.layout) e in absurd (omega arith)) ∙ z) | inr e ↦ rw e z ]
     put_one _ v = z
 
     by : (b : Bool) (word : Word) (v : ℕ) → (if b then put_cell s.layout w.cells word v else w.cells) i ≡ 0
@@ -259,7 +252,14 @@ reads_beyond s es _ h = absurd h
 
 -- a step there leaves the words
 pub shows_beyond : (s : Setup) (es : List TakenStep) (e : TakenStep) (words : List ℕ) → IsBeyond s e.step.word → Shows s (end_of s es) words → Shows s (end_of s (es ++ e ∷ [])) words
-shows_beyond s es e words t h = by (is_store e.step.kind) refl
+shows_beyond s es e words t h =
+    elim (cases_Bool (is_store e.step.kind)) [
+      | inl is ↦
+          let a : words_now (end_of s es).words e.step.kind e.step.word e.value ≡ (end_of s es).words = rw is (same_words e.step.word t (end_of s es).words e.value) in
+          let c : cells_now s.layout (end_of s es).cells e.step.kind e.step.word e.value ≡ (end_of s es).cells = rw is (same_cells e.step.word t (end_of s es).cells e.value) in
+          (h.0, λ word k. h.1 word k ∙ sym (reading_same (end_of s es) (end_of s (es ++ e ∷ [])) word (words_snoc s es e ∙ a) (cells_snoc s es e ∙ c)))
+      | inr is ↦ shows_load s es e words is h
+    ]
   where
     same_words : (word : Word) → IsBeyond s word → (ws : ℕ → Own) (v : ℕ) → write ws word v ≡ ws
     same_words (DataAt i) k ws v = refl
@@ -268,13 +268,6 @@ shows_beyond s es e words t h = by (is_store e.step.kind) refl
     same_cells : (word : Word) → IsBeyond s word → (cells : Words) (v : ℕ) → put_cell s.layout cells word v ≡ cells
     same_cells (DataAt i) k cells v = let above : nat_lt i (size s.layout) ≡ false = le-ltb i (size s.layout) k in rw above refl
     same_cells _ k cells v = absurd k
-
-    by : (b : Bool) → is_store e.step.kind ≡ b → Shows s (end_of s (es ++ e ∷ [])) words
-    by false is = shows_load s es e words is h
-    by true is =
-        let a : words_now (end_of s es).words e.step.kind e.step.word e.value ≡ (end_of s es).words = rw is (same_words e.step.word t (end_of s es).words e.value) in
-        let c : cells_now s.layout (end_of s es).cells e.step.kind e.step.word e.value ≡ (end_of s es).cells = rw is (same_cells e.step.word t (end_of s es).cells e.value) in
-        (h.0, λ word k. h.1 word k ∙ sym (reading_same (end_of s es) (end_of s (es ++ e ∷ [])) word (words_snoc s es e ∙ a) (cells_snoc s es e ∙ c)))
 
 -- what the last entry of a run read is the word as it stood
 move_read : (w : Scene) (p : ℕ) (word : Word) (v : ℕ) (kind : Kind) → Reads w (taken p kind word v) → is_store kind ≡ false → reading w word ≡ v

@@ -3,8 +3,9 @@ use Rattle.std.proofs.Common.{◌≡◌, ◌≢◌, ◌⊎◌, ℕ, zero, suc, �
 use Rattle.runs.proofs.Common.{set-get_or, or_cases, All-nil, All-cons, All-append, slice_index, dite, ℕ_discrete, keeps, Allows, Splits, Joins, opening, Spot, at_rest, at_first, reading, Known, Step, TakenStep, View}
 use Rattle.runs.proofs.Common.{Setup, count_from, joined, IsIn, Did, MayLoad, stepper, entry_of, opening_known, longer, spent_known, IsAnswered, AllFit, IsMember, IsKept, Kept, May, MayStore, MayPass}
 use Rattle.runs.proofs.Common.{happenings, spelled, own, IsRun, end_of, gone, spot_of, has, index, InTable, Goes, word_count, IsBeyond, Shows, stores}
-use mathlib.Core.Option.{some, some-injective, some-ne-none}
+use mathlib.Core.Option.{Option, some, some-injective, some-ne-none}
 use lib.ListN.{get_elem?}
+use Rattle.atomic_table.specs.Table.{Act, Valid, stepped, carried_after}
 use Rattle.atomic_table.proofs.Lists.{at_set, at_longer, at_last, set_here, set_else}
 use Rattle.runs.specs.Rule.{Begins, Fits}
 use Rattle.std.proofs.lemmas.Bool.{or_left, or_right}
@@ -123,6 +124,11 @@ module _ (sizes : Setup) (log : List TakenStep) (owner : ℕ → ℕ) (words : L
         told = subst (λ (l : List TakenStep). All (IsIn l) v.told) f.0.0.1 (λ i d h. let g = f.1 i d h in record { begins = g.0; own_are = λ p m. (g.1 p m).own_is });
       }
 
+  -- so the step may be taken, and tells this
+  allowed : (homes : List (Option (Unit {0}))) (c : List (ℕ × Unit {0})) (word new : ℕ) (now : List ℕ) → set words word new ≡ now → IsKept sizes (log ++ e ∷ []) owner now (set views id w)
+      → (u : Known) × (a : Act (Unit {0})) × Valid homes c a × Kept sizes (stepped (record { words = words; homes = homes; views = views }) word new id c u a) × (Did step v value u × (carried_after c a ≡ c))
+  allowed homes c word new now same kept = (w, keeps, tt, (log ++ e ∷ [], owner, subst (λ (ws : List ℕ). IsKept sizes (log ++ e ∷ []) owner ws (set views id w)) (sym same) kept), (told kept.run, refl))
+
 pub loads : (sizes : Setup) (slots id : ℕ) (v : Known) (c : List (ℕ × Unit {0})) (step : Step) (word : ℕ)
     → MayLoad step word v.view
     → Allows (Kept sizes) slots id (v, c) word (λ x. x) (λ found m. Did step v found m.0 × (m.1 ≡ c))
@@ -132,14 +138,7 @@ loads sizes slots id v c step word may s h homes at small =
     let there : (word ≡ index sizes step.word) × InTable sizes step.word =
     known sizes h.0 h.1 s.words s.views h.2 id v at step value m (λ z. (word ≡ index z step.word) × InTable z step.word) (may.0, may.1) in
     let k = kept_load sizes h.0 h.1 s.words s.views h.2 id v at step value m there.1 may.2 (ap (slice_index s.words) (sym there.0)) in
-    let now : Known = w sizes h.0 h.1 s.words s.views h.2 id v at step value m in
-    let same : set s.words word value ≡ s.words = set-get_or s.words word 0 in (
-      now,
-      keeps,
-      tt,
-      (h.0 ++ entry_of v.view step value ∷ [], h.1, subst (λ (ws : List ℕ). IsKept sizes (h.0 ++ entry_of v.view step value ∷ []) h.1 ws (set s.views id now)) (sym same) k),
-      (told sizes h.0 h.1 s.words s.views h.2 id v at step value m k.run, refl),
-    )
+    allowed sizes h.0 h.1 s.words s.views h.2 id v at step value m s.homes c word value s.words (set-get_or s.words word 0) k
 
 pub stores_kept : (sizes : Setup) (slots id : ℕ) (v : Known) (c : List (ℕ × Unit {0})) (step : Step) (word new : ℕ)
     → MayStore step word v.view new
@@ -149,13 +148,7 @@ stores_kept sizes slots id v c step word new may s h homes at small =
     let there : (word ≡ index sizes step.word) × InTable sizes step.word =
     known sizes h.0 h.1 s.words s.views h.2 id v at step new m (λ z. (word ≡ index z step.word) × InTable z step.word) (may.0, may.1) in
     let k = kept_store sizes h.0 h.1 s.words s.views h.2 id v at step new m there.1 may.2 in
-    let now : Known = w sizes h.0 h.1 s.words s.views h.2 id v at step new m in (
-      now,
-      keeps,
-      tt,
-      (h.0 ++ entry_of v.view step new ∷ [], h.1, subst (λ (i : ℕ). IsKept sizes (h.0 ++ entry_of v.view step new ∷ []) h.1 (set s.words i new) (set s.views id now)) (sym there.0) k),
-      (told sizes h.0 h.1 s.words s.views h.2 id v at step new m k.run, refl),
-    )
+    allowed sizes h.0 h.1 s.words s.views h.2 id v at step new m s.homes c word new (set s.words (index sizes step.word) new) (ap (λ (i : ℕ). set s.words i new) there.0) k
 
 pub passes : (sizes : Setup) (slots id : ℕ) (v : Known) (c : List (ℕ × Unit {0})) (step : Step) (word value : ℕ)
     → MayPass step v.view value
@@ -164,14 +157,7 @@ passes sizes slots id v c step word value may s h homes at small =
     let m = may.2 in
     let there : IsBeyond sizes step.word = known sizes h.0 h.1 s.words s.views h.2 id v at step value m (λ z. IsBeyond z step.word) may.0 in
     let k = kept_beyond sizes h.0 h.1 s.words s.views h.2 id v at step value m there may.1 in
-    let now : Known = w sizes h.0 h.1 s.words s.views h.2 id v at step value m in
-    let same : set s.words word (slice_index s.words word) ≡ s.words = set-get_or s.words word 0 in (
-      now,
-      keeps,
-      tt,
-      (h.0 ++ entry_of v.view step value ∷ [], h.1, subst (λ (ws : List ℕ). IsKept sizes (h.0 ++ entry_of v.view step value ∷ []) h.1 ws (set s.views id now)) (sym same) k),
-      (told sizes h.0 h.1 s.words s.views h.2 id v at step value m k.run, refl),
-    )
+    allowed sizes h.0 h.1 s.words s.views h.2 id v at step value m s.homes c word (slice_index s.words word) s.words (set-get_or s.words word 0) k
 
 own_same : (p : ℕ) (log xs ys rest : List TakenStep) → log ≡ ys ++ rest → own p log ≡ own p xs → (more : List TakenStep) → ys ≡ xs ++ more → own p log ≡ own p ys
 own_same p log xs ys rest e h more f =

@@ -11,7 +11,7 @@ pub use Rattle.rmecore.specs.declared.kind.Kind.TheVariants.{Look, Weigh, Open, 
 pub use Rattle.rmecore.specs.declared.own.Own.{Own}
 pub use Rattle.rmecore.specs.declared.word.Word.{Word}
 pub use Rattle.rmecore.specs.declared.word.Word.TheVariants.{Choosing, Number, Data}
-pub use Rattle.rmecore.specs.Machine.{answer, is_blocked, access, kind_of, word_of, carried, again, found}
+pub use Rattle.rmecore.specs.Machine.{answer, is_blocked, kind_of, word_of, carried, again, found}
 pub use Rattle.rmecore.specs.Needs.{put}
 pub use Rattle.rmecore.specs.Paid.{is_glance, ReadsBegun}
 pub use Rattle.rmecore.specs.Place.{Place, Rest, Dead, Wait, Inside, Reread, Opening, Door, Shutting, Leaving, Withdrawing, Unmarking, is_before, next, without, span, others, relocked, recovered, restart, shut, unmarked, Event, started, only, Steps}
@@ -45,7 +45,7 @@ pub use Rattle.rmeworld.specs.Entered.{is_entry}
 pub use Rattle.rmeworld.specs.OwnSteps.{most_steps, own_steps}
 pub use Rattle.rmeworld.specs.Refused.{is_idle, is_waiting, start_refusal, is_inside}
 pub use Rattle.rmeworld.specs.Spot.{Errand, Free, Doing, Spot, begun_from, inside_only, Begins, next_spot, Happening, at_rest, Moves, at_lock, only_spot, settled, mended_entered, Falls, Glances, moved_by, who, working, dead, errand_entered}
-pub use Rattle.rmeworld.specs.Stand.{IsSize, Stand, access_by, next_access, outcome, spot_after, IsAllowed, progress_by, stepped, stepped_by, job_left, placed, works, calm}
+pub use Rattle.rmeworld.specs.Stand.{IsSize, Stand, access_by, next_access, outcome, spot_after, IsAllowed, progress_by, stepped}
 pub use Rattle.rmeworld.specs.World.{Scene, at_first, Story, last_scene, put_cell, reading, onward, event_deeds, deeds, own_happenings, words_after, cells_after, Can, reading_of}
 pub use Rattle.rmeworld.proofs.Holders.{holders_put, story_front, story_back}
 pub use Rattle.rmeworld.proofs.LawfulNow.{every_story_leaves_an_image, Someone, Nobody, find_in}

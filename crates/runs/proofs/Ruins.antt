@@ -1,11 +1,10 @@
 -- A worker ruins no lock: it starts an unlock only behind an append or a mending. So it is told of a ruin only where it has
 -- read one, and it leaves nothing unmended unless it has read one.
 use Rattle.std.proofs.Common.{◌≡◌, ℕ, ◌==◌, ◌&&◌, Bool, true, false, if◌then◌else◌, ◌⊎◌, List, [], ◌∷◌, length, Option, Some, None, IsSome, unwrap_or, refl, sym, ap, ◌∙◌, subst, inl, inr, eqb-true}
-use Rattle.runs.proofs.Common.{and_parts, cases_Bool, Kind, Glance as Looks, Word, Choosing as ChoosingOf, Number as NumberOf, Data as DataAt, Place, Dead, Inside, next, started, is_store, Layout}
-use Rattle.runs.proofs.Common.{Reply, Task, Script, Get as Asks, Put as Writes, Done, repair, consistent, script, Call, Lock, Unlock, Consistent, Append, Why}
-use Rattle.runs.proofs.Common.{Checking, Ruining, Mending, Working, is_entry, Errand, Free, Doing, Spot, begun_from, Begins, next_spot, Happening, at_lock, only_spot, settled}
-use Rattle.runs.proofs.Common.{mended_entered, moved_by, dead, TakenStep, Setup, last_call, last_of, MayStart, AreInOrder, ReadsRuin, HasReadRuin, settles, before, taken, happenings, spelled, gone}
-use Rattle.runs.proofs.Common.{Goes, Replies}
+use Rattle.runs.proofs.Common.{and_parts, cases_Bool, Kind, Glance as Looks, Word, Choosing as ChoosingOf, Number as NumberOf, Data as DataAt, Place, Dead, Inside, next, started, is_store}
+use Rattle.runs.proofs.Common.{Layout, Reply, Task, Script, Get as Asks, Put as Writes, Done, repair, consistent, script, Call, Lock, Unlock, Consistent, Append, Why, Checking, Ruining}
+use Rattle.runs.proofs.Common.{Mending, Working, is_entry, Errand, Free, Doing, Spot, begun_from, Begins, next_spot, Happening, at_lock, only_spot, settled, mended_entered, moved_by, dead}
+use Rattle.runs.proofs.Common.{TakenStep, Setup, last_call, last_of, MayStart, AreInOrder, ReadsRuin, HasReadRuin, settles, before, taken, happenings, spelled, gone, Goes, Replies}
 use Rattle.rmecore.specs.declared.core_call.CoreCall.TheVariants as core
 use Rattle.rmecore.specs.declared.kind.Kind.TheVariants.{Get as Gets, Put as Puts}
 use Rattle.rmecore.specs.declared.word.Word.TheVariants.{Inside as InsideOf}

@@ -1,8 +1,7 @@
 -- The machine and the pass stay together.
 use Rattle.std.proofs.Common.{◌≡◌, ℕ, ◌+◌, ◌*◌, Bool, true, false, Option, Some, None, IsSome, unwrap_or, refl, sym, ap, ◌∙◌, subst}
 use Rattle.runs.proofs.Common.{Kind, Word, kind_of, word_of, carried, is_glance, Layout, size, place_at, Call, answer_at, Spot, Begins, next_spot, Moves, Stand, access_by, next_access, outcome, stepped}
-use Rattle.runs.proofs.Common.{spot_after, IsAllowed, progress_by, Setup, Pass, spot_now, Looks, moved_spot, Advances}
-use Rattle.runs.proofs.Common.{IsRunBy, next_of, outcome_of, before, taken, gone, spot_of}
+use Rattle.runs.proofs.Common.{spot_after, IsAllowed, progress_by, Setup, Pass, spot_now, Looks, moved_spot, Advances, IsRunBy, next_of, outcome_of, before, taken, gone, spot_of}
 use Rattle.rmecore.specs.declared.access.Access.{Access}
 use Rattle.rmecore.specs.declared.kind.Kind.TheVariants as kind
 use Rattle.rmeworld.specs.Stand.{spot_of as standing_at, started}

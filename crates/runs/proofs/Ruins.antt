@@ -3,7 +3,7 @@
 use Rattle.std.proofs.Common.{◌≡◌, ℕ, ◌==◌, ◌&&◌, Bool, true, false, if◌then◌else◌, ◌⊎◌, List, [], ◌∷◌, length, Option, Some, None, IsSome, unwrap_or, refl, sym, ap, ◌∙◌, subst, inl, inr, eqb-true}
 use Rattle.runs.proofs.Common.{and_parts, cases_Bool, Kind, Glance as Looks, Word, Choosing as ChoosingOf, Number as NumberOf, Data as DataAt, Place, Dead, Inside, next, started, is_store}
 use Rattle.runs.proofs.Common.{Layout, Reply, Task, Script, Get as Asks, Put as Writes, Done, repair, consistent, script, Call, Lock, Unlock, Consistent, Append, Why, Checking, Ruining}
-use Rattle.runs.proofs.Common.{Mending, Working, is_entry, Errand, Free, Doing, Spot, begun_from, Begins, next_spot, Happening, at_lock, only_spot, settled, mended_entered, moved_by, dead}
+use Rattle.runs.proofs.Common.{Mending, Working, is_entry, Errand, Free, Doing, Spot, begun_from, Begins, next_spot, Happening, at_lock, settled, mended_entered, moved_by, dead}
 use Rattle.runs.proofs.Common.{TakenStep, Setup, last_call, last_of, MayStart, AreInOrder, ReadsRuin, HasReadRuin, settles, before, taken, happenings, spelled, gone, Goes, Replies}
 use Rattle.rmecore.specs.declared.core_call.CoreCall.TheVariants as core
 use Rattle.rmecore.specs.declared.kind.Kind.TheVariants.{Get as Gets, Put as Puts}
@@ -79,24 +79,15 @@ module _ (l : Layout) where
     After why left kind word v = IsSome (moved_by l limit p s b c (Doing why left) kind word v) → IsRuin kind word v ⊎ StandsAt last (unwrap_or (moved_by l limit p s b c (Doing why left) kind word v) d)
 
     checks : (kind : Kind) (word : Word) (v : ℕ) → c ≡ false → settles last ≡ false → After Checking check kind word v
-    checks Gets (DataAt i) v calm out some = go (i == 0) (v == 1) refl refl some
-      where
-        go : (x y : Bool) → (i == 0) ≡ x → (v == 1) ≡ y → IsSome (only_spot x (settled b c Checking (Done (reply.Ruined y)))) → IsRuin Gets (DataAt i) v ⊎ StandsAt last (unwrap_or (only_spot x (settled b c Checking (Done (reply.Ruined y)))) d)
-        go true true is ruined k = inl (refl, ap DataAt (eqb-true i 0 is), eqb-true v 1 ruined)
-        go true false is other k = inr (calm, λ e. settled_not out e)
-        go false y is other k = absurd (cc)
+    checks Gets (DataAt i) v calm out some =
+        guard_spot (i == 0) (settled b c Checking (Done (reply.Ruined (v == 1)))) d (λ t. IsRuin Gets (DataAt i) v ⊎ StandsAt last t) some
+        (λ is. elim (cases_Bool (v == 1)) [ inl ruined ↦ inl (refl, ap DataAt (eqb-true i 0 is), eqb-true v 1 ruined) | inr other ↦ inr (rw other (calm, λ e. settled_not out e)) ])
     checks _ _ v calm out some = absurd (cc)
 
     mends_first : (q : ℕ) (kind : Kind) (word : Word) (v : ℕ) → c ≡ false → After Mending (consistent l q) kind word v
-    mends_first q Gets (DataAt i) v calm some = go (i == 0) (v == 1) refl refl some
-      where
-        rest : Bool → Script Reply
-        rest y = if y then Done (reply.Ruined true) else repair l q
-
-        go : (x y : Bool) → (i == 0) ≡ x → (v == 1) ≡ y → IsSome (only_spot x (settled b c Mending (rest y))) → IsRuin Gets (DataAt i) v ⊎ StandsAt last (unwrap_or (only_spot x (settled b c Mending (rest y))) d)
-        go true true is ruined k = inl (refl, ap DataAt (eqb-true i 0 is), eqb-true v 1 ruined)
-        go true false is other k = inr (calm, inr (replies_repair IsMended (λ repaired. tt) l q))
-        go false y is other k = absurd (cc)
+    mends_first q Gets (DataAt i) v calm some =
+        guard_spot (i == 0) (settled b c Mending (if v == 1 then Done (reply.Ruined true) else repair l q)) d (λ t. IsRuin Gets (DataAt i) v ⊎ StandsAt last t) some
+        (λ is. elim (cases_Bool (v == 1)) [ inl ruined ↦ inl (refl, ap DataAt (eqb-true i 0 is), eqb-true v 1 ruined) | inr other ↦ inr (rw other (calm, inr (replies_repair IsMended (λ repaired. tt) l q))) ])
     mends_first q _ _ v calm some = absurd (cc)
 
     -- what is left of a repair, or of a task

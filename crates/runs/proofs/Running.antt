@@ -5,7 +5,6 @@ use Rattle.runs.proofs.Common.{spot_after, IsAllowed, progress_by, Setup, Pass, 
 use Rattle.rmecore.specs.declared.access.Access.{Access}
 use Rattle.rmecore.specs.declared.kind.Kind.TheVariants as kind
 use Rattle.rmeworld.specs.Stand.{spot_of as standing_at, started}
-use Rattle.rmeworld.specs.declared.call.Call.TheVariants as call
 use Rattle.rmeworld.specs.WorldState.{HasSeat}
 use Rattle.rmeworld.proofs.WorldSteps.{keeps_stepped, keeps_started}
 use Rattle.rmeworld.proofs.WorldTallies.{no_glance}

@@ -1,8 +1,8 @@
 -- A worker that is told of a ruined lock has read that it is.
 use Rattle.std.proofs.Common.{◌≡◌, ℕ, ◌==◌, Bool, true, false, if◌then◌else◌, List, [], ◌∷◌, ◌++◌, Option, Some, None, Result, Ok, Err, IfErr, IsSome, refl, sym, ap, ◌∙◌, subst, inl, inr, append_assoc, eqb-true}
-use Rattle.runs.proofs.Common.{All-head, All-tail, Kind, Word, Data as DataAt, answer, is_glance, Place, Layout, Reply, Task, Script, Done, tail, repair, consistent}
+use Rattle.runs.proofs.Common.{cases_Bool, All-head, All-tail, Kind, Word, Data as DataAt, answer, is_glance, Place, Layout, Reply, Task, Script, Done, tail, repair, consistent}
 use Rattle.runs.proofs.Common.{Answer, NotRecoverable as RuinedAnswer, OwnerDied, Unlocked, Call, Lock, Append, Checking, Ruining, Mending, Working, by_lock, by_reply, by_script, answer_at, answer_by}
-use Rattle.runs.proofs.Common.{and_answer, is_idle, Errand, Free, Doing, Spot, next_spot, Happening, at_rest, Moves, only_spot, settled, moved_by, TakenStep, LockFault, Setup, AreMoves, answers_from}
+use Rattle.runs.proofs.Common.{and_answer, is_idle, Errand, Free, Doing, Spot, next_spot, Happening, at_rest, Moves, settled, moved_by, TakenStep, LockFault, Setup, AreMoves, answers_from}
 use Rattle.runs.proofs.Common.{ServedAll, spot_before, ready, spot_now, own_of, last_call, last_of, AreInOrder, ReadsRuin, HasReadRuin, Seated, began, before, taken, happenings, spelled}
 use Rattle.runs.proofs.Common.{IsRun, gone, Goes, Replies, WholeEnds, AppendFails, Comes}
 use Rattle.rmecore.specs.declared.core_done.CoreDone.{CoreDone}
@@ -10,6 +10,7 @@ use Rattle.rmecore.specs.declared.core_done.CoreDone.TheVariants as ends
 use Rattle.rmecore.specs.declared.kind.Kind.TheVariants.{Get as Gets}
 use Rattle.redomail.specs.declared.reply.Reply.TheVariants as reply
 use Rattle.runs.specs.declared.lock_fault.LockFault.TheVariants.{NumbersSpent, NotRecoverable, NotYet}
+use Rattle.rmeworld.proofs.CallSteps.{guard_spot}
 use Rattle.runs.proofs.Begun.{replies_tail}
 use Rattle.runs.proofs.OneStep.{run_goes, goes_front, goes_back}
 use Rattle.runs.proofs.Ordered.{own_now, mine_order}
@@ -40,15 +41,9 @@ work_calm t _ b e = absurd (cc)
 module _ (l : Layout) (last : Option Call) (s : Place) (b c : Bool) (limit p : ℕ) where
   -- the reading that a mending begins with
   first_ruin : (q : ℕ) (kind : Kind) (word : Word) (v : ℕ) → IsSome (moved_by l limit p s b c (Doing Mending (consistent l q)) kind word v) → by_script Mending b (tail (consistent l q) v) ≡ Some RuinedAnswer → IsRuin kind word v
-  first_ruin q Gets (DataAt i) v some e = go (i == 0) (v == 1) refl refl some e
-    where
-      rest : Bool → Script Reply
-      rest y = if y then Done (reply.Ruined true) else repair l q
-
-      go : (x y : Bool) → (i == 0) ≡ x → (v == 1) ≡ y → IsSome (only_spot x (settled b c Mending (rest y))) → by_script Mending b (rest y) ≡ Some RuinedAnswer → IsRuin Gets (DataAt i) v
-      go true true is ruined k a = (refl, ap DataAt (eqb-true i 0 is), eqb-true v 1 ruined)
-      go true false is other k a = absurd (cc)
-      go false y is other k a = absurd (cc)
+  first_ruin q Gets (DataAt i) v some e =
+      guard_spot (i == 0) (settled b c Mending (if v == 1 then Done (reply.Ruined true) else repair l q)) at_rest (λ t. IsRuin Gets (DataAt i) v) some
+      (λ is. elim (cases_Bool (v == 1)) [ inl ruined ↦ (refl, ap DataAt (eqb-true i 0 is), eqb-true v 1 ruined) | inr other ↦ absurd (let no : by_script Mending b (repair l q) ≡ Some RuinedAnswer = rw other at e in cc) ])
   first_ruin q _ _ v some e = absurd (cc)
 
   ruin_told : (e : Errand) (kind : Kind) (word : Word) (v : ℕ) → Stands l last s b c e → IsSome (moved_by l limit p s b c e kind word v) → answer_by s b c e kind v ≡ Some RuinedAnswer → IsRuin kind word v

@@ -22,37 +22,6 @@ least-none (suc n) test none = rw (none 0 (omega arith)) (ap suc (least-none n (
 pub none_below-from : (n : ℕ) (test : ℕ → Bool) → ((q : ℕ) → q < n → test q ≡ false) → none_below n test ≡ true
 none_below-from n test none = eq-eqb _ _ (least-none n test none)
 
-not_inside : (phase : Phase) → phase ≢ Inside → is_inside phase ≡ false
-not_inside Inside ne = absurd (ne refl)
-not_inside _ ne = refl
-
-not_dead : (phase : Phase) → phase ≢ DeadIn → is_dead_in phase ≡ false
-not_dead DeadIn ne = absurd (ne refl)
-not_dead _ ne = refl
-
-pub needs_hold : (n : ℕ) (a : Abstract) (d : Outer) → Allows n a d → AllHold (needs n a d)
-needs_hold n a (Begin p) h = (lt-ltb p n h.0, (ap is_out h.1, tt))
-needs_hold n a (IsReady p) h = (lt-ltb p n h.0, (ap is_door h.1, tt))
-needs_hold n a (Enter p) h =
-    (lt-ltb p n h.0, (ap is_ready h.1, (none_below-from n _ (λ q less. not_inside _ (h.2 q less)), (none_below-from n _ (λ q less. not_dead _ (h.3 q less)), (none_below-from n (a.ahead p) h.4, tt)))))
-needs_hold n a (Crash p) h = (lt-ltb p n h, tt)
-needs_hold n a (Reenter p) h = (lt-ltb p n h.0, (ap is_dead_in h.1, tt))
-needs_hold n a (Leave p) h = (lt-ltb p n h.0, (ap is_inside h.1, tt))
-needs_hold n a (Quit p) h = (lt-ltb p n h.0, (elim h.1 [ inl e ↦ rw e refl | inr e ↦ rw e refl ], tt))
-
--- and back
-
--- the least number is no more than any that has the test
-pub least-le : (n : ℕ) (test : ℕ → Bool) (k : ℕ) → k < n → test k ≡ true → least n test ≤ k
-least-le zero test k h e = absurd (omega arith)
-least-le (suc n) test zero h e = rw e (omega arith)
-least-le (suc n) test (suc k) h e =
-    let ih = least-le n (λ j. test (suc j)) k (omega arith) e in
-    cond_both (test zero) 0 (suc (least n (λ j. test (suc j)))) (λ x. x ≤ suc k) (λ _. omega arith) (λ _. omega arith)
-
-pub none_below-at : (n : ℕ) (test : ℕ → Bool) → none_below n test ≡ true → (q : ℕ) → q < n → test q ≡ false
-none_below-at n test e q h = false_from_ne_true _ (λ on. let low = least-le n test q h on in let all = eqb-true (least n test) n e in omega arith)
-
 is_out-from : (phase : Phase) → is_out phase ≡ true → phase ≡ Out
 is_out-from Out e = refl
 is_out-from _ e = cc
@@ -72,6 +41,29 @@ is_inside-from _ e = cc
 is_dead_in-from : (phase : Phase) → is_dead_in phase ≡ true → phase ≡ DeadIn
 is_dead_in-from DeadIn e = refl
 is_dead_in-from _ e = cc
+
+pub needs_hold : (n : ℕ) (a : Abstract) (d : Outer) → Allows n a d → AllHold (needs n a d)
+needs_hold n a (Begin p) h = (lt-ltb p n h.0, (ap is_out h.1, tt))
+needs_hold n a (IsReady p) h = (lt-ltb p n h.0, (ap is_door h.1, tt))
+needs_hold n a (Enter p) h =
+    (lt-ltb p n h.0, (ap is_ready h.1, (none_below-from n _ (λ q less. false_from_ne_true _ (λ on. h.2 q less (is_inside-from _ on))), (none_below-from n _ (λ q less. false_from_ne_true _ (λ on. h.3 q less (is_dead_in-from _ on))), (none_below-from n (a.ahead p) h.4, tt)))))
+needs_hold n a (Crash p) h = (lt-ltb p n h, tt)
+needs_hold n a (Reenter p) h = (lt-ltb p n h.0, (ap is_dead_in h.1, tt))
+needs_hold n a (Leave p) h = (lt-ltb p n h.0, (ap is_inside h.1, tt))
+needs_hold n a (Quit p) h = (lt-ltb p n h.0, (elim h.1 [ inl e ↦ rw e refl | inr e ↦ rw e refl ], tt))
+
+-- and back
+
+-- the least number is no more than any that has the test
+pub least-le : (n : ℕ) (test : ℕ → Bool) (k : ℕ) → k < n → test k ≡ true → least n test ≤ k
+least-le zero test k h e = absurd (omega arith)
+least-le (suc n) test zero h e = rw e (omega arith)
+least-le (suc n) test (suc k) h e =
+    let ih = least-le n (λ j. test (suc j)) k (omega arith) e in
+    cond_both (test zero) 0 (suc (least n (λ j. test (suc j)))) (λ x. x ≤ suc k) (λ _. omega arith) (λ _. omega arith)
+
+pub none_below-at : (n : ℕ) (test : ℕ → Bool) → none_below n test ≡ true → (q : ℕ) → q < n → test q ≡ false
+none_below-at n test e q h = false_from_ne_true _ (λ on. let low = least-le n test q h on in let all = eqb-true (least n test) n e in omega arith)
 
 inside-not : (phase : Phase) → is_inside phase ≡ false → phase ≢ Inside
 inside-not phase e is = let f : is_inside phase ≡ true = ap is_inside is in cc

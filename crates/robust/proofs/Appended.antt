@@ -5,7 +5,9 @@ use Rattle.robust.proofs.Common.{All-nil, All-cons, All-head, All-tail, Place, M
 use Rattle.robust.proofs.Common.{Unlock, Consistent, answer_at, is_idle, is_idle_by, mail_after, ReplyTells, RepliesTell, Happening, Errand, Free, Doing, Spot, Moves, at_rest, Scene, at_first}
 use Rattle.robust.proofs.Common.{last_scene, Story, TakenStep, Entry as Entering, LockFault, Setup, spot_before, AreMoves, ServedAll, refusal_now, ready, answer_of, shown_by, judged_by, spot_at}
 use Rattle.robust.proofs.Common.{EndsAppend, EveryRunIsSound, IsPass, spot_now, Seated, fell, began, before, spelled, own, IsRun, gone, spot_of, ToldIn, Appends, WholeEnds, calls_inside}
-use Rattle.robust.proofs.Common.{answers_inside, scene_at, spot_is, spelled_to, gone-append, spot_begun, taken_moves, own-append, spelled-append, scene-append, shown_on, OfStart}
+use Rattle.robust.proofs.Common.{answers_inside, gone-append, own-append, spelled-append, scene-append, shown_on, OfStart}
+use Rattle.runs.proofs.Headline.{scene_at, spot_is, spelled_to}
+use Rattle.runs.proofs.Running.{spot_begun, taken_moves}
 use Rattle.rmecore.specs.Paid.{is_glance}
 use Rattle.rmecore.specs.declared.refusal.Refusal.{Refusal}
 use Rattle.redomail.specs.declared.task.Task.TheVariants as task

@@ -1,13 +1,19 @@
 -- At which spots of a whole mailbox call a reply can come: but for a mending's only its task's.
 use Rattle.std.proofs.Common.{◌≡◌, ℕ, ◌==◌, ◌&&◌, Bool, true, false, if◌then◌else◌, List, [], ◌∷◌, ◌++◌, length, Option, Some, None, All, unwrap_or, refl, sym, ap, ◌∙◌, subst}
-use Rattle.robust.proofs.Common.{All-nil, All-cons, All-head, All-tail, Kind, Get as Gets, Put as Puts, Word, Data as DataAt, answer, Place, Dead, Inside, next, started, Layout, Reply, Task, Script}
-use Rattle.robust.proofs.Common.{tail, script, consistent, Answer, Mail, Call, Append, Lock, Unlock, Consistent, Recover, Close, Withdraw, Checking, Ruining, Mending, Working, answer_at, by_lock}
-use Rattle.robust.proofs.Common.{by_reply, by_script, answer_by, is_entry, Errand, Free, Doing, Spot, at_lock, settled, only_spot, moved_by, inside_only, begun_from, TakenStep, Setup, spot_before}
-use Rattle.robust.proofs.Common.{answers_from, and_call, starts, before, taken, happenings, spelled, gone, Replies, Mends, mends_consistent, gone-append, by_kind, OfStart}
+use Rattle.robust.proofs.Common.{All-nil, All-cons, All-head, All-tail, Kind, Word, Data as DataAt, Place, Dead, Inside, next, started, Layout, Reply, Task, Answer, Mail, Call, Append, Lock, Unlock}
+use Rattle.robust.proofs.Common.{Consistent, Recover, Close, Withdraw, answer_at, by_lock, by_reply, by_script, answer_by, Errand, Free, Doing, Spot, at_lock, settled, only_spot, moved_by}
+use Rattle.robust.proofs.Common.{inside_only, begun_from, TakenStep, Setup, spot_before, answers_from, and_call, starts, before, taken, happenings, spelled, gone, Replies, Mends, gone-append, by_kind}
+use Rattle.robust.proofs.Common.{OfStart}
+use Rattle.rmecore.specs.declared.kind.Kind.TheVariants.{Get as Gets, Put as Puts}
+use Rattle.rmecore.specs.Machine.{answer}
+use Rattle.redomail.specs.Tasks.{script, consistent}
+use Rattle.rmeworld.specs.declared.why.Why.TheVariants.{Checking, Ruining, Mending, Working}
+use Rattle.rmeworld.specs.Entered.{is_entry}
+use Rattle.runs.proofs.Begun.{mends_consistent}
 use Rattle.rmecore.specs.declared.core_call.CoreCall.TheVariants as core
 use Rattle.rmecore.specs.declared.core_done.CoreDone.{CoreDone}
 use Rattle.rmecore.specs.declared.core_done.CoreDone.TheVariants as ends
-use Rattle.redomail.specs.Script.{Get as Asks, Put as Writes, Done}
+use Rattle.redomail.specs.Script.{Get as Asks, Put as Writes, Done, Script, tail}
 use Rattle.redomail.specs.declared.reply.Reply.TheVariants as reply
 use Rattle.redomail.specs.declared.task.Task.TheVariants as task
 use Rattle.rmeworld.specs.declared.call.Call.TheVariants.{Get, Put}

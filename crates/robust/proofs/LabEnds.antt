@@ -1,10 +1,12 @@
 -- What ended a lab early, from the one run of its members.
 use Rattle.std.proofs.Common.{◌≡◌, ℕ, ◌*◌, ◌<◌, ◌≤◌, true, List, [], ◌∷◌, ◌++◌, length, slice_index, map, Some, None, All, refl, sym, ap, ◌∙◌, subst, inl, inr, arith, append_assoc, append-nil, length-append}
-use Rattle.robust.proofs.Common.{cases_lt, All-nil, All-cons, All-head, All-tail, All-contains, Layout, Message, Reply, Words, IsLayout, words_of, IsAmong, entries, count_of, IsNumbered}
-use Rattle.robust.proofs.Common.{length-entries, Close, Image, layout_of, IsLawfulImage, EveryMessageWasSent, ReplyTells, EveryCloseWasAsked, Happening, Begins, who, at_first, lawful_content}
-use Rattle.robust.proofs.Common.{TakenStep, Setup, Gathers, IsGlance, has_member, image_at, shown_by, judged_by, cells_of, RunsShow, LoadsTell, AreInOrder, NobodyRuins, Seated, spelled, own, IsRun}
-use Rattle.robust.proofs.Common.{end_of, all_left, cells_counted, order_more, own-append, legal_front, shown_on, Keeps, Holds, all_hold, each_holds, AllSent, Fault, Refused, Member, Spec, fault_by}
-use Rattle.robust.proofs.Common.{Done, IsFirstFault, EndsSo, EndsLab, WasSpent, IsLabRun, OfStart, IsSending, AreSending, sizes_of, HasWorked}
+use Rattle.robust.proofs.Common.{cases_lt, All-nil, All-cons, All-head, All-tail, All-contains, Layout, Message, Reply, Words, IsLayout, words_of, IsAmong, entries, count_of, IsNumbered, Close, Image}
+use Rattle.robust.proofs.Common.{layout_of, IsLawfulImage, EveryMessageWasSent, ReplyTells, EveryCloseWasAsked, Happening, Begins, who, at_first, lawful_content, TakenStep, Setup, Gathers, IsGlance}
+use Rattle.robust.proofs.Common.{has_member, image_at, shown_by, judged_by, cells_of, RunsShow, LoadsTell, AreInOrder, NobodyRuins, Seated, spelled, own, IsRun, end_of, all_left, cells_counted}
+use Rattle.robust.proofs.Common.{own-append, legal_front, shown_on, Keeps, Holds, all_hold, each_holds, AllSent, Fault, Refused, Member, Spec, fault_by, Done, IsFirstFault, EndsSo, EndsLab, WasSpent}
+use Rattle.robust.proofs.Common.{IsLabRun, OfStart, IsSending, AreSending, sizes_of, HasWorked}
+use Rattle.redomail.proofs.Changes.{length-entries}
+use Rattle.runs.proofs.Ordered.{order_more}
 use Rattle.one_lock.specs.declared.lab.lab_fault.LabFault.{LabFault}
 use Rattle.one_lock.specs.declared.lab.lab_fault.LabFault.TheVariants.{Reply as Replied}
 use Rattle.one_lock.specs.declared.lab.ending.Ending.{Ending}

@@ -10,10 +10,3 @@ pub mod Spent
 pub mod Unruined
 pub mod Working
 pub mod Worked
-pub mod FreeSteps
-pub mod Peeks
-pub mod Waits
-pub mod Straight
-pub mod Entering
-pub mod FastLock
-pub mod FastAppend

@@ -1,7 +1,8 @@
 -- Numbered entries, of which each sender's are such as it sent: how many each has, and how many there are.
 use Rattle.std.proofs.Common.{◌≡◌, ℕ, zero, suc, ◌+◌, ◌*◌, ◌<◌, ◌≤◌, ◌==◌, Bool, true, false, List, [], ◌∷◌, ◌++◌, length, filter, All, refl, sym, ap, ◌∙◌, subst, inl, inr, arith, append-nil, eqb-true, eq-eqb}
 use Rattle.robust.proofs.Common.{cases_eq, cases_Bool, cases_lt, All-nil, All-head, All-tail, All-weaker, All-push, filter-append, Layout, Message, Words, IsAmong, message, is_by, entries, count_of}
-use Rattle.robust.proofs.Common.{IsNumbered, entry, count_of-push, all_left, all_right, words_sent, messages_sent, messages_by, message_sent}
+use Rattle.robust.proofs.Common.{IsNumbered, entry, all_left, all_right, words_sent, messages_sent, messages_by, message_sent}
+use Rattle.redomail.proofs.Changes.{count_of-push}
 use Rattle.judge.proofs.Counts.{one_if, count_cons}
 use Rattle.robust.proofs.Appended.{all_at, among_more}
 

@@ -1,7 +1,9 @@
 -- A worker that ends for want of numbers was answered so at one of its own steps.
 use Rattle.std.proofs.Common.{◌≡◌, ◌⊎◌, ℕ, Bool, true, false, if◌then◌else◌, List, [], ◌∷◌, ◌++◌, Result, Ok, Err, IfErr, refl, sym, ap, ◌∙◌, subst, inl, inr}
 use Rattle.robust.proofs.Common.{Reply, Answer, NumbersSpent as SpentAnswer, Call, Append, Lock, is_idle, at_rest, TakenStep, LockFault, NotYet, Setup, ServedAll, answers_from, ready, spot_now}
-use Rattle.robust.proofs.Common.{own_of, HasReadRuin, Seated, fell, began, spelled, gone, WholeEnds, AppendFails, Comes, own_now, answers-append, WasSpent}
+use Rattle.robust.proofs.Common.{own_of, HasReadRuin, Seated, fell, began, spelled, gone, WholeEnds, AppendFails, Comes, WasSpent}
+use Rattle.runs.proofs.Ordered.{own_now}
+use Rattle.runs.proofs.Turned.{answers-append}
 use Rattle.runs.specs.declared.lock_fault.LockFault.TheVariants.{NumbersSpent, NotRecoverable}
 
 either_same : (b : Bool) (x : Seated) → ((if b then x else fell x).pass.setup ≡ x.pass.setup) × (own_of (if b then x else fell x).pass ≡ own_of x.pass)

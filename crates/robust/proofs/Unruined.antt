@@ -2,8 +2,8 @@
 use Rattle.std.proofs.Common.{◌≡◌, ℕ, zero, suc, ◌<◌, ◌==◌, Bool, true, false, ◌⊎◌, List, [], ◌∷◌, ◌++◌, length, Option, Some, None, IsSome, All, refl, sym, ap, ◌∙◌, subst, inl, inr, arith, append_assoc, append-nil, length-append, eq-eqb}
 use Rattle.robust.proofs.Common.{cases_eq, All-nil, All-cons, Kind, Word, Layout, IsLayout, Call, Unlock, EveryRuinWasAsked, IsLeftUnmended, Happening, Begins, Falls, Spot, at_rest, next_spot, who}
 use Rattle.robust.proofs.Common.{Scene, at_first, last_scene, Story, onward, reading, TakenStep, Setup, cells_of, LoadsTell, AreInOrder, NobodyRuins, HasReadRuin, last_call, last_of, settles}
-use Rattle.robust.proofs.Common.{MayStart, before, taken, happenings, spelled, own, IsRun, end_of, spot_of, crash_first, Goes, run_goes, goes_back, by_kind, own-append, spelled-append, legal_front}
-use Rattle.robust.proofs.Common.{spot_in_run}
+use Rattle.robust.proofs.Common.{MayStart, before, taken, happenings, spelled, own, IsRun, end_of, spot_of, crash_first, Goes, by_kind, own-append, spelled-append, legal_front, spot_in_run}
+use Rattle.runs.proofs.OneStep.{run_goes, goes_back}
 use Rattle.robust.proofs.Appended.{Own, own_split, own_taken, all_at}
 use Rattle.runs.proofs.Ruins.{walk, unlocks_mended}
 

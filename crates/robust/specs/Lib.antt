@@ -17,12 +17,9 @@ pub use Rattle.runs.specs.Ruins
 pub use Rattle.runs.specs.Gathering
 pub use Rattle.one_lock.specs.Lab
 pub use Rattle.one_lock.specs.Endings
+pub use Rattle.table_calls.specs.Working
 pub mod Making
-pub mod Working
 pub mod Sending
 pub mod LabRuns
 pub mod LabFaults
 pub mod Worked
-pub mod FastAppend
-pub mod FastPath
-pub mod Owed

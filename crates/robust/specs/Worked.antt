@@ -9,7 +9,7 @@ use Rattle.robust.specs.LabFaults.{EndsSo}
 use Rattle.runs.specs.Pass.{own_of}
 use Rattle.runs.specs.Ruins.{AreInOrder}
 use Rattle.robust.specs.Sending.{SendsOnly}
-use Rattle.robust.specs.Working.{seat_of}
+use Rattle.table_calls.specs.Working.{seat_of}
 
 -- the seat of the member that a worker has handed back
 abbrev pub seat_done : Done → TableId × Setup × ℕ

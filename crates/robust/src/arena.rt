@@ -7,14 +7,14 @@ ghost use Rattle.runs.specs.Runs.{word_count};
 ghost use Rattle.robust.specs.Making.{making_refusal, fresh_members};
 
 use crate::member::Member;
-use crate::runner::data_words;
-use crate::table::Board;
-use crate::walker::Walker;
 use redomail::Layout;
 use rmecore::Refusal;
 use runs::Setup;
 use std::alloc::{AllocError, Global};
 use std::sync::Arc;
+use table_walk::Walker;
+use table_walk::table::Board;
+use table_walk::walker::data_words;
 
 /// Makes the members of a running lock with its mailbox.
 pub struct Arena;

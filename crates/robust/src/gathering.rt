@@ -11,16 +11,15 @@ ghost use Rattle.runs.specs.Pass.{alone, glanced};
 ghost use Rattle.runs.specs.Gathering.{OneArena, has_member, IsMissing, Gathers, Knows, Absorbs, AnswersAll, Looked, Stays};
 
 use crate::member::Member;
-use crate::runner::data_words;
-use crate::table;
-use crate::table::{Board, RunSeat};
-use crate::walker::{Walker, index};
 use one_lock::GatherFault;
 use rmecore::{Own, Word};
 use rmeworld::{Cells, Image, Owns};
 use runs::Setup;
 use std::alloc::Global;
 use std::sync::Arc;
+use table_walk::table;
+use table_walk::table::{Board, RunSeat};
+use table_walk::walker::{Walker, data_words, index};
 
 /// The words of an arena, once all its members are back: those at the end of the one run of which each member's pass is a
 /// beginning. The caller gives members of one arena, in any order. With a fault the members are handed back as they were:

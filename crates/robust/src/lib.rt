@@ -2,22 +2,11 @@
 #![tactic(auto)]
 
 pub mod arena;
-mod drive;
-mod fast_append;
-mod fast_path;
 pub mod gathering;
-mod in_line;
 pub mod lab;
 pub mod laws;
-mod locking;
 pub mod mailing;
 pub mod member;
-pub mod owed;
-mod reading;
-pub mod runner;
-pub mod table;
-pub mod walker;
-mod whole;
 
 pub use arena::Arena;
 pub use gathering::gather;

@@ -7,7 +7,7 @@ ghost use Rattle.runs.specs.Faults.{refusal_now, ready};
 ghost use Rattle.runs.specs.Headline.{shown_by};
 ghost use Rattle.runs.specs.Telling.{ToldIn};
 ghost use Rattle.runs.specs.Under.{Appends};
-ghost use Rattle.robust.specs.Working.{seat_of};
+ghost use Rattle.table_calls.specs.Working.{seat_of};
 ghost use Rattle.runs.specs.WholeSteps.{most_whole};
 ghost use Rattle.runs.specs.Whole.{WholeEnds, WholeFails, AppendFails};
 

@@ -10,13 +10,11 @@ ghost use Rattle.runs.specs.Under.{Fits};
 ghost use Rattle.runs.specs.Reading.{ReadsFrom, ReadsCount};
 ghost use Rattle.runs.specs.Headline.{IsSoundRun};
 ghost use Rattle.runs.specs.Tabled.{table_steps, LockCounts, LockCountsOut};
-ghost use Rattle.robust.specs.Working.{seat_of};
+ghost use Rattle.table_calls.specs.Working.{seat_of};
 ghost use Rattle.runs.specs.Board.{last_put, value_or, LastIsOwn};
 ghost use Rattle.runs.specs.Faults.{refusal_now, ready, Fails, FailsOut, AnsweredIn, LockEnds, LockFails, answer_of};
 
 use crate::laws;
-use crate::runner::Runner;
-use crate::walker::Walker;
 use plans::CrashPlan;
 use redomail::{Message, Reply};
 use rmecore::Found;
@@ -25,6 +23,8 @@ use runs::{Entry, LockFault, Setup};
 use std::alloc::{AllocError, Global};
 use std::marker::Model;
 use std::sync::Wait;
+use table_calls::Runner;
+use table_walk::Walker;
 
 /// A process of the running lock. It owns a seat at the table and may move to a thread. Contracts see it as its pass, a
 /// beginning of the one run, with the own steps of its last call.

@@ -10,7 +10,7 @@ ghost use Rattle.runs.specs.Under.{Appends};
 ghost use Rattle.robust.specs.LabFaults.{WasSpent};
 ghost use Rattle.robust.specs.Worked.{HasWorked, sizes_of};
 ghost use Rattle.robust.specs.Sending.{IsNew, IsSending, SendsOnly, HasShown};
-ghost use Rattle.robust.specs.Working.{seat_of};
+ghost use Rattle.table_calls.specs.Working.{seat_of};
 
 use crate::member::Member;
 use one_lock::lab::sending::{is_crash, is_sent, value_sent};
@@ -36,7 +36,7 @@ pub struct HandsBack(pub Snapshot<Member>, pub Spec);
 impl Promise<Done> for HandsBack {
     ghost use Rattle.std.specs.Prelude.{◌≡◌};
     ghost use Rattle.robust.specs.Worked.{HasWorked};
-    ghost use Rattle.robust.specs.Working.{seat_of};
+    ghost use Rattle.table_calls.specs.Working.{seat_of};
 
     ghost kept_by = { λ promise done. (seat_of done.member ≡ seat_of promise.0.value) × HasWorked promise.1 done };
 }

@@ -1,5 +1,6 @@
 use Rattle.std.proofs.Common.{◌∙◌, ◌≤◌, ◌^◌, sym, ap, subst}
-use Rattle.robust.proofs.Common.{Choosing as ChoosingOf, IsLawfulImage, IsSize, Setup, image_at, Stays, IsRun, end_of, stays_on, looked_stays, knows_all, still_all, image_is, gathers, lawful_end}
+use Rattle.robust.proofs.Common.{Choosing as ChoosingOf, IsLawfulImage, Setup, image_at, Stays, IsRun, end_of, stays_on, looked_stays, knows_all, still_all, image_is, gathers, lawful_end}
+use Rattle.rmeworld.specs.Stand.{IsSize}
 use Rattle.robust.proofs.gathering.read_all.Goals as goal
 
 pub read-requires-clause-all : goal.read-requires-clause-all

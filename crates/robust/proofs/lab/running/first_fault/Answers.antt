@@ -1,5 +1,6 @@
 use Rattle.std.proofs.Common.{◌≡◌, ◌∙◌, ℕ, suc, ◌+◌, [], ◌∷◌, ◌++◌, take, drop, Some, All, sym, ap, subst, arith}
-use Rattle.robust.proofs.Common.{take_all, All-push, AllSent, Member, fault_by, Done}
+use Rattle.robust.proofs.Common.{All-push, AllSent, Member, fault_by, Done}
+use Rattle.std.proofs.lemmas.List.{take_all}
 use Rattle.std.proofs.Math.Seq.{split_at, take-suc}
 use Rattle.one_lock.specs.declared.lab.lab_fault.LabFault.TheVariants.{Reply}
 use Rattle.robust.proofs.lab.running.first_fault.Goals as goal

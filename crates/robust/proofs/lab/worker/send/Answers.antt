@@ -1,5 +1,6 @@
 use Rattle.std.proofs.Common.{◌≡◌, ℕ, true, false, ◌∙◌, sym, ap, subst}
-use Rattle.robust.proofs.Common.{TableId, IsAmong, Append, Setup, shown_by, orders_append}
+use Rattle.robust.proofs.Common.{TableId, IsAmong, Append, Setup, shown_by}
+use Rattle.runs.proofs.Ordered.{orders_append}
 use Rattle.robust.proofs.Failing.{append_left, append_faults, append_grows, grown_on, told_from}
 use Rattle.robust.proofs.Sending.{sends_append}
 use Rattle.robust.proofs.Spent.{append_spent}

@@ -1,0 +1,12 @@
+//! The calls of a process over the words of a table: its seat and its machine, step by step, with a plan of crashes that is
+//! asked before each step.
+#![tactic(auto)]
+
+mod drive;
+mod led;
+mod locking;
+mod reading;
+pub mod runner;
+mod whole;
+
+pub use runner::Runner;

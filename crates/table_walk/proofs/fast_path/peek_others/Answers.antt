@@ -1,0 +1,31 @@
+use Rattle.std.proofs.Common.{◌≡◌, ◌≢◌, ℕ, ◌+◌, ◌<◌, sym, ◌∙◌, subst, arith}
+use Rattle.table_walk.proofs.Common.{Pass}
+use Rattle.table_walk.proofs.Peeks.{Kept, kept_peeked, kept_over}
+use Rattle.table_walk.proofs.fast_path.peek_others.Goals as goal
+use Rattle.table_walk.proofs.fast_path.peek_others.Goals.{then-j-own, else-j-own}
+
+pub loop-j-preserved : goal.loop-j-preserved
+loop-j-preserved c =
+    let x = c.args.walker.now in
+    let i = c.loop-j.invariant in
+    let y = c.loop-j.walker in
+    let j = c.loop-j.j in
+    let here : Kept x y c.loop-j.greatest c.loop-j.taken j = (i.at, i.unanswered, i.clear, i.same, i.few) in
+    let below : j < x.setup.layout.procs = (let e = c.procs-procs.ensures.is in let t = c.loop-j-test.true in omega arith) in
+    let k : Kept x c.if-j-own.walker c.if-j-own.greatest c.if-j-own.taken (j + 1) = elim c.if-j-own.branch [
+      | then-j-own w ↦
+          let ne : j ≢ x.by = λ e. w.if-j-own.true (e ∙ sym c.by-own.ensures.is) in
+          subst (λ (t : Pass × ℕ × ℕ). Kept x t.0 t.1 t.2 (j + 1)) (λ n. (sym w.walker-is n, sym (w.greatest-is ∙ w.greater-greatest.ensures) n, sym w.taken-is n)) (kept_peeked x y j c.loop-j.greatest c.loop-j.taken here below ne w.load-number.new.self w.load-number.result w.load-number.ensures)
+      | else-j-own w ↦
+          let own : j ≡ x.by = w.if-j-own.false ∙ c.by-own.ensures.is in
+          subst (λ (t : Pass × ℕ × ℕ). Kept x t.0 t.1 t.2 (j + 1)) (λ n. (sym w.walker-is n, sym w.greatest-is n, sym w.taken-is n)) (kept_over x y j c.loop-j.greatest c.loop-j.taken here c.by-own.ensures.pass.below own)
+    ] in
+    record { at = k.0; unanswered = k.1; clear = k.2; same = k.3; few = k.4 }
+
+pub returns-clause-few : goal.returns-clause-few
+returns-clause-few c =
+    let few = c.loop-j.invariant.few in
+    let most = c.by-own.ensures.pass.size.layout.few in
+    let all = c.procs-procs.ensures.is in
+    let end = c.loop-j.auto.j-end in
+    omega arith

@@ -1,6 +1,7 @@
 //! The program's words, as `clap` reads them: its commands, their options and their help.
 
-use clap::{Arg, ArgAction, Command as Parser, value_parser};
+use crate::argument::{Argument, Form};
+use clap::Command as Parser;
 use std::alloc::{AllocError, Global};
 
 const STATUSES: &str =
@@ -60,196 +61,111 @@ of memory.\n\nExample: rmelab explain fault 5";
 /// What `--version` tells.
 const VERSION: &str = "0.1.0";
 
-fn option<'a>(alloc: Global, name: &'a str, value: &'a str, help: &'a str) -> Arg<'a> {
-    Arg::new(alloc, name)
-        .long(name)
-        .value_name(value)
-        .help(help)
-        .action(ArgAction::Set)
-}
-
-fn number<'a>(alloc: Global, name: &'a str, value: &'a str, help: &'a str) -> Arg<'a> {
-    option(alloc, name, value, help).value_parser(value_parser!(u64))
-}
-
-fn file<'a>(alloc: Global, help: &'a str) -> Arg<'a> {
-    Arg::new(alloc, "FILE").help(help).action(ArgAction::Set)
-}
-
-fn variant<'a>(alloc: Global) -> Arg<'a> {
-    option(
-        alloc,
-        "variant",
-        "V",
-        "right, no-look, no-ties, renumber, exit-on-crash, count-up or last-skipped",
-    )
-}
-
-/// A command with an option that takes a number and can't be left out.
-fn with_number<'a>(
+/// A command that takes these arguments.
+fn command<'a>(
     alloc: Global,
-    command: Parser<'a>,
     name: &'a str,
-    value: &'a str,
+    about: &'a str,
     help: &'a str,
+    arguments: &[Argument<'a>],
 ) -> Result<Parser<'a>, AllocError> {
-    command.arg(number(alloc, name, value, help).required(true))
-}
-
-fn json<'a>(alloc: Global) -> Arg<'a> {
-    Arg::new(alloc, "json")
-        .long("json")
-        .help("Print one JSON object of the report's lines")
-        .action(ArgAction::SetTrue)
-}
-
-fn each<'a>(alloc: Global) -> Arg<'a> {
-    Arg::new(alloc, "each")
-        .long("each")
-        .help("Tell each step, with its word and where its process stands")
-        .action(ArgAction::SetTrue)
-}
-
-fn image<'a>(alloc: Global) -> Arg<'a> {
-    let help = "Begin with the words of this image, every process crashed";
-    option(alloc, "image", "FILE", help)
-}
-
-fn replay_head<'a>(alloc: Global) -> Parser<'a> {
-    Parser::new(alloc, "replay")
-        .about("Runs a schedule of steps and crashes, and prints its report")
-        .after_help(REPLAY_HELP)
+    let mut command = Parser::new(alloc, name).about(about).after_help(help);
+    for argument in arguments {
+        command = command.arg(argument.arg(alloc))?;
+    }
+    Ok(command)
 }
 
 fn replay<'a>(alloc: Global) -> Result<Parser<'a>, AllocError> {
-    let command = replay_head(alloc).arg(json(alloc))?;
-    let command = command.arg(each(alloc))?;
-    let command = command.arg(variant(alloc))?;
-    let command = command.arg(image(alloc))?;
-    let command = command.arg(option(alloc, "save", "FILE", "Write the last image to this file"))?;
-    command.arg(file(alloc, "The schedule; without it, standard input is read"))
-}
-
-fn run_head<'a>(alloc: Global) -> Parser<'a> {
-    Parser::new(alloc, "run")
-        .about("Runs senders on threads, with drawn crashes, and counts what came through")
-        .after_help(RUN_HELP)
+    let about = "Runs a schedule of steps and crashes, and prints its report";
+    let arguments = [
+        Argument::flag("json", "Print one JSON object of the report's lines"),
+        Argument::flag(
+            "each",
+            "Tell each step, with its word and where its process stands",
+        ),
+        Argument::variant(),
+        Argument::image(),
+        Argument::text("save", "FILE", "Write the last image to this file"),
+        Argument::file("The schedule; without it, standard input is read"),
+    ];
+    command(alloc, "replay", about, REPLAY_HELP, &arguments)
 }
 
 fn run<'a>(alloc: Global) -> Result<Parser<'a>, AllocError> {
-    let command = with_number(alloc, run_head(alloc), "procs", "N", "1 to 16 senders")?;
-    let command = with_number(
-        alloc,
-        command,
-        "messages",
-        "M",
-        "1 to 4096 messages of each",
-    )?;
-    let command = with_number(
-        alloc,
-        command,
-        "crash",
-        "C",
-        "0 to 50 crashes in 1000 askings",
-    )?;
-    let command = with_number(alloc, command, "seed", "S", "The seed of the crashes")?;
-    command.arg(number(alloc, "width", "W", "1 to 8 words a message; 1 without it"))
-}
-
-fn hunt_head<'a>(alloc: Global) -> Parser<'a> {
-    Parser::new(alloc, "hunt")
-        .about("Draws schedules until a variant of the lock goes wrong")
-        .after_help(HUNT_HELP)
+    let about = "Runs senders on threads, with drawn crashes, and counts what came through";
+    let arguments = [
+        Argument::number("procs", "N", "1 to 16 senders").required(),
+        Argument::number("messages", "M", "1 to 4096 messages of each").required(),
+        Argument::number("crash", "C", "0 to 50 crashes in 1000 askings").required(),
+        Argument::number("seed", "S", "The seed of the crashes").required(),
+        Argument::number("width", "W", "1 to 8 words a message; 1 without it"),
+    ];
+    command(alloc, "run", about, RUN_HELP, &arguments)
 }
 
 fn hunt<'a>(alloc: Global) -> Result<Parser<'a>, AllocError> {
-    let command = hunt_head(alloc).arg(variant(alloc).required(true))?;
-    let command = with_number(alloc, command, "seed", "S", "The seed of the moves")?;
-    let command = with_number(alloc, command, "rounds", "R", "1 to 10000 rounds")?;
-    let command = with_number(alloc, command, "steps", "K", "1 to 10000 moves a round")?;
-    command.arg(
-        Arg::new(alloc, "shrink")
-            .long("shrink")
-            .help("Make the schedule found least, as `shrink` does")
-            .action(ArgAction::SetTrue),
-    )
-}
-
-fn explore_head<'a>(alloc: Global) -> Parser<'a> {
-    Parser::new(alloc, "explore")
-        .about("Tries all schedules up to a bound, for the shortest that goes wrong")
-        .after_help(EXPLORE_HELP)
-}
-
-/// The bounds of a search, each with what it is without the option.
-fn bounded<'a>(alloc: Global, command: Parser<'a>) -> Result<Parser<'a>, AllocError> {
-    let command = command.arg(number(alloc, "crashes", "C", "At most C crashes; 0 without it"))?;
-    let command = command.arg(number(alloc, "moves", "K", "At most K moves; no bound without it"))?;
-    command.arg(number(
-        alloc,
-        "states",
-        "S",
-        "At most S states; 10000000 without it",
-    ))
+    let about = "Draws schedules until a variant of the lock goes wrong";
+    let arguments = [
+        Argument::variant().required(),
+        Argument::number("seed", "S", "The seed of the moves").required(),
+        Argument::number("rounds", "R", "1 to 10000 rounds").required(),
+        Argument::number("steps", "K", "1 to 10000 moves a round").required(),
+        Argument::flag("shrink", "Make the schedule found least, as `shrink` does"),
+    ];
+    command(alloc, "hunt", about, HUNT_HELP, &arguments)
 }
 
 fn explore<'a>(alloc: Global) -> Result<Parser<'a>, AllocError> {
-    let command = explore_head(alloc).arg(variant(alloc).required(true))?;
-    let command = with_number(alloc, command, "procs", "N", "1 to 64 processes")?;
+    let about = "Tries all schedules up to a bound, for the shortest that goes wrong";
     let calls =
         "lock, unlock, recover, consistent, withdraw, append and close, with commas; lock,unlock without it";
-    let command = command.arg(option(alloc, "calls", "LIST", calls))?;
-    let command = bounded(alloc, command)?;
-    let command = command.arg(number(alloc, "limit", "L", "Numbers up to L; 4 without it"))?;
-    let command = command.arg(number(alloc, "cap", "M", "Room for M messages; 1 without it"))?;
-    command.arg(number(alloc, "width", "W", "1 to 8 words a message; 1 without it"))
+    let arguments = [
+        Argument::variant().required(),
+        Argument::number("procs", "N", "1 to 64 processes").required(),
+        Argument::text("calls", "LIST", calls),
+        Argument::number("crashes", "C", "At most C crashes; 0 without it"),
+        Argument::number("moves", "K", "At most K moves; no bound without it"),
+        Argument::number("states", "S", "At most S states; 10000000 without it"),
+        Argument::number("limit", "L", "Numbers up to L; 4 without it"),
+        Argument::number("cap", "M", "Room for M messages; 1 without it"),
+        Argument::number("width", "W", "1 to 8 words a message; 1 without it"),
+    ];
+    command(alloc, "explore", about, EXPLORE_HELP, &arguments)
 }
 
 fn judge<'a>(alloc: Global) -> Result<Parser<'a>, AllocError> {
-    Parser::new(alloc, "judge")
-        .about("Judges a trace of deeds, and prints the verdict")
-        .after_help(JUDGE_HELP)
-        .arg(file(alloc, "The trace; without it, standard input is read"))
-}
-
-fn svg<'a>(alloc: Global) -> Arg<'a> {
-    Arg::new(alloc, "svg")
-        .long("svg")
-        .help("Write a picture, as SVG")
-        .action(ArgAction::SetTrue)
-}
-
-fn draw_head<'a>(alloc: Global) -> Parser<'a> {
-    Parser::new(alloc, "draw")
-        .about("Draws the run of a schedule as a space-time diagram")
-        .after_help(DRAW_HELP)
+    let about = "Judges a trace of deeds, and prints the verdict";
+    let arguments = [Argument::file("The trace; without it, standard input is read")];
+    command(alloc, "judge", about, JUDGE_HELP, &arguments)
 }
 
 fn draw<'a>(alloc: Global) -> Result<Parser<'a>, AllocError> {
-    let command = draw_head(alloc).arg(variant(alloc))?;
-    let command = command.arg(image(alloc))?;
-    let command = command.arg(svg(alloc))?;
-    command.arg(file(alloc, "The schedule; without it, standard input is read"))
+    let about = "Draws the run of a schedule as a space-time diagram";
+    let arguments = [
+        Argument::variant(),
+        Argument::image(),
+        Argument::flag("svg", "Write a picture, as SVG"),
+        Argument::file("The schedule; without it, standard input is read"),
+    ];
+    command(alloc, "draw", about, DRAW_HELP, &arguments)
 }
 
 fn shrink<'a>(alloc: Global) -> Result<Parser<'a>, AllocError> {
-    let command = Parser::new(alloc, "shrink")
-        .about("Makes a schedule that goes wrong on a variant of the lock least")
-        .after_help(SHRINK_HELP);
-    let command = command.arg(variant(alloc).required(true))?;
-    command.arg(file(alloc, "The schedule; without it, standard input is read"))
+    let about = "Makes a schedule that goes wrong on a variant of the lock least";
+    let arguments = [
+        Argument::variant().required(),
+        Argument::file("The schedule; without it, standard input is read"),
+    ];
+    command(alloc, "shrink", about, SHRINK_HELP, &arguments)
 }
 
 fn explain<'a>(alloc: Global) -> Result<Parser<'a>, AllocError> {
-    let words = Arg::new(alloc, "WORDS")
-        .help(
-            "The name, as `fault 5`, `refused 12`, `rule 7`, `against 4`, `answer clean` or `step look`",
-        )
-        .action(ArgAction::Append);
-    Parser::new(alloc, "explain")
-        .about("Says what a number or a word of reports and faults means")
-        .after_help(EXPLAIN_HELP)
-        .arg(words)
+    let about = "Says what a number or a word of reports and faults means";
+    let names =
+        "The name, as `fault 5`, `refused 12`, `rule 7`, `against 4`, `answer clean` or `step look`";
+    let arguments = [Argument::new(Form::Words, "WORDS", "", names)];
+    command(alloc, "explain", about, EXPLAIN_HELP, &arguments)
 }
 
 fn head<'a>(alloc: Global) -> Parser<'a> {
@@ -270,12 +186,19 @@ fn with<'a>(
 
 /// The whole command line.
 pub fn parser<'a>(alloc: Global) -> Result<Parser<'a>, AllocError> {
-    let whole = with(head(alloc), replay(alloc))?;
-    let whole = with(whole, run(alloc))?;
-    let whole = with(whole, hunt(alloc))?;
-    let whole = with(whole, explore(alloc))?;
-    let whole = with(whole, judge(alloc))?;
-    let whole = with(whole, draw(alloc))?;
-    let whole = with(whole, shrink(alloc))?;
-    with(whole, explain(alloc))
+    let parts = [
+        replay(alloc),
+        run(alloc),
+        hunt(alloc),
+        explore(alloc),
+        judge(alloc),
+        draw(alloc),
+        shrink(alloc),
+        explain(alloc),
+    ];
+    let mut whole = head(alloc);
+    for part in parts {
+        whole = with(whole, part)?;
+    }
+    Ok(whole)
 }

@@ -14,11 +14,11 @@ use Rattle.lock_spaces.specs.declared.moves.Move.{Move}
 use Rattle.lock_spaces.specs.SceneWords.{scene_words}
 use Rattle.lock_spaces.specs.Spaces.{first_scene, line_by, rules}
 use Rattle.lock_search.specs.Finding.{IsFoundIn, IsLeast, NoneOfAtMost, NoneIsFound}
-use Rattle.laboratory.specs.declared.ending.Ending.{Ending}
-use Rattle.laboratory.specs.declared.fault.Fault.{Fault}
-use Rattle.laboratory.specs.declared.fault.Fault.TheVariants.{BadSize}
+use Rattle.schedule_commands.specs.declared.ending.Ending.{Ending}
+use Rattle.schedule_commands.specs.declared.fault.Fault.{Fault}
+use Rattle.schedule_commands.specs.declared.fault.Fault.TheVariants.{BadSize}
 use Rattle.orders.specs.declared.order.ExploreOrder.{ExploreOrder}
-use Rattle.laboratory.specs.Statuses.{outcome, status_ended}
+use Rattle.schedule_commands.specs.Statuses.{outcome, status_ended}
 
 -- these, where they are asked for
 abbrev pub asked : Bool → List Call → List Call

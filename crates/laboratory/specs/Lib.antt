@@ -1,11 +1,6 @@
-pub mod Explores
 pub mod Commands
-pub mod Draws
+pub mod Explores
+pub mod Faults
 pub mod Gates
-pub mod Lines
 pub mod Programs
-pub mod Settings
-pub mod Shrinks
-pub mod Statuses
 pub mod Tallies
-pub mod Tellings

@@ -3,17 +3,18 @@ use Rattle.std.specs.Prelude.{◌≡◌, ◌≤◌, ◌⊎◌, ℕ, List, ◌++�
 use Rattle.std.specs.declared.alloc.Global.{Global}
 use Rattle.schedule.specs.Plays.{Tape, Writes}
 use Rattle.schedule.specs.Wholes.{Reading, reading}
-use Rattle.laboratory.specs.declared.ending.Ending.{Ending}
-use Rattle.laboratory.specs.declared.fault.Fault.{Fault}
-use Rattle.laboratory.specs.declared.fault.Fault.TheVariants.{BadVariant, BadSize, Write, OutOfMemory}
+use Rattle.schedule_commands.specs.declared.ending.Ending.{Ending}
+use Rattle.schedule_commands.specs.declared.fault.Fault.{Fault}
+use Rattle.schedule_commands.specs.declared.fault.Fault.TheVariants.{BadVariant, BadSize, Write, OutOfMemory}
 use Rattle.orders.specs.declared.order.Command.{Command}
 use Rattle.orders.specs.declared.words.WordsFault.{WordsFault}
 use Rattle.orders.specs.declared.words.WordsFault.TheVariants as words
-use Rattle.laboratory.specs.Commands.{CommandEnds, IsBroken}
+use Rattle.laboratory.specs.Commands.{CommandEnds}
+use Rattle.schedule_commands.specs.Endings.{IsBroken}
 use Rattle.orders.specs.FilesNamed.{image_of, input_of, save_of}
-use Rattle.laboratory.specs.Lines.{fault_line, IsTold}
+use Rattle.schedule_commands.specs.Lines.{fault_line, IsTold}
 use Rattle.orders.specs.Sizes.{IsSized}
-use Rattle.laboratory.specs.Statuses.{status_ended, status_of}
+use Rattle.schedule_commands.specs.Statuses.{status_ended, status_of}
 
 -- ---- files
 

@@ -4,26 +4,28 @@ ghost use Rattle.std.specs.Prelude.{◌≡◌, Result, IfErr, IfOk, OnOk, is_som
 ghost use Rattle.crashlab.specs.Hunts.{IsFound};
 ghost use Rattle.schedule.specs.Plays.{tape};
 ghost use Rattle.schedule.specs.Wholes.{reading};
-ghost use Rattle.laboratory.specs.Commands.{CommandEnds, ExplainEnds, HuntEnds, IsEnded, JudgeEnds, TellsFound};
+ghost use Rattle.laboratory.specs.Commands.{CommandEnds, ExplainEnds, HuntEnds, JudgeEnds, TellsFound};
+ghost use Rattle.schedule_commands.specs.Endings.{IsEnded};
 ghost use Rattle.orders.specs.FilesNamed.{save_of};
 ghost use Rattle.laboratory.specs.Programs.{Closes};
-ghost use Rattle.laboratory.specs.Statuses.{status_of};
+ghost use Rattle.schedule_commands.specs.Statuses.{status_of};
+ghost use Rattle.laboratory.specs.Faults.{fault_of_hunt};
 
-use crate::drawn::draw_order;
-use crate::ending::{Ending, status_after_verdict};
 use crate::exploring::explore_order;
-use crate::fault::Fault;
-use crate::line::told;
-use crate::replaying::replay_order;
 use crate::running::run_order;
-use crate::shrunk::{shrink_order, write_lines};
-use crashlab::Variant;
 use crashlab::hunt::hunt_watched;
+use crashlab::{HuntFault, Variant};
 use meanings::{Topic, tell_all_names, tell_topic};
 use orders::order::{Command, HuntOrder};
 use progress::{Meter, Screen, Work};
 use schedule::device::write_all;
 use schedule::{Schedule, Sink, Source, judge_trace, put_verdict};
+use schedule_commands::drawn::draw_order;
+use schedule_commands::ending::{Ending, status_after_verdict};
+use schedule_commands::fault::Fault;
+use schedule_commands::line::told;
+use schedule_commands::replaying::replay_order;
+use schedule_commands::shrunk::{shrink_order, write_lines};
 use shrinking::shrink_found;
 use std::alloc::Global;
 use std::sync::Wait;
@@ -79,6 +81,16 @@ fn write_found<W: Sink>(
     }
 }
 
+/// The fault of a hunt that came to no end.
+fn unhunted(fault: HuntFault) -> Fault
+    ensures { result ≡ fault_of_hunt fault }
+{
+    match fault {
+        HuntFault::BadRounds | HuntFault::BadSteps => Fault::BadSize,
+        HuntFault::OutOfMemory => Fault::OutOfMemory,
+    }
+}
+
 /// The schedule that a hunt finds, or that it finds none. How the hunt comes on is shown on the screen.
 pub fn hunt_order<S: Screen, W: Sink>(
     alloc: Global,
@@ -99,7 +111,7 @@ pub fn hunt_order<S: Screen, W: Sink>(
         &mut meter,
     );
     meter.end();
-    match found? {
+    match found.map_err(unhunted)? {
         Some(schedule) => {
             write_found(alloc, order, &schedule, w)?;
             Ok(Ending {

@@ -1,18 +1,14 @@
 //! The command `explore`.
 
-ghost use Rattle.std.specs.Prelude.{◌≡◌, ◌++◌, ◌⊎◌, ◌∷◌, [], false, codes, length, ◌≤◌, take, replicate, IfErr, IfOk, IfSome, OnOk};
+ghost use Rattle.std.specs.Prelude.{◌≡◌, ◌++◌, ◌⊎◌, ◌∷◌, [], false, codes, length, ◌≤◌, take, replicate, IfErr, IfOk, IfSome, IsSome, OnOk, ◌↔◌};
 ghost use Rattle.std.specs.Fmt.{decimal};
 ghost use Rattle.schedule.specs.Plays.{tape, Writes};
-ghost use Rattle.laboratory.specs.Commands.{IsEnded};
+ghost use Rattle.schedule_commands.specs.Endings.{IsEnded};
 ghost use Rattle.laboratory.specs.Explores.{appends as appends_of, asked, all_line, calls_of as calls_asked, ExploreEnds, schedule_of as schedule_by, within_line};
-ghost use Rattle.laboratory.specs.Statuses.{status_of};
+ghost use Rattle.schedule_commands.specs.Statuses.{status_of};
 ghost use Rattle.lock_spaces.specs.Spaces.{line_by};
 
-use crate::ending::Ending;
-use crate::fault::Fault;
-use crate::line::line_around;
-use crate::shrunk::write_lines;
-use lock_search::{Bounds, Found, Move, shortest_schedule};
+use lock_search::{Bounds, ExploreFault, Found, Move, shortest_schedule};
 use orders::order::ExploreOrder;
 use progress::{Meter, Screen, Work};
 use redomail::Layout;
@@ -20,6 +16,10 @@ use rmecore::Body;
 use rmeworld::Call;
 use schedule::device::write_all;
 use schedule::{Count, Line, Schedule, Sink};
+use schedule_commands::ending::Ending;
+use schedule_commands::fault::Fault;
+use schedule_commands::line::line_around;
+use schedule_commands::shrunk::write_lines;
 use std::alloc::{AllocError, Global};
 
 /// Lists a call, where it is asked for.
@@ -34,7 +34,8 @@ fn put_call(calls: &mut Vec<Call>, is_asked: bool, call: Call) -> Result<(), All
 
 /// The append with this number, whose value has so many words, each of them the number.
 fn append_of(seq: u64, width: u64) -> Option<Call>
-    ensures { IfSome result (λ call. call ≡ Call.Append seq (take width (replicate 8 seq))) }
+    ensures same { IfSome result (λ call. call ≡ Call.Append seq (take width (replicate 8 seq))) }
+    ensures wide { IsSome result ↔ ((1 ≤ width) × (width ≤ 8)) }
 {
     if width > 8 {
         return None;
@@ -180,8 +181,8 @@ pub fn explore_order<S: Screen, W: Sink>(
         &mut meter,
     );
     meter.end();
-    match found? {
-        Found::Path(path) => {
+    match found {
+        Ok(Found::Path(path)) => {
             let schedule = schedule_of(alloc, order, &path)?;
             write_lines(alloc, &schedule, w)?;
             Ok(Ending {
@@ -189,7 +190,10 @@ pub fn explore_order<S: Screen, W: Sink>(
                 save: None,
             })
         }
-        Found::NoneWithin => tell_within(order.moves, w),
-        Found::Nowhere(states) => tell_all(states, w),
+        Ok(Found::NoneWithin) => tell_within(order.moves, w),
+        Ok(Found::Nowhere(states)) => tell_all(states, w),
+        Err(ExploreFault::Refused(_)) => Err(Fault::BadSize),
+        Err(ExploreFault::TooManyStates) => Err(Fault::TooManyStates),
+        Err(ExploreFault::OutOfMemory) => Err(Fault::OutOfMemory),
     }
 }

@@ -1,21 +1,23 @@
 //! The command `run`.
 
 ghost use Rattle.std.specs.Prelude.{◌≡◌, ◌⊎◌, ◌↔◌, All, false, IfErr, IfOk, OnOk, vec_len};
-ghost use Rattle.laboratory.specs.Commands.{IsEnded, lab_for, RunEnds};
+ghost use Rattle.schedule_commands.specs.Endings.{IsEnded};
+ghost use Rattle.laboratory.specs.Commands.{lab_for, RunEnds};
+ghost use Rattle.laboratory.specs.Faults.{fault_of_lab};
 ghost use Rattle.laboratory.specs.Gates.{gates_for};
 ghost use Rattle.orders.specs.Sizes.{RunFits};
-ghost use Rattle.laboratory.specs.Statuses.{status_of};
+ghost use Rattle.schedule_commands.specs.Statuses.{status_of};
 ghost use Rattle.laboratory.specs.Tallies.{IsFine};
 
-use crate::ending::Ending;
-use crate::fault::Fault;
 use crate::tally::{Tally, tallied};
 use crashlab::Seeded;
 use indexmap::IndexMap;
 use orders::order::RunOrder;
-use robust::{Spec, run_lab};
+use robust::{LabFault, Spec, run_lab};
 use schedule::Sink;
 use schedule::device::write_all;
+use schedule_commands::ending::Ending;
+use schedule_commands::fault::Fault;
 use std::alloc::{AllocError, Global};
 use std::sync::Wait;
 use std::thread::Threads;
@@ -80,6 +82,17 @@ pub fn status_of_tallies(tallies: &IndexMap<u64, Tally>) -> u8
     0
 }
 
+/// The fault of a lab that came to no end.
+fn unrun(fault: LabFault) -> Fault
+    ensures { result ≡ fault_of_lab fault }
+{
+    match fault {
+        LabFault::BadSpec => Fault::BadSize,
+        LabFault::OutOfMemory => Fault::OutOfMemory,
+        LabFault::Member { p, .. } | LabFault::Reply { p, .. } => Fault::Member { p },
+    }
+}
+
 /// The senders send all they have, each on a thread of its own, and what stands in the mailbox is counted.
 #[tactic(auto, using(crate::proofs::Runs::fits_lab))]
 fn counted<T: Threads + Wait + Sync>(
@@ -90,7 +103,7 @@ fn counted<T: Threads + Wait + Sync>(
     ensures { IfErr result (λ fault. status_of fault ≡ 2 → RunFits order.now → ⊥) }
 {
     let gates = gates_of(alloc, order)?;
-    let result = run_lab(rt, alloc, spec_of(order), gates)?;
+    let result = run_lab(rt, alloc, spec_of(order), gates).map_err(unrun)?;
     Ok(tallied(alloc, order.procs, &result.messages)?)
 }
 

@@ -1,10 +1,10 @@
 //! Whole invocations of other kinds: senders, a hunt, the version, and words that are refused.
 
-use laboratory::fault::Fault;
 use laboratory::program::closed;
 use orders::words::words_given;
 use program_kit::{Failing, all_come_to, comes_to, invoked, prints};
 use schedule::Page;
+use schedule_commands::fault::Fault;
 use std::env::FillError;
 use std::rt::Env;
 use std::test::Fail;

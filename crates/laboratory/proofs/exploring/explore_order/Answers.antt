@@ -4,11 +4,11 @@ use Rattle.explore.specs.Paths.{IsNumberOfStates}
 use Rattle.lock_spaces.specs.SceneWords.{scene_words}
 use Rattle.lock_spaces.specs.Spaces.{first_scene, rules}
 use Rattle.lock_search.specs.Finding.{NoneOfAtMost, NoneIsFound}
-use Rattle.laboratory.specs.declared.ending.Ending.{Ending}
-use Rattle.laboratory.specs.declared.fault.Fault.{Fault}
+use Rattle.schedule_commands.specs.declared.ending.Ending.{Ending}
+use Rattle.schedule_commands.specs.declared.fault.Fault.{Fault}
 use Rattle.orders.specs.declared.order.ExploreOrder.{ExploreOrder}
 use Rattle.laboratory.specs.Explores.{ExploreEnds, calls_of, layout_of, within_line, all_line}
-use Rattle.laboratory.specs.Statuses.{status_of}
+use Rattle.schedule_commands.specs.Statuses.{status_of}
 use Rattle.laboratory.proofs.exploring.explore_order.Goals as goal
 
 ends_within :
@@ -24,20 +24,20 @@ ends_all :
 ends_all order before now states (Ok e) none number told status failed = inr (inr (inl (ap Ok status, record { none = none; states = states; number = number; text = told })))
 ends_all order before now states (Err f) none number told status failed = inr (inr (inr (inr failed)))
 
-pub returns-in-NoneWithin-clause-ends : goal.returns-in-NoneWithin-clause-ends
-returns-in-NoneWithin-clause-ends g c =
+pub returns-in-Ok-NoneWithin-clause-ends : goal.returns-in-Ok-NoneWithin-clause-ends
+returns-in-Ok-NoneWithin-clause-ends g c =
     let o : ExploreOrder = c.args.order.now in
-    let none = rw c.in-NoneWithin.is at (rw c.in_ok-path.was at c.shortest_schedule-found.ensures.none_within) in
+    let none = rw c.in-Ok-NoneWithin.field-0-is at (rw c.in-Ok-NoneWithin.is at c.shortest_schedule-found.ensures.none_within) in
     let calls = c.deref.ensures.value ∙ c.in_ok-calls.ensures.listed in
     ends_within o _ _ c.tell_within.result (subst (λ calls. NoneOfAtMost o.variant (layout_of o) o.limit o.crashes calls o.moves) calls none) c.tell_within.ensures.told c.tell_within.ensures.status c.tell_within.ensures.failed
 
-pub returns-clause-ends : goal.returns-clause-ends
-returns-clause-ends g c =
+pub returns-in-Ok-Nowhere-clause-ends : goal.returns-in-Ok-Nowhere-clause-ends
+returns-in-Ok-Nowhere-clause-ends g c =
     let o : ExploreOrder = c.args.order.now in
-    let none = rw c.in-Nowhere.is at (rw c.in_ok-path.was at c.shortest_schedule-found.ensures.nowhere) in
-    let number = rw c.in-Nowhere.is at (rw c.in_ok-path.was at c.shortest_schedule-found.ensures.states) in
+    let none = rw c.in-Ok-Nowhere.field-0-is at (rw c.in-Ok-Nowhere.is at c.shortest_schedule-found.ensures.nowhere) in
+    let number = rw c.in-Ok-Nowhere.field-0-is at (rw c.in-Ok-Nowhere.is at c.shortest_schedule-found.ensures.states) in
     let calls = c.deref.ensures.value ∙ c.in_ok-calls.ensures.listed in
-    ends_all o _ _ c.in-Nowhere.states c.tell_all.result
+    ends_all o _ _ c.in-Ok-Nowhere.states c.tell_all.result
     (subst (λ calls. NoneIsFound o.variant (layout_of o) o.limit o.crashes calls) calls none)
-    (subst (λ calls. IsNumberOfStates (rules scene_words) (first_scene o.variant (layout_of o) o.limit o.crashes calls) c.in-Nowhere.states) calls number)
+    (subst (λ calls. IsNumberOfStates (rules scene_words) (first_scene o.variant (layout_of o) o.limit o.crashes calls) c.in-Ok-Nowhere.states) calls number)
     c.tell_all.ensures.told c.tell_all.ensures.status c.tell_all.ensures.failed

@@ -5,9 +5,9 @@ ghost use Rattle.schedule.specs.Plays.{tape, Writes};
 ghost use Rattle.schedule.specs.Reports.{verdict_line};
 ghost use Rattle.schedule.specs.Schedules.{spelling};
 ghost use Rattle.schedule.specs.Wholes.{reading};
-ghost use Rattle.laboratory.specs.Commands.{IsEnded, TellsReads};
-ghost use Rattle.laboratory.specs.Shrinks.{ShrinkEnds, ShrinksSchedule};
-ghost use Rattle.laboratory.specs.Statuses.{status_of};
+ghost use Rattle.schedule_commands.specs.Endings.{IsEnded, TellsReads};
+ghost use Rattle.schedule_commands.specs.Shrinks.{ShrinkEnds, ShrinksSchedule};
+ghost use Rattle.schedule_commands.specs.Statuses.{status_of};
 
 use crate::ending::Ending;
 use crate::fault::Fault;

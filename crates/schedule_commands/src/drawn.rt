@@ -13,10 +13,10 @@ ghost use Rattle.schedule.specs.Plays.{tape};
 ghost use Rattle.schedule.specs.Runs.{behaviour, deeds_of, run_on};
 ghost use Rattle.schedule.specs.Verdicts.{verdict_on};
 ghost use Rattle.schedule.specs.Wholes.{reading, world_behaviour};
-ghost use Rattle.laboratory.specs.Commands.{IsEnded, TellsReads};
-ghost use Rattle.laboratory.specs.Draws.{DrawEnds};
-ghost use Rattle.laboratory.specs.Statuses.{status_after};
-ghost use Rattle.laboratory.specs.Tellings.{Drawn, ending_of as ending_for, IsWritten, Tells, TellsImage, TellsNew, TellsSchedule, TellsVariant};
+ghost use Rattle.schedule_commands.specs.Endings.{IsEnded, TellsReads};
+ghost use Rattle.schedule_commands.specs.Draws.{DrawEnds};
+ghost use Rattle.schedule_commands.specs.Statuses.{status_after};
+ghost use Rattle.schedule_commands.specs.Tellings.{Drawn, ending_of as ending_for, IsWritten, Tells, TellsImage, TellsNew, TellsSchedule, TellsVariant};
 
 use crate::ending::{Ending, status_after_verdict};
 use crate::fault::Fault;

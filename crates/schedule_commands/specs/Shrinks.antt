@@ -8,12 +8,12 @@ use Rattle.schedule.specs.Reports.{verdict_line}
 use Rattle.schedule.specs.Schedules.{Scheduled, schedule_at, spelling}
 use Rattle.schedule.specs.Wholes.{Reading, Silent, WasRead}
 use Rattle.shrinking.specs.Shrunk.{IsWhy, Shrinks}
-use Rattle.laboratory.specs.declared.ending.Ending.{Ending}
-use Rattle.laboratory.specs.declared.fault.Fault.{Fault}
-use Rattle.laboratory.specs.declared.fault.Fault.TheVariants.{Refused}
+use Rattle.schedule_commands.specs.declared.ending.Ending.{Ending}
+use Rattle.schedule_commands.specs.declared.fault.Fault.{Fault}
+use Rattle.schedule_commands.specs.declared.fault.Fault.TheVariants.{Refused}
 use Rattle.orders.specs.declared.order.ShrinkOrder.{ShrinkOrder}
-use Rattle.laboratory.specs.Settings.{IsWrongText}
-use Rattle.laboratory.specs.Statuses.{outcome, status_ended}
+use Rattle.schedule_commands.specs.Settings.{IsWrongText}
+use Rattle.schedule_commands.specs.Statuses.{outcome, status_ended}
 
 -- what is written of the schedule that it was made, or that nothing was wrong with it
 abbrev pub shrunk_text : Option Scheduled → List ℕ

@@ -2,9 +2,9 @@ use Rattle.std.proofs.Common.{rules, is_some, arith}
 use Rattle.std.proofs.lemmas.Result.{err_from_is_err_and}
 use Rattle.schedule.specs.Plays.{tape}
 use Rattle.schedule.specs.Wholes.{reading}
-use Rattle.laboratory.specs.Tellings.{Stepwise}
-use Rattle.laboratory.proofs.Draws.{untold}
-use Rattle.laboratory.proofs.replaying.replay_order.Goals as goal
+use Rattle.schedule_commands.specs.Tellings.{Stepwise}
+use Rattle.schedule_commands.proofs.Draws.{untold}
+use Rattle.schedule_commands.proofs.replaying.replay_order.Goals as goal
 
 pub returns-in_err-schedule-clause-ends : goal.returns-in_err-schedule-clause-ends
 returns-in_err-schedule-clause-ends g c =

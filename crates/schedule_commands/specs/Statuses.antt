@@ -1,12 +1,6 @@
 -- Exit statuses: 0 is fine, 1 a verdict against, 2 a fault of the input, 3 one of a device, of memory or of a member, or too many
 -- states in a search.
 use Rattle.std.specs.Prelude.{ℕ, Option, Some, None, Result, Ok, Err}
-use Rattle.crashlab.specs.declared.hunt_fault.HuntFault.{HuntFault}
-use Rattle.crashlab.specs.declared.hunt_fault.HuntFault.TheVariants as of_hunt
-use Rattle.lock_search.specs.declared.explore_fault.ExploreFault.{ExploreFault}
-use Rattle.lock_search.specs.declared.explore_fault.ExploreFault.TheVariants as of_search
-use Rattle.one_lock.specs.declared.lab.lab_fault.LabFault.{LabFault}
-use Rattle.one_lock.specs.declared.lab.lab_fault.LabFault.TheVariants as of_lab
 use Rattle.schedule.specs.declared.fault.TextFault.{TextFault}
 use Rattle.schedule.specs.declared.fault.TextFault.TheVariants as of_text
 use Rattle.schedule.specs.declared.replay_fault.ReplayFault.{ReplayFault}
@@ -16,11 +10,9 @@ use Rattle.schedule.specs.declared.verdict.Verdict.TheVariants.{Fine, Against}
 use Rattle.rmecore.specs.declared.refusal.Refusal.{Refusal}
 use Rattle.rmecore.specs.declared.refusal.Refusal.TheVariants.{BadImage}
 use Rattle.schedule.specs.Numbers.{number_of as number_of_line}
-use Rattle.laboratory.specs.declared.ending.Ending.{Ending}
-use Rattle.laboratory.specs.declared.folder.FileFault.{FileFault}
-use Rattle.laboratory.specs.declared.folder.FileFault.TheVariants as of_file
-use Rattle.laboratory.specs.declared.fault.Fault.{Fault}
-use Rattle.laboratory.specs.declared.fault.Fault.TheVariants.{Text, Refused, Image, BadSize, Read, Write, OutOfMemory, Member, TooManyStates}
+use Rattle.schedule_commands.specs.declared.ending.Ending.{Ending}
+use Rattle.schedule_commands.specs.declared.fault.Fault.{Fault}
+use Rattle.schedule_commands.specs.declared.fault.Fault.TheVariants.{Text, Refused, Image, Read, Write, OutOfMemory, Member, TooManyStates}
 
 -- 3 for a fault of a device, of memory or of a member, and for too many states in a search; 2 for one of the input
 abbrev pub status_of : Fault → ℕ
@@ -58,37 +50,10 @@ abbrev pub fault_of_image : Refusal → Fault
 fault_of_image (BadImage rule) = Image rule
 fault_of_image _ = OutOfMemory
 
--- for that of a file that is opened, or written
-abbrev pub fault_of_opening : FileFault → Fault
-fault_of_opening of_file.Failed = Read
-fault_of_opening of_file.OutOfMemory = OutOfMemory
-
-abbrev pub fault_of_saving : FileFault → Fault
-fault_of_saving of_file.Failed = Write
-fault_of_saving of_file.OutOfMemory = OutOfMemory
-
 -- for that of a text
 abbrev pub fault_of_text : TextFault → Fault
 fault_of_text (of_text.At line fault) = Text line (number_of_line fault)
 fault_of_text of_text.OutOfMemory = OutOfMemory
-
--- for that of a hunt
-abbrev pub fault_of_hunt : HuntFault → Fault
-fault_of_hunt of_hunt.OutOfMemory = OutOfMemory
-fault_of_hunt _ = BadSize
-
--- for that of a search
-abbrev pub fault_of_search : ExploreFault → Fault
-fault_of_search (of_search.Refused refusal) = BadSize
-fault_of_search of_search.TooManyStates = TooManyStates
-fault_of_search of_search.OutOfMemory = OutOfMemory
-
--- for that of a lab
-abbrev pub fault_of_lab : LabFault → Fault
-fault_of_lab of_lab.BadSpec = BadSize
-fault_of_lab of_lab.OutOfMemory = OutOfMemory
-fault_of_lab (of_lab.Member p fault) = Member p
-fault_of_lab (of_lab.Reply p reply) = Member p
 
 -- the status of a command that has ended so
 abbrev pub status_ended : Result Ending Fault → ℕ

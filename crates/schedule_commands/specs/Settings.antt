@@ -11,9 +11,9 @@ use Rattle.schedule.specs.declared.fault.LineFault.{LineFault}
 use Rattle.schedule.specs.Numbers.{number_of as number_of_line}
 use Rattle.schedule.specs.Schedules.{Scheduled, schedule_at}
 use Rattle.schedule.specs.Wholes.{Reading, WasRead, layout_of}
-use Rattle.laboratory.specs.declared.fault.Fault.{Fault}
-use Rattle.laboratory.specs.declared.fault.Fault.TheVariants.{Text, Refused}
-use Rattle.laboratory.specs.Statuses.{fault_of_header}
+use Rattle.schedule_commands.specs.declared.fault.Fault.{Fault}
+use Rattle.schedule_commands.specs.declared.fault.Fault.TheVariants.{Text, Refused}
+use Rattle.schedule_commands.specs.Statuses.{fault_of_header}
 
 -- the text that was read is no schedule
 unfoldable pub IsWrongText : Reading → Reading → Fault → Type 0

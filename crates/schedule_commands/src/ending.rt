@@ -1,7 +1,7 @@
 //! How a command ends.
 
 ghost use Rattle.std.specs.Prelude.{◌≡◌, ◌≤◌};
-ghost use Rattle.laboratory.specs.Statuses.{status_after};
+ghost use Rattle.schedule_commands.specs.Statuses.{status_after};
 
 use schedule::Verdict;
 

@@ -29,11 +29,11 @@ use Rattle.schedule.specs.Plays.{Tape, Writes, Begins}
 use Rattle.schedule.specs.Runs.{Behaviour, behaviour, run_on}
 use Rattle.schedule.specs.Schedules.{Scheduled, head_of, schedule_at}
 use Rattle.schedule.specs.Wholes.{Reading, Silent, WasRead, layout_of, world_behaviour}
-use Rattle.laboratory.specs.declared.ending.Ending.{Ending}
-use Rattle.laboratory.specs.declared.fault.Fault.{Fault}
-use Rattle.laboratory.specs.declared.fault.Fault.TheVariants as faults
-use Rattle.laboratory.specs.Settings.{IsFitting, IsMisfit, IsUnmade, IsWrongText}
-use Rattle.laboratory.specs.Statuses.{outcome, outcome_told, status_after, status_of}
+use Rattle.schedule_commands.specs.declared.ending.Ending.{Ending}
+use Rattle.schedule_commands.specs.declared.fault.Fault.{Fault}
+use Rattle.schedule_commands.specs.declared.fault.Fault.TheVariants as faults
+use Rattle.schedule_commands.specs.Settings.{IsFitting, IsMisfit, IsUnmade, IsWrongText}
+use Rattle.schedule_commands.specs.Statuses.{outcome, outcome_told, status_after, status_of}
 
 -- ---- one run
 

@@ -16,9 +16,10 @@ ghost use Rattle.schedule.specs.Plays.{tape};
 ghost use Rattle.schedule.specs.Runs.{behaviour, run_on};
 ghost use Rattle.schedule.specs.Schedules.{head_of};
 ghost use Rattle.schedule.specs.Wholes.{reading, world_behaviour};
-ghost use Rattle.laboratory.specs.Commands.{IsEnded, IsLast, IsPlayed, IsReplayed, IsStepwise, ReplayEnds, TellsReads, TellsReplay};
-ghost use Rattle.laboratory.specs.Statuses.{answer_told, fault_on_page};
-ghost use Rattle.laboratory.specs.Tellings.{Stepwise, Tells, TellsImage, TellsNew, TellsSchedule, TellsVariant};
+ghost use Rattle.schedule_commands.specs.Endings.{IsEnded, TellsReads};
+ghost use Rattle.schedule_commands.specs.Replays.{IsLast, IsPlayed, IsReplayed, IsStepwise, ReplayEnds, TellsReplay};
+ghost use Rattle.schedule_commands.specs.Statuses.{answer_told, fault_on_page};
+ghost use Rattle.schedule_commands.specs.Tellings.{Stepwise, Tells, TellsImage, TellsNew, TellsSchedule, TellsVariant};
 ghost use Rattle.std.proofs.Math.ListN.{replicate};
 
 use crate::ending::{Ending, status_after_verdict};

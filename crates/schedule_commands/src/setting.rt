@@ -12,8 +12,8 @@ ghost use Rattle.rmeworld.specs.WorldState.{image_world as world_of_image, new_r
 ghost use Rattle.crashlab.specs.VariantWorlds.{new_world as world_of_variant};
 ghost use Rattle.schedule.specs.Schedules.{schedule_at};
 ghost use Rattle.schedule.specs.Wholes.{layout_of, reading, WasRead};
-ghost use Rattle.laboratory.specs.Settings.{CanFit, IsFitting, IsMadeFit, IsMisfit, IsPicture, IsUnmade, IsWrongText};
-ghost use Rattle.laboratory.specs.Statuses.{fault_of_header, fault_of_image, status_of};
+ghost use Rattle.schedule_commands.specs.Settings.{CanFit, IsFitting, IsMadeFit, IsMisfit, IsPicture, IsUnmade, IsWrongText};
+ghost use Rattle.schedule_commands.specs.Statuses.{fault_of_header, fault_of_image, status_of};
 
 use crate::fault::Fault;
 use crashlab::{Variant, VariantWorld};

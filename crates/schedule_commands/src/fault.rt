@@ -1,13 +1,10 @@
 //! Why a command came to no verdict.
 
 ghost use Rattle.std.specs.Prelude.{◌≡◌, ◌≤◌};
-ghost use Rattle.laboratory.specs.declared.fault.Fault.TheVariants.{OutOfMemory};
-ghost use Rattle.laboratory.specs.Statuses.{fault_of_hunt, fault_of_lab, fault_of_replay, fault_of_search, fault_of_text};
+ghost use Rattle.schedule_commands.specs.declared.fault.Fault.TheVariants.{OutOfMemory};
+ghost use Rattle.schedule_commands.specs.Statuses.{fault_of_replay, fault_of_text};
 
 use crate::line::line_of;
-use crashlab::HuntFault;
-use lock_search::ExploreFault;
-use robust::LabFault;
 use schedule::{OutOfMemory as NoMemory, ReplayFault, TextFault};
 use std::alloc::{AllocError, AllocFailed};
 use std::error::Error;
@@ -36,7 +33,7 @@ pub enum Fault {
 }
 
 impl Fault {
-    ghost use Rattle.laboratory.specs.Statuses.{status_of};
+    ghost use Rattle.schedule_commands.specs.Statuses.{status_of};
 
     /// The exit status: 2 for a fault of the input, 3 for one of a device, of memory or of a member, and for too many states
     /// in a search.
@@ -99,41 +96,6 @@ impl From<ReplayFault> for Fault {
             ReplayFault::Read => Fault::Read,
             ReplayFault::Write => Fault::Write,
             ReplayFault::OutOfMemory => Fault::OutOfMemory,
-        }
-    }
-}
-
-impl From<HuntFault> for Fault {
-    ghost from_gives = { λ fault e. e ≡ fault_of_hunt fault };
-
-    fn from(fault: HuntFault) -> Fault {
-        match fault {
-            HuntFault::BadRounds | HuntFault::BadSteps => Fault::BadSize,
-            HuntFault::OutOfMemory => Fault::OutOfMemory,
-        }
-    }
-}
-
-impl From<ExploreFault> for Fault {
-    ghost from_gives = { λ fault e. e ≡ fault_of_search fault };
-
-    fn from(fault: ExploreFault) -> Fault {
-        match fault {
-            ExploreFault::Refused(_) => Fault::BadSize,
-            ExploreFault::TooManyStates => Fault::TooManyStates,
-            ExploreFault::OutOfMemory => Fault::OutOfMemory,
-        }
-    }
-}
-
-impl From<LabFault> for Fault {
-    ghost from_gives = { λ fault e. e ≡ fault_of_lab fault };
-
-    fn from(fault: LabFault) -> Fault {
-        match fault {
-            LabFault::BadSpec => Fault::BadSize,
-            LabFault::OutOfMemory => Fault::OutOfMemory,
-            LabFault::Member { p, .. } | LabFault::Reply { p, .. } => Fault::Member { p },
         }
     }
 }

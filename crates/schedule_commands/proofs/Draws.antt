@@ -3,12 +3,12 @@ use Rattle.std.proofs.Common.{◌≡◌, ◌≤◌, ◌⊎◌, Bool, Err, refl, 
 use Rattle.crashlab.specs.declared.variant.Variant.{Variant}
 use Rattle.schedule.specs.Plays.{Tape}
 use Rattle.schedule.specs.Wholes.{Reading}
-use Rattle.laboratory.specs.declared.fault.Fault.{Fault}
+use Rattle.schedule_commands.specs.declared.fault.Fault.{Fault}
 use Rattle.orders.specs.declared.order.DrawOrder.{DrawOrder}
-use Rattle.laboratory.specs.Draws.{DrawEnds}
-use Rattle.laboratory.specs.Settings.{IsWrongText}
-use Rattle.laboratory.specs.Statuses.{status_of}
-use Rattle.laboratory.specs.Tellings.{Drawn, Manner, TellsRead}
+use Rattle.schedule_commands.specs.Draws.{DrawEnds}
+use Rattle.schedule_commands.specs.Settings.{IsWrongText}
+use Rattle.schedule_commands.specs.Statuses.{status_of}
+use Rattle.schedule_commands.specs.Tellings.{Drawn, Manner, TellsRead}
 
 pub untold : (variant : Variant) (manner : Manner) (pictured : Bool) (old new : Reading) (now : Tape) (fault : Fault)
     → (status_of fault ≡ 3) ⊎ IsWrongText old new fault → TellsRead variant manner pictured old new now now (Err fault)

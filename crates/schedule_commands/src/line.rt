@@ -3,8 +3,8 @@
 ghost use Rattle.std.specs.Prelude.{◌≡◌, ◌+◌, ◌≤◌, ◌++◌, ◌∷◌, [], codes, length};
 ghost use Rattle.std.specs.Fmt.{decimal};
 ghost use Rattle.schedule.specs.Plays.{tape};
-ghost use Rattle.laboratory.specs.Lines.{fault_line, IsTold};
-ghost use Rattle.laboratory.specs.Statuses.{status_of};
+ghost use Rattle.schedule_commands.specs.Lines.{fault_line, IsTold};
+ghost use Rattle.schedule_commands.specs.Statuses.{status_of};
 
 use crate::fault::Fault;
 use arrayvec::ArrayString;
@@ -35,7 +35,7 @@ fn line_of_place(at: u64, cause: &str, number: u64) -> ArrayString<128>
 }
 
 /// A line of a text, a number and a text.
-pub(crate) fn line_around(before: &str, number: u64, after: &str) -> ArrayString<128>
+pub fn line_around(before: &str, number: u64, after: &str) -> ArrayString<128>
     requires { (length before.now ≤ 21) × (length after.now ≤ 20) }
     ensures { result.bytes ≡ before.now ++ decimal number ++ after.now }
 {

@@ -3,11 +3,11 @@ use Rattle.std.specs.Prelude.{◌≡◌, ◌≢◌, Bool, Result}
 use Rattle.crashlab.specs.declared.variant.Variant.TheVariants.{Right}
 use Rattle.schedule.specs.Plays.{Tape}
 use Rattle.schedule.specs.Wholes.{Reading}
-use Rattle.laboratory.specs.declared.ending.Ending.{Ending}
-use Rattle.laboratory.specs.declared.fault.Fault.{Fault}
+use Rattle.schedule_commands.specs.declared.ending.Ending.{Ending}
+use Rattle.schedule_commands.specs.declared.fault.Fault.{Fault}
 use Rattle.orders.specs.declared.order.DrawOrder.{DrawOrder}
-use Rattle.laboratory.specs.Statuses.{status_ended}
-use Rattle.laboratory.specs.Tellings.{Drawn, TellsRead}
+use Rattle.schedule_commands.specs.Statuses.{status_ended}
+use Rattle.schedule_commands.specs.Tellings.{Drawn, TellsRead}
 
 -- nothing finds the right lock out
 abbrev pub DrawEnds : DrawOrder → Bool → Reading → Reading → Tape → Tape → Result Ending Fault → Type 0

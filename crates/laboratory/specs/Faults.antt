@@ -1,0 +1,30 @@
+-- The fault of a command for that of what it calls.
+use Rattle.crashlab.specs.declared.hunt_fault.HuntFault.{HuntFault}
+use Rattle.crashlab.specs.declared.hunt_fault.HuntFault.TheVariants as of_hunt
+use Rattle.one_lock.specs.declared.lab.lab_fault.LabFault.{LabFault}
+use Rattle.one_lock.specs.declared.lab.lab_fault.LabFault.TheVariants as of_lab
+use Rattle.schedule_commands.specs.declared.fault.Fault.{Fault}
+use Rattle.schedule_commands.specs.declared.fault.Fault.TheVariants.{BadSize, Read, Write, OutOfMemory, Member}
+use Rattle.laboratory.specs.declared.folder.FileFault.{FileFault}
+use Rattle.laboratory.specs.declared.folder.FileFault.TheVariants as of_file
+
+-- for that of a file that is opened, or written
+abbrev pub fault_of_opening : FileFault → Fault
+fault_of_opening of_file.Failed = Read
+fault_of_opening of_file.OutOfMemory = OutOfMemory
+
+abbrev pub fault_of_saving : FileFault → Fault
+fault_of_saving of_file.Failed = Write
+fault_of_saving of_file.OutOfMemory = OutOfMemory
+
+-- for that of a hunt
+abbrev pub fault_of_hunt : HuntFault → Fault
+fault_of_hunt of_hunt.OutOfMemory = OutOfMemory
+fault_of_hunt _ = BadSize
+
+-- for that of a lab
+abbrev pub fault_of_lab : LabFault → Fault
+fault_of_lab of_lab.BadSpec = BadSize
+fault_of_lab of_lab.OutOfMemory = OutOfMemory
+fault_of_lab (of_lab.Member p fault) = Member p
+fault_of_lab (of_lab.Reply p reply) = Member p

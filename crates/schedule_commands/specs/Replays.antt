@@ -3,7 +3,7 @@ use Rattle.std.specs.Prelude.{◌≡◌, ◌≢◌, ◌⊎◌, ℕ, Bool, true, 
 use Rattle.std.specs.declared.alloc.Global.{Global}
 use Rattle.crashlab.specs.declared.variant.Variant.TheVariants.{Right}
 use Rattle.rmeworld.specs.declared.image.Image.{Image}
-use Rattle.rmeworld.specs.ImageText.{image_line}
+use Rattle.imaging.specs.ImageText.{image_line}
 use Rattle.rmeworld.specs.Replayed.{image_of}
 use Rattle.rmecore.specs.declared.refusal.Refusal.{Refusal}
 use Rattle.judge.specs.Table.{State}

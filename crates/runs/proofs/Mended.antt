@@ -1,5 +1,5 @@
 -- A task leaves a holder that has nothing to mend so, and a mending that finds the lock ruined leaves the holder unmended.
-use Rattle.std.proofs.Common.{◌≡◌, ℕ, ◌==◌, ◌&&◌, Bool, true, false, List, [], ◌∷◌, length, Option, Some, None, unwrap_or, All, refl, sym, ap, ◌∙◌, subst, append-nil}
+use Rattle.std.proofs.Common.{◌≡◌, ℕ, ◌==◌, ◌&&◌, Bool, true, false, List, [], ◌∷◌, length, Option, Some, None, unwrap_or, All, ◌⊎◌, inl, inr, refl, sym, ap, ◌∙◌, subst, append-nil}
 use Rattle.runs.proofs.Common.{All-nil, All-cons, All-head, All-tail, Kind, Word, Data as DataAt, is_glance, Place, Inside, Layout, Reply, Mended, Task, Script, Get as Asks}
 use Rattle.runs.proofs.Common.{Put as Writes, Done, script, Answer, NotRecoverable, Mail, Call, Consistent, Append, Close, Mending, Working, by_script, answer_at, answer_by, next_or_same, and_answer}
 use Rattle.runs.proofs.Common.{answers_in, Errand, Free, Doing, Spot, begun_from, Begins, Happening, Moves, at_lock, only_spot, settled, moved_by, TakenStep, Setup, Served}
@@ -12,110 +12,94 @@ use Rattle.runs.proofs.OneStep.{inside_stays}
 use Rattle.runs.proofs.Tabled.{start_leads, start_of, Stepped, stepped}
 use Rattle.runs.proofs.Walked.{OwnMoves}
 
--- inside with this to mend or not, and with what is left of a task, or nothing to do
-abbrev TaskBy : Bool → Place → Bool → Errand → Type 0
-TaskBy m Inside b Free = b ≡ m
-TaskBy m Inside b (Doing (Working t) left) = b ≡ m
-TaskBy m _ _ _ = ⊥
+-- inside, mended or not, with what is left of a task or of a mending, or nothing to do
+abbrev WorkBy : Bool → Place → Bool → Errand → Type 0
+WorkBy m Inside b Free = b ≡ m
+WorkBy m Inside b (Doing (Working t) left) = b ≡ m
+WorkBy m Inside b (Doing Mending left) = b ≡ m
+WorkBy m _ _ _ = ⊥
 
-abbrev AtTask : Bool → Spot → Type 0
-AtTask m t = TaskBy m t.lock t.mended t.errand
-
--- inside, unmended, with what is left of a mending, or nothing to do
-abbrev MendingBy : Place → Bool → Errand → Type 0
-MendingBy Inside b Free = b ≡ false
-MendingBy Inside b (Doing Mending left) = b ≡ false
-MendingBy _ _ _ = ⊥
-
-abbrev AtMending : Spot → Type 0
-AtMending t = MendingBy t.lock t.mended t.errand
+abbrev AtWork : Bool → Spot → Type 0
+AtWork m t = WorkBy m t.lock t.mended t.errand
 
 either_spot : (P : Spot → Type 0) (ok : Bool) (u v : Spot) → P u → P v → P (unwrap_or (only_spot ok u) v)
 either_spot P true u v h k = h
 either_spot P false u v h k = k
 
-task_settles : (m b c : Bool) (t : Task) (left : Script Reply) → b ≡ m → AtTask m (settled b c (Working t) left)
+-- a reply comes only where there is nothing to mend
+abbrev Fine : Bool → Option Answer → Type 0
+Fine m o = (r : Reply) → o ≡ Some (Mail r) → m ≡ true
+
+task_settles : (m b c : Bool) (t : Task) (left : Script Reply) → b ≡ m → AtWork m (settled b c (Working t) left)
 task_settles m b c t (Done a) h = h
 task_settles m b c t _ h = h
 
-task_step : (l : Layout) (limit p : ℕ) (m : Bool) (s : Place) (b c : Bool) (e : Errand) (kind : Kind) (word : Word) (v : ℕ) → is_glance kind ≡ false → TaskBy m s b e
-    → AtTask m (unwrap_or (moved_by l limit p s b c e kind word v) (record { lock = s; mended = b; barred = c; errand = e }))
-task_step l limit p m Inside b c Free kind word v moves h =
-    subst (λ (o : Option Place). AtTask m (unwrap_or (at_lock l p Inside b c o) (record { lock = Inside; mended = b; barred = c; errand = Free }))) (sym (inside_stays l.procs limit p kind word v moves)) h
-task_step l limit p m Inside b c (Doing (Working t) (Asks j rest)) Gets (DataAt i) v moves h =
-    either_spot (AtTask m) (i == j) (settled b c (Working t) (rest v)) (record { lock = Inside; mended = b; barred = c; errand = Doing (Working t) (Asks j rest) }) (task_settles m b c t (rest v) h) h
-task_step l limit p m Inside b c (Doing (Working t) (Writes j x rest)) Puts (DataAt i) v moves h =
-    either_spot (AtTask m) ((i == j) && (v == x)) (settled b c (Working t) rest) (record { lock = Inside; mended = b; barred = c; errand = Doing (Working t) (Writes j x rest) }) (task_settles m b c t rest h) h
-task_step l limit p m Inside b c (Doing (Working t) left) kind word v moves h = h
-task_step l limit p m _ b c _ kind word v moves h = absurd h
+mending_settles : (m b c : Bool) (left : Script Reply) → b ≡ m → Fine m (by_script Mending b left) → AtWork m (settled b c Mending left)
+mending_settles m b c (Done (Mended x)) h fine = sym (fine (Mended x) refl)
+mending_settles m b c _ h fine = h
 
-mending_settles : (c : Bool) (left : Script Reply) → ((r : Reply) → by_script Mending false left ≡ Some (Mail r) → ⊥) → AtMending (settled false c Mending left)
-mending_settles c (Done (Mended x)) never = absurd (never (Mended x) refl)
-mending_settles c _ never = refl
+work_step : (l : Layout) (limit p : ℕ) (m : Bool) (s : Place) (b c : Bool) (e : Errand) (kind : Kind) (word : Word) (v : ℕ) → is_glance kind ≡ false → WorkBy m s b e → Fine m (answer_by s b c e kind v)
+    → AtWork m (unwrap_or (moved_by l limit p s b c e kind word v) (record { lock = s; mended = b; barred = c; errand = e }))
+work_step l limit p m Inside b c Free kind word v moves h fine =
+    subst (λ (o : Option Place). AtWork m (unwrap_or (at_lock l p Inside b c o) (record { lock = Inside; mended = b; barred = c; errand = Free }))) (sym (inside_stays l.procs limit p kind word v moves)) h
+work_step l limit p m Inside b c (Doing (Working t) (Asks j rest)) Gets (DataAt i) v moves h fine =
+    either_spot (AtWork m) (i == j) (settled b c (Working t) (rest v)) (record { lock = Inside; mended = b; barred = c; errand = Doing (Working t) (Asks j rest) }) (task_settles m b c t (rest v) h) h
+work_step l limit p m Inside b c (Doing (Working t) (Writes j x rest)) Puts (DataAt i) v moves h fine =
+    either_spot (AtWork m) ((i == j) && (v == x)) (settled b c (Working t) rest) (record { lock = Inside; mended = b; barred = c; errand = Doing (Working t) (Writes j x rest) }) (task_settles m b c t rest h) h
+work_step l limit p m Inside b c (Doing Mending (Asks j rest)) Gets (DataAt i) v moves h fine =
+    either_spot (AtWork m) (i == j) (settled b c Mending (rest v)) (record { lock = Inside; mended = b; barred = c; errand = Doing Mending (Asks j rest) }) (mending_settles m b c (rest v) h fine) h
+work_step l limit p m Inside b c (Doing Mending (Writes j x rest)) Puts (DataAt i) v moves h fine =
+    either_spot (AtWork m) ((i == j) && (v == x)) (settled b c Mending rest) (record { lock = Inside; mended = b; barred = c; errand = Doing Mending (Writes j x rest) }) (mending_settles m b c rest h fine) h
+work_step l limit p m Inside b c (Doing (Working t) left) kind word v moves h fine = h
+work_step l limit p m Inside b c (Doing Mending left) kind word v moves h fine = h
+work_step l limit p m _ b c _ kind word v moves h fine = absurd h
 
-mending_step : (l : Layout) (limit p : ℕ) (s : Place) (b c : Bool) (e : Errand) (kind : Kind) (word : Word) (v : ℕ) → is_glance kind ≡ false → MendingBy s b e → ((r : Reply) → answer_by s b c e kind v ≡ Some (Mail r) → ⊥)
-    → AtMending (unwrap_or (moved_by l limit p s b c e kind word v) (record { lock = s; mended = b; barred = c; errand = e }))
-mending_step l limit p Inside b c Free kind word v moves h never =
-    subst (λ (o : Option Place). AtMending (unwrap_or (at_lock l p Inside b c o) (record { lock = Inside; mended = b; barred = c; errand = Free }))) (sym (inside_stays l.procs limit p kind word v moves)) h
-mending_step l limit p Inside false c (Doing Mending (Asks j rest)) Gets (DataAt i) v moves h never =
-    either_spot AtMending (i == j) (settled false c Mending (rest v)) (record { lock = Inside; mended = false; barred = c; errand = Doing Mending (Asks j rest) }) (mending_settles c (rest v) never) refl
-mending_step l limit p Inside false c (Doing Mending (Writes j x rest)) Puts (DataAt i) v moves h never =
-    either_spot AtMending ((i == j) && (v == x)) (settled false c Mending rest) (record { lock = Inside; mended = false; barred = c; errand = Doing Mending (Writes j x rest) }) (mending_settles c rest never) refl
-mending_step l limit p Inside true c (Doing Mending left) kind word v moves h never = absurd (cc)
-mending_step l limit p Inside false c (Doing Mending left) kind word v moves h never = refl
-mending_step l limit p _ b c _ kind word v moves h never = absurd h
-
--- steps one after another
-task_gone : (s : Setup) (p : ℕ) (m : Bool) (t : Spot) (ms : List Happening) → OwnMoves p ms → AtTask m t → AtTask m (gone s t ms)
-task_gone s p m t [] moves h = h
-task_gone s p m t (Moves q kind word v ∷ ms) moves h =
-    task_gone s p m (next_or_same s.layout s.limit t (Moves q kind word v)) ms moves.1 (task_step s.layout s.limit q m t.lock t.mended t.barred t.errand kind word v moves.0.1 h)
-task_gone s p m t (_ ∷ ms) moves h = absurd moves.0
-
+-- nothing is to be mended, or each of these answers is that the lock is ruined
 abbrev Ruins : Answer → Type 0
 Ruins a = a ≡ NotRecoverable
 
-no_mail : (o : Option Answer) (later : List Answer) → All Ruins (and_answer o later) → (r : Reply) → o ≡ Some (Mail r) → ⊥
-no_mail None later h r e = absurd (cc)
-no_mail (Some a) later h r e = let is : a ≡ NotRecoverable = All-head Ruins a later h in absurd (cc)
+abbrev Calm : Bool → List Answer → Type 0
+Calm m answers = (m ≡ true) ⊎ All Ruins answers
 
-later_ruins : (o : Option Answer) (later : List Answer) → All Ruins (and_answer o later) → All Ruins later
-later_ruins None later h = h
-later_ruins (Some a) later h = All-tail Ruins a later h
+calm_now : (m : Bool) (o : Option Answer) (later : List Answer) → Calm m (and_answer o later) → Fine m o
+calm_now m o later (inl mended) r e = mended
+calm_now m None later (inr all) r e = absurd (cc)
+calm_now m (Some a) later (inr all) r e = let is : a ≡ NotRecoverable = All-head Ruins a later all in absurd (cc)
 
-mending_gone : (s : Setup) (p : ℕ) (t : Spot) (ms : List Happening) → OwnMoves p ms → All Ruins (answers_in s.layout s.limit t ms) → AtMending t → AtMending (gone s t ms)
-mending_gone s p t [] moves all h = h
-mending_gone s p t (Moves q kind word v ∷ ms) moves all h =
+calm_later : (m : Bool) (o : Option Answer) (later : List Answer) → Calm m (and_answer o later) → Calm m later
+calm_later m o later (inl mended) = inl mended
+calm_later m None later (inr all) = inr all
+calm_later m (Some a) later (inr all) = inr (All-tail Ruins a later all)
+
+-- steps one after another
+work_gone : (s : Setup) (p : ℕ) (m : Bool) (t : Spot) (ms : List Happening) → OwnMoves p ms → Calm m (answers_in s.layout s.limit t ms) → AtWork m t → AtWork m (gone s t ms)
+work_gone s p m t [] moves calm h = h
+work_gone s p m t (Moves q kind word v ∷ ms) moves calm h =
     let next_to : Spot = next_or_same s.layout s.limit t (Moves q kind word v) in
     let o : Option Answer = answer_at t kind v in
     let later : List Answer = answers_in s.layout s.limit next_to ms in
-    mending_gone s p next_to ms moves.1 (later_ruins o later all) (mending_step s.layout s.limit q t.lock t.mended t.barred t.errand kind word v moves.0.1 h (no_mail o later all))
-mending_gone s p t (_ ∷ ms) moves all h = absurd moves.0
+    work_gone s p m next_to ms moves.1 (calm_later m o later calm) (work_step s.layout s.limit q m t.lock t.mended t.barred t.errand kind word v moves.0.1 h (calm_now m o later calm))
+work_gone s p m t (_ ∷ ms) moves calm h = absurd moves.0
 
 -- the starts
-task_starts : (l : Layout) (p : ℕ) (c : Bool) (call : Call) → IsTask l call → AtTask true (unwrap_or (begun_from l p Inside true Free call) (record { lock = Inside; mended = true; barred = c; errand = Free }))
+abbrev Begun : Layout → ℕ → Bool → Bool → Call → Type 0
+Begun l p m c call = AtWork m (unwrap_or (begun_from l p Inside m Free call) (record { lock = Inside; mended = m; barred = c; errand = Free }))
+
+task_starts : (l : Layout) (p : ℕ) (c : Bool) (call : Call) → IsTask l call → Begun l p true c call
 task_starts l p c (Append seq value) is =
-    either_spot (AtTask true) (true && (length value == l.width)) (record { lock = Inside; mended = true; barred = false; errand = Doing (Working (task.Append seq value)) (script l p (task.Append seq value)) }) (record { lock = Inside; mended = true; barred = c; errand = Free }) refl refl
+    either_spot (AtWork true) (true && (length value == l.width)) (record { lock = Inside; mended = true; barred = false; errand = Doing (Working (task.Append seq value)) (script l p (task.Append seq value)) }) (record { lock = Inside; mended = true; barred = c; errand = Free }) refl refl
 task_starts l p c Close is = refl
 task_starts l p c _ is = absurd is
 
-task_begun : (s : Setup) (p : ℕ) (t : Spot) (call : Call) → IsTask s.layout call → IsHolder t → t.mended ≡ true → AtTask true (next_or_same s.layout s.limit t (Begins p call))
-task_begun s p t call is h m =
-    subst (λ (u : Place × Bool × Errand). AtTask true (unwrap_or (begun_from s.layout p u.0 u.1 u.2 call) (record { lock = u.0; mended = u.1; barred = t.barred; errand = u.2 }))) (λ i. (sym h.0 i, sym m i, sym h.1 i)) (task_starts s.layout p t.barred call is)
+work_begun : (s : Setup) (p : ℕ) (t : Spot) (m : Bool) (call : Call) → IsHolder t → t.mended ≡ m → Begun s.layout p m t.barred call → AtWork m (next_or_same s.layout s.limit t (Begins p call))
+work_begun s p t m call h mended begun =
+    subst (λ (u : Place × Bool × Errand). AtWork m (unwrap_or (begun_from s.layout p u.0 u.1 u.2 call) (record { lock = u.0; mended = u.1; barred = t.barred; errand = u.2 }))) (λ i. (sym h.0 i, sym mended i, sym h.1 i)) begun
 
-mending_begun : (s : Setup) (p : ℕ) (t : Spot) → IsHolder t → t.mended ≡ false → AtMending (next_or_same s.layout s.limit t (Begins p Consistent))
-mending_begun s p t h m =
-    subst (λ (u : Place × Bool × Errand). AtMending (unwrap_or (begun_from s.layout p u.0 u.1 u.2 Consistent) (record { lock = u.0; mended = u.1; barred = t.barred; errand = u.2 }))) (λ i. (sym h.0 i, sym m i, sym h.1 i)) refl
-
-task_is : (m : Bool) (s : Place) (b : Bool) (e : Errand) → TaskBy m s b e → b ≡ m
-task_is m Inside b Free h = h
-task_is m Inside b (Doing (Working t) left) h = h
-task_is m _ b _ h = absurd h
-
-mending_is : (s : Place) (b : Bool) (e : Errand) → MendingBy s b e → b ≡ false
-mending_is Inside b Free h = h
-mending_is Inside b (Doing Mending left) h = h
-mending_is _ b _ h = absurd h
+work_is : (m : Bool) (s : Place) (b : Bool) (e : Errand) → WorkBy m s b e → b ≡ m
+work_is m Inside b Free h = h
+work_is m Inside b (Doing (Working t) left) h = h
+work_is m Inside b (Doing Mending left) h = h
+work_is m _ b _ h = absurd h
 
 -- a process that owes no start stands where it begins
 begins_here : (x : Pass) → x.start ≡ None → spot_now x ≡ spot_begun x
@@ -135,21 +119,20 @@ module _ (x y : Seated) (call : Call) (a : Answer) (blocked : ℕ) (mine : List 
       alive_spot y.pass r.alive ∙ calls_spot x.pass y.pass mine r.calls ∙ ap (gone s q) walked.spelled_as ∙ gone-append s q (before x.pass.fallen (Some call) x.pass.by) walked.steps
       ∙ ap (λ (t : Spot). gone s t walked.steps) (start_leads s x.pass.by q x.pass.fallen call)
 
+  -- who begins a call inside so stands so behind it
+  still : (m : Bool) → IsHolder (spot_now x.pass) → (spot_now x.pass).mended ≡ m → Begun x.pass.setup.layout x.pass.by m (spot_begun x.pass).barred call → Calm m (a ∷ []) → (spot_begun y.pass).mended ≡ m
+  still m holder mended starts calm =
+      let here = begins_here x.pass idle in
+      let begun = work_begun x.pass.setup x.pass.by (spot_begun x.pass) m call (subst IsHolder here holder) (subst (λ (t : Spot). t.mended ≡ m) here mended) starts in
+      let t = spot_begun y.pass in
+      work_is m t.lock t.mended t.errand
+      (subst (AtWork m) (sym ends_at) (work_gone x.pass.setup x.pass.by m (start_of x.pass call) walked.steps walked.own (subst (Calm m) (sym (walked.answers ∙ r.answered)) calm) begun))
+
   -- a task of a holder with nothing to mend leaves it so
   pub still_mended : IsTask x.pass.setup.layout call → IsHolder (spot_now x.pass) → (spot_now x.pass).mended ≡ true → (spot_begun y.pass).mended ≡ true
-  still_mended is holder mended =
-      let here = begins_here x.pass idle in
-      let begun = task_begun x.pass.setup x.pass.by (spot_begun x.pass) call is (subst IsHolder here holder) (subst (λ (t : Spot). t.mended ≡ true) here mended) in
-      let t = spot_begun y.pass in
-      task_is true t.lock t.mended t.errand (subst (AtTask true) (sym ends_at) (task_gone x.pass.setup x.pass.by true (start_of x.pass call) walked.steps walked.own begun))
+  still_mended is holder mended = still true holder mended (task_starts x.pass.setup.layout x.pass.by (spot_begun x.pass).barred call is) (inl refl)
 
   -- a mending that finds the lock ruined leaves the holder unmended
   pub still_unmended : call ≡ Consistent → a ≡ NotRecoverable → IsHolder (spot_now x.pass) → (spot_now x.pass).mended ≡ false → (spot_begun y.pass).mended ≡ false
   still_unmended is ruined holder unmended =
-      let here = begins_here x.pass idle in
-      let start : Spot = start_of x.pass call in
-      let begun : AtMending start = subst (λ (c : Call). AtMending (next_or_same x.pass.setup.layout x.pass.setup.limit (spot_begun x.pass) (Begins x.pass.by c))) (sym is) (mending_begun x.pass.setup x.pass.by (spot_begun x.pass) (subst IsHolder here holder) (subst (λ (t : Spot). t.mended ≡ false) here unmended)) in
-      let told : answers_in x.pass.setup.layout x.pass.setup.limit start walked.steps ≡ a ∷ [] = walked.answers ∙ r.answered in
-      let all = subst (All Ruins) (sym told) (All-cons Ruins a [] ruined (All-nil Ruins)) in
-      let t = spot_begun y.pass in
-      mending_is t.lock t.mended t.errand (subst AtMending (sym ends_at) (mending_gone x.pass.setup x.pass.by start walked.steps walked.own all begun))
+      still false holder unmended (subst (Begun x.pass.setup.layout x.pass.by false (spot_begun x.pass).barred) (sym is) refl) (inr (All-cons Ruins a [] ruined (All-nil Ruins)))

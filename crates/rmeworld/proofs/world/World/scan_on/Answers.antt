@@ -5,16 +5,11 @@ use Rattle.rmeworld.proofs.Taken.{IsNext, Fed, stays, takes, told_by}
 use Rattle.rmeworld.proofs.Worlds.{found}
 use Rattle.rmeworld.proofs.world.World.scan_on.Goals as goal
 
+abbrev state : goal.After-self-2-1 → WorldState
+state c = record { layout = c.self.inside.layout; limit = c.self.inside.limit; words = c.self.inside.words.items; cells = c.self.inside.cells.items; processes = c.self.inside.processes.items; tallies = c.self.inside.tallies.items; history = c.self.inside.history.items }
+
 abbrev new : goal.After-self-2-1 → WorldState
-new c = record {
-  layout = c.self.inside.layout;
-  limit = c.self.inside.limit;
-  words = c.self.inside.words.items;
-  cells = c.self.inside.cells.items;
-  processes = slice_set c.self.inside.processes.items c.args.p c.scan_on-scanned.new.self;
-  tallies = slice_set c.self.inside.tallies.items c.args.p c.count.new.self;
-  history = c.self.inside.history.items;
-}
+new c = record (state c) { processes = slice_set c.self.inside.processes.items c.args.p c.scan_on-scanned.new.self; tallies = slice_set c.self.inside.tallies.items c.args.p c.count.new.self }
 
 next : (c : goal.After-self-2-1) → IsNext c.args.self.now c.args.p c.args.access c.load-found.result
 next c =
@@ -34,7 +29,7 @@ fed : (c : goal.After-self-2-1) → Fed c.args.self.now c.args.p c.args.access c
 fed c =
     let a : Access = c.args.access in
     let v = c.load-found.result in
-    let s : WorldState = record (new c) { processes = c.self.inside.processes.items; tallies = c.self.inside.tallies.items } in
+    let s : WorldState = state c in
     let leaves = load_leaves a s.words s.cells (goes c).load in
     let what = c.scan_on-scanned.ensures.outcome ∙ ap (λ x. outcome c.index_mut.result.now x v) (goes c).next in
     let none = ap (prospect_of s c.args.p a) what ∙ scan_is_quiet c.index_mut.result.now c.args.scan a s.layout c.args.p (words_of s.cells) v (goes c) in

@@ -87,10 +87,10 @@ lands variant change s v job e o done step inside told is answer =
     ∙ (λ i. Some (record { spot = changed_spot (unless_answered (sym answer i) change) (same_layout i) (same_index i) (spot_of (sym is i)); detour = Straight }))
   where
     same_layout : s.layout ≡ (stepped s v).layout
-    same_layout = sym (step_stays s v).layout
+    same_layout = sym (step_stays s v).0
 
     same_index : s.index ≡ (stepped s v).index
-    same_index = sym (step_stays s v).index
+    same_index = sym (step_stays s v).2
 
 -- behind a step of a changed script comes what is left of it, as it was
 pub plain_lands : (variant : Variant) (s : Stand) (v : ℕ) (job : Pending) (e : Script Reply) (o : Option Answer) → s.lock ≡ Inside → left job ≡ e → stepped s v ≡ job_left s Mending job e → o ≡ by_script Mending s.mended e

@@ -1,13 +1,14 @@
 -- A world of a variant stays seated.
-use Rattle.std.proofs.Common.{◌≡◌, ◌≢◌, ℕ, ◌<◌, ◌⊎◌, List, length, slice_index_or, slice_set, Option, Some, None, IfSome, Result, Ok, Err, OnOk, OnErr, refl, sym, ap, ◌∙◌, subst, inl, inr, get_or-set_same, get_or-set_other, length-set}
-use Rattle.crashlab.proofs.Common.{cond_both, Access, Kind, Take as Takes, Shut as Shuts, Own, Refusal, Word, kind_of, word_of, Place, Layout, Reply, left, Pending, fed, Script, Get as Asks}
-use Rattle.crashlab.proofs.Common.{Put as Writes, Done, Call, Errand as Chore, Free as IsFree, Does, Why, Stand, next_access, started, job_left, InWords, Change, Nothing, LeavesOut}
-use Rattle.crashlab.proofs.Common.{Counts, Counted, Detour, Straight, Dropping, Over, Variant, Right, CountUp, LastSkipped, is_put, VariantStand, outside_at, over_by, over_way, variant_stepped}
+use Rattle.std.proofs.Common.{◌≡◌, ◌≢◌, ℕ, ◌<◌, ◌⊎◌, List, length, slice_index_or, slice_set, Option, Some, None, IfSome, Result, Ok, Err, OnOk, OnErr, refl, sym, ap, ◌∙◌, subst, inl, inr, length-set}
+use Rattle.std.proofs.Common.{get_or-set_same, get_or-set_other}
+use Rattle.crashlab.proofs.Common.{cond_both, Access, Kind, Shut as Shuts, Own, Refusal, Word, kind_of, word_of, Place, Layout, Call, Errand as Chore, Free as IsFree, Stand, next_access, started, InWords}
+use Rattle.crashlab.proofs.Common.{Change, LeavesOut, Counts, Detour, Straight, Dropping, Over, Variant, Right, CountUp, LastSkipped, is_put, VariantStand, over_by, over_way, variant_stepped}
 use Rattle.crashlab.proofs.Common.{stepped_beside, variant_started, by_row, last_put_next, VariantState, stand_at, IsSeated, HasSeat}
 use Rattle.std.proofs.lemmas.Bool.{cases_eq}
 use Rattle.std.proofs.lemmas.List.{get_or_default}
-use Rattle.rmeworld.specs.declared.call.Call.TheVariants as call
-use Rattle.rmeworld.specs.Stand.{stepped, stepped_by}
+use Rattle.rmeworld.specs.Stand.{stepped}
+use Rattle.rmeworld.specs.WorldState.{HasSeat as HasWorldSeat}
+use Rattle.rmeworld.proofs.WorldSteps.{keeps_stepped, keeps_started}
 use Rattle.crashlab.specs.VariantStands.{changed_row, led, part_beside, counted_up, left_out}
 
 -- the process at p, where p is one of n
@@ -34,100 +35,65 @@ seated s words cells p t h words_stay cells_stay below seat =
 
 -- a process keeps its seat
 
-pub record SameSeat (s t : Stand) : Type 0 where
-  pub layout : t.layout ≡ s.layout
-  pub limit : t.limit ≡ s.limit
-  pub index : t.index ≡ s.index
+abbrev pub Stays : VariantStand → VariantStand → Type 0
+Stays s t = HasSeat s.variant s.stand.layout s.stand.limit s.stand.index t
 
-pub record SameVariant (s t : VariantStand) : Type 0 where
-  pub variant : t.variant ≡ s.variant
-  pub seat : SameSeat s.stand t.stand
+pub step_stays : (s : Stand) (v : ℕ) → HasWorldSeat s.layout s.limit s.index (stepped s v)
+step_stays s v = keeps_stepped s s.errand v
 
-pub same_by : {s t : Stand} → t.layout ≡ s.layout → t.limit ≡ s.limit → t.index ≡ s.index → SameSeat s t
-same_by layout limit index = record { layout = layout; limit = limit; index = index }
+pub start_stays : (s : Stand) (c : Call) → HasWorldSeat s.layout s.limit s.index (started s c)
+start_stays s c = keeps_started s s.mended c refl
 
-then_same : {s t u : Stand} → SameSeat s t → SameSeat t u → SameSeat s u
-then_same a b = record { layout = b.layout ∙ a.layout; limit = b.limit ∙ a.limit; index = b.index ∙ a.index }
+stand_stays : (s : VariantStand) (v : ℕ) → Stays s (record s { stand = stepped s.stand v })
+stand_stays s v = let seat = step_stays s.stand v in (refl, seat.0, seat.1, seat.2)
 
-pub with_seat : {s t : VariantStand} → t.variant ≡ s.variant → SameSeat s.stand t.stand → SameVariant s t
-with_seat variant seat = record { variant = variant; seat = seat }
+led_stays : (s : VariantStand) (t : Place) (d : Detour) → Stays s (led s t d)
+led_stays s t Straight = (refl, refl, refl, refl)
+led_stays s t _ = (refl, refl, refl, refl)
 
-job_stays : (s : Stand) (why : Why) (job : Pending) (script : Script Reply) → SameSeat s (job_left s why job script)
-job_stays s why job (Done reply) = (same_by refl refl refl)
-job_stays s why job (Asks i rest) = (same_by refl refl refl)
-job_stays s why job (Writes i v rest) = (same_by refl refl refl)
-
-steps_stay : (s : Stand) (c : Chore) (v : ℕ) → SameSeat s (stepped_by s c v)
-steps_stay s IsFree v = (same_by refl refl refl)
-steps_stay s (Does why job) v = job_stays s why (fed job v) (left (fed job v))
-
-pub step_stays : (s : Stand) (v : ℕ) → SameSeat s (stepped s v)
-step_stays s v = steps_stay s s.errand v
-
-pub start_stays : (s : Stand) (c : Call) → SameSeat s (started s c)
-start_stays s call.Lock = (same_by refl refl refl)
-start_stays s call.Recover = (same_by refl refl refl)
-start_stays s call.Withdraw = (same_by refl refl refl)
-start_stays s call.Unlock = cond_both s.mended _ _ (SameSeat s) (λ _. (same_by refl refl refl)) (λ _. (same_by refl refl refl))
-start_stays s call.Consistent = (same_by refl refl refl)
-start_stays s (call.Append seq value) = (same_by refl refl refl)
-start_stays s call.Close = (same_by refl refl refl)
-start_stays s (call.Get i) = (same_by refl refl refl)
-start_stays s (call.Put i v) = (same_by refl refl refl)
-
-led_stays : (s : VariantStand) (t : Place) (d : Detour) → SameVariant s (led s t d)
-led_stays s t Straight = with_seat refl (same_by refl refl refl)
-led_stays s t _ = with_seat refl (same_by refl refl refl)
-
-row_stays : (s : VariantStand) (v : ℕ) (o : Option (Place × Detour)) → SameVariant s (by_row s o v)
-row_stays s v None = with_seat refl (step_stays s.stand v)
+row_stays : (s : VariantStand) (v : ℕ) (o : Option (Place × Detour)) → Stays s (by_row s o v)
+row_stays s v None = stand_stays s v
 row_stays s v (Some to) = led_stays s to.0 to.1
 
-outside_stays : (s t : Stand) (place : Place) → SameSeat s t → SameSeat s (outside_at t place)
-outside_stays s t place h = same_by h.layout h.limit h.index
-
-over_stays : (s : VariantStand) (k v : ℕ) (o : Option Access) → SameVariant s (over_way s k o v)
-over_stays s k v None = with_seat refl (same_by refl refl refl)
+over_stays : (s : VariantStand) (k v : ℕ) (o : Option Access) → Stays s (over_way s k o v)
+over_stays s k v None = (refl, refl, refl, refl)
 over_stays s k v (Some a) = by (kind_of a)
   where
-    by : (kind : Kind) → SameVariant s (over_by s k kind v)
-    by Shuts = with_seat refl (same_by refl refl refl)
-    by Takes = with_seat refl (outside_stays s.stand (stepped s.stand v) _ (step_stays s.stand v))
-    by _ = with_seat refl (outside_stays s.stand (stepped s.stand v) _ (step_stays s.stand v))
+    by : (kind : Kind) → Stays s (over_by s k kind v)
+    by Shuts = (refl, refl, refl, refl)
+    by _ = stand_stays s v
 
-part_stays : (e : Chore) (d : Detour) (s : VariantStand) (v : ℕ) → SameVariant s (part_beside e d s v)
+part_stays : (e : Chore) (d : Detour) (s : VariantStand) (v : ℕ) → Stays s (part_beside e d s v)
 part_stays IsFree Straight s v = row_stays s v (changed_row s.variant s.stand v)
 part_stays IsFree (Over k) s v = over_stays s k v (next_access s.stand)
-part_stays IsFree Dropping s v = with_seat refl (same_by refl refl refl)
-part_stays _ d s v = with_seat refl (step_stays s.stand v)
+part_stays IsFree Dropping s v = (refl, refl, refl, refl)
+part_stays _ d s v = stand_stays s v
 
-count_stays : (s : VariantStand) (change : Change) (v : ℕ) → SameVariant s (counted_up s change v)
-count_stays s Counts v = cond_both (is_put 2 (next_access s.stand)) _ _ (SameVariant s) (λ _. (with_seat refl ((same_by refl refl refl)))) (λ _. (with_seat refl (step_stays s.stand v)))
-count_stays s Nothing v = (with_seat refl (step_stays s.stand v))
-count_stays s LeavesOut v = (with_seat refl (step_stays s.stand v))
-count_stays s (Counted n) v = (with_seat refl (step_stays s.stand v))
+count_stays : (s : VariantStand) (change : Change) (v : ℕ) → Stays s (counted_up s change v)
+count_stays s Counts v = cond_both (is_put 2 (next_access s.stand)) _ _ (Stays s) (λ _. (refl, refl, refl, refl)) (λ _. stand_stays s v)
+count_stays s _ v = stand_stays s v
 
-leave_stays : (s : VariantStand) (change : Change) (v : ℕ) → SameVariant s (left_out s change v)
+leave_stays : (s : VariantStand) (change : Change) (v : ℕ) → Stays s (left_out s change v)
 leave_stays s LeavesOut v =
-    cond_both (last_put_next (stepped s.stand v)) _ _ (SameVariant s) (λ _. (with_seat refl (then_same (step_stays s.stand v) (step_stays (stepped s.stand v) 0)))) (λ _. (with_seat refl (step_stays s.stand v)))
-leave_stays s Nothing v = (with_seat refl (step_stays s.stand v))
-leave_stays s Counts v = (with_seat refl (step_stays s.stand v))
-leave_stays s (Counted n) v = (with_seat refl (step_stays s.stand v))
+    let one = step_stays s.stand v in
+    let two = step_stays (stepped s.stand v) 0 in
+    cond_both (last_put_next (stepped s.stand v)) _ _ (Stays s) (λ _. (refl, two.0 ∙ one.0, two.1 ∙ one.1, two.2 ∙ one.2)) (λ _. stand_stays s v)
+leave_stays s _ v = stand_stays s v
 
-beside_stays : (variant : Variant) (d : Detour) (s : VariantStand) (v : ℕ) → SameVariant s (stepped_beside variant d s v)
-beside_stays Right d s v = with_seat refl (step_stays s.stand v)
+beside_stays : (variant : Variant) (d : Detour) (s : VariantStand) (v : ℕ) → Stays s (stepped_beside variant d s v)
+beside_stays Right d s v = stand_stays s v
 beside_stays CountUp d s v = count_stays s s.change v
 beside_stays LastSkipped d s v = leave_stays s s.change v
 beside_stays _ d s v = part_stays s.stand.errand d s v
 
-pub variant_step_stays : (s : VariantStand) (v : ℕ) → SameVariant s (variant_stepped s v)
+pub variant_step_stays : (s : VariantStand) (v : ℕ) → Stays s (variant_stepped s v)
 variant_step_stays s v = beside_stays s.variant s.detour s v
 
-pub variant_start_stays : (s : VariantStand) (c : Call) → SameVariant s (variant_started s c)
-variant_start_stays s c = (with_seat refl (start_stays s.stand c))
+pub variant_start_stays : (s : VariantStand) (c : Call) → Stays s (variant_started s c)
+variant_start_stays s c = let seat = start_stays s.stand c in (refl, seat.0, seat.1, seat.2)
 
-pub seat_stays : {variant : Variant} {l : Layout} {limit p : ℕ} (s t : VariantStand) → SameVariant s t → HasSeat variant l limit p s → HasSeat variant l limit p t
-seat_stays s t a h = (a.variant ∙ h.0, a.seat.layout ∙ h.1, a.seat.limit ∙ h.2, a.seat.index ∙ h.3)
+pub seat_stays : {variant : Variant} {l : Layout} {limit p : ℕ} (s t : VariantStand) → Stays s t → HasSeat variant l limit p s → HasSeat variant l limit p t
+seat_stays s t a h = (a.0 ∙ h.0, a.1 ∙ h.1, a.2 ∙ h.2, a.3 ∙ h.3)
 
 -- the seat of the process that an index gives
 pub seat_here : (s : VariantState) (p : ℕ) (t : VariantStand) → IsSeated s → t ≡ slice_index_or s.processes p t → p < s.layout.procs → HasSeat s.variant s.layout s.limit p t
@@ -138,13 +104,13 @@ pub seated_stepped :
     (s : VariantState) (words : List Own) (cells : List ℕ) (p : ℕ) (t u : VariantStand) (v : ℕ) → IsSeated s → t ≡ slice_index_or s.processes p t → p < s.layout.procs → u ≡ variant_stepped t v
     → length words ≡ length s.words → length cells ≡ length s.cells → IsSeated (record s { words = words; cells = cells; processes = slice_set s.processes p u })
 seated_stepped s words cells p t u v h at below is words_stay cells_stay =
-    seated s words cells p u h words_stay cells_stay below (seat_stays t u (subst (SameVariant t) (sym is) (variant_step_stays t v)) (seat_here s p t h at below))
+    seated s words cells p u h words_stay cells_stay below (seat_stays t u (subst (Stays t) (sym is) (variant_step_stays t v)) (seat_here s p t h at below))
 
 -- a start that is refused changes nothing
 pub start_keeps :
     {variant : Variant} {l : Layout} {limit p : ℕ} (r : Result Unit Refusal) (s t : VariantStand) (c : Call) → OnOk r (t ≡ variant_started s c) → OnErr r (t ≡ s)
     → HasSeat variant l limit p s → HasSeat variant l limit p t
-start_keeps (Ok done) s t c ok err seat = seat_stays s t (subst (SameVariant s) (sym ok) (variant_start_stays s c)) seat
+start_keeps (Ok done) s t c ok err seat = seat_stays s t (subst (Stays s) (sym ok) (variant_start_stays s c)) seat
 start_keeps (Err e) s t c ok err seat = subst (HasSeat _ _ _ _) (sym err) seat
 
 -- the word of a step, for words that are as many as the processes

@@ -26,10 +26,10 @@ step_goes s v h = by (next_access s) (allowed s) (goes s v h.layout h.ordered)
     by (Some a) allowed goes = some_is _ _ _ (allowed v) goes
 
 pub step_steady : (s : Stand) (v : ℕ) → Steady s → Steady (stepped s v)
-step_steady s v h = record { layout = subst IsLayout (sym (step_stays s v).layout) h.layout; ordered = ordered_stepped s v h.layout h.ordered }
+step_steady s v h = record { layout = subst IsLayout (sym (step_stays s v).0) h.layout; ordered = ordered_stepped s v h.layout h.ordered }
 
 pub start_steady : (s : Stand) (c : Call) → Steady s → start_refusal s.layout (spot_of s) c ≡ None → Steady (started s c)
-start_steady s c h r = record { layout = subst IsLayout (sym (start_stays s c).layout) h.layout; ordered = (begins s c h.layout h.ordered r).1 }
+start_steady s c h r = record { layout = subst IsLayout (sym (start_stays s c).0) h.layout; ordered = (begins s c h.layout h.ordered r).1 }
 
 -- nothing of a script is changed
 pub nothing_changed : (l : Layout) (p : ℕ) (e : Errand) → changed_errand Nothing l p e ≡ e

@@ -13,7 +13,7 @@ use Rattle.rmeworld.proofs.Ordered.{ordered_rest, ordered_crashed}
 use Rattle.crashlab.specs.VariantWorlds.{started}
 use Rattle.crashlab.specs.VariantRuns.{acted, run_of, move}
 use Rattle.rmeworld.proofs.WorldSteps.{words_by_length, cells_by_length}
-use Rattle.crashlab.proofs.Seats.{seated, set_each, variant_step_stays, variant_start_stays, seat_stays, with_seat, same_by}
+use Rattle.crashlab.proofs.Seats.{seated, set_each, variant_step_stays, variant_start_stays, seat_stays}
 use Rattle.crashlab.proofs.Rests.{rest_at, seated_new}
 use Rattle.crashlab.proofs.Steady.{Steady, start_steady, changed_spot, start_goes}
 use Rattle.crashlab.proofs.Rows.{IsRow, process_of, Follows, MayGo, Walks, plain_goes}
@@ -47,7 +47,7 @@ fits_as variant u is steady detour change = record { steady = steady; detour = s
 unchanged : (variant : Variant) (s : Stand) (d : Detour) (v : ℕ) → ((t : Stand) → FitsChange variant Nothing t) → Walks variant s d v → IsTaken (process_of variant s d Nothing) v
 unchanged variant s d v none g =
     let u = variant_stepped (process_of variant s d Nothing) v in
-    record { row = g.row; fits = fits_as variant u (variant_step_stays (process_of variant s d Nothing) v).variant g.steady g.detour (subst (λ x. FitsChange variant x u.stand) (sym g.change) (none u.stand)) }
+    record { row = g.row; fits = fits_as variant u (variant_step_stays (process_of variant s d Nothing) v).0 g.steady g.detour (subst (λ x. FitsChange variant x u.stand) (sym g.change) (none u.stand)) }
 
 abbrev Left : Variant → VariantStand → Type 0
 Left variant u = Steady u.stand × FitsChange variant u.change u.stand × (u.detour ≡ Straight)
@@ -55,7 +55,7 @@ Left variant u = Steady u.stand × FitsChange variant u.change u.stand × (u.det
 repairs : (variant : Variant) (s : Stand) (change : Change) (v : ℕ) → MayGo variant Straight → Follows (process_of variant s Straight change) v
     → Left variant (variant_stepped (process_of variant s Straight change) v) → IsTaken (process_of variant s Straight change) v
 repairs variant s change v may row left =
-    record { row = row; fits = fits_as variant (variant_stepped (process_of variant s Straight change) v) (variant_step_stays (process_of variant s Straight change) v).variant left.0 (subst (MayGo variant) (sym left.2) may) left.1 }
+    record { row = row; fits = fits_as variant (variant_stepped (process_of variant s Straight change) v) (variant_step_stays (process_of variant s Straight change) v).0 left.0 (subst (MayGo variant) (sym left.2) may) left.1 }
 
 taken : (variant : Variant) (d : Detour) (change : Change) (s : Stand) (v : ℕ) → Steady s → MayGo variant d → FitsChange variant change s → IsTaken (process_of variant s d change) v
 taken Right Straight Nothing s v h may fits = unchanged Right s Straight v (λ _. tt) (plain_goes Right s v h tt (λ a. (refl, refl, refl)))
@@ -90,9 +90,9 @@ started_fits t c h r = record { steady = start_steady t.stand c h.steady r; deto
 at_its_start : (t : VariantStand) (c : Call) → Fits t → spot_refusal t.stand.layout (spot_of t.stand) c ≡ None
     → variant_spot t.variant t.stand.layout t.stand.limit (variant_spot_of t) (Begins t.stand.index c) ≡ Some (variant_spot_of (variant_started t c))
 at_its_start t c h r =
-    let seat = (variant_start_stays t c).seat in
+    let seat = variant_start_stays t c in
     ap (beside t.detour) (start_goes t.variant t.stand t.change c h.steady r)
-    ∙ (λ i. Some (record { spot = changed_spot (change_of t.variant c) (sym seat.layout i) (sym seat.index i) (spot_of (stand_started t.stand c)); detour = t.detour }))
+    ∙ (λ i. Some (record { spot = changed_spot (change_of t.variant c) (sym seat.1 i) (sym seat.3 i) (spot_of (stand_started t.stand c)); detour = t.detour }))
 
 -- rest, and a crash
 
@@ -152,7 +152,7 @@ crash_fit s p true e h =
     let below = ltb-true p s.layout.procs e in
     let t : VariantStand = stand_at s.processes p in
     record {
-      seated = seated s s.words s.cells p (variant_crashed t) h.seated refl refl below (seat_stays t (variant_crashed t) (with_seat refl (same_by refl refl refl)) (h.seated.seats p below));
+      seated = seated s s.words s.cells p (variant_crashed t) h.seated refl refl below (seat_stays t (variant_crashed t) (refl, refl, refl, refl) (h.seated.seats p below));
       each = set_each (λ _. Fits) s p (variant_crashed t) h.seated.processes_each (crashed_fits t (h.each p below)) below h.each;
     }
 

@@ -159,7 +159,6 @@ impl VariantProcess {
     #[inline(always)]
     pub(crate) fn scan(&self) -> Option<(Scan, Access)>
         ensures plain { IfSome result (λ r. IsPlain self.now) }
-        ensures next { IfSome result (λ r. variant_next_access self.now ≡ Some r.1) }
         ensures goes_on { IfSome result (λ r. GoesOn self.now.stand r.0 r.1) }
     {
         match (self.variant, self.detour, self.change) {
@@ -217,7 +216,6 @@ impl VariantProcess {
     #[inline(always)]
     pub(crate) fn job_next(&self) -> Option<Access>
         ensures plain { IfSome result (λ a. IsPlain self.now) }
-        ensures next { IfSome result (λ a. variant_next_access self.now ≡ Some a) }
         ensures works { IfSome result (Works self.now.stand) }
     {
         match (self.variant, self.detour, self.change) {

@@ -111,7 +111,7 @@ impl VariantWorld {
     ghost use Rattle.crashlab.specs.Found.{Told};
     ghost use Rattle.crashlab.specs.VariantWorlds.{start_refusal, started, advance_refusal, stepped, advanced, crash_refusal, crash_deed, crashed};
     ghost use Rattle.crashlab.specs.VariantStands.{IsPlain};
-    ghost use Rattle.crashlab.specs.VariantWorlds.{stand_at, access_at};
+    ghost use Rattle.crashlab.specs.VariantWorlds.{stand_at};
     ghost use Rattle.rmeworld.specs.Advancing.{GoesOn};
     ghost use Rattle.rmeworld.specs.InPlace.{Works};
 
@@ -194,7 +194,6 @@ impl VariantWorld {
     pub(crate) fn job_next(&self, p: u64) -> Option<Access>
         ensures below { IfSome result (λ a. p < self.now.layout.procs) }
         ensures plain { IfSome result (λ a. IsPlain (stand_at self.now.processes p)) }
-        ensures next { IfSome result (λ a. access_at self.now p ≡ Some a) }
         ensures works { IfSome result (Works (stand_at self.now.processes p).stand) }
     {
         if p >= self.layout.procs {
@@ -213,7 +212,6 @@ impl VariantWorld {
     ) -> (Made, Option<Answer>)
         requires below { p < self.old.layout.procs }
         requires plain { IsPlain (stand_at self.old.processes p) }
-        requires next { access_at self.old p ≡ Some access }
         requires works { Works (stand_at self.old.processes p).stand access }
         ensures accepted { advance_refusal self.old p ≡ None }
         ensures told { (history : List DeedOf) → StandsAfter (empty 3 64) history judge.old → Told history (stepped self.old p).deed judge.new result.0 }
@@ -275,7 +273,6 @@ impl VariantWorld {
     fn scan(&self, p: u64) -> Option<(Scan, Access)>
         ensures below { IfSome result (λ r. p < self.now.layout.procs) }
         ensures plain { IfSome result (λ r. IsPlain (stand_at self.now.processes p)) }
-        ensures next { IfSome result (λ r. access_at self.now p ≡ Some r.1) }
         ensures goes_on { IfSome result (λ r. GoesOn (stand_at self.now.processes p).stand r.0 r.1) }
     {
         if p >= self.layout.procs {
@@ -289,7 +286,6 @@ impl VariantWorld {
     fn scan_on(&mut self, p: u64, scan: Scan, access: Access)
         requires below { p < self.old.layout.procs }
         requires plain { IsPlain (stand_at self.old.processes p) }
-        requires next { access_at self.old p ≡ Some access }
         requires goes_on { GoesOn (stand_at self.old.processes p).stand scan access }
         ensures accepted { advance_refusal self.old p ≡ None }
         ensures quiet { ((stepped self.old p).deed ≡ None) × ((stepped self.old p).answer ≡ None) }

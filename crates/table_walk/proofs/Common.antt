@@ -5,7 +5,6 @@ pub use Rattle.rmecore.specs.declared.kind.Kind.TheVariants.{Get, Put, Peek, Rer
 pub use Rattle.rmecore.specs.declared.word.Word.TheVariants.{Data, Number, Choosing}
 pub use Rattle.rmecore.specs.Machine.{place_of, answer, kind_of, word_of, carried, access, is_blocked, after_access, next_access, first, Standing, at_wait}
 pub use Rattle.rmecore.specs.Place.{Place, Inside, Wait, Leaving, Rest, Door, above, Opening, Shutting, Unmarking, others, relocked, span, is_before}
-pub use Rattle.rmecore.specs.Simulated.{one_more}
 pub use Rattle.rmecore.proofs.Scans.{first_here, above_first, above_skip, above_past, has-first}
 pub use Rattle.redomail.specs.declared.reply.Reply.{Reply}
 pub use Rattle.redomail.specs.declared.reply.Reply.TheVariants.{Stored}
@@ -15,7 +14,6 @@ pub use Rattle.redomail.specs.Script.{Script, puts}
 pub use Rattle.redomail.specs.Tasks.{script, decided, store_steps, record_of}
 pub use Rattle.redomail.proofs.Scripts.{held-small, length-store_steps, step-record, step-entry, step-disarm, step-commit, step-last, step-count}
 pub use Rattle.redomail.proofs.Words.{place_low, place_up, place_small}
-pub use Rattle.rmeworld.specs.declared.answer.Answer.{Answer}
 pub use Rattle.rmeworld.specs.declared.answer.Answer.TheVariants.{Mail, Unlocked, Clean}
 pub use Rattle.rmeworld.specs.declared.why.Why.TheVariants.{Checking, Working}
 pub use Rattle.rmeworld.specs.Answered.{answer_at, by_lock, by_script, blocked_by}
@@ -24,14 +22,13 @@ pub use Rattle.rmeworld.specs.Spot.{Doing, Spot, next_spot, mended_entered}
 pub use Rattle.rmeworld.specs.Stand.{Stand, access_by, stepped, standing, IsAllowed, lock_moved}
 pub use Rattle.runs.specs.declared.entry.TakenStep.{TakenStep}
 pub use Rattle.runs.specs.declared.setup.Setup.{Setup}
-pub use Rattle.runs.specs.Calls.{answers_from, Going, Turning, Takes, answers_of, blocked_of}
 pub use Rattle.runs.specs.Pass.{IsPass, spot_now, Pass, moved_spot, next_entry, Adds, Advances, glanced}
-pub use Rattle.runs.specs.Running.{Seated, IsRunBy, TakesStep, outcome_of, many_more}
+pub use Rattle.runs.specs.Running.{Seated, IsRunBy, TakesStep, next_of, outcome_of, many_more}
 pub use Rattle.runs.specs.Runs.{taken, spelled, IsRun, gone, spot_of, InTable}
 pub use Rattle.runs.specs.Under.{Begun, under_place}
 pub use Rattle.runs.proofs.Leads.{spot_moves, load_as, looks_of, stays_pass, alone_after, pass_as}
 pub use Rattle.runs.proofs.Running.{next_same, may_advance, run_by_step, size_is}
 pub use Rattle.runs.proofs.Taken.{more, goes_on, ran_answered, length_snoc, takes_sizes, takes_spot, none_of}
-pub use Rattle.table_walk.specs.FastAppend.{at_append, append_begun, HasLeft, stored_so_far}
+pub use Rattle.table_walk.specs.FastAppend.{at_append, append_begun, HasLeft, steps_of, stored_so_far}
 pub use Rattle.table_walk.specs.FastPath.{free_spot, IsSame, Unanswered, EndsIn, Enters, checked_spot, IsClear, Way, waits_at, checking_spot}
 pub use Rattle.table_walk.specs.Owed.{has_crashed, step_of, OwesNothing}

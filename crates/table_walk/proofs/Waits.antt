@@ -4,8 +4,7 @@ use Rattle.table_walk.proofs.Common.{Load, Look as Looks, Weigh as Weighs, Numbe
 use Rattle.table_walk.proofs.Common.{Wait, above, is_before, first_here, above_first, above_skip, has-first, standing, spot_now, Pass, Advances, free_spot, IsSame, Unanswered, waits_at}
 use Rattle.rmecore.proofs.MachineSteps.{wait_goes}
 use Rattle.rmecore.specs.declared.stage.Stage.TheVariants.{Wait as AtWait}
-use Rattle.table_walk.proofs.FreeSteps.{stand_of, unanswered_none, unanswered_then, there}
-use Rattle.table_walk.proofs.Peeks.{same_then}
+use Rattle.table_walk.proofs.FreeSteps.{stand_of, unanswered_none, unanswered_then, there, same_then}
 
 look_next : (limit n p k j : ℕ) → j < n → j ≢ p → access limit p (Wait k (above n p j) None) ≡ Some (Load Looks (ChoosingOf j))
 look_next limit n p k j lt ne = ap (λ (js : List ℕ). access limit p (Wait k js None)) (above_first n p j j (first_here n p j lt ne))
@@ -43,11 +42,16 @@ module _ (y : Pass) (k j : ℕ) (lt : j < y.setup.layout.procs) (ne : j ≢ y.by
     pub looked_at : (c : Bool) → (v == 0) ≡ c → spot_now y ≡ free_spot (place_of y.setup.layout.procs y.by (AtWait k j false)) b → Advances y Looks (ChoosingOf j) v z → spot_now z ≡ free_spot (place_of y.setup.layout.procs y.by (AtWait k j c)) b
     looked_at c e at adv = there y y z 0 (unanswered_none y) before b at (Load Looks (ChoosingOf j)) v next_look adv (place_of y.setup.layout.procs y.by (AtWait k j c)) (look_goes (standing (stand_of y before b)) k j v c first_is e) refl refl
 
-    pub weighed : ((v == 0) || is_before k y.by v j) ≡ true → spot_now y ≡ free_spot (place_of y.setup.layout.procs y.by (AtWait k j true)) b → Advances y Weighs (NumberOf j) v z → spot_now z ≡ free_spot (place_of y.setup.layout.procs y.by (AtWait k (j + 1) false)) b
-    weighed e at adv = there y y z 0 (unanswered_none y) seen b at (Load Weighs (NumberOf j)) v next_weigh adv (place_of y.setup.layout.procs y.by (AtWait k (j + 1) false)) (wait_goes (standing (stand_of y seen b)) k j j v true first_is refl e) refl refl
+    -- what is weighed with an index that is the process's own
+    module _ (own : ℕ) (is : own ≡ y.by) where
+      by_own : (c : Bool) → ((v == 0) || is_before k own v j) ≡ c → ((v == 0) || is_before k y.by v j) ≡ c
+      by_own c e = ap (λ (q : ℕ). (v == 0) || is_before k q v j) (sym is) ∙ e
 
-    pub weigh_blocked : ((v == 0) || is_before k y.by v j) ≡ false → spot_now y ≡ free_spot (place_of y.setup.layout.procs y.by (AtWait k j true)) b → Advances y Weighs (NumberOf j) v z → spot_now z ≡ free_spot (place_of y.setup.layout.procs y.by (AtWait k j true)) b
-    weigh_blocked e at adv = there y y z 0 (unanswered_none y) seen b at (Load Weighs (NumberOf j)) v next_weigh adv seen (weigh_stays (standing (stand_of y seen b)) k j v first_is e) refl refl
+      pub weighed : ((v == 0) || is_before k own v j) ≡ true → spot_now y ≡ free_spot (place_of y.setup.layout.procs y.by (AtWait k j true)) b → Advances y Weighs (NumberOf j) v z → spot_now z ≡ free_spot (place_of y.setup.layout.procs y.by (AtWait k (j + 1) false)) b
+      weighed e at adv = there y y z 0 (unanswered_none y) seen b at (Load Weighs (NumberOf j)) v next_weigh adv (place_of y.setup.layout.procs y.by (AtWait k (j + 1) false)) (wait_goes (standing (stand_of y seen b)) k j j v true first_is refl (by_own true e)) refl refl
+
+      pub weigh_blocked : ((v == 0) || is_before k own v j) ≡ false → spot_now y ≡ free_spot (place_of y.setup.layout.procs y.by (AtWait k j true)) b → Advances y Weighs (NumberOf j) v z → spot_now z ≡ free_spot (place_of y.setup.layout.procs y.by (AtWait k j true)) b
+      weigh_blocked e at adv = there y y z 0 (unanswered_none y) seen b at (Load Weighs (NumberOf j)) v next_weigh adv seen (weigh_stays (standing (stand_of y seen b)) k j v first_is (by_own false e)) refl refl
 
 -- the same place, told by another pass of the process
 pub same_waits : (x y : Pass) (k i : ℕ) (l : Bool) (t : Place) → IsSame x y → spot_now y ≡ free_spot t (spot_now x).mended → waits_at y k i l ≡ waits_at x k i l

@@ -1,5 +1,5 @@
 -- The fast path of an append: what is left of its script behind some steps, told by the member's passes alone.
-use Rattle.std.specs.Prelude.{ℕ, true, false, List, drop}
+use Rattle.std.specs.Prelude.{◌≡◌, ℕ, true, false, List, drop}
 use Rattle.redomail.specs.declared.reply.Reply.{Reply}
 use Rattle.redomail.specs.declared.reply.Reply.TheVariants.{Stored}
 use Rattle.redomail.specs.declared.task.Task.TheVariants as task
@@ -9,6 +9,7 @@ use Rattle.rmeworld.specs.declared.answer.Answer.TheVariants.{Mail}
 use Rattle.rmeworld.specs.declared.why.Why.TheVariants.{Working}
 use Rattle.rmeworld.specs.Spot.{Spot, settled}
 use Rattle.runs.specs.Pass.{Pass}
+use Rattle.table_walk.specs.declared.fast_append.NewEntry.{NewEntry}
 use Rattle.table_walk.specs.FastPath.{Unanswered, EndsIn}
 
 -- a holder with nothing to mend and this script of an append left; with none left it is inside, with nothing to do
@@ -26,6 +27,14 @@ HasLeft x k (Done reply) y = EndsIn x k (Mail reply) y
 HasLeft x k (Asks i rest) y = Unanswered x k 0 y
 HasLeft x k (Writes i v rest) y = Unanswered x k 0 y
 
--- the storing of a message at a place, with its first k puts made
-abbrev pub stored_so_far : Pass → ℕ → ℕ → List ℕ → ℕ → Spot
-stored_so_far x at seq value k = at_append seq value (puts (drop k (store_steps x.setup.layout x.by (record_of at seq value))) (Done Stored))
+-- the process is the sender of this entry, in its arena
+abbrev pub IsOf : Pass → NewEntry → Type 0
+IsOf x e = (x.setup ≡ e.setup) × (x.by ≡ e.own)
+
+-- the puts that store it
+abbrev pub steps_of : NewEntry → List (ℕ × ℕ)
+steps_of e = store_steps e.setup.layout e.own (record_of e.at e.seq e.value)
+
+-- its storing, with the first k puts made
+abbrev pub stored_so_far : NewEntry → ℕ → Spot
+stored_so_far e k = at_append e.seq e.value (puts (drop k (steps_of e)) (Done Stored))

@@ -43,13 +43,12 @@ pub record Unanswered (x : Pass) (k m : ℕ) (y : Pass) : Type 0 where
 abbrev pub waits_at : Pass → ℕ → ℕ → Bool → Spot
 waits_at x k i looked = free_spot (place_of x.setup.layout.procs x.by (AtWait k i looked)) (spot_now x).mended
 
--- one step from a place to another
-abbrev pub Comes : Pass → Pass → Place → Type 0
-Comes x y t = (spot_now y ≡ free_spot t (spot_now x).mended) × Unanswered x 1 0 y
-
--- k steps to a place, none of them blocked
-abbrev pub Way : Pass → ℕ → Pass → Place → Type 0
-Way x k y t = (spot_now y ≡ free_spot t (spot_now x).mended) × Unanswered x k 0 y × IsClear y × IsSame x y
+-- k steps to a place, none of them blocked, by which nothing is owed
+pub record Way (x : Pass) (k : ℕ) (y : Pass) (t : Place) : Type 0 where
+  pub at : spot_now y ≡ free_spot t (spot_now x).mended
+  pub unanswered : Unanswered x k 0 y
+  pub clear : IsClear y
+  pub same : IsSame x y
 
 -- inside, right before the ruin check of an entry by a lock, and right behind it
 abbrev pub checking_spot : Pass → Spot

@@ -11,12 +11,13 @@ ghost use Rattle.rmeworld.specs.declared.answer.Answer.TheVariants.{Mail};
 ghost use Rattle.runs.specs.Pass.{spot_now};
 ghost use Rattle.runs.specs.Under.{Appends};
 ghost use Rattle.table_walk.specs.FastPath.{free_spot, IsClear, IsSame, Unanswered, EndsIn};
-ghost use Rattle.table_walk.specs.FastAppend.{at_append, append_begun, HasLeft, stored_so_far};
+ghost use Rattle.table_walk.specs.FastAppend.{at_append, append_begun, HasLeft, IsOf, steps_of, stored_so_far};
 
 use crate::walker::Walker;
 use redomail::Reply;
 use redomail::layout::{ARMED, CLOSED, COUNT, RECORD};
 use rmecore::{Body, Kind, Word};
+use runs::Setup;
 
 /// The words that an append asks for: whether the mailbox is closed, count, and the sender's last number.
 #[derive(Clone, Copy)]
@@ -26,9 +27,11 @@ struct Heads {
     last: u64,
 }
 
-/// A message on its way to its place.
+/// A message on its way to its place, with the sizes of its arena and its sender.
 #[derive(Clone, Copy)]
 struct NewEntry {
+    setup: Setup,
+    own: u64,
     at: u64,
     seq: u64,
     value: Body,
@@ -95,14 +98,15 @@ fn answered(cap: u64, seq: u64, heads: &Heads) -> Option<Reply>
 /// One put of a storing, but the last.
 fn put(walker: &mut Walker, entry: &NewEntry, step: u64, i: u64, v: u64)
     requires clear { IsClear walker.old }
-    requires table { i < size walker.old.setup.layout }
+    requires of { IsOf walker.old entry.now }
+    requires table { i < size entry.now.setup.layout }
     requires more { step + 1 < 8 + 2 * length entry.now.value }
-    requires next { drop step (store_steps walker.old.setup.layout walker.old.by (record_of entry.now.at entry.now.seq entry.now.value)) ≡ (i, v) ∷ drop (step + 1) (store_steps walker.old.setup.layout walker.old.by (record_of entry.now.at entry.now.seq entry.now.value)) }
-    requires at { spot_now walker.old ≡ stored_so_far walker.old entry.now.at entry.now.seq entry.now.value step }
-    ensures at { spot_now walker.new ≡ stored_so_far walker.old entry.now.at entry.now.seq entry.now.value (step + 1) }
+    requires next { drop step (steps_of entry.now) ≡ (i, v) ∷ drop (step + 1) (steps_of entry.now) }
+    requires at { spot_now walker.old ≡ stored_so_far entry.now step }
+    ensures at { spot_now walker.new ≡ stored_so_far entry.now (step + 1) }
     ensures unanswered { Unanswered walker.old 1 0 walker.new }
     ensures clear { IsClear walker.new }
-    ensures same { IsSame walker.old walker.new }
+    ensures of { IsOf walker.new entry.now }
 {
     let _ = step;
     let _ = entry;
@@ -112,16 +116,17 @@ fn put(walker: &mut Walker, entry: &NewEntry, step: u64, i: u64, v: u64)
 /// The puts of a row: a first word, the number, and the words of the value.
 fn put_row(walker: &mut Walker, entry: &NewEntry, step: u64, start: u64, first: u64)
     requires clear { IsClear walker.old }
+    requires of { IsOf walker.old entry.now }
     requires wide { length entry.now.value ≤ 8 }
-    requires table { start + (2 + length entry.now.value) ≤ size walker.old.setup.layout }
-    requires small { size walker.old.setup.layout ≤ 900000 }
+    requires table { start + (2 + length entry.now.value) ≤ size entry.now.setup.layout }
+    requires small { size entry.now.setup.layout ≤ 900000 }
     requires more { step + (2 + length entry.now.value) < 8 + 2 * length entry.now.value }
-    requires row { (j : ℕ) → j < 2 + length entry.now.value → drop (step + j) (store_steps walker.old.setup.layout walker.old.by (record_of entry.now.at entry.now.seq entry.now.value)) ≡ (start + j, slice_index (first ∷ entry.now.seq ∷ entry.now.value) j) ∷ drop (step + (j + 1)) (store_steps walker.old.setup.layout walker.old.by (record_of entry.now.at entry.now.seq entry.now.value)) }
-    requires at { spot_now walker.old ≡ stored_so_far walker.old entry.now.at entry.now.seq entry.now.value step }
-    ensures at { spot_now walker.new ≡ stored_so_far walker.old entry.now.at entry.now.seq entry.now.value (step + (2 + length entry.now.value)) }
+    requires row { (j : ℕ) → j < 2 + length entry.now.value → drop (step + j) (steps_of entry.now) ≡ (start + j, slice_index (first ∷ entry.now.seq ∷ entry.now.value) j) ∷ drop (step + j + 1) (steps_of entry.now) }
+    requires at { spot_now walker.old ≡ stored_so_far entry.now step }
+    ensures at { spot_now walker.new ≡ stored_so_far entry.now (step + (2 + length entry.now.value)) }
     ensures unanswered { Unanswered walker.old (2 + length entry.now.value) 0 walker.new }
     ensures clear { IsClear walker.new }
-    ensures same { IsSame walker.old walker.new }
+    ensures of { IsOf walker.new entry.now }
 {
     for j in 0..2 + entry.value.width() {
         put(walker, entry, step + j, start + j, entry.word(first, j));
@@ -132,20 +137,27 @@ fn put_row(walker: &mut Walker, entry: &NewEntry, step: u64, start: u64, first: 
 /// record is armed no more.
 fn store(walker: &mut Walker, entry: &NewEntry)
     requires clear { IsClear walker.old }
-    requires wide { length entry.now.value ≡ walker.old.setup.layout.width }
-    requires room { entry.now.at < walker.old.setup.layout.cap }
-    requires at { spot_now walker.old ≡ stored_so_far walker.old entry.now.at entry.now.seq entry.now.value 0 }
+    requires of { IsOf walker.old entry.now }
+    requires wide { length entry.now.value ≡ entry.now.setup.layout.width }
+    requires room { entry.now.at < entry.now.setup.layout.cap }
+    requires at { spot_now walker.old ≡ stored_so_far entry.now 0 }
     ensures at { spot_now walker.new ≡ free_spot Inside true }
     ensures ends { EndsIn walker.old (8 + 2 * length entry.now.value) (Mail Stored) walker.new }
-    ensures same { IsSame walker.old walker.new }
+    ensures of { IsOf walker.new entry.now }
 {
-    let layout = walker.setup().layout;
-    let own = walker.by();
+    let _pass = walker.by();
+    let layout = entry.setup.layout;
     let row = 2 + entry.value.width();
     put_row(walker, entry, 0, RECORD, entry.at);
     put(walker, entry, row, ARMED, 1);
-    put_row(walker, entry, row + 1, layout.place(entry.at, 0), own);
-    put(walker, entry, 2 * row + 1, layout.last(own), entry.seq);
+    put_row(walker, entry, row + 1, layout.place(entry.at, 0), entry.own);
+    put(
+        walker,
+        entry,
+        2 * row + 1,
+        layout.last(entry.own),
+        entry.seq,
+    );
     put(walker, entry, 2 * row + 2, COUNT, entry.at + 1);
     walker.store(Kind::Put, Word::Data(ARMED), 0);
 }
@@ -160,18 +172,21 @@ pub fn append(walker: &mut Walker, seq: u64, value: &Body) -> (Reply, u64)
     ensures few { result.1 ≤ 27 }
     ensures same { IsSame walker.old walker.new }
 {
+    let setup = walker.setup();
+    let own = walker.by();
     let heads = read_heads(walker, seq, value);
-    let layout = walker.setup().layout;
-    match answered(layout.cap, seq, &heads) {
+    match answered(setup.layout.cap, seq, &heads) {
         Some(reply) => (reply, 3),
         None => {
             let entry = NewEntry {
+                setup,
+                own,
                 at: heads.count,
                 seq,
                 value: *value,
             };
             store(walker, &entry);
-            (Reply::Stored, 11 + 2 * layout.width)
+            (Reply::Stored, 11 + 2 * setup.layout.width)
         }
     }
 }

@@ -12,7 +12,7 @@ ghost use Rattle.rmecore.specs.declared.word.Word.TheVariants.{Data as DataAt, I
 ghost use Rattle.runs.specs.Pass.{Advances, IsPass, spot_now};
 ghost use Rattle.runs.specs.Under.{Begun, IsUnder};
 ghost use Rattle.rmeworld.specs.Spot.{Free};
-ghost use Rattle.table_walk.specs.FastPath.{free_spot, IsClear, IsSame, Unanswered, Comes, Way, waits_at, EndsIn, Enters, checking_spot, checked_spot};
+ghost use Rattle.table_walk.specs.FastPath.{free_spot, IsClear, IsSame, Unanswered, Way, waits_at, EndsIn, Enters, checking_spot, checked_spot};
 
 use crate::in_line::wait_on;
 use crate::walker::Walker;
@@ -21,9 +21,7 @@ use rmecore::{CoreCall, Kind, Stage, Word};
 /// Rereads the own choosing.
 fn read_choosing(walker: &mut Walker) -> u64
     requires at { spot_now walker.old ≡ free_spot (Reread Lock []) (spot_now walker.old).mended }
-    ensures comes { Comes walker.old walker.new (Reread Lock (result ∷ [])) }
-    ensures clear { IsClear walker.new }
-    ensures same { IsSame walker.old walker.new }
+    ensures way { Way walker.old 1 walker.new (Reread Lock (result ∷ [])) }
 {
     let own = walker.by();
     walker.load(Kind::Reread, Word::Choosing(own))
@@ -33,9 +31,7 @@ fn read_choosing(walker: &mut Walker) -> u64
 fn read_number(walker: &mut Walker, choosing: u64) -> u64
     requires clear { IsClear walker.old }
     requires at { spot_now walker.old ≡ free_spot (Reread Lock (choosing ∷ [])) (spot_now walker.old).mended }
-    ensures comes { Comes walker.old walker.new (Reread Lock (choosing ∷ result ∷ [])) }
-    ensures clear { IsClear walker.new }
-    ensures same { IsSame walker.old walker.new }
+    ensures way { Way walker.old 1 walker.new (Reread Lock (choosing ∷ result ∷ [])) }
 {
     let _ = choosing;
     let own = walker.by();
@@ -46,9 +42,7 @@ fn read_number(walker: &mut Walker, choosing: u64) -> u64
 fn read_inside(walker: &mut Walker) -> u64
     requires clear { IsClear walker.old }
     requires at { spot_now walker.old ≡ free_spot (Reread Lock (0 ∷ 0 ∷ [])) (spot_now walker.old).mended }
-    ensures comes { Comes walker.old walker.new (relocked walker.old.setup.layout.procs walker.old.by 0 0 result) }
-    ensures clear { IsClear walker.new }
-    ensures same { IsSame walker.old walker.new }
+    ensures way { Way walker.old 1 walker.new (relocked walker.old.setup.layout.procs walker.old.by 0 0 result) }
 {
     let own = walker.by();
     walker.load(Kind::Reread, Word::Inside(own))
@@ -58,9 +52,7 @@ fn read_inside(walker: &mut Walker) -> u64
 fn open(walker: &mut Walker)
     requires clear { IsClear walker.old }
     requires at { spot_now walker.old ≡ free_spot Opening (spot_now walker.old).mended }
-    ensures comes { Comes walker.old walker.new (Door (others walker.old.setup.layout.procs walker.old.by) 0) }
-    ensures clear { IsClear walker.new }
-    ensures same { IsSame walker.old walker.new }
+    ensures way { Way walker.old 1 walker.new (Door (others walker.old.setup.layout.procs walker.old.by) 0) }
 {
     let own = walker.by();
     walker.store(Kind::Open, Word::Choosing(own), 1);
@@ -71,9 +63,7 @@ fn take(walker: &mut Walker, greatest: u64)
     requires clear { IsClear walker.old }
     requires below { greatest < walker.old.setup.limit }
     requires at { spot_now walker.old ≡ free_spot (Door [] greatest) (spot_now walker.old).mended }
-    ensures comes { Comes walker.old walker.new (Shutting Lock (greatest + 1)) }
-    ensures clear { IsClear walker.new }
-    ensures same { IsSame walker.old walker.new }
+    ensures way { Way walker.old 1 walker.new (Shutting Lock (greatest + 1)) }
 {
     let own = walker.by();
     walker.store(Kind::Take, Word::Number(own), greatest + 1);
@@ -83,9 +73,7 @@ fn take(walker: &mut Walker, greatest: u64)
 fn shut(walker: &mut Walker, number: u64)
     requires clear { IsClear walker.old }
     requires at { spot_now walker.old ≡ free_spot (Shutting Lock number) (spot_now walker.old).mended }
-    ensures comes { Comes walker.old walker.new (Wait number (others walker.old.setup.layout.procs walker.old.by) None) }
-    ensures clear { IsClear walker.new }
-    ensures same { IsSame walker.old walker.new }
+    ensures way { Way walker.old 1 walker.new (Wait number (others walker.old.setup.layout.procs walker.old.by) None) }
 {
     let _ = number;
     let own = walker.by();
@@ -104,11 +92,8 @@ fn greater(a: u64, b: u64) -> u64
 fn peek_others(walker: &mut Walker) -> (u64, u64)
     requires clear { IsClear walker.old }
     requires at { spot_now walker.old ≡ free_spot (Door (others walker.old.setup.layout.procs walker.old.by) 0) (spot_now walker.old).mended }
-    ensures at { spot_now walker.new ≡ free_spot (Door [] result.0) (spot_now walker.old).mended }
-    ensures unanswered { Unanswered walker.old result.1 0 walker.new }
+    ensures way { Way walker.old result.1 walker.new (Door [] result.0) }
     ensures few { result.1 ≤ 64 }
-    ensures clear { IsClear walker.new }
-    ensures same { IsSame walker.old walker.new }
 {
     let own = walker.by();
     let procs = walker.procs();
@@ -320,9 +305,7 @@ pub fn go_in(walker: &mut Walker, stage: Stage) -> Option<(Reached, u64)>
 /// Gives up the own number, right behind the start of an unlock.
 fn drop_number(walker: &mut Walker)
     requires at { spot_now walker.old ≡ free_spot Leaving (spot_now walker.old).mended }
-    ensures comes { Comes walker.old walker.new (Unmarking Unlock) }
-    ensures clear { IsClear walker.new }
-    ensures same { IsSame walker.old walker.new }
+    ensures way { Way walker.old 1 walker.new (Unmarking Unlock) }
 {
     let own = walker.by();
     walker.store(Kind::Drop, Word::Number(own), 0);

@@ -43,6 +43,7 @@ impl Model for Walker {
 }
 
 /// How many data words there are.
+#[tactic(auto, using(runs::proofs::Running::size_is))]
 pub fn data_words(layout: &Layout) -> u64
     requires { IsSize layout.now }
     ensures { result ≡ size layout.now }

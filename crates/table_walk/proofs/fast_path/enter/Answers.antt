@@ -10,7 +10,7 @@ returns-in-Wait-default-default-false c =
     let w = d.ensures.way in
     let e = c.enter_from_line-reached in
     let free : (spot_now x).barred ≡ false = ap (λ (q : Spot). q.barred) c.requires.at in
-    enters_then x d.new.walker e.new.walker d.result.1 e.result.1 e.result.0 w.1 w.3 (ap (λ (q : Spot). q.mended) w.0) free e.ensures.enters
+    enters_then x d.new.walker e.new.walker d.result.1 e.result.1 e.result.0 w.unanswered w.same (ap (λ (q : Spot). q.mended) w.at) free e.ensures.enters
 
 pub returns-in_default : goal.returns-in_default
 returns-in_default c =
@@ -18,4 +18,4 @@ returns-in_default c =
     let d = c.through_doorway-stage in
     let w = d.ensures.way in
     let free : (spot_now x).barred ≡ false = ap (λ (q : Spot). q.barred) c.requires.at in
-    enters_stands x d.new.walker d.result.1 d.result.0 w.0 w.3 d.ensures.begun free w.1
+    enters_stands x d.new.walker d.result.1 d.result.0 w.at w.same d.ensures.begun free w.unanswered

@@ -4,9 +4,8 @@ use Rattle.table_walk.proofs.Straight.{has_left}
 use Rattle.table_walk.proofs.fast_path.leave.Goals as goal
 
 pub returns-clause-at : goal.returns-clause-at
-returns-clause-at c = c.unmark.ensures.at ∙ (λ i. free_spot Rest (c.drop_number.ensures.comes.0 i).mended)
+returns-clause-at c = c.unmark.ensures.at ∙ (λ i. free_spot Rest (c.drop_number.ensures.way.at i).mended)
 
 pub returns-clause-ends : goal.returns-clause-ends
 returns-clause-ends c =
-    let d = c.drop_number.ensures.comes in
-    has_left c.drop_number.new.walker _ c.unmark.new.walker c.args.walker.now 1 d.1 d.0 c.unmark.ensures.advances
+    let d = c.drop_number.ensures.way in has_left c.args.walker.now c.drop_number.new.walker c.unmark.new.walker 1 _ d.unanswered d.at c.unmark.ensures.advances

@@ -1,10 +1,5 @@
-use Rattle.std.proofs.Common.{ℕ, subst}
-use Rattle.table_walk.proofs.Common.{Reread, Choosing, Advances}
 use Rattle.table_walk.proofs.Straight.{choosing_read}
 use Rattle.table_walk.proofs.fast_path.read_choosing.Goals as goal
 
-pub returns-clause-comes : goal.returns-clause-comes
-returns-clause-comes c =
-    let w = c.args.walker.now in
-    let adv = subst (λ (q : ℕ). Advances w Reread (Choosing q) c.load.result c.load.new.self) c.by-own.ensures.is c.load.ensures in
-    choosing_read w _ c.load.new.self c.load.result c.requires.at adv
+pub returns : goal.returns
+returns c = record { way = choosing_read c.args.walker.now c.load.new.self c.by-own.result c.by-own.ensures.is c.load.result c.requires.at c.load.ensures }

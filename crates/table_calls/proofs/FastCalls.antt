@@ -1,8 +1,7 @@
 -- The fast path, for a member and its plan.
 use Rattle.std.proofs.Common.{◌≡◌, ℕ, zero, suc, ◌+◌, ◌-◌, ◌^◌, ◌≤◌, ◌==◌, min, Bool, true, false, List, [], ◌∷◌, length, None, Some, IsSome, if◌then◌else◌, unwrap_or, refl, sym, ap, ◌∙◌, subst, arith, eq-eqb}
-use Rattle.table_calls.proofs.Common.{Place, Inside, Wait, Leaving, Rest, one_more, Layout, Answer, Unlocked, Call, Append, Unlock, Begins, Free, Spot, next_spot, Stand, stepped, TakenStep}
-use Rattle.table_calls.proofs.Common.{Setup, Going, Ran, Calm, AnsweredIn, IsPass, spot_now, Pass, Seated, began, IsRunBy, many_more, served_of, append_begun, free_spot, IsSame}
-use Rattle.table_calls.proofs.Common.{Unanswered, EndsIn}
+use Rattle.table_calls.proofs.Common.{Place, Inside, Wait, Leaving, Rest, one_more, Layout, Answer, Unlocked, Call, Append, Unlock, Begins, Free, Spot, next_spot, Stand, stepped, TakenStep, Setup}
+use Rattle.table_calls.proofs.Common.{Going, Ran, Calm, AnsweredIn, IsPass, spot_now, Pass, Seated, began, IsRunBy, many_more, served_of, append_begun, free_spot, IsSame, Unanswered, EndsIn}
 use Rattle.rmecore.specs.declared.stage.Stage.{Stage}
 use Rattle.rmecore.specs.Machine.{place_of}
 use Rattle.redomail.specs.declared.task.Task.TheVariants.{Check}
@@ -98,19 +97,15 @@ module _ (x : Pass) (at : spot_now x ≡ free_spot Inside true) where
         spot = ap standing_at is ∙ (λ i. record { lock = Rest; mended = (was i).mended; barred = (was i).barred; errand = (was i).errand }) ∙ sym there;
       }
 
-pub unlock_served : (x y : Seated) (z : Pass) (a0 a1 f0 f1 : ℕ) → y ≡ began x Unlock → IsPass y.pass → EndsIn y.pass 2 Unlocked z → a1 ≡ so_many_more 3 a0 → f1 ≡ f0
+pub unlock_served : (x : Seated) (z : Pass) (a0 a1 f0 f1 : ℕ) → IsPass (began x Unlock).pass → EndsIn (began x Unlock).pass 2 Unlocked z → a1 ≡ so_many_more 3 a0 → f1 ≡ f0
     → AnsweredIn (began x Unlock) Unlock (Unlocked ∷ []) 0 (record { pass = z; steps = 2 }) a0 a1 f0 f1
-unlock_served x y z a0 a1 f0 f1 is pass ends asked fallen = go (subst (λ (u : Seated). IsPass u.pass × EndsIn u.pass 2 Unlocked z) is (pass, ends))
-  where
-    go : IsPass (began x Unlock).pass × EndsIn (began x Unlock).pass 2 Unlocked z → AnsweredIn (began x Unlock) Unlock (Unlocked ∷ []) 0 (record { pass = z; steps = 2 }) a0 a1 f0 f1
-    go h =
-        let p = h.1 in
-        let two : many_more 2 0 ≡ 2 = omega arith in
-        let three : length p.mine + 1 ≡ 3 = (let k = p.long in omega arith) in (
-          p.mine,
-          served_of (began x Unlock) (record { pass = z; steps = 2 }) Unlock (Unlocked ∷ []) 0 p.mine h.0 refl p.takes p.answers p.blocked (sym (ap (λ (n : ℕ). many_more n 0) p.long ∙ two)) (λ none. let l : length p.mine ≡ 0 = ap length none in let k = p.long in omega arith),
-          (asked ∙ so_same 3 a0 ∙ ap (λ (n : ℕ). many_more n a0) (sym three), fallen),
-        )
+unlock_served x z a0 a1 f0 f1 pass p asked fallen =
+    let two : many_more 2 0 ≡ 2 = omega arith in
+    let three : length p.mine + 1 ≡ 3 = (let k = p.long in omega arith) in (
+      p.mine,
+      served_of (began x Unlock) (record { pass = z; steps = 2 }) Unlock (Unlocked ∷ []) 0 p.mine pass refl p.takes p.answers p.blocked (sym (ap (λ (n : ℕ). many_more n 0) p.long ∙ two)) (λ none. let l : length p.mine ≡ 0 = ap length none in let k = p.long in omega arith),
+      (asked ∙ so_same 3 a0 ∙ ap (λ (n : ℕ). many_more n a0) (sym three), fallen),
+    )
 
 -- the start of an append by a holder with nothing to mend
 module _ (x : Pass) (seq : ℕ) (value : List ℕ) (at : spot_now x ≡ free_spot Inside true) (accepted : start_refusal x.setup.layout (spot_now x) (Append seq value) ≡ None) where

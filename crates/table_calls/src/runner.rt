@@ -6,7 +6,7 @@ ghost use Rattle.rmecore.specs.World.{is_store};
 ghost use Rattle.rmeworld.specs.Refused.{start_refusal, is_idle};
 ghost use Rattle.rmeworld.specs.Stand.{IsSize, InWords, StoresOwn};
 ghost use Rattle.runs.specs.Runs.{InTable, IsBeyond};
-ghost use Rattle.rmecore.specs.Place.{Inside};
+ghost use Rattle.rmecore.specs.Place.{Inside, Rest};
 ghost use Rattle.rmeworld.specs.OwnSteps.{most_steps};
 ghost use Rattle.rmeworld.specs.declared.answer.Answer.TheVariants.{Unlocked};
 ghost use Rattle.rmeworld.specs.declared.call.Call.TheVariants.{Append, Lock, Unlock};
@@ -16,7 +16,7 @@ ghost use Rattle.runs.specs.Faults.{refusal_now, AnsweredIn};
 ghost use Rattle.runs.specs.Tabled.{table_steps};
 ghost use Rattle.runs.specs.Under.{Begun, Fits, Leaves};
 ghost use Rattle.plans.specs.Plans.{so_many_more};
-ghost use Rattle.table_walk.specs.FastPath.{free_spot};
+ghost use Rattle.table_walk.specs.FastPath.{free_spot, EndsIn};
 ghost use Rattle.table_calls.specs.FastCalls.{told_by, HasFastWay};
 ghost use Rattle.table_calls.specs.Working.{seat_of};
 ghost use Rattle.runs.specs.Pass.{Advances, Looks, IsPass, fresh, spot_now, moved_spot};
@@ -280,12 +280,25 @@ impl Runner {
         ensures few { self.new.steps ≤ most_steps self.old.pass.setup.layout Unlock }
         ensures seat { seat_of self.new ≡ seat_of self.old }
     {
+        self.go_out();
+        self.steps = 2;
+        count_calm(plan, 3);
+    }
+
+    /// The two stores of an unlock of a holder with nothing to mend. They are not counted yet.
+    #[inline(always)]
+    fn go_out(&mut self)
+        requires idle { self.old.pass.start ≡ None }
+        requires clean { spot_now self.old.pass ≡ free_spot Inside true }
+        ensures pass { IsPass (behind self.old Unlock).pass }
+        ensures ends { EndsIn (behind self.old Unlock).pass 2 Unlocked self.new.pass }
+        ensures out { (spot_now self.new.pass).lock ≡ Rest }
+        ensures steps { self.new.steps ≡ self.old.steps }
+    {
         self.walker.begin(Call::Unlock);
         let _pass = self.walker.by();
         leave(&mut self.walker);
         self.process.seam_stand(Stage::Rest);
-        self.steps = 2;
-        count_calm(plan, 3);
     }
 
     /// Whether a call behind another one has a fast path: an append or an unlock of a holder with nothing to mend, where the
@@ -328,10 +341,7 @@ impl Runner {
         ensures pass { IsPass (behind self.old Unlock).pass }
         ensures leaves { Fits Unlock result × Leaves Unlock result (spot_now self.new.pass) }
     {
-        self.walker.begin(Call::Unlock);
-        let _pass = self.walker.by();
-        leave(&mut self.walker);
-        self.process.seam_stand(Stage::Rest);
+        self.go_out();
         self.steps = self.steps.saturating_add(2);
         count_calm(plan, 2);
         Answer::Unlocked

@@ -2,17 +2,18 @@
 -- the message is shown; what another reply says of the mailbox held there.
 use Rattle.std.proofs.Common.{◌≡◌, ℕ, ◌==◌, Bool, true, false, if◌then◌else◌, List, [], ◌∷◌, ◌++◌, Option, Some, None, Result, Ok, Err, IfOk, OnOk, All, refl, sym, ap, ◌∙◌, subst, inl, inr, append_assoc, eqb-true, ◌⊎◌}
 use Rattle.robust.proofs.Common.{All-nil, All-cons, All-head, All-tail, Place, Message, Reply, Stored, Already, Mended, Task, IsLayout, IsAmong, message, Answer, Mail, Unlocked, Call, Append, Lock}
-use Rattle.robust.proofs.Common.{Unlock, Consistent, answer_at, is_idle, is_idle_by, mail_after, ReplyTells, RepliesTell, Happening, Errand, Free, Doing, Spot, Moves, at_rest, Scene, at_first}
-use Rattle.robust.proofs.Common.{last_scene, Story, TakenStep, Entry as Entering, LockFault, Setup, spot_before, AreMoves, ServedAll, refusal_now, ready, answer_of, shown_by, judged_by, spot_at}
-use Rattle.robust.proofs.Common.{EndsAppend, EveryRunIsSound, IsPass, spot_now, Seated, fell, began, before, spelled, own, IsRun, gone, spot_of, ToldIn, Appends, WholeEnds, calls_inside}
-use Rattle.robust.proofs.Common.{answers_inside, gone-append, own-append, spelled-append, scene-append, shown_on, OfStart}
+use Rattle.robust.proofs.Common.{Unlock, Consistent, answer_at, is_idle_by, mail_after, ReplyTells, RepliesTell, Happening, Errand, Free, Doing, Spot, Moves, at_rest, Scene, at_first, last_scene}
+use Rattle.robust.proofs.Common.{Story, TakenStep, Entry as Entering, LockFault, Setup, spot_before, AreMoves, ServedAll, refusal_now, ready, answer_of, shown_by, judged_by, spot_at, EndsAppend}
+use Rattle.robust.proofs.Common.{EveryRunIsSound, IsPass, spot_now, Seated, began, before, spelled, own, IsRun, gone, spot_of, ToldIn, Appends, WholeEnds, calls_inside, answers_inside, gone-append}
+use Rattle.robust.proofs.Common.{own-append, spelled-append, scene-append, shown_on, OfStart}
 use Rattle.runs.proofs.Headline.{scene_at, spot_is, spelled_to}
 use Rattle.runs.proofs.Running.{spot_begun, taken_moves}
 use Rattle.rmecore.specs.Paid.{is_glance}
 use Rattle.rmecore.specs.declared.refusal.Refusal.{Refusal}
 use Rattle.redomail.specs.declared.task.Task.TheVariants as task
 use Rattle.runs.specs.declared.entry_kind.Entry.TheVariants as entering
-use Rattle.robust.proofs.Errands.{Only, Brings, each_start, only_begun, Answering, find, IsTasks, task_mails}
+use Rattle.robust.proofs.Working.{kept_ready}
+use Rattle.robust.proofs.Errands.{none_in, Only, Brings, each_start, only_begun, Answering, find, IsTasks, task_mails}
 
 -- an entry of a process, and those before it and behind it
 pub record Own (p : ℕ) (es front : List TakenStep) (e : TakenStep) : Type 0 where
@@ -29,8 +30,7 @@ pub own_passed : (p : ℕ) (x : TakenStep) (xs : List TakenStep) → (x.by == p)
 own_passed p x xs is = rw is refl
 
 pub own_split : (p : ℕ) (es front : List TakenStep) (e : TakenStep) (back : List TakenStep) → own p es ≡ front ++ e ∷ back → Own p es front e
-own_split p [] [] e back h = absurd (cc)
-own_split p [] (f ∷ fs) e back h = absurd (let k : [] ≡ f ∷ (fs ++ e ∷ back) = h in cc)
+own_split p [] front e back h = absurd (none_in e front back h)
 own_split p (x ∷ xs) front e back h = go (x.by == p) refl front h (λ rest k. own_split p xs rest e back k)
   where
     go : (b : Bool) → (x.by == p) ≡ b → (fs : List TakenStep) → own p (x ∷ xs) ≡ fs ++ e ∷ back → ((rest : List TakenStep) → own p xs ≡ rest ++ e ∷ back → Own p xs rest e) → Own p (x ∷ xs) fs e
@@ -156,14 +156,6 @@ idle_only : (t : Task) (s : Place) (e : Errand) (o : Option Refusal) (why : Refu
 idle_only t s Free o why h = tt
 idle_only t s (Doing w left) o why h = absurd (cc)
 
-either_pass : (b : Bool) (x : Seated) → ((if b then x else fell x).pass.setup ≡ x.pass.setup) × ((if b then x else fell x).pass.by ≡ x.pass.by)
-either_pass true x = (refl, refl)
-either_pass false x = (refl, refl)
-
-either_start : (b : Bool) (x : Seated) → x.pass.start ≡ None → (if b then x else fell x).pass.start ≡ None
-either_start true x none = none
-either_start false x none = refl
-
 outset_only : (t : Task) (x : Seated) → x.pass.start ≡ None → refusal_now x Lock ≡ None → Only t (spot_now (began x Lock).pass).errand
 outset_only t x none may =
     let spot = spot_now x.pass in
@@ -178,16 +170,12 @@ brings_all entering.OwnerDied seq value =
     let P = Brings (task.Append seq value) in
     All-cons P Lock (Consistent ∷ Append seq value ∷ Unlock ∷ []) tt (All-cons P Consistent (Append seq value ∷ Unlock ∷ []) tt (All-cons P (Append seq value) (Unlock ∷ []) refl (All-cons P Unlock [] tt (All-nil P))))
 
-pub either_seen : (b : Bool) (x : Seated) → (if b then x else fell x).pass.seen ≡ x.pass.seen
-either_seen true x = refl
-either_seen false x = refl
-
 module _ (x y : Seated) (turns seq : ℕ) (value : List ℕ) (r : Reply) (a b c d : ℕ) (none : x.pass.start ≡ None) (may : refusal_now (ready x) Lock ≡ None) (its : IsTasks r) where
   abbrev z : Seated
   z = began (ready x) Lock
 
   outset : Only (task.Append seq value) (spot_now z.pass).errand
-  outset = outset_only (task.Append seq value) (ready x) (either_start (is_idle (spot_now x.pass)) x none) may
+  outset = outset_only (task.Append seq value) (ready x) (kept_ready (λ (u : Seated). u.pass.start) x (sym none) ∙ none) may
 
   inside_ended : (entry : Entering) (mended : Bool) (order : List Call) (answers : List Answer) (blocked : ℕ) (mine : List TakenStep) → order ≡ Lock ∷ calls_inside entry (Append seq value) → answers ≡ answer_of entry ∷ answers_inside entry mended r
       → ServedAll z order answers blocked y mine → Ended z y seq r
@@ -201,7 +189,7 @@ module _ (x y : Seated) (turns seq : ℕ) (value : List ℕ) (r : Reply) (a b c 
   ended_append h = inside_ended h.3.1 h.3.2 h.0 h.1 h.2 h.4.0 h.3.3 h.3.4 h.4.1
 
 begun_layout : (x : Seated) → IsPass x.pass → IsLayout (began (ready x) Lock).pass.setup.layout
-begun_layout x pass = subst (λ (s : Setup). IsLayout s.layout) (sym (either_pass (is_idle (spot_now x.pass)) x).0) pass.size.layout
+begun_layout x pass = subst (λ (s : Setup). IsLayout s.layout) (sym (kept_ready (λ (u : Seated). u.pass.setup) x refl)) pass.size.layout
 
 stored_its : (r : Reply) → (r ≡ Stored) ⊎ (r ≡ Already) → IsTasks r
 stored_its r (inl e) = subst IsTasks (sym e) tt
@@ -217,19 +205,19 @@ pub append_shown : (x y : Seated) (seq : ℕ) (value : List ℕ) (result : Resul
 append_shown x y seq value (Ok r) a b c d none pass every may h = λ stored.
     let ended = ended_append x y h.0 seq value r a b c d none may (stored_its r stored) h.1 in
     let among = stored_shown (began (ready x) Lock) y seq r ended (begun_layout x pass) every stored in
-    subst (λ (p : ℕ). IsAmong p seq (shown_by y.pass.setup y.pass.seen)) (either_pass (is_idle (spot_now x.pass)) x).1 among
+    subst (λ (p : ℕ). IsAmong p seq (shown_by y.pass.setup y.pass.seen)) (kept_ready (λ (u : Seated). u.pass.by) x refl) among
 append_shown x y seq value (Err e) a b c d none pass every may h = tt
 
 told_began : (x y : Seated) (seq : ℕ) (r : Reply) → ToldIn (began (ready x) Lock) seq r y → ToldIn x seq r y
 told_began x y seq r h =
-    let idle = is_idle (spot_now x.pass) in
-    let same = either_pass idle x in
-    let seen = either_seen idle x in
+    let setup = kept_ready (λ (u : Seated). u.pass.setup) x refl in
+    let by = kept_ready (λ (u : Seated). u.pass.by) x refl in
+    let seen = kept_ready (λ (u : Seated). u.pass.seen) x refl in
     record {
       since = h.since;
       later = h.later;
       seen = h.seen ∙ ap (λ (es : List TakenStep). (es ++ h.since) ++ h.later) seen;
-      tells = subst (λ (u : Setup × ℕ × List TakenStep). ReplyTells u.0.layout u.1 seq r (judged_by u.0 (u.2 ++ h.since)).mail) (λ i. (same.0 i, same.1 i, seen i)) h.tells;
+      tells = subst (λ (u : Setup × ℕ × List TakenStep). ReplyTells u.0.layout u.1 seq r (judged_by u.0 (u.2 ++ h.since)).mail) (λ i. (setup i, by i, seen i)) h.tells;
     }
 
 pub append_tells : (x y : Seated) (seq : ℕ) (value : List ℕ) (result : Result Reply LockFault) (a b c d : ℕ) → x.pass.start ≡ None → IsPass x.pass → RepliesTell → OnOk result (refusal_now (ready x) Lock ≡ None) → IfOk result (Appends seq)

@@ -54,8 +54,8 @@ pub use Rattle.runs.proofs.Gathered.{all_left, all_right, knows_some, absorbs_on
 pub use Rattle.runs.proofs.LawfulEnd.{length-counted, cells_counted, lawful_end}
 pub use Rattle.runs.proofs.Leads.{gone-append, has_one}
 pub use Rattle.runs.proofs.Opens.{size_small, mapped_more}
-pub use Rattle.runs.proofs.Runs.{by_kind, own-append, spelled-append, scene-append, last_reads, legal_front, spot_in_run}
-pub use Rattle.runs.proofs.Shown.{shown_on, runs_show, entries_stand_in_runs}
+pub use Rattle.runs.proofs.Runs.{by_kind, own-append, spelled-append, scene-append, legal_front, spot_in_run}
+pub use Rattle.runs.proofs.Shown.{shown_on}
 pub use Rattle.runs.proofs.Together.{all_both, member_at, Keeps, Holds, all_hold, each_holds}
 pub use Rattle.one_lock.specs.declared.lab.ending.Ending.TheVariants.{AllSent, Fault, Refused}
 pub use Rattle.one_lock.specs.declared.lab.lab_fault.LabFault.TheVariants.{Member}

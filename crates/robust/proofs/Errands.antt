@@ -20,6 +20,11 @@ use Rattle.rmeworld.specs.declared.call.Call.TheVariants.{Get, Put}
 use Rattle.rmeworld.specs.declared.why.Why.{Why}
 use Rattle.rmeworld.specs.CallWalk.{and_answer}
 
+-- nothing is in the empty list
+pub none_in : {A : Type 0} (x : A) (front back : List A) → [] ≡ front ++ x ∷ back → ⊥
+none_in x [] back e = absurd (cc)
+none_in x (y ∷ ys) back e = absurd (let k : [] ≡ y ∷ (ys ++ x ∷ back) = e in cc)
+
 -- of all tasks at most this one is under way here, and a mending replies as mendings do
 abbrev pub Only : Task → Errand → Type 0
 Only t Free = Unit {0}
@@ -55,20 +60,15 @@ module _ (t : Task) where
 
   only_settled : (b c : Bool) (why : Why) (left : Script Reply) → Only t (Doing why left) → Only t (settled b c why left).errand
   only_settled b c why (Done r) h = tt
-  only_settled b c why (Asks i rest) h = h
-  only_settled b c why (Writes i v rest) h = h
+  only_settled b c why _ h = h
 
   only_asked : (why : Why) (i v : ℕ) (rest : ℕ → Script Reply) → Only t (Doing why (Asks i rest)) → Only t (Doing why (rest v))
-  only_asked Checking i v rest h = tt
-  only_asked Ruining i v rest h = tt
   only_asked Mending i v rest h = h v
-  only_asked (Working u) i v rest h = h
+  only_asked _ i v rest h = h
 
   only_written : (why : Why) (i v : ℕ) (rest : Script Reply) → Only t (Doing why (Writes i v rest)) → Only t (Doing why rest)
-  only_written Checking i v rest h = tt
-  only_written Ruining i v rest h = tt
   only_written Mending i v rest h = h
-  only_written (Working u) i v rest h = h
+  only_written _ i v rest h = h
 
   only_entered : (b : Bool) (left : Script Reply) → Only t (if b then Doing Checking left else Free)
   only_entered true left = tt
@@ -160,13 +160,9 @@ module _ (t : Task) where
             let whole : b ∷ others ≡ c ∷ (cs ++ a ∷ rest) = subst (λ (o : Option Answer). and_answer o others ≡ c ∷ (cs ++ a ∷ rest)) some k in
             later cs (let same : others ≡ cs ++ a ∷ rest = cc in same)
 
-    none_there : (a : Answer) (told rest : List Answer) → [] ≡ told ++ a ∷ rest → ⊥
-    none_there a [] rest e = absurd (cc)
-    none_there a (b ∷ bs) rest e = absurd (let k : [] ≡ b ∷ (bs ++ a ∷ rest) = e in cc)
-
     pub find : (spot : Spot) (e : TakenStep) (es : List TakenStep) (a : Answer) (told rest : List Answer) → All (λ (f : TakenStep). OfStart (Brings t) f.step.start) es → Only t (spot_before s spot e).errand
         → answers_from s spot (e ∷ es) ≡ told ++ a ∷ rest → Answering spot (e ∷ es) a
-    find spot e [] a told rest fine only is = here_or_later spot e [] a told rest only is (λ more k. absurd (none_there a more rest k))
+    find spot e [] a told rest fine only is = here_or_later spot e [] a told rest only is (λ more k. absurd (none_in a more rest k))
     find spot e (f ∷ fs) a told rest fine only is =
         here_or_later spot e (f ∷ fs) a told rest only is (λ more k.
         later_on spot e (f ∷ fs) a
@@ -179,19 +175,12 @@ IsTasks (reply.Mended repaired) = ⊥
 IsTasks r = Unit {0}
 
 lock_mails : (c : Bool) (o : Option CoreDone) (r : Reply) → by_lock c o ≡ Some (Mail r) → ⊥
-lock_mails c None r e = absurd (cc)
-lock_mails c (Some ends.In) r e = absurd (cc)
-lock_mails c (Some ends.InAgain) r e = absurd (cc)
-lock_mails c (Some ends.Spent) r e = absurd (cc)
 lock_mails true (Some ends.Out) r e = absurd (cc)
 lock_mails false (Some ends.Out) r e = absurd (cc)
-lock_mails c (Some (ends.Found found)) r e = absurd (cc)
-lock_mails c (Some ends.Withdrawn) r e = absurd (cc)
+lock_mails _ _ r e = absurd (cc)
 
 check_mails : (told : Reply) (b : Bool) (r : Reply) → by_reply Checking b told ≡ Some (Mail r) → ⊥
 check_mails (reply.Ruined true) b r e = absurd (cc)
-check_mails (reply.Ruined false) true r e = absurd (cc)
-check_mails (reply.Ruined false) false r e = absurd (cc)
 check_mails _ true r e = absurd (cc)
 check_mails _ false r e = absurd (cc)
 
@@ -202,23 +191,19 @@ mend_mails _ b r h s e = absurd h
 
 checked : (b : Bool) (left : Script Reply) (r : Reply) → by_script Checking b left ≡ Some (Mail r) → ⊥
 checked b (Done told) r e = check_mails told b r e
-checked b (Asks i rest) r e = absurd (cc)
-checked b (Writes i v rest) r e = absurd (cc)
+checked b _ r e = absurd (cc)
 
 ruined : (b : Bool) (left : Script Reply) (r : Reply) → by_script Ruining b left ≡ Some (Mail r) → ⊥
 ruined b (Done told) r e = absurd (cc)
-ruined b (Asks i rest) r e = absurd (cc)
-ruined b (Writes i v rest) r e = absurd (cc)
+ruined b _ r e = absurd (cc)
 
 mended : (b : Bool) (left : Script Reply) (r : Reply) → Replies Mends left → IsTasks r → by_script Mending b left ≡ Some (Mail r) → ⊥
 mended b (Done told) r h s e = mend_mails told b r h s e
-mended b (Asks i rest) r h s e = absurd (cc)
-mended b (Writes i v rest) r h s e = absurd (cc)
+mended b _ r h s e = absurd (cc)
 
 mends_tail : (left : Script Reply) (v : ℕ) → Replies Mends left → Replies Mends (tail left v)
-mends_tail (Done told) v h = h
 mends_tail (Asks i rest) v h = h v
-mends_tail (Writes i x rest) v h = h
+mends_tail _ v h = h
 
 -- the task's alone is
 pub task_mails : (t : Task) (s : Place) (b c : Bool) (e : Errand) (kind : Kind) (v : ℕ) (r : Reply) → Only t e → IsTasks r → answer_by s b c e kind v ≡ Some (Mail r) → (left : Script Reply) × (e ≡ Doing (Working t) left)

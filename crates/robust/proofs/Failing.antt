@@ -5,7 +5,8 @@ use Rattle.robust.proofs.Common.{judged_by, spot_now, Calls, Seated, fell, began
 use Rattle.rmecore.specs.declared.refusal.Refusal.TheVariants.{AlreadyIn as IsIn, CallUnderWay}
 use Rattle.redomail.specs.declared.reply.Reply.TheVariants as reply
 use Rattle.runs.specs.declared.lock_fault.LockFault.TheVariants.{NumbersSpent, NotRecoverable, BadWidth}
-use Rattle.robust.proofs.Appended.{among_more, either_seen}
+use Rattle.robust.proofs.Appended.{among_more}
+use Rattle.robust.proofs.Working.{kept_ready}
 
 -- a process that may lock isn't in the section
 idle_in : (b : Bool) (x : Seated) → is_idle (spot_now x.pass) ≡ b → refusal_now x Lock ≡ Some IsIn → refusal_now (if b then x else fell x) Lock ≡ None → ⊥
@@ -58,7 +59,7 @@ abbrev pub Grown : Seated → Seated → Type 0
 Grown x y = (since : List TakenStep) × (y.pass.seen ≡ x.pass.seen ++ since)
 
 calls_grow : (x y : Seated) (mine : List TakenStep) → Calls (began (ready x) Lock).pass mine y.pass → Grown x y
-calls_grow x y mine c = (c.since, c.seen ∙ ap (λ (es : List TakenStep). es ++ c.since) (either_seen (is_idle (spot_now x.pass)) x))
+calls_grow x y mine c = (c.since, c.seen ∙ ap (λ (es : List TakenStep). es ++ c.since) (kept_ready (λ (u : Seated). u.pass.seen) x refl))
 
 still_grown : (x y : Seated) → y ≡ x → Grown x y
 still_grown x y e = ([], ap (λ (u : Seated). u.pass.seen) e ∙ sym (append-nil x.pass.seen))

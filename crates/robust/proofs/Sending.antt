@@ -1,10 +1,10 @@
 -- A worker's appends start nothing but what it sends.
-use Rattle.std.proofs.Common.{◌≡◌, ◌⊎◌, ℕ, Bool, true, false, if◌then◌else◌, List, [], ◌∷◌, ◌++◌, Result, Ok, Err, IfOk, IfErr, All, refl, sym, ap, ◌∙◌, subst, inl, inr}
-use Rattle.robust.proofs.Common.{All-nil, All-cons, All-append, Reply, Answer, Call, Append, Lock, Unlock, Consistent, is_idle, TakenStep, Entry as Entering, LockFault, starts, ready, CutBy, spot_now}
-use Rattle.robust.proofs.Common.{Calls, own_of, Seated, fell, began, own, WholeEnds, calls_inside, AppendFails, Comes, IsFront, IsWithin, all_left, own-append, OfStart, IsSending, AreSending}
-use Rattle.robust.proofs.Common.{SendsOnly}
+use Rattle.std.proofs.Common.{◌≡◌, ◌⊎◌, ℕ, List, [], ◌∷◌, ◌++◌, Result, Ok, Err, IfOk, IfErr, All, refl, sym, ap, ◌∙◌, subst, inl, inr}
+use Rattle.robust.proofs.Common.{All-nil, All-cons, All-append, Reply, Answer, Call, Append, Lock, Unlock, Consistent, TakenStep, Entry as Entering, LockFault, starts, ready, CutBy, Calls, own_of}
+use Rattle.robust.proofs.Common.{Seated, began, own, WholeEnds, calls_inside, AppendFails, Comes, IsFront, IsWithin, all_left, own-append, OfStart, IsSending, AreSending, SendsOnly}
 use Rattle.runs.specs.declared.entry_kind.Entry.TheVariants as entering
 use Rattle.robust.proofs.Errands.{each_start}
+use Rattle.robust.proofs.Working.{kept_ready}
 
 -- the calls of a whole mailbox call
 module _ (P : Call → Type 0) (task : Call) (lock : P Lock) (unlock : P Unlock) (mends : P Consistent) (does : P task) where
@@ -40,10 +40,6 @@ module _ (P : Call → Type 0) (task : Call) (lock : P Lock) (unlock : P Unlock)
   all_cut mine (inl none) = subst (λ (es : List TakenStep). All P (starts es)) (sym none) (All-nil P)
   all_cut mine (inr h) = all_within (starts mine) h
 
-either_own : (b : Bool) (x : Seated) → (own_of (if b then x else fell x).pass ≡ own_of x.pass) × ((if b then x else fell x).pass.by ≡ x.pass.by)
-either_own true x = (refl, refl)
-either_own false x = (refl, refl)
-
 module _ (width k : ℕ) where
   sends_calls : (x y : Seated) (mine : List TakenStep) → Calls x.pass mine y.pass → AreSending width k x.pass.by mine → SendsOnly width k x → SendsOnly width k y
   sends_calls x y mine c new old =
@@ -56,7 +52,7 @@ module _ (width k : ℕ) where
     z = began (ready x) Lock
 
     same : (own_of z.pass ≡ own_of x.pass) × (z.pass.by ≡ x.pass.by)
-    same = either_own (is_idle (spot_now x.pass)) x
+    same = (kept_ready (λ (u : Seated). own_of u.pass) x refl, kept_ready (λ (u : Seated). u.pass.by) x refl)
 
     outset : SendsOnly width k z
     outset = subst (λ (u : ℕ × List TakenStep). AreSending width k u.0 u.1) (λ i. (sym same.1 i, sym same.0 i)) old

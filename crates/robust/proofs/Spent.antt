@@ -1,14 +1,11 @@
 -- A worker that ends for want of numbers was answered so at one of its own steps.
-use Rattle.std.proofs.Common.{◌≡◌, ◌⊎◌, ℕ, Bool, true, false, if◌then◌else◌, List, [], ◌∷◌, ◌++◌, Result, Ok, Err, IfErr, refl, sym, ap, ◌∙◌, subst, inl, inr}
-use Rattle.robust.proofs.Common.{Reply, Answer, NumbersSpent as SpentAnswer, Call, Append, Lock, is_idle, at_rest, TakenStep, LockFault, NotYet, Setup, ServedAll, answers_from, ready, spot_now}
-use Rattle.robust.proofs.Common.{own_of, HasReadRuin, Seated, fell, began, spelled, gone, WholeEnds, AppendFails, Comes, WasSpent}
+use Rattle.std.proofs.Common.{◌≡◌, ◌⊎◌, ℕ, List, [], ◌∷◌, ◌++◌, Result, Ok, Err, IfErr, refl, sym, ap, ◌∙◌, subst, inl, inr}
+use Rattle.robust.proofs.Common.{Reply, Answer, NumbersSpent as SpentAnswer, Call, Append, Lock, at_rest, TakenStep, LockFault, NotYet, Setup, ServedAll, answers_from, ready, own_of, HasReadRuin}
+use Rattle.robust.proofs.Common.{Seated, began, spelled, gone, WholeEnds, AppendFails, Comes, WasSpent}
 use Rattle.runs.proofs.Ordered.{own_now}
+use Rattle.robust.proofs.Working.{kept_ready}
 use Rattle.runs.proofs.Turned.{answers-append}
 use Rattle.runs.specs.declared.lock_fault.LockFault.TheVariants.{NumbersSpent, NotRecoverable}
-
-either_same : (b : Bool) (x : Seated) → ((if b then x else fell x).pass.setup ≡ x.pass.setup) × (own_of (if b then x else fell x).pass ≡ own_of x.pass)
-either_same true x = (refl, refl)
-either_same false x = (refl, refl)
 
 -- a call that is answered so
 served_spent : (x y : Seated) (order : List Call) (answers : List Answer) (blocked : ℕ) (mine : List TakenStep) → ServedAll (began (ready x) Lock) order answers blocked y mine → answers ≡ SpentAnswer ∷ [] → WasSpent y.pass.setup (own_of y.pass)
@@ -20,11 +17,11 @@ served_spent x y order answers blocked mine served is = subst (WasSpent s) (sym 
     own_y : own_of y.pass ≡ own_of x.pass ++ mine
     own_y = own_now x y mine served.calls
 
-    was : (((began (ready x) Lock).pass.setup ≡ x.pass.setup) × (own_of (began (ready x) Lock).pass ≡ own_of x.pass))
-    was = either_same (is_idle (spot_now x.pass)) x
+    was : own_of (began (ready x) Lock).pass ≡ own_of x.pass
+    was = kept_ready (λ (u : Seated). own_of u.pass) x refl
 
     here : answers_from y.pass.setup (gone y.pass.setup at_rest (spelled (own_of x.pass))) mine ≡ SpentAnswer ∷ []
-    here = subst (λ (t : Setup × List TakenStep). answers_from t.0 (gone t.0 at_rest (spelled t.1)) mine ≡ SpentAnswer ∷ []) (λ i. (sym served.calls.setup i, was.1 i)) (served.answered ∙ is)
+    here = subst (λ (t : Setup × List TakenStep). answers_from t.0 (gone t.0 at_rest (spelled t.1)) mine ≡ SpentAnswer ∷ []) (λ i. (sym served.calls.setup i, was i)) (served.answered ∙ is)
 
 module _ (x y : Seated) (seq : ℕ) (value : List ℕ) (a b c d : ℕ) where
   whole_spent : (turns : ℕ) (e : LockFault) → e ≡ NumbersSpent → WholeEnds (began (ready x) Lock) turns (Append seq value) (Err e) y a b c d → WasSpent y.pass.setup (own_of y.pass)

@@ -4,6 +4,7 @@ use Rattle.robust.proofs.Common.{cases_eq, All-nil, All-cons, Kind, Word, Layout
 use Rattle.robust.proofs.Common.{Scene, at_first, last_scene, Story, onward, reading, TakenStep, Setup, cells_of, LoadsTell, AreInOrder, NobodyRuins, HasReadRuin, last_call, last_of, settles}
 use Rattle.robust.proofs.Common.{MayStart, before, taken, happenings, spelled, own, IsRun, end_of, spot_of, crash_first, Goes, by_kind, own-append, spelled-append, legal_front, spot_in_run}
 use Rattle.runs.proofs.OneStep.{run_goes, goes_back}
+use Rattle.robust.proofs.Errands.{none_in}
 use Rattle.robust.proofs.Appended.{Own, own_split, own_taken, all_at}
 use Rattle.runs.proofs.Ruins.{walk, unlocks_mended}
 
@@ -35,32 +36,26 @@ pub record Beginning (p : ℕ) (call : Call) (es : List TakenStep) (front : List
   pub front_is : front ≡ spelled earlier ++ crash_first entry.step.crashed entry.by
 
 in_before : (c : Bool) (o : Option Call) (q p : ℕ) (call : Call) (front mid : List Happening) → before c o q ≡ front ++ Begins p call ∷ mid → (q ≡ p) × (o ≡ Some call) × (front ≡ crash_first c q)
-in_before false None q p call [] mid e = absurd (cc)
-in_before false None q p call (f ∷ fs) mid e = absurd (let k : [] ≡ f ∷ (fs ++ Begins p call ∷ mid) = e in cc)
+in_before false None q p call front mid e = absurd (none_in (Begins p call) front mid e)
 in_before false (Some c) q p call [] mid e = let same : Begins q c ≡ Begins p call = cc in let a : q ≡ p = cc in let b : c ≡ call = cc in (a, ap Some b, refl)
-in_before false (Some c) q p call (f ∷ []) mid e = absurd (let k : Begins q c ∷ [] ≡ f ∷ Begins p call ∷ mid = e in cc)
-in_before false (Some c) q p call (f ∷ g ∷ fs) mid e = absurd (let k : Begins q c ∷ [] ≡ f ∷ g ∷ (fs ++ Begins p call ∷ mid) = e in cc)
+in_before false (Some c) q p call (f ∷ fs) mid e = absurd (none_in (Begins p call) fs mid (let k : Begins q c ∷ [] ≡ f ∷ (fs ++ Begins p call ∷ mid) = e in cc))
 in_before true None q p call [] mid e = absurd (let k : Falls q ∷ [] ≡ Begins p call ∷ mid = e in cc)
-in_before true None q p call (f ∷ []) mid e = absurd (let k : Falls q ∷ [] ≡ f ∷ Begins p call ∷ mid = e in cc)
-in_before true None q p call (f ∷ g ∷ fs) mid e = absurd (let k : Falls q ∷ [] ≡ f ∷ g ∷ (fs ++ Begins p call ∷ mid) = e in cc)
+in_before true None q p call (f ∷ fs) mid e = absurd (none_in (Begins p call) fs mid (let k : Falls q ∷ [] ≡ f ∷ (fs ++ Begins p call ∷ mid) = e in cc))
 in_before true (Some c) q p call [] mid e = absurd (let k : Falls q ∷ Begins q c ∷ [] ≡ Begins p call ∷ mid = e in cc)
 in_before true (Some c) q p call (f ∷ []) mid e =
     let k : Falls q ∷ Begins q c ∷ [] ≡ f ∷ Begins p call ∷ mid = e in
     let a : q ≡ p = cc in
     let b : c ≡ call = cc in
     let first : f ≡ Falls q = cc in (a, ap Some b, ap (λ x. x ∷ []) first)
-in_before true (Some c) q p call (f ∷ g ∷ []) mid e = absurd (let k : Falls q ∷ Begins q c ∷ [] ≡ f ∷ g ∷ Begins p call ∷ mid = e in cc)
-in_before true (Some c) q p call (f ∷ g ∷ h ∷ fs) mid e = absurd (let k : Falls q ∷ Begins q c ∷ [] ≡ f ∷ g ∷ h ∷ (fs ++ Begins p call ∷ mid) = e in cc)
+in_before true (Some c) q p call (f ∷ g ∷ fs) mid e = absurd (none_in (Begins p call) fs mid (let k : Falls q ∷ Begins q c ∷ [] ≡ f ∷ g ∷ (fs ++ Begins p call ∷ mid) = e in cc))
 
 not_taken : (p q : ℕ) (call : Call) (kind : Kind) (word : Word) (v : ℕ) (mid back : List Happening) → taken q kind word v ∷ [] ≡ mid ++ Begins p call ∷ back → ⊥
 not_taken p q call kind word v [] back e =
     by_kind (λ k h. h ∷ [] ≡ Begins p call ∷ back → ⊥) q word v (λ k. absurd (cc)) (λ kd k. absurd (cc)) kind e
-not_taken p q call kind word v (m ∷ []) back e = absurd (let k : taken q kind word v ∷ [] ≡ m ∷ Begins p call ∷ back = e in cc)
-not_taken p q call kind word v (m ∷ n ∷ ms) back e = absurd (let k : taken q kind word v ∷ [] ≡ m ∷ n ∷ (ms ++ Begins p call ∷ back) = e in cc)
+not_taken p q call kind word v (m ∷ ms) back e = absurd (none_in (Begins p call) ms back (let k : taken q kind word v ∷ [] ≡ m ∷ (ms ++ Begins p call ∷ back) = e in cc))
 
 begun_at : (p : ℕ) (call : Call) (es : List TakenStep) (front back : List Happening) → spelled es ≡ front ++ Begins p call ∷ back → Beginning p call es front
-begun_at p call [] [] back e = absurd (cc)
-begun_at p call [] (f ∷ fs) back e = absurd (let k : [] ≡ f ∷ (fs ++ Begins p call ∷ back) = e in cc)
+begun_at p call [] front back e = absurd (none_in (Begins p call) front back e)
 begun_at p call (x ∷ es) front back e = by (cut_at (happenings x) (spelled es) front (Begins p call) back e) (λ mid rest. begun_at p call es mid back rest)
   where
     hs : List Happening

@@ -3,12 +3,16 @@ use Rattle.std.proofs.Common.{◌≡◌, ℕ, ◌+◌, ◌<◌, Bool, true, fals
 use Rattle.robust.proofs.Common.{TableId, Reply, Call, Append, Lock, is_idle, TakenStep, LockFault, Setup, ready, spot_now, Calls, Seated, fell, began, WholeEnds, AppendFails, WholeFails, words_sent}
 use Rattle.robust.proofs.Common.{IsSending, seat_of}
 
-either_seat : (b : Bool) (x : Seated) → seat_of (if b then x else fell x) ≡ seat_of x
-either_seat true x = refl
-either_seat false x = refl
+either : {A : Type 0} (f : Seated → A) (b : Bool) (x : Seated) → f (fell x) ≡ f x → f (if b then x else fell x) ≡ f x
+either f true x same = refl
+either f false x same = same
+
+-- what a crash keeps is kept where a process is made ready for a lock
+pub kept_ready : {A : Type 0} (f : Seated → A) (x : Seated) → f (fell x) ≡ f x → f (ready x) ≡ f x
+kept_ready f x same = either f (is_idle (spot_now x.pass)) x same
 
 begun_seat : (x : Seated) → seat_of (began (ready x) Lock) ≡ seat_of x
-begun_seat x = either_seat (is_idle (spot_now x.pass)) x
+begun_seat x = kept_ready seat_of x refl
 
 calls_seat : (x y : Seated) (mine : List TakenStep) → Calls x.pass mine y.pass → seat_of y ≡ seat_of x
 calls_seat x y mine c = λ i. (c.table i, c.setup i, c.by i)

@@ -19,16 +19,19 @@ pub fn every_run_is_sound()
 }
 
 /// A load tells the word as it stands in the run's world right before it.
+#[tactic(auto, using(runs::proofs::Runs::last_reads))]
 pub fn loads_tell()
     ensures { LoadsTell }
 {}
 
 /// After every run the entries below count are the messages that the mailbox list shows, and there is room for them.
+#[tactic(auto, using(runs::proofs::Shown::runs_show))]
 pub fn runs_show()
     ensures { RunsShow }
 {}
 
 /// Entries below count never change later in a run, and count doesn't fall.
+#[tactic(auto, using(runs::proofs::Shown::entries_stand_in_runs))]
 pub fn entries_stand_in_runs()
     ensures { EntriesStandInRuns }
 {}
@@ -40,6 +43,7 @@ pub fn calls_keep_the_table()
 {}
 
 /// The own steps of an append that stores, from lock words that are all 0, come to 3n + 18 + 2W beside its blocked readings.
+#[tactic(auto, using(runs::proofs::WholeSteps::stored_append_steps))]
 pub fn steps_of_a_stored_append()
     ensures { StoredAppendSteps }
 {}

@@ -1,5 +1,5 @@
 -- How a search of all schedules ends.
-use Rattle.std.specs.Prelude.{◌≡◌, ◌≢◌, ◌⊎◌, ℕ, zero, suc, ◌≤◌, Bool, true, false, List, [], ◌∷◌, ◌++◌, codes, length, map, take, replicate, None, Result, Ok, Err}
+use Rattle.std.specs.Prelude.{◌≡◌, ◌≢◌, ◌⊎◌, ℕ, zero, suc, ◌≤◌, Bool, true, false, List, [], ◌∷◌, ◌++◌, codes, length, map, take, replicate, None, Result, Ok, Err, IsErrAnd}
 use Rattle.std.specs.Fmt.{decimal}
 use Rattle.redomail.specs.declared.layout.Layout.{Layout}
 use Rattle.rmeworld.specs.declared.call.Call.{Call}
@@ -8,7 +8,8 @@ use Rattle.rmeworld.specs.WorldState.{new_refusal}
 use Rattle.schedule.specs.Plays.{Tape, Writes}
 use Rattle.schedule.specs.Schedules.{Scheduled, spelling}
 use Rattle.schedule.specs.Texts.{line_of}
-use Rattle.explore.specs.Paths.{IsNumberOfStates}
+use Rattle.schedule.specs.Wholes.{Silent}
+use Rattle.explore.specs.Paths.{HasMoreStates, IsNumberOfStates}
 use Rattle.crashlab.specs.declared.variant.Variant.TheVariants.{Right}
 use Rattle.lock_spaces.specs.declared.moves.Move.{Move}
 use Rattle.lock_spaces.specs.SceneWords.{scene_words}
@@ -16,9 +17,10 @@ use Rattle.lock_spaces.specs.Spaces.{first_scene, line_by, rules}
 use Rattle.lock_search.specs.Finding.{IsFoundIn, IsLeast, NoneOfAtMost, NoneIsFound}
 use Rattle.schedule_commands.specs.declared.ending.Ending.{Ending}
 use Rattle.schedule_commands.specs.declared.fault.Fault.{Fault}
-use Rattle.schedule_commands.specs.declared.fault.Fault.TheVariants.{BadSize}
+use Rattle.schedule_commands.specs.declared.fault.Fault.TheVariants.{BadSize, TooManyStates}
 use Rattle.orders.specs.declared.order.ExploreOrder.{ExploreOrder}
-use Rattle.schedule_commands.specs.Statuses.{outcome, status_ended}
+use Rattle.schedule_commands.specs.Endings.{FailsToWrite}
+use Rattle.schedule_commands.specs.Statuses.{outcome}
 
 -- these, where they are asked for
 abbrev pub asked : Bool → List Call → List Call
@@ -79,10 +81,16 @@ pub record TellsNone (order : ExploreOrder) (before now : Tape) : Type 0 where
 abbrev pub IsNoSize : ExploreOrder → Type 0
 IsNoSize order = (new_refusal (layout_of order) order.limit ≡ None → ⊥) ⊎ ((1 ≤ order.width) × (order.width ≤ 8) → ⊥)
 
+-- there are more states than may be kept, and nothing was written
+pub record HasTooMany (order : ExploreOrder) (before now : Tape) : Type 0 where
+  pub more : HasMoreStates (rules scene_words) (first_scene order.variant (layout_of order) order.limit order.crashes (calls_of order)) order.states
+  pub silent : Silent before now
+
 abbrev pub ExploreEnds : ExploreOrder → Tape → Tape → Result Ending Fault → Type 0
 ExploreEnds order before now end =
     (outcome end ≡ Ok 1) × TellsLeast order before now
     ⊎ (outcome end ≡ Ok 0) × TellsNoneWithin order before now
     ⊎ (outcome end ≡ Ok 0) × TellsNone order before now
     ⊎ (outcome end ≡ Err BadSize) × IsNoSize order
-    ⊎ status_ended end ≡ 3
+    ⊎ (outcome end ≡ Err TooManyStates) × HasTooMany order before now
+    ⊎ IsErrAnd end (FailsToWrite before now)

@@ -1,6 +1,4 @@
 -- The fault of a command for that of what it calls.
-use Rattle.crashlab.specs.declared.hunt_fault.HuntFault.{HuntFault}
-use Rattle.crashlab.specs.declared.hunt_fault.HuntFault.TheVariants as of_hunt
 use Rattle.one_lock.specs.declared.lab.lab_fault.LabFault.{LabFault}
 use Rattle.one_lock.specs.declared.lab.lab_fault.LabFault.TheVariants as of_lab
 use Rattle.schedule_commands.specs.declared.fault.Fault.{Fault}
@@ -16,11 +14,6 @@ fault_of_opening of_file.OutOfMemory = OutOfMemory
 abbrev pub fault_of_saving : FileFault → Fault
 fault_of_saving of_file.Failed = Write
 fault_of_saving of_file.OutOfMemory = OutOfMemory
-
--- for that of a hunt
-abbrev pub fault_of_hunt : HuntFault → Fault
-fault_of_hunt of_hunt.OutOfMemory = OutOfMemory
-fault_of_hunt _ = BadSize
 
 -- for that of a lab
 abbrev pub fault_of_lab : LabFault → Fault

@@ -48,10 +48,11 @@ pub record SavesNone (before now : Used) : Type 0 where
   pub names : now.saved ≡ before.saved
   pub texts : now.texts ≡ before.texts
 
--- after a fault nothing was saved, but where the saving itself has failed
-abbrev pub Saves : Command → Used → Used → Result Ending Fault → Type 0
-Saves order before now (Ok ending) = SavesAll order before now ending.save
-Saves order before now (Err fault) = SavesNone before now ⊎ (status_of fault ≡ 3) × (now.saved ≡ saves_all order before.saved)
+-- after a fault nothing was saved, but where the saving itself has failed, and then no write and no flush had
+abbrev pub Saves : Command → Used → Used → Tape → Tape → Result Ending Fault → Type 0
+Saves order before now blank written (Ok ending) = SavesAll order before now ending.save
+Saves order before now blank written (Err fault) =
+    SavesNone before now ⊎ (status_of fault ≡ 3) × (now.saved ≡ saves_all order before.saved) × (written.failures ≡ blank.failures)
 
 -- ---- what is read, written and told
 
@@ -72,7 +73,7 @@ IsWhole before now (Err fault) = Unit {0}
 pub record Does (order : Command) (before now : Used) (old new : Reading) (blank written : Tape) (end : Result Ending Fault) : Type 0 where
   pub opens_all : OnOk end (now.opened ≡ opens_all order before.opened)
   pub opens_some : OpensSome order before.opened now.opened
-  pub saves : Saves order before now end
+  pub saves : Saves order before now blank written end
   pub whole : IsWhole blank written end
   pub apart : is_some (input_of order) ≡ true → new ≡ old
   pub on_input : input_of order ≡ None → EndsOnInput order old new blank written end

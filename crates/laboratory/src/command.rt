@@ -9,7 +9,6 @@ ghost use Rattle.schedule_commands.specs.Endings.{IsEnded};
 ghost use Rattle.orders.specs.FilesNamed.{save_of};
 ghost use Rattle.laboratory.specs.Programs.{Closes};
 ghost use Rattle.schedule_commands.specs.Statuses.{status_of};
-ghost use Rattle.laboratory.specs.Faults.{fault_of_hunt};
 
 use crate::exploring::explore_order;
 use crate::running::run_order;
@@ -81,16 +80,6 @@ fn write_found<W: Sink>(
     }
 }
 
-/// The fault of a hunt that came to no end.
-fn unhunted(fault: HuntFault) -> Fault
-    ensures { result ≡ fault_of_hunt fault }
-{
-    match fault {
-        HuntFault::BadRounds | HuntFault::BadSteps => Fault::BadSize,
-        HuntFault::OutOfMemory => Fault::OutOfMemory,
-    }
-}
-
 /// The schedule that a hunt finds, or that it finds none. How the hunt comes on is shown on the screen.
 pub fn hunt_order<S: Screen, W: Sink>(
     alloc: Global,
@@ -111,19 +100,21 @@ pub fn hunt_order<S: Screen, W: Sink>(
         &mut meter,
     );
     meter.end();
-    match found.map_err(unhunted)? {
-        Some(schedule) => {
+    match found {
+        Ok(Some(schedule)) => {
             write_found(alloc, order, &schedule, w)?;
             Ok(Ending {
                 status: 1,
                 save: None,
             })
         }
-        None if write_all(w, b"nothing found\n").is_err() => Err(Fault::Write),
-        None => Ok(Ending {
+        Ok(None) if write_all(w, b"nothing found\n").is_err() => Err(Fault::Write),
+        Ok(None) => Ok(Ending {
             status: 0,
             save: None,
         }),
+        Err(HuntFault::BadRounds | HuntFault::BadSteps) => Err(Fault::BadSize),
+        Err(HuntFault::OutOfMemory) => Err(Fault::OutOfMemory),
     }
 }
 

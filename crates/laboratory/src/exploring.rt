@@ -3,9 +3,8 @@
 ghost use Rattle.std.specs.Prelude.{◌≡◌, ◌++◌, ◌⊎◌, ◌∷◌, [], false, codes, length, ◌≤◌, take, replicate, IfErr, IfOk, IfSome, IsSome, OnOk, ◌↔◌};
 ghost use Rattle.std.specs.Fmt.{decimal};
 ghost use Rattle.schedule.specs.Plays.{tape, Writes};
-ghost use Rattle.schedule_commands.specs.Endings.{IsEnded};
+ghost use Rattle.schedule_commands.specs.Endings.{FailsToWrite, IsEnded};
 ghost use Rattle.laboratory.specs.Explores.{appends as appends_of, asked, all_line, calls_of as calls_asked, ExploreEnds, schedule_of as schedule_by, within_line};
-ghost use Rattle.schedule_commands.specs.Statuses.{status_of};
 ghost use Rattle.lock_spaces.specs.Spaces.{line_by};
 
 use lock_search::{Bounds, ExploreFault, Found, Move, shortest_schedule};
@@ -50,7 +49,7 @@ fn append_of(seq: u64, width: u64) -> Option<Call>
 /// Lists the appends of each number from 1 to the capacity.
 fn put_appends(calls: &mut Vec<Call>, order: &ExploreOrder) -> Result<(), Fault>
     ensures listed { OnOk result (calls.new.items ≡ calls.old.items ++ appends_of order.now.width order.now.cap) }
-    ensures failed { IfErr result (λ fault. status_of fault ≡ 3) }
+    ensures failed { IfErr result (λ fault. fault ≡ Fault.OutOfMemory) }
 {
     for seq in 0..order.cap {
         let Some(call) = append_of(seq + 1, order.width) else {
@@ -64,7 +63,7 @@ fn put_appends(calls: &mut Vec<Call>, order: &ExploreOrder) -> Result<(), Fault>
 /// The calls that are started, always in this order.
 fn calls_of(alloc: Global, order: &ExploreOrder) -> Result<Vec<Call>, Fault>
     ensures listed { IfOk result (λ calls. calls.items ≡ calls_asked order.now) }
-    ensures failed { IfErr result (λ fault. status_of fault ≡ 3) }
+    ensures failed { IfErr result (λ fault. fault ≡ Fault.OutOfMemory) }
 {
     let asked = &order.calls;
     let mut calls = Vec::new(alloc);
@@ -94,7 +93,7 @@ fn line_of_move(made: &Move) -> Line
 /// The moves as a schedule.
 fn schedule_of(alloc: Global, order: &ExploreOrder, path: &[Move]) -> Result<Schedule, Fault>
     ensures schedule { IfOk result (λ schedule. schedule ≡ schedule_by order.now path.now) }
-    ensures failed { IfErr result (λ fault. status_of fault ≡ 3) }
+    ensures failed { IfErr result (λ fault. fault ≡ Fault.OutOfMemory) }
 {
     let Ok(mut schedule) = Schedule::new(alloc, order.procs, order.limit, order.cap, order.width)
     else {
@@ -114,7 +113,7 @@ fn tell_none<W: Sink>(before: &str, number: u64, after: &str, w: &mut W) -> Resu
     ensures told { OnOk result (Writes (tape (W.taken w.old) (W.failures w.old)) (tape (W.taken w.new) (W.failures w.new)) (before.now ++ decimal number ++ after.now)) }
     ensures status { IfOk result (λ ending. ending.status ≡ 0) }
     ensures ended { IfOk result (IsEnded false (W.failures w.old) (W.failures w.new)) }
-    ensures failed { IfErr result (λ fault. status_of fault ≡ 3) }
+    ensures failed { IfErr result (FailsToWrite (tape (W.taken w.old) (W.failures w.old)) (tape (W.taken w.new) (W.failures w.new))) }
 {
     let line = line_around(before, number, after);
     if write_all(w, line.as_bytes()).is_err() {
@@ -131,7 +130,7 @@ fn tell_within<W: Sink>(moves: u64, w: &mut W) -> Result<Ending, Fault>
     ensures told { OnOk result (Writes (tape (W.taken w.old) (W.failures w.old)) (tape (W.taken w.new) (W.failures w.new)) (within_line moves)) }
     ensures status { IfOk result (λ ending. ending.status ≡ 0) }
     ensures ended { IfOk result (IsEnded false (W.failures w.old) (W.failures w.new)) }
-    ensures failed { IfErr result (λ fault. status_of fault ≡ 3) }
+    ensures failed { IfErr result (FailsToWrite (tape (W.taken w.old) (W.failures w.old)) (tape (W.taken w.new) (W.failures w.new))) }
 {
     tell_none("nothing found within ", moves, " moves\n", w)
 }
@@ -141,7 +140,7 @@ fn tell_all<W: Sink>(states: u64, w: &mut W) -> Result<Ending, Fault>
     ensures told { OnOk result (Writes (tape (W.taken w.old) (W.failures w.old)) (tape (W.taken w.new) (W.failures w.new)) (all_line states)) }
     ensures status { IfOk result (λ ending. ending.status ≡ 0) }
     ensures ended { IfOk result (IsEnded false (W.failures w.old) (W.failures w.new)) }
-    ensures failed { IfErr result (λ fault. status_of fault ≡ 3) }
+    ensures failed { IfErr result (FailsToWrite (tape (W.taken w.old) (W.failures w.old)) (tape (W.taken w.new) (W.failures w.new))) }
 {
     tell_none("nothing found: all ", states, " states\n", w)
 }

@@ -1,9 +1,10 @@
 -- How any command ends.
-use Rattle.std.specs.Prelude.{◌≡◌, ◌⊎◌, ℕ, ◌≤◌, Bool, is_some, Result, Ok, Err}
-use Rattle.schedule.specs.Wholes.{Reading}
+use Rattle.std.specs.Prelude.{◌≡◌, ◌⊎◌, ℕ, ◌+◌, ◌-◌, ◌^◌, ◌≤◌, min, Bool, is_some, Result, Ok, Err}
+use Rattle.schedule.specs.Plays.{Tape}
+use Rattle.schedule.specs.Wholes.{Reading, Silent}
 use Rattle.schedule_commands.specs.declared.ending.Ending.{Ending}
 use Rattle.schedule_commands.specs.declared.fault.Fault.{Fault}
-use Rattle.schedule_commands.specs.declared.fault.Fault.TheVariants.{Read}
+use Rattle.schedule_commands.specs.declared.fault.Fault.TheVariants.{Read, Write, OutOfMemory}
 use Rattle.schedule_commands.specs.Statuses.{status_ended}
 
 -- a device, memory or a member of a lab failed, or a search came to too many states
@@ -15,6 +16,12 @@ pub record IsEnded (saves : Bool) (before now : ℕ) (ending : Ending) : Type 0 
   pub few : ending.status ≤ 1
   pub saved : is_some ending.save ≡ saves
   pub whole : now ≡ before
+
+-- why a text was not written: memory is wanted, and nothing was; or a write has failed
+abbrev pub FailsToWrite : Tape → Tape → Fault → Type 0
+FailsToWrite before now OutOfMemory = Silent before now
+FailsToWrite before now Write = now.failures ≡ min (before.failures + 1) (2 ^ 64 - 1)
+FailsToWrite before now fault = ⊥
 
 -- where a read has failed, that is the fault
 abbrev pub TellsReads : Reading → Reading → Result Ending Fault → Type 0

@@ -5,7 +5,7 @@ ghost use Rattle.schedule.specs.Plays.{tape, Writes};
 ghost use Rattle.schedule.specs.Reports.{verdict_line};
 ghost use Rattle.schedule.specs.Schedules.{spelling};
 ghost use Rattle.schedule.specs.Wholes.{reading};
-ghost use Rattle.schedule_commands.specs.Endings.{IsEnded, TellsReads};
+ghost use Rattle.schedule_commands.specs.Endings.{FailsToWrite, IsEnded, TellsReads};
 ghost use Rattle.schedule_commands.specs.Shrinks.{ShrinkEnds, ShrinksSchedule};
 ghost use Rattle.schedule_commands.specs.Statuses.{status_of};
 
@@ -23,6 +23,7 @@ use std::alloc::Global;
 pub fn write_lines<W: Sink>(alloc: Global, schedule: &Schedule, w: &mut W) -> Result<(), Fault>
     ensures written { OnOk result (Writes (tape (W.taken w.old) (W.failures w.old)) (tape (W.taken w.new) (W.failures w.new)) (spelling schedule.now)) }
     ensures failed { IfErr result (λ fault. status_of fault ≡ 3) }
+    ensures unwritten { IfErr result (FailsToWrite (tape (W.taken w.old) (W.failures w.old)) (tape (W.taken w.new) (W.failures w.new))) }
 {
     let text = write_schedule(alloc, schedule)?;
     if write_all(w, &text).is_err() {

@@ -8,21 +8,21 @@ use Rattle.schedule_commands.specs.declared.ending.Ending.{Ending}
 use Rattle.schedule_commands.specs.declared.fault.Fault.{Fault}
 use Rattle.orders.specs.declared.order.ExploreOrder.{ExploreOrder}
 use Rattle.laboratory.specs.Explores.{ExploreEnds, calls_of, layout_of, within_line, all_line}
-use Rattle.schedule_commands.specs.Statuses.{status_of}
+use Rattle.schedule_commands.specs.Endings.{FailsToWrite}
 use Rattle.laboratory.proofs.exploring.explore_order.Goals as goal
 
 ends_within :
     (order : ExploreOrder) (before now : Tape) (r : Result Ending Fault) → NoneOfAtMost order.variant (layout_of order) order.limit order.crashes (calls_of order) order.moves
-    → OnOk r (Writes before now (within_line order.moves)) → IfOk r (λ e. e.status ≡ 0) → IfErr r (λ f. status_of f ≡ 3) → ExploreEnds order before now r
+    → OnOk r (Writes before now (within_line order.moves)) → IfOk r (λ e. e.status ≡ 0) → IfErr r (FailsToWrite before now) → ExploreEnds order before now r
 ends_within order before now (Ok e) none told status failed = inr (inl (ap Ok status, record { none = none; text = told }))
-ends_within order before now (Err f) none told status failed = inr (inr (inr (inr failed)))
+ends_within order before now (Err f) none told status failed = inr (inr (inr (inr (inr failed))))
 
 ends_all :
     (order : ExploreOrder) (before now : Tape) (states : ℕ) (r : Result Ending Fault) → NoneIsFound order.variant (layout_of order) order.limit order.crashes (calls_of order)
     → IsNumberOfStates (rules scene_words) (first_scene order.variant (layout_of order) order.limit order.crashes (calls_of order)) states
-    → OnOk r (Writes before now (all_line states)) → IfOk r (λ e. e.status ≡ 0) → IfErr r (λ f. status_of f ≡ 3) → ExploreEnds order before now r
+    → OnOk r (Writes before now (all_line states)) → IfOk r (λ e. e.status ≡ 0) → IfErr r (FailsToWrite before now) → ExploreEnds order before now r
 ends_all order before now states (Ok e) none number told status failed = inr (inr (inl (ap Ok status, record { none = none; states = states; number = number; text = told })))
-ends_all order before now states (Err f) none number told status failed = inr (inr (inr (inr failed)))
+ends_all order before now states (Err f) none number told status failed = inr (inr (inr (inr (inr failed))))
 
 pub returns-in-Ok-NoneWithin-clause-ends : goal.returns-in-Ok-NoneWithin-clause-ends
 returns-in-Ok-NoneWithin-clause-ends g c =

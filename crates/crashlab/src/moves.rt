@@ -3,9 +3,9 @@
 ghost use Rattle.std.specs.Prelude.{◌≡◌, ◌∷◌, []};
 ghost use Rattle.crashlab.specs.Found.{call_by, line_by};
 
+use lines::{Count, Line};
 use rmecore::Body;
 use rmeworld::Call;
-use schedule::{Count, Line};
 
 /// A call of a hunt.
 #[derive(Clone, Copy, Debug, PartialEq, Eq)]

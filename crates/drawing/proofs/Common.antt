@@ -9,18 +9,18 @@ pub use Rattle.rmecore.specs.declared.refusal.Refusal.{Refusal}
 pub use Rattle.redomail.specs.declared.deed.Deed.{Deed}
 pub use Rattle.judge.specs.Table.{State}
 pub use Rattle.rmeworld.specs.declared.image.Image.{Image}
-pub use Rattle.schedule.specs.declared.line.Line.{Line}
-pub use Rattle.schedule.specs.declared.line.Line.TheVariants.{Start, Step, Crash}
-pub use Rattle.schedule.specs.declared.replay_fault.ReplayFault.{ReplayFault}
-pub use Rattle.schedule.specs.declared.verdict.Verdict.{Verdict}
-pub use Rattle.schedule.specs.Hearings.{Bench, Hears, opened, bench}
-pub use Rattle.schedule.specs.Pieces.{WritesFront}
-pub use Rattle.schedule.specs.Plays.{Tape, Writes, Begins, tape, halted}
-pub use Rattle.schedule.specs.Runs.{Part, deeds_of, did, told_of, Told, Behaviour, unless, Did, behaviour}
-unfoldable pub use Rattle.schedule.specs.Runs.{steps, line_on, run_on}
-pub use Rattle.schedule.specs.Verdicts.{verdict_on}
-pub use Rattle.schedule.proofs.Heard.{hears_both, hears_none}
-pub use Rattle.schedule.proofs.Playing.{begins_further, begins_wider, begins_nothing, deeds_append, deeds_told, start_part, step_part, crash_part, is_refused}
+pub use Rattle.lines.specs.declared.line.Line.{Line}
+pub use Rattle.lines.specs.declared.line.Line.TheVariants.{Start, Step, Crash}
+pub use Rattle.trials.specs.declared.replay_fault.ReplayFault.{ReplayFault}
+pub use Rattle.trials.specs.declared.verdict.Verdict.{Verdict}
+pub use Rattle.trials.specs.Hearings.{Bench, Hears, opened, bench}
+pub use Rattle.schedule.specs.Tapes.{WritesFront, Tape, Writes, Begins, tape}
+pub use Rattle.trials.specs.Plays.{halted}
+pub use Rattle.trials.specs.Runs.{Part, deeds_of, did, told_of, Told, Behaviour, unless, Did, behaviour}
+unfoldable pub use Rattle.trials.specs.Runs.{steps, line_on, run_on}
+pub use Rattle.trials.specs.Verdicts.{verdict_on}
+pub use Rattle.trials.proofs.Heard.{hears_both, hears_none}
+pub use Rattle.trials.proofs.Playing.{begins_further, begins_wider, begins_nothing, deeds_append, deeds_told, start_part, step_part, crash_part, is_refused}
 pub use Rattle.drawing.specs.declared.act.Act.{Act}
 pub use Rattle.drawing.specs.declared.act.Row.{Row}
 pub use Rattle.drawing.specs.declared.drawing.End.{End}

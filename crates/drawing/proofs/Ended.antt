@@ -2,9 +2,9 @@
 use Rattle.std.proofs.Common.{◌≡◌, ℕ, List, [], ◌++◌, Option, Some, None, Result, Ok, Err, refl, sym, ap, subst, ◌∙◌, append_assoc}
 use Rattle.drawing.proofs.Common.{append-nil, Refusal, State, Image, ReplayFault, Verdict, Tape, Writes, Begins, Part, deeds_of, verdict_on, begins_further, begins_wider, End, Judged, Refused, Spells}
 use Rattle.drawing.proofs.Common.{Ending, Follows, IsAllFollowed, EndsAs, IsJudged}
-use Rattle.schedule.specs.declared.replay_fault.ReplayFault.TheVariants as faults
-use Rattle.schedule.specs.Replays.{Closes}
-use Rattle.schedule.specs.Reports.{IsEnd}
+use Rattle.trials.specs.declared.replay_fault.ReplayFault.TheVariants as faults
+use Rattle.trials.specs.Replays.{Closes}
+use Rattle.trials.specs.Reports.{IsEnd}
 
 -- the end of the report is not written whole
 pub not_closed : (t u : Tape) (image : Image) (verdict : Verdict) (fault : ReplayFault) → Closes {A = Unit {0}} t u image verdict (Err fault) → Ending t u image (Judged verdict) (Err fault)

@@ -2,7 +2,7 @@
 use Rattle.std.proofs.Common.{◌≡◌, ℕ, zero, suc, ◌+◌, Bool, true, false, is_some, if◌then◌else◌, List, [], ◌∷◌, ◌++◌, Option, Some, None, refl, ap, ◌∙◌}
 use Rattle.drawing.proofs.Common.{append-nil, flat_map-cons, flat_map-append, Refusal, Deed, Line, Start, Step, Crash, Part, told_of, Told, Behaviour, unless, Did, steps, line_on, run_on, Event, Took}
 use Rattle.drawing.proofs.Common.{told_in, Fell, told_by, steps_of, events_of, events_on}
-use Rattle.schedule.specs.Runs.{followed}
+use Rattle.trials.specs.Runs.{followed}
 
 pub told_cons : (e : Event) (es : List Event) → told_in (e ∷ es) ≡ told_by e ++ told_in es
 told_cons e es = flat_map-cons told_by e es

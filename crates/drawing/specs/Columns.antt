@@ -5,8 +5,8 @@ use Rattle.std.proofs.Math.ListN.{replicate}
 use Rattle.redomail.specs.declared.deed.Deed.{Deed}
 use Rattle.redomail.specs.declared.layout.Layout.{Layout}
 use Rattle.rmeworld.specs.declared.answer.Answer.{Answer}
-use Rattle.schedule.specs.Reports.{told_line, verdict_line}
-use Rattle.schedule.specs.Runs.{Did, Answered}
+use Rattle.trials.specs.Reports.{told_line, verdict_line}
+use Rattle.trials.specs.Runs.{Did, Answered}
 use Rattle.drawing.specs.declared.act.Act.{Act}
 use Rattle.drawing.specs.declared.act.Act.TheVariants.{Quiet, Fell}
 use Rattle.drawing.specs.declared.act.Row.{Row}

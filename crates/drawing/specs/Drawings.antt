@@ -2,9 +2,9 @@
 use Rattle.std.specs.Prelude.{◌≡◌, ℕ, ◌+◌, ◌-◌, ◌^◌, min, List, [], ◌∷◌, ◌++◌, length, Result, Ok, Err}
 use Rattle.std.proofs.Math.ListN.{replicate}
 use Rattle.schedule.specs.declared.head.Head.{Head}
-use Rattle.schedule.specs.declared.replay_fault.ReplayFault.{ReplayFault}
-use Rattle.schedule.specs.declared.replay_fault.ReplayFault.TheVariants.{Write, OutOfMemory}
-use Rattle.schedule.specs.Plays.{Tape, Writes, Begins}
+use Rattle.trials.specs.declared.replay_fault.ReplayFault.{ReplayFault}
+use Rattle.trials.specs.declared.replay_fault.ReplayFault.TheVariants.{Write, OutOfMemory}
+use Rattle.schedule.specs.Tapes.{Tape, Writes, Begins}
 use Rattle.drawing.specs.declared.act.Row.{Row}
 use Rattle.drawing.specs.declared.drawing.End.{End}
 use Rattle.drawing.specs.declared.phase.Phase.{Phase}

@@ -3,9 +3,9 @@ use Rattle.std.specs.Prelude.{ℕ, zero, suc, List, [], ◌∷◌, ◌++◌, is_
 use Rattle.std.specs.List.{flat_map}
 use Rattle.redomail.specs.declared.deed.Deed.{Deed}
 use Rattle.rmeworld.specs.declared.stepped.Stepped.{Stepped}
-use Rattle.schedule.specs.declared.line.Line.{Line}
-use Rattle.schedule.specs.declared.line.Line.TheVariants.{Start, Step, Crash}
-use Rattle.schedule.specs.Runs.{Told, Did, told_of, Behaviour, line_on}
+use Rattle.lines.specs.declared.line.Line.{Line}
+use Rattle.lines.specs.declared.line.Line.TheVariants.{Start, Step, Crash}
+use Rattle.trials.specs.Runs.{Told, Did, told_of, Behaviour, line_on}
 
 pub data Event : Type 0 where
   Took : ℕ → Stepped → Event

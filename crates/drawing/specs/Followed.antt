@@ -9,13 +9,13 @@ use Rattle.redomail.specs.declared.layout.Layout.{Layout}
 use Rattle.rmeworld.specs.declared.answer.Answer.{Answer}
 use Rattle.rmeworld.specs.declared.image.Image.{Image}
 use Rattle.rmeworld.specs.declared.stepped.Stepped.{Stepped}
-use Rattle.schedule.specs.declared.replay_fault.ReplayFault.{ReplayFault}
-use Rattle.schedule.specs.declared.replay_fault.ReplayFault.TheVariants.{Refused, Write, OutOfMemory}
-use Rattle.schedule.specs.declared.verdict.Verdict.{Verdict}
-use Rattle.schedule.specs.Plays.{Tape, Writes, Begins}
-use Rattle.schedule.specs.Reports.{IsEnd}
-use Rattle.schedule.specs.Runs.{Part, deeds_of}
-use Rattle.schedule.specs.Verdicts.{verdict_on}
+use Rattle.trials.specs.declared.replay_fault.ReplayFault.{ReplayFault}
+use Rattle.trials.specs.declared.replay_fault.ReplayFault.TheVariants.{Refused, Write, OutOfMemory}
+use Rattle.trials.specs.declared.verdict.Verdict.{Verdict}
+use Rattle.schedule.specs.Tapes.{Tape, Writes, Begins}
+use Rattle.trials.specs.Reports.{IsEnd}
+use Rattle.trials.specs.Runs.{Part, deeds_of}
+use Rattle.trials.specs.Verdicts.{verdict_on}
 use Rattle.drawing.specs.declared.act.Act.{Act}
 use Rattle.drawing.specs.declared.act.Act.TheVariants as acts
 use Rattle.drawing.specs.declared.act.Row.{Row}

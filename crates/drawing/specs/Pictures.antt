@@ -5,8 +5,8 @@ use Rattle.redomail.specs.declared.deed.Deed.{Deed}
 use Rattle.redomail.specs.declared.deed.Deed.TheVariants.{Outer}
 use Rattle.redomail.specs.declared.layout.Layout.{Layout}
 use Rattle.rmeworld.specs.declared.answer.Answer.{Answer}
-use Rattle.schedule.specs.Reports.{told_line, told_text}
-use Rattle.schedule.specs.Runs.{Did, Answered, told_of}
+use Rattle.trials.specs.Reports.{told_line, told_text}
+use Rattle.trials.specs.Runs.{Did, Answered, told_of}
 use Rattle.drawing.specs.declared.act.Act.{Act}
 use Rattle.drawing.specs.declared.act.Act.TheVariants.{Fell}
 use Rattle.drawing.specs.declared.act.Row.{Row}

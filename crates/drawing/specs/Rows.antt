@@ -9,9 +9,9 @@ use Rattle.redomail.specs.declared.deed.Deed.{Deed}
 use Rattle.rmeworld.specs.declared.stepped.Stepped.{Stepped}
 use Rattle.rmeworld.specs.declared.answer.Answer.{Answer}
 use Rattle.judge.specs.Table.{State}
-use Rattle.schedule.specs.declared.verdict.Verdict.{Verdict}
-use Rattle.schedule.specs.Runs.{Part, deeds_of}
-use Rattle.schedule.specs.Verdicts.{verdict_on}
+use Rattle.trials.specs.declared.verdict.Verdict.{Verdict}
+use Rattle.trials.specs.Runs.{Part, deeds_of}
+use Rattle.trials.specs.Verdicts.{verdict_on}
 use Rattle.drawing.specs.declared.act.Act.{Act}
 use Rattle.drawing.specs.declared.act.Act.TheVariants.{Quiet, Telling, Fell}
 use Rattle.drawing.specs.declared.act.Row.{Row}

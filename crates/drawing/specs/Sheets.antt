@@ -4,8 +4,8 @@ use Rattle.redomail.specs.declared.deed.Deed.{Deed}
 use Rattle.redomail.specs.declared.layout.Layout.{Layout}
 use Rattle.rmecore.specs.Simulated.{one_more}
 use Rattle.schedule.specs.declared.head.Head.{Head}
-use Rattle.schedule.specs.declared.verdict.Verdict.{Verdict}
-use Rattle.schedule.specs.declared.verdict.Verdict.TheVariants.{Fine, Against}
+use Rattle.trials.specs.declared.verdict.Verdict.{Verdict}
+use Rattle.trials.specs.declared.verdict.Verdict.TheVariants.{Fine, Against}
 use Rattle.drawing.specs.declared.act.Row.{Row}
 use Rattle.drawing.specs.declared.drawing.End.{End}
 use Rattle.drawing.specs.declared.drawing.End.TheVariants.{Judged, Refused}

@@ -4,15 +4,15 @@ ghost use Rattle.std.specs.Prelude.{◌≡◌, ◌≤◌, ◌<◌, ◌-◌, ◌^
 ghost use Rattle.drawing.specs.declared.act.Act.TheVariants.{Quiet as ActQuiet};
 ghost use Rattle.drawing.specs.Events.{Took, Fell, steps_of, events_of, events_on};
 ghost use Rattle.drawing.specs.Rows.{events_in, quiet, Adds, Plays, PlaysOn, Notes};
-ghost use Rattle.schedule.specs.declared.line.Line.TheVariants.{Crash as LineCrash};
-ghost use Rattle.schedule.specs.Runs.{behaviour, steps, line_on, run_on};
+ghost use Rattle.lines.specs.declared.line.Line.TheVariants.{Crash as LineCrash};
+ghost use Rattle.trials.specs.Runs.{behaviour, steps, line_on, run_on};
 
 use crate::act::{Act, Row};
 use crate::blocked::is_blocked_again;
 use crate::stop::Stop;
+use lines::Line;
 use rmecore::Happened;
 use rmeworld::{Machine, Stepped};
-use schedule::Line;
 
 /// How often the row was taken, if it is this blocked step and can be counted once more.
 fn times_of(row: &Row, p: u64, happened: &Happened) -> Option<u64>

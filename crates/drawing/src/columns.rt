@@ -8,11 +8,11 @@ use crate::bars::{put_bars, put_columns, put_heads};
 use crate::drawing::End;
 use crate::paging::{put_around, put_text};
 use crate::phase::Phase;
+use lines::answer::{put_answer, put_deed};
 use redomail::{Deed, Layout};
 use rmeworld::Answer;
-use schedule::answer::{put_answer, put_deed};
-use schedule::put_verdict;
 use std::alloc::AllocError;
+use trials::put_verdict;
 
 fn lead(marked: bool) -> &'static [u8]
     ensures { result.now ≡ lead_in marked }

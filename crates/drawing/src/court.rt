@@ -3,16 +3,16 @@
 ghost use Rattle.std.specs.Prelude.{◌≡◌};
 ghost use Rattle.judge.specs.Stands.{Keeps};
 ghost use Rattle.judge.specs.Table.{State};
-ghost use Rattle.schedule.specs.Runs.{deeds_of, did};
-ghost use Rattle.schedule.specs.Hearings.{bench, Hears};
-ghost use Rattle.schedule.specs.Verdicts.{verdict_on as verdict_of};
+ghost use Rattle.trials.specs.Runs.{deeds_of, did};
+ghost use Rattle.trials.specs.Hearings.{bench, Hears};
+ghost use Rattle.trials.specs.Verdicts.{verdict_on as verdict_of};
 ghost use Rattle.drawing.specs.Events.{told_in};
 ghost use Rattle.drawing.specs.Rows.{deed_of, events_in};
 
 use crate::act::Row;
 use judge::Judge;
-use schedule::Verdict;
-use schedule::hearing::Hearing;
+use trials::Verdict;
+use trials::hearing::Hearing;
 
 /// Hears the judge on the deed that a row is, if it is one.
 fn hear(hearing: &mut Hearing, judge: &mut Judge, row: &Row)

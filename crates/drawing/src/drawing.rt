@@ -3,7 +3,7 @@
 ghost use Rattle.std.specs.Prelude.{◌≡◌, IfOk};
 ghost use Rattle.judge.specs.Stands.{Keeps};
 ghost use Rattle.judge.specs.Table.{State};
-ghost use Rattle.schedule.specs.Runs.{behaviour, run_on};
+ghost use Rattle.trials.specs.Runs.{behaviour, run_on};
 ghost use Rattle.schedule.specs.Schedules.{head_of};
 ghost use Rattle.drawing.specs.Events.{events_on, told_in};
 ghost use Rattle.drawing.specs.Rows.{events_in, EndsAs, IsEndOf, IsJudged};
@@ -16,8 +16,9 @@ use crate::stop::Stop;
 use judge::Judge;
 use rmeworld::Machine;
 use schedule::head::Head;
-use schedule::{OutOfMemory, Schedule, Verdict};
+use schedule::{OutOfMemory, Schedule};
 use std::alloc::Global;
+use trials::Verdict;
 
 /// How a run ends that is drawn.
 #[derive(Clone, Copy, Debug, PartialEq, Eq)]

@@ -4,8 +4,8 @@ ghost use Rattle.std.specs.Prelude.{◌≡◌, ◌++◌, OnOk, get_or, map};
 ghost use Rattle.std.proofs.Math.ListN.{replicate};
 ghost use Rattle.judge.specs.Stands.{Keeps};
 ghost use Rattle.judge.specs.Table.{State};
-ghost use Rattle.schedule.specs.Plays.{tape};
-ghost use Rattle.schedule.specs.Runs.{behaviour, run_on};
+ghost use Rattle.schedule.specs.Tapes.{tape};
+ghost use Rattle.trials.specs.Runs.{behaviour, run_on};
 ghost use Rattle.schedule.specs.Schedules.{head_of};
 ghost use Rattle.drawing.specs.Drawings.{Spells};
 ghost use Rattle.drawing.specs.Events.{Took, events_on};
@@ -26,9 +26,10 @@ use judge::Judge;
 use redomail::Layout;
 use rmeworld::{Machine, Stepped};
 use schedule::device::write_all;
-use schedule::replaying::close;
-use schedule::{ReplayFault, Schedule, Sink, Verdict};
+use schedule::{Schedule, Sink};
 use std::alloc::{AllocError, Global};
+use trials::replaying::close;
+use trials::{ReplayFault, Verdict};
 
 /// A step as a row of its own.
 fn row_of(p: u64, step: &Stepped) -> Row

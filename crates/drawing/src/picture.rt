@@ -8,9 +8,9 @@ use crate::lifelines::{far_from, put_group, put_group_end, put_lifeline_if, x_of
 use crate::paging::{put_around, put_text};
 use crate::phase::phase_shown;
 use crate::signs::put_sign;
+use lines::answer::{put_answer, put_deed};
 use redomail::{Deed, Layout};
 use rmeworld::Answer;
-use schedule::answer::{put_answer, put_deed};
 use std::alloc::AllocError;
 
 /// Writes what a row tells.

@@ -6,8 +6,8 @@ ghost use Rattle.drawing.specs.Drawings.{sheet_of as sheet_for};
 
 use crate::drawing::{Drawing, End};
 use redomail::Layout;
-use schedule::Verdict;
 use schedule::head::Head;
+use trials::Verdict;
 
 /// How a drawing is spelled.
 #[derive(Clone, Copy, Debug, PartialEq, Eq)]

@@ -1,7 +1,7 @@
 //! Writing a drawing.
 
 ghost use Rattle.std.specs.Prelude.{◌≡◌, ◌++◌, OnOk};
-ghost use Rattle.schedule.specs.Plays.{tape};
+ghost use Rattle.schedule.specs.Tapes.{tape};
 ghost use Rattle.drawing.specs.Drawings.{end_in, row_spelled, rows_spelled, sheet_of as sheet_for, spelled, spelled_from, Spells, top_in};
 
 use crate::act::Row;
@@ -11,9 +11,10 @@ use crate::pen::Pen;
 use crate::phase::Phase;
 use crate::sheet::{Sheet, Style, sheet_of};
 use crate::{columns, frame, picture};
+use schedule::Sink;
 use schedule::device::write_all;
-use schedule::{ReplayFault, Sink};
 use std::alloc::{AllocError, Global};
+use trials::ReplayFault;
 
 /// Writes a row, where the pen has taken it.
 fn put_row(out: &mut Vec<u8>, sheet: &Sheet, pen: &Pen, row: &Row) -> Result<(), AllocError>

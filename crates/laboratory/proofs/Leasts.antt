@@ -1,7 +1,7 @@
 -- Schedules that are made least and written.
 use Rattle.std.proofs.Common.{true, Some, Result, Ok, Err, OnOk}
 use Rattle.crashlab.specs.declared.variant.Variant.{Variant}
-use Rattle.schedule.specs.Plays.{Tape, Writes}
+use Rattle.schedule.specs.Tapes.{Tape, Writes}
 use Rattle.schedule.specs.Schedules.{Scheduled, spelling}
 use Rattle.shrinking.specs.Shrunk.{Shrinks}
 use Rattle.laboratory.specs.Commands.{TellsFound}

@@ -5,11 +5,11 @@ use Rattle.redomail.specs.declared.layout.Layout.{Layout}
 use Rattle.rmeworld.specs.declared.call.Call.{Call}
 use Rattle.rmeworld.specs.declared.call.Call.TheVariants as call
 use Rattle.rmeworld.specs.WorldState.{new_refusal}
-use Rattle.schedule.specs.Plays.{Tape, Writes}
+use Rattle.schedule.specs.Tapes.{Tape, Writes}
 use Rattle.schedule.specs.Schedules.{Scheduled, spelling}
-use Rattle.schedule.specs.Texts.{line_of}
-use Rattle.schedule.specs.Wholes.{Silent}
+use Rattle.trials.specs.Wholes.{Silent}
 use Rattle.explore.specs.Paths.{HasMoreStates, IsNumberOfStates}
+use Rattle.lines.specs.Words.{line_of}
 use Rattle.crashlab.specs.declared.variant.Variant.TheVariants.{Right}
 use Rattle.lock_spaces.specs.declared.moves.Move.{Move}
 use Rattle.lock_spaces.specs.SceneWords.{scene_words}

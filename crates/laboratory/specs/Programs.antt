@@ -1,11 +1,11 @@
 -- What the program does with files, and when it speaks on standard error.
 use Rattle.std.specs.Prelude.{◌≡◌, ◌≤◌, ◌⊎◌, ℕ, List, ◌++◌, [], true, false, String, string_bytes, Vec, Option, None, is_some, option_to_list, Result, Ok, Err, OnOk}
 use Rattle.std.specs.declared.alloc.Global.{Global}
-use Rattle.schedule.specs.Plays.{Tape, Writes}
-use Rattle.schedule.specs.Wholes.{Reading, reading}
 use Rattle.schedule_commands.specs.declared.ending.Ending.{Ending}
 use Rattle.schedule_commands.specs.declared.fault.Fault.{Fault}
 use Rattle.schedule_commands.specs.declared.fault.Fault.TheVariants.{BadVariant, BadSize, Write, OutOfMemory}
+use Rattle.schedule.specs.Tapes.{Tape, Writes}
+use Rattle.trials.specs.Wholes.{Reading, reading}
 use Rattle.orders.specs.declared.order.Command.{Command}
 use Rattle.orders.specs.declared.words.WordsFault.{WordsFault}
 use Rattle.orders.specs.declared.words.WordsFault.TheVariants as words

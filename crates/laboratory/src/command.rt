@@ -2,10 +2,10 @@
 
 ghost use Rattle.std.specs.Prelude.{◌≡◌, Result, IfErr, IfOk, OnOk, is_some, true, false};
 ghost use Rattle.crashlab.specs.Hunts.{IsFound};
-ghost use Rattle.schedule.specs.Plays.{tape};
-ghost use Rattle.schedule.specs.Wholes.{reading};
 ghost use Rattle.laboratory.specs.Commands.{CommandEnds, ExplainEnds, HuntEnds, JudgeEnds, TellsFound};
 ghost use Rattle.schedule_commands.specs.Endings.{IsEnded};
+ghost use Rattle.schedule.specs.Tapes.{tape};
+ghost use Rattle.trials.specs.Wholes.{reading};
 ghost use Rattle.orders.specs.FilesNamed.{save_of};
 ghost use Rattle.laboratory.specs.Programs.{Closes};
 ghost use Rattle.schedule_commands.specs.Statuses.{status_of};
@@ -18,17 +18,18 @@ use meanings::{Topic, tell_all_names, tell_topic};
 use orders::order::{Command, HuntOrder};
 use progress::{Meter, Screen, Work};
 use schedule::device::write_all;
-use schedule::{Schedule, Sink, Source, judge_trace, put_verdict};
 use schedule_commands::drawn::draw_order;
 use schedule_commands::ending::{Ending, status_after_verdict};
 use schedule_commands::fault::Fault;
 use schedule_commands::line::told;
 use schedule_commands::replaying::replay_order;
 use schedule_commands::shrunk::{shrink_order, write_lines};
+use schedule::{Schedule, Sink, Source};
 use shrinking::shrink_found;
 use std::alloc::Global;
 use std::sync::Wait;
 use std::thread::Threads;
+use trials::{judge_trace, put_verdict};
 
 /// The verdict line of a trace.
 fn judge_order<R: Source, W: Sink>(alloc: Global, r: &mut R, w: &mut W) -> Result<Ending, Fault>

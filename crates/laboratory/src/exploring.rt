@@ -2,23 +2,24 @@
 
 ghost use Rattle.std.specs.Prelude.{◌≡◌, ◌++◌, ◌⊎◌, ◌∷◌, [], false, codes, length, ◌≤◌, take, replicate, IfErr, IfOk, IfSome, IsSome, OnOk, ◌↔◌};
 ghost use Rattle.std.specs.Fmt.{decimal};
-ghost use Rattle.schedule.specs.Plays.{tape, Writes};
 ghost use Rattle.schedule_commands.specs.Endings.{FailsToWrite, IsEnded};
+ghost use Rattle.schedule.specs.Tapes.{Writes, tape};
 ghost use Rattle.laboratory.specs.Explores.{appends as appends_of, asked, all_line, calls_of as calls_asked, ExploreEnds, schedule_of as schedule_by, within_line};
 ghost use Rattle.lock_spaces.specs.Spaces.{line_by};
 
 use lock_search::{Bounds, ExploreFault, Found, Move, shortest_schedule};
+use lines::{Count, Line};
 use orders::order::ExploreOrder;
 use progress::{Meter, Screen, Work};
 use redomail::Layout;
 use rmecore::Body;
 use rmeworld::Call;
 use schedule::device::write_all;
-use schedule::{Count, Line, Schedule, Sink};
 use schedule_commands::ending::Ending;
 use schedule_commands::fault::Fault;
 use schedule_commands::line::line_around;
 use schedule_commands::shrunk::write_lines;
+use schedule::{Schedule, Sink};
 use std::alloc::{AllocError, Global};
 
 /// Lists a call, where it is asked for.

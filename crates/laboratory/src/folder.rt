@@ -2,7 +2,7 @@
 
 ghost use Rattle.std.specs.Prelude.{◌≡◌, ◌++◌, ◌∷◌, ℕ, List, [], false, IfOk, String, Vec};
 ghost use Rattle.std.specs.declared.alloc.Global.{Global};
-ghost use Rattle.schedule.specs.Wholes.{reading};
+ghost use Rattle.trials.specs.Wholes.{reading};
 
 use schedule::Source;
 

@@ -1,9 +1,9 @@
 //! The whole program, over its words, a folder of files, its input and its two outputs.
 
 ghost use Rattle.std.specs.Prelude.{◌≡◌, ◌⊎◌, ◌++◌, ◌∷◌, [], true, None, is_some, option_to_list, IfErr, IfOk, OnOk};
-ghost use Rattle.schedule.specs.Plays.{tape, Writes};
-ghost use Rattle.schedule.specs.Wholes.{reading};
 ghost use Rattle.schedule_commands.specs.Endings.{IsEnded};
+ghost use Rattle.schedule.specs.Tapes.{Writes, tape};
+ghost use Rattle.trials.specs.Wholes.{reading};
 ghost use Rattle.orders.specs.FilesNamed.{image_of, input_of, save_of};
 ghost use Rattle.schedule_commands.specs.Lines.{IsTold};
 ghost use Rattle.laboratory.specs.Programs.{Answers, Closes, Does, EndsOnFile, EndsOnInput, Helps, IsProgram, Obeys, opens_all, OpensSome, SavesAll, Scolds, used};
@@ -17,7 +17,6 @@ use orders::order::Command;
 use orders::words::{WordsFault, read_words};
 use progress::Screen;
 use schedule::device::write_all;
-use schedule::pieces::read_all;
 use schedule::{Failed, FromReader, Sink, Source, ToWriter};
 use schedule_commands::ending::Ending;
 use schedule_commands::fault::Fault;
@@ -27,6 +26,7 @@ use std::io::{BufWriter, Read, Write};
 use std::process::ExitCode;
 use std::sync::Wait;
 use std::thread::Threads;
+use trials::pieces::read_all;
 
 /// The fault of a file that was not opened.
 fn unopened(fault: FileFault) -> Fault

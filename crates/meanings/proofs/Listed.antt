@@ -7,7 +7,7 @@ use Rattle.rmecore.specs.declared.kind.Kind.TheVariants as kinds
 use Rattle.rmecore.specs.declared.refusal.Refusal.TheVariants as refusals
 use Rattle.redomail.specs.declared.reply.Reply.TheVariants as replies
 use Rattle.rmeworld.specs.declared.answer.Answer.TheVariants as answers
-use Rattle.schedule.specs.declared.fault.LineFault.TheVariants as lines
+use Rattle.lines.specs.declared.fault.LineFault.TheVariants as lines
 use Rattle.meanings.specs.declared.rule.Rule.TheVariants as rules
 use Rattle.meanings.specs.declared.topic.Topic.{Topic}
 use Rattle.meanings.specs.declared.topic.Topic.TheVariants.{Fault, Refused, Rule, Against, Answer, Step}

@@ -9,9 +9,9 @@ use Rattle.rmecore.specs.Refused.{number_of as number_of_refusal}
 use Rattle.redomail.specs.declared.reply.Reply.{Reply}
 use Rattle.redomail.specs.declared.reply.Reply.TheVariants as replies
 use Rattle.rmeworld.specs.declared.answer.Answer.TheVariants as answers
-use Rattle.schedule.specs.Answers.{words_of_answer, words_of_reply}
-use Rattle.schedule.specs.Numbers.{number_of as number_of_line}
-use Rattle.schedule.specs.Verdicts.{number_of_fault}
+use Rattle.lines.specs.Answers.{words_of_answer, words_of_reply}
+use Rattle.lines.specs.Numbers.{number_of as number_of_line}
+use Rattle.trials.specs.Verdicts.{number_of_fault}
 use Rattle.meanings.specs.declared.rule.Rule.{Rule}
 use Rattle.meanings.specs.declared.rule.Rule.TheVariants as rules
 use Rattle.meanings.specs.declared.topic.Topic.{Topic}

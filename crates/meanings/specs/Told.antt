@@ -1,7 +1,7 @@
 -- What is written of a topic.
 use Rattle.std.specs.Prelude.{◌≡◌, ℕ, List, [], ◌∷◌, ◌++◌, codes}
 use Rattle.std.specs.List.{flat_map}
-use Rattle.schedule.specs.Plays.{Tape, Writes}
+use Rattle.schedule.specs.Tapes.{Tape, Writes}
 use Rattle.meanings.specs.declared.meaning.Meaning.{Meaning}
 use Rattle.meanings.specs.declared.topic.Topic.{Topic}
 use Rattle.meanings.specs.Names.{name_of}

@@ -1,7 +1,7 @@
 //! What topics mean, written to a sink.
 
 ghost use Rattle.std.specs.Prelude.{◌≡◌, ◌+◌, ◌-◌, ◌^◌, min, OnOk, OnErr};
-ghost use Rattle.schedule.specs.Plays.{tape, Writes};
+ghost use Rattle.schedule.specs.Tapes.{tape, Writes};
 ghost use Rattle.meanings.specs.Told.{list_of, meaning_text, TellsTopic};
 ghost use Rattle.meanings.specs.declared.topic.TheConstants.{TOPICS as all_topics};
 

@@ -6,8 +6,8 @@ ghost use Rattle.meanings.specs.Names.{name_of};
 
 use crate::meaning::Meaning;
 use crate::rule::Rule;
+use lines::LineFault;
 use rmecore::Fault;
-use schedule::LineFault;
 
 const NO_HEADER: &str =
     "The first line is no header, or there is no line at all. A schedule begins with `rme 1 procs N limit L cap C` and a \

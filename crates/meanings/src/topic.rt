@@ -5,10 +5,10 @@ ghost use Rattle.meanings.specs.Names.{name_of};
 
 use crate::meaning::meaning_of;
 use crate::rule::Rule;
+use lines::LineFault;
 use redomail::Reply;
 use rmecore::{Fault, Found, Kind, Refusal};
 use rmeworld::Answer;
-use schedule::LineFault;
 
 /// What there is to explain. A number or a process beside it is no part of its name.
 #[derive(Clone, Copy, Debug, PartialEq, Eq)]

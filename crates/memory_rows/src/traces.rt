@@ -1,9 +1,10 @@
 //! Judging a trace holds one line of it: a long trace meets as many refusals of memory as a short one.
 
 use scarcity::{PIECES, Scarce};
-use schedule::{ReplayFault, Text, Verdict, judge_trace};
+use schedule::Text;
 use std::alloc::{AllocError, Global};
 use std::test::Fail;
+use trials::{ReplayFault, Verdict, judge_trace};
 
 const IN_ORDER: &[u8] = b"trace 1 procs 2 cap 1
 begin 0

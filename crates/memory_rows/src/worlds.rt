@@ -4,10 +4,11 @@ use imaging::{read_image, write_image};
 use rmecore::Refusal;
 use rmeworld::{Call, Image, World};
 use scarcity::{PIECES, Scarce};
-use schedule::{ReplayFault, Text, ToWriter, Verdict, replay};
+use schedule::{Text, ToWriter};
 use std::alloc::Global;
 use std::io::Cursor;
 use std::test::Fail;
+use trials::{ReplayFault, Verdict, replay};
 
 #[test]
 fn a_new_world(rt: HostRuntime) -> Result<(), Fail> {

@@ -2,10 +2,11 @@
 //! on the simulated side alone, so that a first proved report takes few minutes.
 #![tactic(auto)]
 
-use schedule::{FromReader, ReplayFault, ToWriter, replay};
+use schedule::{FromReader, ToWriter};
 use std::alloc::Global;
 use std::io::{self, BufReader, BufWriter};
 use std::process::ExitCode;
+use trials::{ReplayFault, replay};
 
 /// Replays what standard input gives to standard output.
 fn report<R: Input + Print>(rt: &R, alloc: Global) -> Result<(), ReplayFault> {

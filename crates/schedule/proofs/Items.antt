@@ -32,24 +32,23 @@ module _ {A : Type 0} (item : List (List ℕ) → Result A LineFault) where
       = rw (items_at-cut k bytes line after e, read) (regroup front x (items_at item (k + 1) (parts_of after))) in
       sym one ∙ so_far
 
-  pub items_stop : (front : List A) (k : ℕ) (bytes line after : List ℕ) (f : LineFault) (total : Result (List A) (ℕ × LineFault))
-      → parts_of bytes ≡ line ∷ parts_of after → item (words_of line) ≡ Err f
-      → with_items front (items_at item k (parts_of bytes)) ≡ total → total ≡ Err (k, f)
-  items_stop front k bytes line after f total e read so_far =
-      let one : with_items front (items_at item k (parts_of bytes)) ≡ Err (k, f) = rw (items_at-cut k bytes line after e, read) refl in
-      sym so_far ∙ one
+  pub cut_fails : (k : ℕ) (text line after : List ℕ) (f : LineFault) → parts_of text ≡ line ∷ parts_of after → item (words_of line) ≡ Err f → items_at item k (parts_of text) ≡ Err (k, f)
+  cut_fails k text line after f parts says = rw (items_at-cut k text line after parts, says) refl
 
-  pub items_break : (front : List A) (k : ℕ) (bytes : List ℕ) (total : Result (List A) (ℕ × LineFault))
-      → parts_of bytes ≡ bytes ∷ [] → 0 < length bytes
-      → with_items front (items_at item k (parts_of bytes)) ≡ total → total ≡ Err (k, NoNewline)
+  pub uncut_fails : (k : ℕ) (text : List ℕ) → parts_of text ≡ text ∷ [] → 0 < length text → items_at item k (parts_of text) ≡ Err (k, NoNewline)
   unfolding items_at
-  items_break front k bytes total e lt so_far =
-      let some : eqb (length bytes) 0 ≡ false = ne_eqb (length bytes) 0 (λ z. omega arith) in
-      let one : with_items front (items_at item k (parts_of bytes)) ≡ Err (k, NoNewline) = rw e (rw some refl) in
-      sym so_far ∙ one
+  uncut_fails k text parts some =
+      let isnt : eqb (length text) 0 ≡ false = ne_eqb (length text) 0 (λ z. omega arith) in
+      rw parts (rw isnt refl)
 
-  pub items_end : (front : List A) (k : ℕ) (bytes : List ℕ) (total : Result (List A) (ℕ × LineFault)) → length bytes ≡ 0
-      → with_items front (items_at item k (parts_of bytes)) ≡ total → total ≡ Ok front
+  pub empty_reads : (k : ℕ) (text : List ℕ) → length text ≡ 0 → items_at item k (parts_of text) ≡ Ok []
   unfolding items_at
-  items_end front k [] total e so_far = sym so_far ∙ ap (λ (ys : List A). Ok ys) (append-nil front)
-  items_end front k (b ∷ bytes) total e so_far = absurd (omega arith)
+  empty_reads k [] e = refl
+  empty_reads k (b ∷ text) e = absurd (omega arith)
+
+  -- what is still read fails, or is empty
+  pub items_stop : (front : List A) (read total : Result (List A) (ℕ × LineFault)) (f : ℕ × LineFault) → read ≡ Err f → with_items front read ≡ total → total ≡ Err f
+  items_stop front read total f fails so_far = sym so_far ∙ rw fails refl
+
+  pub items_end : (front : List A) (k : ℕ) (text : List ℕ) (total : Result (List A) (ℕ × LineFault)) → length text ≡ 0 → with_items front (items_at item k (parts_of text)) ≡ total → total ≡ Ok front
+  items_end front k text total none so_far = sym so_far ∙ rw (empty_reads k text none) (ap (λ (ys : List A). Ok ys) (append-nil front))

@@ -1,17 +1,13 @@
 -- A whole text: what is read is spelled so, and what is spelled so is read.
 use Rattle.std.proofs.Common.{◌≡◌, ℕ, ◌+◌, ◌==◌, Bool, true, false, cond, List, [], ◌∷◌, ◌++◌, length, Result, Ok, Err, IfOk, refl, sym, ap, subst, ◌∙◌, append_assoc, eqb-true}
-use Rattle.schedule.proofs.Common.{nil_from_length, flat_map-cons, join_with_byte-slice_split, join_with_byte, AllByRecursion, flat_map, LineFault, NoNewline, TextFault, parts_of, line_of, on_line}
-use Rattle.schedule.proofs.Common.{Gives, text_at, items_at, words_of, ◌>>=◌}
-use Rattle.schedule.proofs.Places.{bind_ok, ok_is, taken}
-use Rattle.schedule.proofs.Joins.{ArePlain, words_of-join, parts_of-line}
+use Rattle.schedule.proofs.Common.{join_with_byte-slice_split, join_with_byte, AllByRecursion, flat_map, LineFault, NoNewline, TextFault, parts_of, line_of, on_line, Gives, text_at, items_at}
+use Rattle.schedule.proofs.Common.{words_of, ◌>>=◌}
+use Rattle.std.proofs.lemmas.List.{nil_from_length}
+use Rattle.std.proofs.lemmas.List.Concat.{flat_map-cons}
+use Rattle.lines.proofs.Places.{bind_ok, ok_is, taken}
+use Rattle.lines.proofs.Joins.{IsCodec, words_of-join, parts_of-line}
 use Rattle.schedule.proofs.Items.{items_at-cut}
 use Rattle.schedule.proofs.Wholes.{text_at-cut}
-
--- reading and spelling that belong together
-pub record IsCodec (A : Type 0) (read : List (List ℕ) → Result A LineFault) (words : A → List (List ℕ)) (Valid : A → Type 0) : Type 0 where
-  pub takes : (ws : List (List ℕ)) (x : A) → read ws ≡ Ok x → (ws ≡ words x) × Valid x
-  pub again : (x : A) → Valid x → read (words x) ≡ Ok x
-  pub plain : (x : A) → Valid x → ArePlain (words x)
 
 on_line_ok : {A : Type 0} (k : ℕ) (r : Result A LineFault) (x : A) → on_line k r ≡ Ok x → r ≡ Ok x
 on_line_ok k (Ok y) x e = let is : y ≡ x = ok_is {E = ℕ × LineFault} y x e in ap (λ z. Ok z) is

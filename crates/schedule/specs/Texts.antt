@@ -1,19 +1,10 @@
 -- A text is lines: the first says what the text is of, and each other is an item. The first faulty line gives the fault.
-use Rattle.std.specs.Prelude.{◌≡◌, ℕ, ◌+◌, ◌==◌, List, [], ◌∷◌, ◌++◌, length, Result, Ok, Err, if◌then◌else◌}
-use Rattle.std.specs.List.{slice_split, join_with_byte}
-use Rattle.schedule.specs.declared.fault.LineFault.{LineFault}
-use Rattle.schedule.specs.declared.fault.LineFault.TheVariants.{NoHeader, NoNewline}
+use Rattle.std.specs.Prelude.{◌≡◌, ℕ, ◌+◌, ◌==◌, List, [], ◌∷◌, length, Result, Ok, Err, if◌then◌else◌}
+use Rattle.lines.specs.declared.fault.LineFault.{LineFault}
+use Rattle.lines.specs.declared.fault.LineFault.TheVariants.{NoHeader, NoNewline}
 use Rattle.schedule.specs.declared.fault.TextFault.{TextFault}
 use Rattle.schedule.specs.declared.fault.TextFault.TheVariants as faults
-use Rattle.schedule.specs.Words.{words_of, ◌>>=◌}
-
--- a line of these words, with a space between two, and LF
-abbrev pub line_of : List (List ℕ) → List ℕ
-line_of ws = join_with_byte 32 ws ++ 10 ∷ []
-
--- the parts of a text, which is cut at every LF: its lines, and what stands after the last LF
-abbrev pub parts_of : List ℕ → List (List ℕ)
-parts_of text = slice_split (λ b. b == 10) text
+use Rattle.lines.specs.Words.{words_of, ◌>>=◌}
 
 -- a fault, with the number of its line
 abbrev pub on_line : {A : Type 0} → ℕ → Result A LineFault → Result A (ℕ × LineFault)

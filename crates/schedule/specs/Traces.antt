@@ -1,13 +1,13 @@
 -- Traces as texts.
 use Rattle.std.specs.Prelude.{ℕ, List, [], ◌∷◌, ◌++◌, Result, Ok, codes, slice_index, slice_index_or}
 use Rattle.std.specs.List.{AllByRecursion, flat_map}
-use Rattle.schedule.specs.declared.fault.LineFault.{LineFault}
+use Rattle.lines.specs.declared.fault.LineFault.{LineFault}
 use Rattle.redomail.specs.declared.deed.Deed.{Deed}
 use Rattle.schedule.specs.declared.trace.TraceHead.{TraceHead}
-use Rattle.schedule.specs.Words.{◌>>=◌}
+use Rattle.lines.specs.Words.{◌>>=◌, line_of, parts_of}
 use Rattle.schedule.specs.Headers.{Form, IsHeader, words_of_header, header_at}
-use Rattle.schedule.specs.Deeds.{words_of_deed, IsDeed, deed_at}
-use Rattle.schedule.specs.Texts.{line_of, parts_of, text_at}
+use Rattle.lines.specs.Deeds.{words_of_deed, IsDeed, deed_at}
+use Rattle.schedule.specs.Texts.{text_at}
 
 -- a trace without where it lies in memory
 pub record Traced : Type 0 where

@@ -1,7 +1,7 @@
 //! Bytes that come and bytes that go.
 
 ghost use Rattle.std.specs.Prelude.{◌≡◌, ◌+◌, ◌-◌, ◌^◌, ◌<◌, ◌≤◌, ◌++◌, List, ℕ, Bool, true, false, [], length, take, OnOk, OnErr, IfOk, IfErr, min};
-ghost use Rattle.schedule.specs.Pieces.{WritesFront};
+ghost use Rattle.schedule.specs.Tapes.{WritesFront};
 
 use std::alloc::{AllocError, Global};
 use thiserror::Error;

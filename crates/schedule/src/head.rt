@@ -1,14 +1,13 @@
 //! The first line of a schedule.
 
 ghost use Rattle.std.specs.Prelude.{◌≡◌, ◌≤◌, IfOk};
-ghost use Rattle.schedule.specs.Words.{Reads, words_of};
+ghost use Rattle.lines.specs.Words.{Reads, words_of};
 ghost use Rattle.schedule.specs.Schedules.{head_at};
 
-use crate::fault::LineFault;
-use crate::item::Heading;
-use crate::line::Line;
-use crate::number::{number, number_from};
-use crate::words::Words;
+use crate::whole::Heading;
+use lines::number::{number, number_from};
+use lines::words::Words;
+use lines::{Line, LineFault};
 
 /// What the first line says.
 #[derive(Clone, Copy, Debug, PartialEq, Eq)]

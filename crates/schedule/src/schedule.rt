@@ -1,14 +1,14 @@
 //! Schedules and their texts.
 
 ghost use Rattle.std.specs.Prelude.{◌≡◌, ℕ, ◌≤◌, ◌↔◌, ◌⊎◌, List, [], ◌∷◌, ◌++◌, Result, Ok, Err, IsOk, IfOk, IfErr, IsErrOf, OnOk, OnErr, IsTrue, IsFalse};
-ghost use Rattle.schedule.specs.Commands.{fits};
+ghost use Rattle.lines.specs.Commands.{fits};
 ghost use Rattle.schedule.specs.Texts.{Gives};
 ghost use Rattle.schedule.specs.Schedules.{Scheduled, IsScheduled, spelling, schedule_at, head_of};
 
 use crate::fault::TextFault;
 use crate::head::Head;
-use crate::item::{add, whole};
-use crate::line::Line;
+use crate::whole::{add, whole};
+use lines::Line;
 use rmecore::Refusal;
 use std::alloc::Global;
 use std::marker::Model;

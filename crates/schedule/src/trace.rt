@@ -2,13 +2,14 @@
 
 ghost use Rattle.std.specs.Prelude.{◌≡◌, ℕ, ◌≤◌, ◌↔◌, ◌⊎◌, List, [], ◌∷◌, ◌++◌, Result, Ok, Err, IsOk, IfOk, IfErr, IsErrOf, OnOk, OnErr, IsTrue, IsFalse};
 ghost use Rattle.schedule.specs.Texts.{Gives};
-ghost use Rattle.schedule.specs.Deeds.{deed_at, fits};
+ghost use Rattle.lines.specs.Deeds.{deed_at, fits};
 ghost use Rattle.schedule.specs.Traces.{Traced, IsTraced, trace_spelling, trace_at, trace_head_of, trace_head_at};
 
-use crate::fault::{LineFault, TextFault};
-use crate::item::{Heading, add, whole};
-use crate::number::number;
-use crate::words::Words;
+use crate::fault::TextFault;
+use crate::whole::{Heading, add, whole};
+use lines::LineFault;
+use lines::number::number;
+use lines::words::Words;
 use redomail::Deed;
 use rmecore::Refusal;
 use std::alloc::Global;

@@ -1,11 +1,11 @@
 -- A replay that comes to its verdict has failed to write nothing.
 use Rattle.std.proofs.Common.{◌≡◌, Ok, Err, Some, None, Option, Result, ℕ, inl, inr}
 use Rattle.rmecore.specs.declared.refusal.Refusal.{Refusal}
-use Rattle.schedule.specs.declared.fault.LineFault.{LineFault}
-use Rattle.schedule.specs.declared.verdict.Verdict.{Verdict}
-use Rattle.schedule.specs.Plays.{Tape}
+use Rattle.lines.specs.declared.fault.LineFault.{LineFault}
+use Rattle.trials.specs.declared.verdict.Verdict.{Verdict}
+use Rattle.schedule.specs.Tapes.{Tape}
 use Rattle.schedule.specs.Schedules.{Scheduled, schedule_at}
-use Rattle.schedule.specs.Wholes.{Reading, OfSchedule, OfText, ReplaysSource, layout_of}
+use Rattle.trials.specs.Wholes.{Reading, OfSchedule, OfText, ReplaysSource, layout_of}
 use Rattle.rmeworld.specs.WorldState.{new_refusal}
 
 scheduled_whole : (before now : Tape) (schedule : Scheduled) (refusal : Option Refusal) (verdict : Verdict) → OfSchedule before now schedule refusal (Ok verdict) → now.failures ≡ before.failures

@@ -1,10 +1,10 @@
 -- How drawing a schedule ends.
 use Rattle.std.specs.Prelude.{◌≡◌, ◌≢◌, Bool, Result}
 use Rattle.crashlab.specs.declared.variant.Variant.TheVariants.{Right}
-use Rattle.schedule.specs.Plays.{Tape}
-use Rattle.schedule.specs.Wholes.{Reading}
 use Rattle.schedule_commands.specs.declared.ending.Ending.{Ending}
 use Rattle.schedule_commands.specs.declared.fault.Fault.{Fault}
+use Rattle.schedule.specs.Tapes.{Tape}
+use Rattle.trials.specs.Wholes.{Reading}
 use Rattle.orders.specs.declared.order.DrawOrder.{DrawOrder}
 use Rattle.schedule_commands.specs.Statuses.{status_ended}
 use Rattle.schedule_commands.specs.Tellings.{Drawn, TellsRead}

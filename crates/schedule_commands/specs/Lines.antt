@@ -1,10 +1,10 @@
 -- The one line of a fault.
 use Rattle.std.specs.Prelude.{◌≡◌, ℕ, ◌+◌, ◌-◌, ◌^◌, ◌⊎◌, min, List, [], ◌∷◌, ◌++◌, codes}
 use Rattle.std.specs.Fmt.{decimal}
-use Rattle.schedule.specs.Plays.{Tape, Writes, Begins}
-use Rattle.schedule.specs.Texts.{line_of}
 use Rattle.schedule_commands.specs.declared.fault.Fault.{Fault}
 use Rattle.schedule_commands.specs.declared.fault.Fault.TheVariants.{Text, Refused, Image, BadVariant, BadSize, Read, Write, OutOfMemory, Member, TooManyStates}
+use Rattle.lines.specs.Words.{line_of}
+use Rattle.schedule.specs.Tapes.{Begins, Tape, Writes}
 
 -- what is told of a line of the input
 abbrev pub words_of_place : ℕ → List ℕ → ℕ → List (List ℕ)

@@ -7,13 +7,13 @@ use Rattle.imaging.specs.ImageText.{image_line}
 use Rattle.rmeworld.specs.Replayed.{image_of}
 use Rattle.rmecore.specs.declared.refusal.Refusal.{Refusal}
 use Rattle.judge.specs.Table.{State}
-use Rattle.schedule.specs.declared.replay_fault.ReplayFault.{ReplayFault}
-use Rattle.schedule.specs.declared.verdict.Verdict.{Verdict}
-use Rattle.schedule.specs.Plays.{Tape}
+use Rattle.trials.specs.declared.replay_fault.ReplayFault.{ReplayFault}
+use Rattle.trials.specs.declared.verdict.Verdict.{Verdict}
+use Rattle.trials.specs.Plays.{Tape}
 use Rattle.schedule.specs.Schedules.{Scheduled, schedule_at}
-use Rattle.schedule.specs.Runs.{Part, deeds_of}
-use Rattle.schedule.specs.Verdicts.{verdict_on}
-use Rattle.schedule.specs.Wholes.{Reading, WasRead, ReplaysSource, world_run}
+use Rattle.trials.specs.Runs.{Part, deeds_of}
+use Rattle.trials.specs.Verdicts.{verdict_on}
+use Rattle.trials.specs.Wholes.{Reading, WasRead, ReplaysSource, world_run}
 use Rattle.orders.specs.declared.order.ReplayOrder.{ReplayOrder}
 use Rattle.schedule_commands.specs.declared.ending.Ending.{Ending}
 use Rattle.schedule_commands.specs.declared.fault.Fault.{Fault}

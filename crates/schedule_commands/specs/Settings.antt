@@ -7,13 +7,13 @@ use Rattle.rmeworld.specs.declared.image.Image.{Image}
 use Rattle.imaging.specs.ImageText.{Spells, version_of}
 use Rattle.imaging.specs.ImageWiden.{IsUnwidened, IsWider}
 use Rattle.rmeworld.specs.WorldState.{new_refusal}
-use Rattle.schedule.specs.declared.fault.LineFault.{LineFault}
-use Rattle.schedule.specs.Numbers.{number_of as number_of_line}
+use Rattle.lines.specs.declared.fault.LineFault.{LineFault}
+use Rattle.lines.specs.Numbers.{number_of as number_of_line}
 use Rattle.schedule.specs.Schedules.{Scheduled, schedule_at}
-use Rattle.schedule.specs.Wholes.{Reading, WasRead, layout_of}
 use Rattle.schedule_commands.specs.declared.fault.Fault.{Fault}
 use Rattle.schedule_commands.specs.declared.fault.Fault.TheVariants.{Text, Refused}
 use Rattle.schedule_commands.specs.Statuses.{fault_of_header}
+use Rattle.trials.specs.Wholes.{Reading, WasRead, layout_of}
 
 -- the text that was read is no schedule
 unfoldable pub IsWrongText : Reading → Reading → Fault → Type 0

@@ -1,12 +1,12 @@
 -- How making a schedule least ends.
 use Rattle.std.specs.Prelude.{◌≡◌, ◌⊎◌, ℕ, List, Option, Some, None, Result, Ok, Err}
 use Rattle.crashlab.specs.declared.variant.Variant.{Variant}
-use Rattle.schedule.specs.declared.replay_fault.ReplayFault.TheVariants as faults_of_replay
-use Rattle.schedule.specs.declared.verdict.Verdict.TheVariants.{Fine}
-use Rattle.schedule.specs.Plays.{Tape, Writes}
-use Rattle.schedule.specs.Reports.{verdict_line}
+use Rattle.trials.specs.declared.replay_fault.ReplayFault.TheVariants as faults_of_replay
+use Rattle.trials.specs.declared.verdict.Verdict.TheVariants.{Fine}
+use Rattle.schedule.specs.Tapes.{Tape, Writes}
+use Rattle.trials.specs.Reports.{verdict_line}
 use Rattle.schedule.specs.Schedules.{Scheduled, schedule_at, spelling}
-use Rattle.schedule.specs.Wholes.{Reading, Silent, WasRead}
+use Rattle.trials.specs.Wholes.{Reading, Silent, WasRead}
 use Rattle.shrinking.specs.Shrunk.{IsWhy, Shrinks}
 use Rattle.schedule_commands.specs.declared.ending.Ending.{Ending}
 use Rattle.schedule_commands.specs.declared.fault.Fault.{Fault}

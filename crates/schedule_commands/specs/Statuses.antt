@@ -3,16 +3,16 @@
 use Rattle.std.specs.Prelude.{ℕ, Option, Some, None, Result, Ok, Err}
 use Rattle.schedule.specs.declared.fault.TextFault.{TextFault}
 use Rattle.schedule.specs.declared.fault.TextFault.TheVariants as of_text
-use Rattle.schedule.specs.declared.replay_fault.ReplayFault.{ReplayFault}
-use Rattle.schedule.specs.declared.replay_fault.ReplayFault.TheVariants as of_replay
-use Rattle.schedule.specs.declared.verdict.Verdict.{Verdict}
-use Rattle.schedule.specs.declared.verdict.Verdict.TheVariants.{Fine, Against}
+use Rattle.trials.specs.declared.replay_fault.ReplayFault.{ReplayFault}
+use Rattle.trials.specs.declared.replay_fault.ReplayFault.TheVariants as of_replay
+use Rattle.trials.specs.declared.verdict.Verdict.{Verdict}
+use Rattle.trials.specs.declared.verdict.Verdict.TheVariants.{Fine, Against}
 use Rattle.rmecore.specs.declared.refusal.Refusal.{Refusal}
 use Rattle.rmecore.specs.declared.refusal.Refusal.TheVariants.{BadImage}
-use Rattle.schedule.specs.Numbers.{number_of as number_of_line}
 use Rattle.schedule_commands.specs.declared.ending.Ending.{Ending}
 use Rattle.schedule_commands.specs.declared.fault.Fault.{Fault}
 use Rattle.schedule_commands.specs.declared.fault.Fault.TheVariants.{Text, Refused, Image, Read, Write, OutOfMemory, Member, TooManyStates}
+use Rattle.lines.specs.Numbers.{number_of as number_of_line}
 
 -- 3 for a fault of a device, of memory or of a member, and for too many states in a search; 2 for one of the input
 abbrev pub status_of : Fault → ℕ

@@ -23,17 +23,17 @@ use Rattle.rmeworld.specs.ImageRules.{IsLawfulImage}
 use Rattle.rmeworld.specs.ImageStart.{IsStartOf}
 use Rattle.rmeworld.specs.Replayed.{image_of}
 use Rattle.rmeworld.specs.WorldState.{image_world, new_world}
-use Rattle.schedule.specs.declared.replay_fault.ReplayFault.{ReplayFault}
-use Rattle.schedule.specs.declared.verdict.Verdict.{Verdict}
-use Rattle.schedule.specs.Plays.{Tape, Writes, Begins}
-use Rattle.schedule.specs.Runs.{Behaviour, behaviour, run_on}
+use Rattle.trials.specs.declared.replay_fault.ReplayFault.{ReplayFault}
+use Rattle.trials.specs.declared.verdict.Verdict.{Verdict}
+use Rattle.schedule.specs.Tapes.{Tape, Writes, Begins}
+use Rattle.trials.specs.Runs.{Behaviour, behaviour, run_on}
 use Rattle.schedule.specs.Schedules.{Scheduled, head_of, schedule_at}
-use Rattle.schedule.specs.Wholes.{Reading, Silent, WasRead, layout_of, world_behaviour}
 use Rattle.schedule_commands.specs.declared.ending.Ending.{Ending}
 use Rattle.schedule_commands.specs.declared.fault.Fault.{Fault}
 use Rattle.schedule_commands.specs.declared.fault.Fault.TheVariants as faults
 use Rattle.schedule_commands.specs.Settings.{IsFitting, IsMisfit, IsUnmade, IsWrongText}
 use Rattle.schedule_commands.specs.Statuses.{outcome, outcome_told, status_after, status_of}
+use Rattle.trials.specs.Wholes.{Reading, Silent, WasRead, layout_of, world_behaviour}
 
 -- ---- one run
 

@@ -9,14 +9,14 @@ ghost use Rattle.rmeworld.specs.ImageRules.{IsLawfulImage};
 ghost use Rattle.rmeworld.specs.ImageStart.{IsStartOf};
 ghost use Rattle.rmeworld.specs.Replayed.{image_of};
 ghost use Rattle.rmeworld.specs.WorldState.{image_world as world_of_image};
-ghost use Rattle.schedule.specs.Plays.{tape};
-ghost use Rattle.schedule.specs.Runs.{behaviour, deeds_of, run_on};
-ghost use Rattle.schedule.specs.Verdicts.{verdict_on};
-ghost use Rattle.schedule.specs.Wholes.{reading, world_behaviour};
 ghost use Rattle.schedule_commands.specs.Endings.{IsEnded, TellsReads};
 ghost use Rattle.schedule_commands.specs.Draws.{DrawEnds};
 ghost use Rattle.schedule_commands.specs.Statuses.{status_after};
 ghost use Rattle.schedule_commands.specs.Tellings.{Drawn, ending_of as ending_for, IsWritten, Tells, TellsImage, TellsNew, TellsSchedule, TellsVariant};
+ghost use Rattle.schedule.specs.Tapes.{tape};
+ghost use Rattle.trials.specs.Runs.{behaviour, deeds_of, run_on};
+ghost use Rattle.trials.specs.Verdicts.{verdict_on};
+ghost use Rattle.trials.specs.Wholes.{reading, world_behaviour};
 
 use crate::ending::{Ending, status_after_verdict};
 use crate::fault::Fault;
@@ -29,9 +29,9 @@ use drawing::{Drawing, End, Phase, Style, draw, write_drawing};
 use judge::{Judge, Start};
 use orders::order::DrawOrder;
 use rmeworld::{Image, Machine};
-use schedule::laws::worlds_are_never_found_out;
 use schedule::{Schedule, Sink, Source};
 use std::alloc::Global;
+use trials::laws::worlds_are_never_found_out;
 
 /// How the command ends where all was drawn.
 fn ending_of(end: End) -> Result<Ending, Fault>

@@ -3,7 +3,7 @@
 ghost use Rattle.std.specs.Prelude.{◌≡◌, ◌≤◌};
 ghost use Rattle.schedule_commands.specs.Statuses.{status_after};
 
-use schedule::Verdict;
+use trials::Verdict;
 
 /// How a command ended: the exit status, and the bytes of the image that is to be saved.
 #[derive(Debug, Drop, PartialEq, Eq)]

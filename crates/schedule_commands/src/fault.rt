@@ -5,10 +5,11 @@ ghost use Rattle.schedule_commands.specs.declared.fault.Fault.TheVariants.{OutOf
 ghost use Rattle.schedule_commands.specs.Statuses.{fault_of_replay, fault_of_text};
 
 use crate::line::line_of;
-use schedule::{OutOfMemory as NoMemory, ReplayFault, TextFault};
+use schedule::{OutOfMemory as NoMemory, TextFault};
 use std::alloc::{AllocError, AllocFailed};
 use std::error::Error;
 use std::fmt;
+use trials::ReplayFault;
 
 /// Why a command came to no verdict. Its text is the one line on standard error.
 #[derive(Clone, Copy, PartialEq, Eq)]

@@ -2,9 +2,9 @@
 
 ghost use Rattle.std.specs.Prelude.{◌≡◌, ◌+◌, ◌≤◌, ◌++◌, ◌∷◌, [], codes, length};
 ghost use Rattle.std.specs.Fmt.{decimal};
-ghost use Rattle.schedule.specs.Plays.{tape};
 ghost use Rattle.schedule_commands.specs.Lines.{fault_line, IsTold};
 ghost use Rattle.schedule_commands.specs.Statuses.{status_of};
+ghost use Rattle.schedule.specs.Tapes.{tape};
 
 use crate::fault::Fault;
 use arrayvec::ArrayString;

@@ -12,14 +12,14 @@ ghost use Rattle.rmeworld.specs.ImageStart.{IsStartOf};
 ghost use Rattle.imaging.specs.ImageText.{image_line};
 ghost use Rattle.rmeworld.specs.Replayed.{image_of};
 ghost use Rattle.rmeworld.specs.WorldState.{image_world as world_of_image};
-ghost use Rattle.schedule.specs.Plays.{tape};
-ghost use Rattle.schedule.specs.Runs.{behaviour, run_on};
+ghost use Rattle.schedule.specs.Tapes.{tape};
+ghost use Rattle.trials.specs.Runs.{behaviour, run_on};
 ghost use Rattle.schedule.specs.Schedules.{head_of};
-ghost use Rattle.schedule.specs.Wholes.{reading, world_behaviour};
 ghost use Rattle.schedule_commands.specs.Endings.{IsEnded, TellsReads};
 ghost use Rattle.schedule_commands.specs.Replays.{IsLast, IsPlayed, IsReplayed, IsStepwise, ReplayEnds, TellsReplay};
 ghost use Rattle.schedule_commands.specs.Statuses.{answer_told, fault_on_page};
 ghost use Rattle.schedule_commands.specs.Tellings.{Stepwise, Tells, TellsImage, TellsNew, TellsSchedule, TellsVariant};
+ghost use Rattle.trials.specs.Wholes.{reading, world_behaviour};
 ghost use Rattle.std.proofs.Math.ListN.{replicate};
 
 use crate::ending::{Ending, status_after_verdict};
@@ -36,9 +36,10 @@ use judge::{Judge, Start};
 use orders::order::ReplayOrder;
 use rmeworld::{Image, Machine};
 use schedule::device::write_all;
-use schedule::laws::worlds_are_never_found_out;
-use schedule::{Page, ReplayFault, Schedule, Sink, Source, Verdict, replay, replay_on};
+use schedule::{Page, Schedule, Sink, Source};
 use std::alloc::Global;
+use trials::laws::worlds_are_never_found_out;
+use trials::{ReplayFault, Verdict, replay, replay_on};
 
 /// The fault of a replay to a page in memory: where the page takes no more, memory is wanted.
 fn on_page(fault: ReplayFault) -> Fault

@@ -11,9 +11,9 @@ ghost use Rattle.imaging.specs.ImageWiden.{IsWider};
 ghost use Rattle.rmeworld.specs.WorldState.{image_world as world_of_image, new_refusal, new_world as world_of_sizes};
 ghost use Rattle.crashlab.specs.VariantWorlds.{new_world as world_of_variant};
 ghost use Rattle.schedule.specs.Schedules.{schedule_at};
-ghost use Rattle.schedule.specs.Wholes.{layout_of, reading, WasRead};
 ghost use Rattle.schedule_commands.specs.Settings.{CanFit, IsFitting, IsMadeFit, IsMisfit, IsPicture, IsUnmade, IsWrongText};
 ghost use Rattle.schedule_commands.specs.Statuses.{fault_of_header, fault_of_image, status_of};
+ghost use Rattle.trials.specs.Wholes.{WasRead, layout_of, reading};
 
 use crate::fault::Fault;
 use crashlab::{Variant, VariantWorld};
@@ -22,9 +22,9 @@ use judge::{Judge, Start};
 use rmecore::Refusal;
 use rmeworld::{Image, World};
 use schedule::head::Head;
-use schedule::pieces::read_all;
 use schedule::{Schedule, Source, read_schedule};
 use std::alloc::Global;
+use trials::pieces::read_all;
 
 /// What the first line of a schedule is refused with, where the world or the image can't be had.
 fn refused_header(refusal: Refusal) -> Fault

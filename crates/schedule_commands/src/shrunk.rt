@@ -1,13 +1,13 @@
 //! The command `shrink`.
 
 ghost use Rattle.std.specs.Prelude.{◌≡◌, IfErr, IfOk, OnOk, false};
-ghost use Rattle.schedule.specs.Plays.{tape, Writes};
-ghost use Rattle.schedule.specs.Reports.{verdict_line};
+ghost use Rattle.schedule.specs.Tapes.{tape, Writes};
+ghost use Rattle.trials.specs.Reports.{verdict_line};
 ghost use Rattle.schedule.specs.Schedules.{spelling};
-ghost use Rattle.schedule.specs.Wholes.{reading};
 ghost use Rattle.schedule_commands.specs.Endings.{FailsToWrite, IsEnded, TellsReads};
 ghost use Rattle.schedule_commands.specs.Shrinks.{ShrinkEnds, ShrinksSchedule};
 ghost use Rattle.schedule_commands.specs.Statuses.{status_of};
+ghost use Rattle.trials.specs.Wholes.{reading};
 
 use crate::ending::Ending;
 use crate::fault::Fault;
@@ -15,9 +15,10 @@ use crate::setting::schedule_read;
 use crashlab::Variant;
 use orders::order::ShrinkOrder;
 use schedule::device::write_all;
-use schedule::{Schedule, Sink, Source, Verdict, put_verdict, write_schedule};
+use schedule::{Schedule, Sink, Source, write_schedule};
 use shrinking::shrink;
 use std::alloc::Global;
+use trials::{Verdict, put_verdict};
 
 /// Writes a schedule as its text.
 pub fn write_lines<W: Sink>(alloc: Global, schedule: &Schedule, w: &mut W) -> Result<(), Fault>

@@ -7,12 +7,12 @@ use Rattle.judge.specs.Stands.{Keeps, StandsAfter}
 use Rattle.judge.specs.Table.{State, empty}
 use Rattle.rmeworld.specs.WorldState.{new_refusal}
 use Rattle.schedule.specs.declared.head.Head.{Head}
-use Rattle.schedule.specs.declared.replay_fault.ReplayFault.TheVariants.{Refused}
-use Rattle.schedule.specs.declared.verdict.Verdict.{Verdict}
-use Rattle.schedule.specs.Runs.{deeds_of, run_on}
+use Rattle.trials.specs.declared.replay_fault.ReplayFault.TheVariants.{Refused}
+use Rattle.trials.specs.declared.verdict.Verdict.{Verdict}
+use Rattle.trials.specs.Runs.{deeds_of, run_on}
 use Rattle.schedule.specs.Schedules.{Scheduled, head_of}
-use Rattle.schedule.specs.Verdicts.{verdict_on}
-use Rattle.schedule.specs.Wholes.{layout_of}
+use Rattle.trials.specs.Verdicts.{verdict_on}
+use Rattle.trials.specs.Wholes.{layout_of}
 use Rattle.crashlab.specs.declared.variant.Variant.{Variant}
 use Rattle.crashlab.specs.VariantWorlds.{VariantState, new_world}
 use Rattle.shrinking.specs.Shrunk.{Answers, at_header, variant_behaviour, variant_run}

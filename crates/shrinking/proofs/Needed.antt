@@ -1,7 +1,7 @@
 -- Lines that a schedule which goes wrong can't lose.
 use Rattle.std.proofs.Common.{◌≡◌, ℕ, [], ◌∷◌, Option, Some, None, Result, Ok, Err, IfOk, MatchOption, ◌∙◌, subst}
-use Rattle.schedule.specs.declared.line.Line.{Line}
-use Rattle.schedule.specs.declared.verdict.Verdict.TheVariants.{Fine, Against}
+use Rattle.lines.specs.declared.line.Line.{Line}
+use Rattle.trials.specs.declared.verdict.Verdict.TheVariants.{Fine, Against}
 use Rattle.schedule.specs.Schedules.{Scheduled}
 use Rattle.crashlab.specs.declared.variant.Variant.{Variant}
 use Rattle.shrinking.specs.Shrunk.{Answers, IsLess, IsLowered, IsNeeded, Loses, replaced}

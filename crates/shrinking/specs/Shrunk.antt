@@ -5,16 +5,16 @@ use Rattle.rmecore.specs.declared.refusal.Refusal.{Refusal}
 use Rattle.rmecore.specs.Refused.{number_of}
 use Rattle.judge.specs.Table.{empty}
 use Rattle.rmeworld.specs.WorldState.{new_refusal}
-use Rattle.schedule.specs.declared.line.Line.{Line}
-use Rattle.schedule.specs.declared.line.Line.TheVariants.{Start, Step, Crash}
-use Rattle.schedule.specs.declared.verdict.Verdict.{Verdict}
-use Rattle.schedule.specs.declared.verdict.Verdict.TheVariants.{Fine, Against}
-use Rattle.schedule.specs.declared.replay_fault.ReplayFault.{ReplayFault}
-use Rattle.schedule.specs.declared.replay_fault.ReplayFault.TheVariants.{Refused, OutOfMemory}
+use Rattle.lines.specs.declared.line.Line.{Line}
+use Rattle.lines.specs.declared.line.Line.TheVariants.{Start, Step, Crash}
+use Rattle.trials.specs.declared.verdict.Verdict.{Verdict}
+use Rattle.trials.specs.declared.verdict.Verdict.TheVariants.{Fine, Against}
+use Rattle.trials.specs.declared.replay_fault.ReplayFault.{ReplayFault}
+use Rattle.trials.specs.declared.replay_fault.ReplayFault.TheVariants.{Refused, OutOfMemory}
 use Rattle.schedule.specs.Schedules.{Scheduled, head_of}
-use Rattle.schedule.specs.Wholes.{layout_of}
-use Rattle.schedule.specs.Verdicts.{number_of_fault, verdict_on}
-use Rattle.schedule.specs.Runs.{Behaviour, Part, behaviour, deeds_of, run_on}
+use Rattle.trials.specs.Wholes.{layout_of}
+use Rattle.trials.specs.Verdicts.{number_of_fault, verdict_on}
+use Rattle.trials.specs.Runs.{Behaviour, Part, behaviour, deeds_of, run_on}
 use Rattle.crashlab.specs.declared.variant.Variant.{Variant}
 use Rattle.crashlab.specs.VariantWorlds.{VariantState, new_world, start_refusal, started, advance_refusal, stepped, advanced, crash_refusal, crash_deed, crashed}
 

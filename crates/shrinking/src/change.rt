@@ -1,6 +1,6 @@
 //! A large change of a schedule, line by line.
 
-use schedule::{Count, Line};
+use lines::{Count, Line};
 
 /// Which lines go, and which come in their place. A range of lines ends before `to`.
 #[derive(Clone, Copy, Debug)]

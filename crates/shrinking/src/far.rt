@@ -5,7 +5,8 @@ ghost use Rattle.std.specs.Prelude.{◌<◌};
 use crate::change::{Change, both, process_of};
 use crate::played::{Wanted, goes_wrong};
 use crate::replaced::{copied, emptied};
-use schedule::{Line, OutOfMemory, Schedule};
+use lines::Line;
+use schedule::{OutOfMemory, Schedule};
 
 /// The schedule with a change.
 fn changed(wanted: &Wanted, schedule: &Schedule, change: &Change) -> Result<Schedule, OutOfMemory> {

@@ -1,12 +1,13 @@
 //! The changes by one: a line left out, or a count lowered by one.
 
 ghost use Rattle.std.specs.Prelude.{◌≡◌, ◌<◌, ◌∷◌, [], IfOk, MatchOption, length};
-ghost use Rattle.schedule.specs.declared.line.Line.{Line as LineOf};
+ghost use Rattle.lines.specs.declared.line.Line.{Line as LineOf};
 ghost use Rattle.shrinking.specs.Shrunk.{GoesWrong, IsLeast, IsLess, IsLowered, IsNeeded, IsShorter, IsShrunk, Loses, replaced};
 
 use crate::played::{Wanted, goes_wrong};
 use crate::replaced::with_replaced;
-use schedule::{Count, Line, OutOfMemory, Schedule};
+use lines::{Count, Line};
+use schedule::{OutOfMemory, Schedule};
 
 /// The schedule with other lines in the place of one, if it still goes wrong.
 fn tried(

@@ -2,15 +2,16 @@
 
 ghost use Rattle.std.specs.Prelude.{◌≡◌, ◌↔◌, IfOk, IsTrue};
 ghost use Rattle.rmecore.specs.Refused.{number_of};
-ghost use Rattle.schedule.specs.Wholes.{header_fault};
+ghost use Rattle.trials.specs.Wholes.{header_fault};
 ghost use Rattle.shrinking.specs.Shrunk.{Answers, GoesWrong};
 
 use crashlab::{Variant, VariantWorld};
 use judge::Judge;
 use rmecore::Refusal;
-use schedule::verdict::fault_number;
-use schedule::{OutOfMemory, Page, ReplayFault, Schedule, Verdict, replay_on};
+use schedule::{OutOfMemory, Page, Schedule};
 use std::alloc::Global;
+use trials::verdict::fault_number;
+use trials::{ReplayFault, Verdict, replay_on};
 
 /// A verdict that is to be kept: on which variant, and against which number.
 #[derive(Clone, Copy)]

@@ -3,7 +3,8 @@
 ghost use Rattle.std.specs.Prelude.{◌≡◌, ◌<◌, ◌++◌, [], IfOk, OnOk, length};
 ghost use Rattle.shrinking.specs.Shrunk.{with_lines, replaced};
 
-use schedule::{Line, OutOfMemory, Schedule};
+use lines::Line;
+use schedule::{OutOfMemory, Schedule};
 use std::alloc::Global;
 
 /// Puts lines behind those that are there.

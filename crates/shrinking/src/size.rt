@@ -3,7 +3,8 @@
 ghost use Rattle.std.specs.Prelude.{◌≡◌, IfSome, IsTrue};
 ghost use Rattle.shrinking.specs.Shrunk.{steps_asked as steps_in, IsNoLonger};
 
-use schedule::{Line, Schedule};
+use lines::Line;
+use schedule::Schedule;
 
 /// How many steps the lines ask for, if the number can be told.
 fn steps_asked(lines: &[Line]) -> Option<u64>

@@ -10,9 +10,10 @@ use crate::played::{Wanted, goes_wrong, played};
 use crate::replaced::copied;
 use crate::size::is_no_longer;
 use crashlab::Variant;
-use schedule::verdict::fault_number;
-use schedule::{OutOfMemory, ReplayFault, Schedule, Verdict};
+use schedule::{OutOfMemory, Schedule};
 use std::alloc::Global;
+use trials::verdict::fault_number;
+use trials::{ReplayFault, Verdict};
 
 /// What large changes make of a schedule that goes wrong; or the schedule itself.
 fn shortened(wanted: &Wanted, schedule: &Schedule) -> Result<Schedule, OutOfMemory>

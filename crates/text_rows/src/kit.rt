@@ -2,8 +2,9 @@
 
 use crashlab::{Variant, VariantWorld};
 use judge::Judge;
-use schedule::{Page, ReplayFault, Text, put_verdict, read_schedule, replay, replay_on};
+use schedule::{Page, Text, read_schedule};
 use std::test::Fail;
+use trials::{ReplayFault, put_verdict, replay, replay_on};
 
 /// It holds, or the test has failed.
 pub fn check(holds: bool, what: &'static str) -> Result<(), Fail> {

@@ -3,9 +3,10 @@
 use crate::kit::check;
 use crashlab::Variant;
 use crashlab::hunt::hunt;
-use schedule::{ReplayFault, Schedule, read_schedule, write_schedule};
+use schedule::{Schedule, read_schedule, write_schedule};
 use shrinking::{shrink, shrink_found};
 use std::test::Fail;
+use trials::ReplayFault;
 
 /// 0 has read the numbers and not taken its own, while 1 comes in; then 0 comes in too.
 const TWO_INSIDE: &[u8] =

@@ -1,10 +1,11 @@
+use lines::LineFault;
+use lines::answer::{put_answer, put_deed};
 use redomail::Reply;
 use rmecore::Found;
 use rmeworld::Answer;
-use schedule::answer::{put_answer, put_deed};
 use schedule::device::{Page, write_all};
 use schedule::trace::read_trace;
-use schedule::{LineFault, TextFault, read_schedule, write_schedule};
+use schedule::{TextFault, read_schedule, write_schedule};
 use std::test::Fail;
 
 /// The line and the number of a text's fault.

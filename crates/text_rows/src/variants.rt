@@ -2,10 +2,11 @@
 
 use crashlab::{Variant, VariantWorld};
 use judge::Judge;
+use lines::Line;
 use redomail::Deed;
 use rmecore::{Fault, Own, Refusal};
 use rmeworld::Machine;
-use schedule::{Line, Schedule, read_schedule};
+use schedule::{Schedule, read_schedule};
 use std::alloc::Global;
 
 /// 0 restarts with its number taken and its doorway not shut.

@@ -1,6 +1,6 @@
 use Rattle.std.proofs.Common.{◌≡◌, ◌+◌, ◌++◌, ◌∷◌, [], take, refl, sym, ap, ◌∙◌, arith}
 use Rattle.drawing.proofs.Common.{take_more, take_all, opened, deeds_of, verdict_on, hears_none, told_in, events_in}
-use Rattle.schedule.proofs.Closing.{ruled_on}
+use Rattle.trials.proofs.Closing.{ruled_on}
 use Rattle.drawing.proofs.Heard.{hears_row}
 use Rattle.drawing.proofs.court.verdict_on.Goals as goal
 

@@ -1,6 +1,6 @@
 use Rattle.std.proofs.Common.{is_some, subst, sym}
-use Rattle.schedule.specs.Plays.{tape}
-use Rattle.schedule.specs.Wholes.{reading}
+use Rattle.schedule.specs.Tapes.{tape}
+use Rattle.trials.specs.Wholes.{reading}
 use Rattle.laboratory.specs.Commands.{CommandEnds}
 use Rattle.laboratory.proofs.command.ended.Goals as goal
 

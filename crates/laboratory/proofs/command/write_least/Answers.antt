@@ -1,4 +1,4 @@
-use Rattle.schedule.specs.Plays.{tape}
+use Rattle.schedule.specs.Tapes.{tape}
 use Rattle.laboratory.proofs.Leasts.{least_written}
 use Rattle.laboratory.proofs.command.write_least.Goals as goal
 

@@ -1,5 +1,5 @@
 use Rattle.std.proofs.Common.{◌≡◌, ℕ, Result, Ok, Err, IfOk, OnOk, IfErr, ◌∙◌, inl, inr, ap, subst}
-use Rattle.schedule.specs.Plays.{Tape, Writes}
+use Rattle.schedule.specs.Tapes.{Tape, Writes}
 use Rattle.explore.specs.Paths.{IsNumberOfStates}
 use Rattle.lock_spaces.specs.SceneWords.{scene_words}
 use Rattle.lock_spaces.specs.Spaces.{first_scene, rules}

@@ -1,5 +1,5 @@
 use Rattle.std.proofs.Common.{take}
-use Rattle.schedule.specs.Plays.{tape, Writes}
+use Rattle.schedule.specs.Tapes.{tape, Writes}
 use Rattle.meanings.specs.Told.{list_of}
 use Rattle.meanings.proofs.telling.tell_names.Given as goal
 

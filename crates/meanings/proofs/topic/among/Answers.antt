@@ -3,7 +3,7 @@ use Rattle.std.proofs.Math.Seq.{take-suc}
 use Rattle.std.proofs.lemmas.Bool.{false≢true}
 use Rattle.std.proofs.lemmas.List.{take_all, get_or_default}
 use Rattle.std.proofs.lemmas.List.Elements.{All-push}
-use Rattle.schedule.specs.declared.fault.LineFault.TheVariants.{NoHeader}
+use Rattle.lines.specs.declared.fault.LineFault.TheVariants.{NoHeader}
 use Rattle.meanings.specs.declared.topic.Topic.{Topic}
 use Rattle.meanings.specs.declared.topic.Topic.TheVariants.{Fault}
 use Rattle.meanings.specs.Names.{name_of}

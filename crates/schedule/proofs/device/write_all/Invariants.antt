@@ -1,5 +1,5 @@
 use Rattle.std.proofs.Common.{◌≡◌, length}
-use Rattle.schedule.specs.Pieces.{WritesFront}
+use Rattle.schedule.specs.Tapes.{WritesFront}
 use Rattle.schedule.proofs.device.write_all.Given as goal
 
 abbrev pub invariant-loop-rest : goal.invariant-loop-rest

@@ -1,10 +1,10 @@
 use Rattle.std.proofs.Common.{rules, is_some, arith}
 use Rattle.std.proofs.lemmas.Result.{err_from_is_err_and}
-use Rattle.schedule.specs.Plays.{tape}
-use Rattle.schedule.specs.Wholes.{reading}
 use Rattle.schedule_commands.specs.Tellings.{Stepwise}
 use Rattle.schedule_commands.proofs.Draws.{untold}
 use Rattle.schedule_commands.proofs.replaying.replay_order.Goals as goal
+use Rattle.schedule.specs.Tapes.{tape}
+use Rattle.trials.specs.Wholes.{reading}
 
 pub returns-in_err-schedule-clause-ends : goal.returns-in_err-schedule-clause-ends
 returns-in_err-schedule-clause-ends g c =

@@ -1,5 +1,5 @@
 use Rattle.std.proofs.Common.{sym}
-use Rattle.schedule.specs.Verdicts.{number_of_fault}
+use Rattle.trials.specs.Verdicts.{number_of_fault}
 use Rattle.shrinking.proofs.Found.{found_wrong}
 use Rattle.shrinking.proofs.Needed.{not_fine}
 use Rattle.shrinking.proofs.whole.shrink_found.Goals as goal

@@ -1,0 +1,5 @@
+pub mod Common
+pub mod Fronts
+pub mod DeedFronts
+pub mod LineFronts
+pub mod InPlace

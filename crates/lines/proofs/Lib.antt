@@ -1,0 +1,11 @@
+pub mod Common
+pub mod Cuts
+pub mod Ranges
+pub mod Numbers
+pub mod Lines
+pub mod Places
+pub mod Joins
+pub mod Forms
+pub mod Commands
+pub mod Deeds
+pub mod Spaced

@@ -1,0 +1,5 @@
+pub mod Words
+pub mod Commands
+pub mod Numbers
+pub mod Deeds
+pub mod Answers

@@ -1,6 +1,0 @@
-use Rattle.schedule.proofs.Common.{tape, schedule_at}
-use Rattle.schedule.proofs.Heading.{no_memory_at_all}
-use Rattle.schedule.proofs.replay_text.replay_text.Goals as goal
-
-pub returns-clause-of : goal.returns-clause-of
-returns-clause-of g c = no_memory_at_all (tape (g.W.Sink.taken c.args.w.now) (g.W.Sink.failures c.args.w.now)) (schedule_at c.args.text.items)

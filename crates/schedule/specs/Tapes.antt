@@ -1,0 +1,29 @@
+-- Bytes that are written a part at a time.
+use Rattle.std.specs.Prelude.{◌≡◌, ℕ, List, [], ◌++◌}
+
+-- of these bytes all but the rest were written
+pub record WritesFront (old new bytes rest : List ℕ) : Type 0 where
+  pub front : List ℕ
+  pub written : new ≡ old ++ front
+  pub left : bytes ≡ front ++ rest
+
+-- what a sink has taken, and how often it failed
+pub record Tape : Type 0 where
+  pub taken : List ℕ
+  pub failures : ℕ
+
+abbrev pub tape : List ℕ → ℕ → Tape
+tape taken failures = record { taken = taken; failures = failures }
+
+-- all of the text was written
+pub record Writes (before now : Tape) (text : List ℕ) : Type 0 where
+  pub taken : now.taken ≡ before.taken ++ text
+  pub fine : now.failures ≡ before.failures
+
+-- a beginning of the text was written
+abbrev pub Begins : List ℕ → List ℕ → List ℕ → Type 0
+Begins old new text = (rest : List ℕ) × WritesFront old new text rest
+
+-- a beginning of the text was written, and not all of it
+abbrev pub BreaksOff : List ℕ → List ℕ → List ℕ → Type 0
+BreaksOff old new text = (rest : List ℕ) × WritesFront old new text rest × (rest ≡ [] → ⊥)

@@ -1,0 +1,12 @@
+pub mod Common
+pub mod Heard
+pub mod Playing
+pub mod Closing
+pub mod Staging
+pub mod Judging
+pub mod Answering
+pub mod Heading
+pub mod Cutting
+pub mod Kept
+pub mod WorldRuns
+pub mod Fed

@@ -1,0 +1,10 @@
+use Rattle.std.proofs.Common.{◌≡◌, ◌++◌, ◌≤◌, ◌^◌, length}
+use Rattle.trials.proofs.pieces.read_all.Given as goal
+
+abbrev pub invariant-loop : goal.invariant-loop
+invariant-loop g l = record {
+  given : g.S.Source.given l.source ≡ g.S.Source.given l.fn.source ++ l.text.items;
+  count : l.counter ≤ length l.text.items;
+  few : l.counter ≤ 2 ^ 63;
+  fine : g.S.Source.failures l.source ≡ g.S.Source.failures l.fn.source;
+}

@@ -1,0 +1,12 @@
+use Rattle.std.proofs.Common.{◌≡◌, ℕ, List, ◌∷◌, [], ◌++◌, ◌≤◌, ◌^◌, length}
+use Rattle.trials.proofs.Common.{parts_of}
+use Rattle.trials.proofs.pieces.take_lines.Given as goal
+
+abbrev pub invariant-loop : goal.invariant-loop
+invariant-loop g l = record {
+  text : (text : List ℕ) × (g.S.Source.given l.source ≡ g.S.Source.given l.fn.source ++ text) × (l.counter ≤ length text)
+      × ((lines : List (List ℕ)) → g.T.TakeLine.after l.fn.taker lines → (more : List (List ℕ)) × (parts_of text ≡ more ++ l.buffer.items ∷ []) × g.T.TakeLine.after l.taker (lines ++ more));
+  few : l.counter ≤ 2 ^ 63;
+  fine : g.S.Source.failures l.source ≡ g.S.Source.failures l.fn.source;
+  whole : parts_of l.buffer.items ≡ l.buffer.items ∷ [];
+}

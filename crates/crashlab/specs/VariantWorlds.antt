@@ -12,6 +12,7 @@ use Rattle.redomail.specs.declared.deed.Deed.{Deed}
 use Rattle.redomail.specs.declared.deed.Deed.TheVariants.{Outer}
 use Rattle.redomail.specs.declared.layout.Layout.{Layout}
 use Rattle.redomail.specs.Layout.{words_of, size}
+use Rattle.rmeworld.specs.Behaviours.{Behaviour}
 use Rattle.rmeworld.specs.declared.call.Call.{Call}
 use Rattle.rmeworld.specs.declared.image.Image.{Image}
 use Rattle.rmeworld.specs.declared.outcome.Outcome.{Outcome}
@@ -139,3 +140,18 @@ crashed s p = record s { processes = slice_set s.processes p (variant_crashed (s
 -- the words that stand, with the sizes
 abbrev pub image_of : VariantState → Image
 image_of s = record { cap = s.layout.cap; cells = s.cells; limit = s.limit; lock = s.words; version = 2; width = s.layout.width }
+
+-- all of it
+abbrev pub variant_behaviour : Behaviour VariantState
+variant_behaviour =
+    record {
+      start_refusal = start_refusal;
+      started = started;
+      advance_refusal = advance_refusal;
+      stepped = stepped;
+      advanced = advanced;
+      crash_refusal = crash_refusal;
+      crash_deed = λ s p. crash_deed p;
+      crashed = crashed;
+      image_of = image_of;
+    }

@@ -392,25 +392,9 @@ fn carried_by(access: Access, found: u64) -> u64
 }
 
 impl Machine for VariantWorld {
-    ghost use Rattle.crashlab.specs.VariantWorlds.{start_refusal as refusal_of_start, started as started_by, advance_refusal as refusal_of_advance, stepped as stepped_by, advanced as advanced_by, crash_refusal as refusal_of_crash, crash_deed as deed_of_crash, crashed as crashed_by, image_of as image_by};
+    ghost use Rattle.crashlab.specs.VariantWorlds.{variant_behaviour};
 
-    ghost start_refusal = { refusal_of_start };
-
-    ghost started = { started_by };
-
-    ghost advance_refusal = { refusal_of_advance };
-
-    ghost stepped = { stepped_by };
-
-    ghost advanced = { advanced_by };
-
-    ghost crash_refusal = { refusal_of_crash };
-
-    ghost crash_deed = { λ _ p. deed_of_crash p };
-
-    ghost crashed = { crashed_by };
-
-    ghost image_of = { image_by };
+    ghost behaviour = { variant_behaviour };
 
     fn start(&mut self, p: u64, call: Call) -> Result<(), Refusal> {
         self.take_start(p, call)

@@ -14,9 +14,10 @@ pub use Rattle.lines.specs.declared.line.Line.TheVariants.{Start, Step, Crash}
 pub use Rattle.trials.specs.declared.replay_fault.ReplayFault.{ReplayFault}
 pub use Rattle.trials.specs.declared.verdict.Verdict.{Verdict}
 pub use Rattle.trials.specs.Hearings.{Bench, Hears, opened, bench}
-pub use Rattle.schedule.specs.Tapes.{WritesFront, Tape, Writes, Begins, tape}
+pub use Rattle.schedule.specs.Tapes.{WritesFront, Tape, Writes, Begins}
 pub use Rattle.trials.specs.Plays.{halted}
-pub use Rattle.trials.specs.Runs.{Part, deeds_of, did, told_of, Told, Behaviour, unless, Did, behaviour}
+pub use Rattle.trials.specs.Runs.{Part, deeds_of, did, told_of, Told, unless, Did}
+pub use Rattle.rmeworld.specs.Behaviours.{Behaviour}
 unfoldable pub use Rattle.trials.specs.Runs.{steps, line_on, run_on}
 pub use Rattle.trials.specs.Verdicts.{verdict_on}
 pub use Rattle.trials.proofs.Heard.{hears_both, hears_none}

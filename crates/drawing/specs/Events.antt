@@ -5,7 +5,8 @@ use Rattle.redomail.specs.declared.deed.Deed.{Deed}
 use Rattle.rmeworld.specs.declared.stepped.Stepped.{Stepped}
 use Rattle.lines.specs.declared.line.Line.{Line}
 use Rattle.lines.specs.declared.line.Line.TheVariants.{Start, Step, Crash}
-use Rattle.trials.specs.Runs.{Told, Did, told_of, Behaviour, line_on}
+use Rattle.trials.specs.Runs.{Told, Did, told_of, line_on}
+use Rattle.rmeworld.specs.Behaviours.{Behaviour}
 
 pub data Event : Type 0 where
   Took : ℕ → Stepped → Event

@@ -5,7 +5,7 @@ ghost use Rattle.drawing.specs.declared.act.Act.TheVariants.{Quiet as ActQuiet};
 ghost use Rattle.drawing.specs.Events.{Took, Fell, steps_of, events_of, events_on};
 ghost use Rattle.drawing.specs.Rows.{events_in, quiet, Adds, Plays, PlaysOn, Notes};
 ghost use Rattle.lines.specs.declared.line.Line.TheVariants.{Crash as LineCrash};
-ghost use Rattle.trials.specs.Runs.{behaviour, steps, line_on, run_on};
+ghost use Rattle.trials.specs.Runs.{steps, line_on, run_on};
 
 use crate::act::{Act, Row};
 use crate::blocked::is_blocked_again;
@@ -82,7 +82,7 @@ fn note(rows: &mut Vec<Row>, p: u64, stepped: &Stepped) -> Result<(), Stop>
 
 /// At most n more steps of p, until its call is answered.
 fn more_steps<M: Machine>(machine: &mut M, rows: &mut Vec<Row>, p: u64, n: u64) -> Result<(), Stop>
-    ensures { let b = behaviour M.start_refusal M.started M.advance_refusal M.stepped M.advanced M.crash_refusal M.crash_deed M.crashed in Plays rows.old.items rows.new.items (steps_of b p n machine.old) None (steps b p n machine.old).1 machine.new result }
+    ensures { let b = M.behaviour in Plays rows.old.items rows.new.items (steps_of b p n machine.old) None (steps b p n machine.old).1 machine.new result }
 {
     for _ in 0..n {
         let stepped = match machine.advance(p) {
@@ -103,7 +103,7 @@ fn more_steps<M: Machine>(machine: &mut M, rows: &mut Vec<Row>, p: u64, n: u64) 
 /// One step of p, and then more until n are taken or its call is answered.
 fn take_steps<M: Machine>(machine: &mut M, rows: &mut Vec<Row>, p: u64, n: u64) -> Result<(), Stop>
     requires { 1 ≤ n }
-    ensures { let b = behaviour M.start_refusal M.started M.advance_refusal M.stepped M.advanced M.crash_refusal M.crash_deed M.crashed in Plays rows.old.items rows.new.items (steps_of b p n machine.old) (M.advance_refusal machine.old p) (steps b p n machine.old).1 machine.new result }
+    ensures { let b = M.behaviour in Plays rows.old.items rows.new.items (steps_of b p n machine.old) (M.behaviour.advance_refusal machine.old p) (steps b p n machine.old).1 machine.new result }
 {
     let stepped = machine.advance(p)?;
     note(rows, p, &stepped)?;
@@ -115,7 +115,7 @@ fn take_steps<M: Machine>(machine: &mut M, rows: &mut Vec<Row>, p: u64, n: u64) 
 
 /// A crash of p.
 fn take_crash<M: Machine>(machine: &mut M, rows: &mut Vec<Row>, p: u64) -> Result<(), Stop>
-    ensures { let b = behaviour M.start_refusal M.started M.advance_refusal M.stepped M.advanced M.crash_refusal M.crash_deed M.crashed in Plays rows.old.items rows.new.items (events_of b machine.old (LineCrash p)) (M.crash_refusal machine.old p) (M.crashed machine.old p) machine.new result }
+    ensures { let b = M.behaviour in Plays rows.old.items rows.new.items (events_of b machine.old (LineCrash p)) (M.behaviour.crash_refusal machine.old p) (M.behaviour.crashed machine.old p) machine.new result }
 {
     let deed = machine.crash(p)?;
     note_act(rows, p, Act::Fell(deed))
@@ -123,7 +123,7 @@ fn take_crash<M: Machine>(machine: &mut M, rows: &mut Vec<Row>, p: u64) -> Resul
 
 /// One line.
 fn take_line<M: Machine>(machine: &mut M, rows: &mut Vec<Row>, line: &Line) -> Result<(), Stop>
-    ensures { let b = behaviour M.start_refusal M.started M.advance_refusal M.stepped M.advanced M.crash_refusal M.crash_deed M.crashed in Plays rows.old.items rows.new.items (events_of b machine.old line.now) (line_on b machine.old line.now).refused (line_on b machine.old line.now).left machine.new result }
+    ensures { let b = M.behaviour in Plays rows.old.items rows.new.items (events_of b machine.old line.now) (line_on b machine.old line.now).refused (line_on b machine.old line.now).left machine.new result }
 {
     match *line {
         Line::Start(p, call) => {
@@ -141,7 +141,7 @@ pub fn take_lines<M: Machine>(
     rows: &mut Vec<Row>,
     lines: &[Line],
 ) -> Result<(), (u64, Stop)>
-    ensures { let b = behaviour M.start_refusal M.started M.advance_refusal M.stepped M.advanced M.crash_refusal M.crash_deed M.crashed in PlaysOn rows.old.items rows.new.items (events_on b machine.old lines.now) (run_on b 2 machine.old lines.now) machine.new result }
+    ensures { let b = M.behaviour in PlaysOn rows.old.items rows.new.items (events_on b machine.old lines.now) (run_on b 2 machine.old lines.now) machine.new result }
 {
     let mut number = 2;
     for line in lines {

@@ -3,7 +3,7 @@
 ghost use Rattle.std.specs.Prelude.{◌≡◌, IfOk};
 ghost use Rattle.judge.specs.Stands.{Keeps};
 ghost use Rattle.judge.specs.Table.{State};
-ghost use Rattle.trials.specs.Runs.{behaviour, run_on};
+ghost use Rattle.trials.specs.Runs.{run_on};
 ghost use Rattle.schedule.specs.Schedules.{head_of};
 ghost use Rattle.drawing.specs.Events.{events_on, told_in};
 ghost use Rattle.drawing.specs.Rows.{events_in, EndsAs, IsEndOf, IsJudged};
@@ -69,13 +69,13 @@ pub fn draw<M: Machine>(
     first: Phase,
 ) -> Result<Drawing, OutOfMemory>
     // The rows show just the run of the schedule on the machine: its steps and crashes.
-    ensures events { IfOk result (λ drawing. events_in drawing.rows.items ≡ events_on (behaviour M.start_refusal M.started M.advance_refusal M.stepped M.advanced M.crash_refusal M.crash_deed M.crashed) machine.old schedule.now.lines) }
+    ensures events { IfOk result (λ drawing. events_in drawing.rows.items ≡ events_on M.behaviour machine.old schedule.now.lines) }
     // They tell just what a replay reports.
-    ensures told { IfOk result (λ drawing. told_in (events_in drawing.rows.items) ≡ (run_on (behaviour M.start_refusal M.started M.advance_refusal M.stepped M.advanced M.crash_refusal M.crash_deed M.crashed) 2 machine.old schedule.now.lines).told) }
+    ensures told { IfOk result (λ drawing. told_in (events_in drawing.rows.items) ≡ (run_on M.behaviour 2 machine.old schedule.now.lines).told) }
     // And end as it ends.
-    ensures end { (start : State) → Keeps judge.old start → IfOk result (λ drawing. EndsAs start (run_on (behaviour M.start_refusal M.started M.advance_refusal M.stepped M.advanced M.crash_refusal M.crash_deed M.crashed) 2 machine.old schedule.now.lines) drawing.end) }
+    ensures end { (start : State) → Keeps judge.old start → IfOk result (λ drawing. EndsAs start (run_on M.behaviour 2 machine.old schedule.now.lines) drawing.end) }
     // The machine is left as the run leaves it.
-    ensures left { IfOk result (λ drawing. IsJudged drawing.end → machine.new ≡ (run_on (behaviour M.start_refusal M.started M.advance_refusal M.stepped M.advanced M.crash_refusal M.crash_deed M.crashed) 2 machine.old schedule.now.lines).left) }
+    ensures left { IfOk result (λ drawing. IsJudged drawing.end → machine.new ≡ (run_on M.behaviour 2 machine.old schedule.now.lines).left) }
     ensures sizes { IfOk result (λ drawing. (drawing.head ≡ head_of schedule.now) × (drawing.first ≡ first)) }
 {
     let mut rows = Vec::new(alloc);

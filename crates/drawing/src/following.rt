@@ -4,8 +4,7 @@ ghost use Rattle.std.specs.Prelude.{◌≡◌, ◌++◌, OnOk, get_or, map};
 ghost use Rattle.std.proofs.Math.ListN.{replicate};
 ghost use Rattle.judge.specs.Stands.{Keeps};
 ghost use Rattle.judge.specs.Table.{State};
-ghost use Rattle.schedule.specs.Tapes.{tape};
-ghost use Rattle.trials.specs.Runs.{behaviour, run_on};
+ghost use Rattle.trials.specs.Runs.{run_on};
 ghost use Rattle.schedule.specs.Schedules.{head_of};
 ghost use Rattle.drawing.specs.Drawings.{Spells};
 ghost use Rattle.drawing.specs.Events.{Took, events_on};
@@ -105,7 +104,7 @@ fn write_row<W: Sink>(
     row: &Row,
     w: &mut W,
 ) -> Result<(), ReplayFault>
-    ensures { Spells (tape (W.taken w.old) (W.failures w.old)) (tape (W.taken w.new) (W.failures w.new)) (row_told layout.now pen.now.phases row.now) result }
+    ensures { Spells (W.tape w.old) (W.tape w.new) (row_told layout.now pen.now.phases row.now) result }
 {
     page.clear();
     put_row(page, layout, pen.phases(), row)?;
@@ -122,7 +121,7 @@ fn write_times<W: Sink>(
     times: u64,
     w: &mut W,
 ) -> Result<(), ReplayFault>
-    ensures { Tells (tape (W.taken w.old) (W.failures w.old)) (tape (W.taken w.new) (W.failures w.new)) layout.now pen.old.phases pen.new.phases (replicate times row.now) result }
+    ensures { Tells (W.tape w.old) (W.tape w.new) layout.now pen.old.phases pen.new.phases (replicate times row.now) result }
 {
     for _ in 0..times {
         pen.take(row);
@@ -139,7 +138,7 @@ fn write_shown<W: Sink>(
     row: &Row,
     w: &mut W,
 ) -> Result<(), ReplayFault>
-    ensures { Tells (tape (W.taken w.old) (W.failures w.old)) (tape (W.taken w.new) (W.failures w.new)) layout.now pen.old.phases pen.new.phases (map row_for (events_shown row.now.p row.now.act)) result }
+    ensures { Tells (W.tape w.old) (W.tape w.new) layout.now pen.old.phases pen.new.phases (map row_for (events_shown row.now.p row.now.act)) result }
 {
     let p = row.p;
     match &row.act {
@@ -160,7 +159,7 @@ fn write_rows<W: Sink>(
     rows: &[Row],
     w: &mut W,
 ) -> Result<(), ReplayFault>
-    ensures { Spells (tape (W.taken w.old) (W.failures w.old)) (tape (W.taken w.new) (W.failures w.new)) (followed layout.now pen.old.phases (events_in rows.now)) result }
+    ensures { Spells (W.tape w.old) (W.tape w.new) (followed layout.now pen.old.phases (events_in rows.now)) result }
 {
     for row in rows {
         write_shown(page, layout, pen, row, w)?;
@@ -170,7 +169,7 @@ fn write_rows<W: Sink>(
 
 /// Writes the steps and crashes of a run, from a drawing of it.
 fn write_steps<W: Sink>(alloc: Global, drawing: &Drawing, w: &mut W) -> Result<(), ReplayFault>
-    ensures { Spells (tape (W.taken w.old) (W.failures w.old)) (tape (W.taken w.new) (W.failures w.new)) (followed (layout_in drawing.now.head) (replicate drawing.now.head.procs drawing.now.first) (events_in drawing.now.rows.items)) result }
+    ensures { Spells (W.tape w.old) (W.tape w.new) (followed (layout_in drawing.now.head) (replicate drawing.now.head.procs drawing.now.first) (events_in drawing.now.rows.items)) result }
 {
     let mut page = Vec::new(alloc);
     let mut pen = Pen::new(alloc, drawing.head.procs, drawing.first)?;
@@ -185,7 +184,7 @@ fn write_end<M: Machine, W: Sink>(
     end: &End,
     w: &mut W,
 ) -> Result<Verdict, ReplayFault>
-    ensures { Ending (tape (W.taken w.old) (W.failures w.old)) (tape (W.taken w.new) (W.failures w.new)) (M.image_of machine.now) end.now result }
+    ensures { Ending (W.tape w.old) (W.tape w.new) (M.behaviour.image_of machine.now) end.now result }
 {
     match *end {
         End::Judged(verdict) => {
@@ -212,10 +211,10 @@ pub fn follow<M: Machine, W: Sink>(
     w: &mut W,
 ) -> Result<Verdict, ReplayFault>
     // Just this run is told, and its verdict answered; or why not.
-    ensures follows { (start : State) → Keeps judge.old start → Follows (tape (W.taken w.old) (W.failures w.old)) (tape (W.taken w.new) (W.failures w.new)) start M.image_of (run_on (behaviour M.start_refusal M.started M.advance_refusal M.stepped M.advanced M.crash_refusal M.crash_deed M.crashed) 2 machine.old schedule.now.lines)
-        (followed (layout_in (head_of schedule.now)) (replicate schedule.now.procs first) (events_on (behaviour M.start_refusal M.started M.advance_refusal M.stepped M.advanced M.crash_refusal M.crash_deed M.crashed) machine.old schedule.now.lines)) result }
+    ensures follows { (start : State) → Keeps judge.old start → Follows (W.tape w.old) (W.tape w.new) start M.behaviour.image_of (run_on M.behaviour 2 machine.old schedule.now.lines)
+        (followed (layout_in (head_of schedule.now)) (replicate schedule.now.procs first) (events_on M.behaviour machine.old schedule.now.lines)) result }
     // After a verdict the machine is left as the run leaves it.
-    ensures left { OnOk result (machine.new ≡ (run_on (behaviour M.start_refusal M.started M.advance_refusal M.stepped M.advanced M.crash_refusal M.crash_deed M.crashed) 2 machine.old schedule.now.lines).left) }
+    ensures left { OnOk result (machine.new ≡ (run_on M.behaviour 2 machine.old schedule.now.lines).left) }
 {
     let Ok(drawing) = draw(alloc, machine, judge, schedule, first) else {
         return Err(ReplayFault::OutOfMemory);

@@ -1,7 +1,6 @@
 //! Writing a drawing.
 
 ghost use Rattle.std.specs.Prelude.{◌≡◌, ◌++◌, OnOk};
-ghost use Rattle.schedule.specs.Tapes.{tape};
 ghost use Rattle.drawing.specs.Drawings.{end_in, row_spelled, rows_spelled, sheet_of as sheet_for, spelled, spelled_from, Spells, top_in};
 
 use crate::act::Row;
@@ -58,7 +57,7 @@ fn write_top<W: Sink>(
     phases: &[Phase],
     w: &mut W,
 ) -> Result<(), ReplayFault>
-    ensures { Spells (tape (W.taken w.old) (W.failures w.old)) (tape (W.taken w.new) (W.failures w.new)) (top_in sheet.now.style sheet.now phases.now) result }
+    ensures { Spells (W.tape w.old) (W.tape w.new) (top_in sheet.now.style sheet.now phases.now) result }
 {
     page.clear();
     put_top(page, sheet, phases)?;
@@ -74,7 +73,7 @@ fn write_row<W: Sink>(
     row: &Row,
     w: &mut W,
 ) -> Result<(), ReplayFault>
-    ensures { Spells (tape (W.taken w.old) (W.failures w.old)) (tape (W.taken w.new) (W.failures w.new)) (row_spelled sheet.now pen.now row.now) result }
+    ensures { Spells (W.tape w.old) (W.tape w.new) (row_spelled sheet.now pen.now row.now) result }
 {
     page.clear();
     put_row(page, sheet, pen, row)?;
@@ -90,7 +89,7 @@ fn write_rows<W: Sink>(
     rows: &[Row],
     w: &mut W,
 ) -> Result<(), ReplayFault>
-    ensures { Spells (tape (W.taken w.old) (W.failures w.old)) (tape (W.taken w.new) (W.failures w.new)) (rows_spelled sheet.now pen.old rows.now) result }
+    ensures { Spells (W.tape w.old) (W.tape w.new) (rows_spelled sheet.now pen.old rows.now) result }
 {
     for row in rows {
         pen.take(row);
@@ -106,7 +105,7 @@ fn write_last<W: Sink>(
     end: &End,
     w: &mut W,
 ) -> Result<(), ReplayFault>
-    ensures { Spells (tape (W.taken w.old) (W.failures w.old)) (tape (W.taken w.new) (W.failures w.new)) (end_in sheet.now.style sheet.now end.now) result }
+    ensures { Spells (W.tape w.old) (W.tape w.new) (end_in sheet.now.style sheet.now end.now) result }
 {
     page.clear();
     put_end(page, sheet, end)?;
@@ -121,7 +120,7 @@ fn write_end<W: Sink>(
     end: &End,
     w: &mut W,
 ) -> Result<(), ReplayFault>
-    ensures { Spells (tape (W.taken w.old) (W.failures w.old)) (tape (W.taken w.new) (W.failures w.new)) (end_in sheet.now.style sheet.now end.now) result }
+    ensures { Spells (W.tape w.old) (W.tape w.new) (end_in sheet.now.style sheet.now end.now) result }
 {
     write_last(page, sheet, end, w)?;
     w.flush()?;
@@ -137,7 +136,7 @@ fn write_parts<W: Sink>(
     end: &End,
     w: &mut W,
 ) -> Result<(), ReplayFault>
-    ensures { Spells (tape (W.taken w.old) (W.failures w.old)) (tape (W.taken w.new) (W.failures w.new)) (spelled_from sheet.now pen.old rows.now end.now) result }
+    ensures { Spells (W.tape w.old) (W.tape w.new) (spelled_from sheet.now pen.old rows.now end.now) result }
 {
     write_top(page, sheet, pen.phases(), w)?;
     write_rows(page, sheet, pen, rows, w)?;
@@ -152,7 +151,7 @@ pub fn write_drawing<W: Sink>(
     w: &mut W,
 ) -> Result<(), ReplayFault>
     // Just the drawing's text is written; or a beginning of it, and why not the rest.
-    ensures { Spells (tape (W.taken w.old) (W.failures w.old)) (tape (W.taken w.new) (W.failures w.new)) (spelled (sheet_for style drawing.now.head drawing.now.rows.items drawing.now.end) drawing.now.first drawing.now.rows.items drawing.now.end) result }
+    ensures { Spells (W.tape w.old) (W.tape w.new) (spelled (sheet_for style drawing.now.head drawing.now.rows.items drawing.now.end) drawing.now.first drawing.now.rows.items drawing.now.end) result }
 {
     let sheet = sheet_of(style, drawing);
     let mut page = Vec::new(alloc);

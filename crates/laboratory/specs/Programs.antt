@@ -4,8 +4,7 @@ use Rattle.std.specs.declared.alloc.Global.{Global}
 use Rattle.schedule_commands.specs.declared.ending.Ending.{Ending}
 use Rattle.schedule_commands.specs.declared.fault.Fault.{Fault}
 use Rattle.schedule_commands.specs.declared.fault.Fault.TheVariants.{BadVariant, BadSize, Write, OutOfMemory}
-use Rattle.schedule.specs.Tapes.{Tape, Writes}
-use Rattle.trials.specs.Wholes.{Reading, reading}
+use Rattle.schedule.specs.Tapes.{Tape, Writes, Reading}
 use Rattle.orders.specs.declared.order.Command.{Command}
 use Rattle.orders.specs.declared.words.WordsFault.{WordsFault}
 use Rattle.orders.specs.declared.words.WordsFault.TheVariants as words
@@ -23,9 +22,6 @@ pub record Used : Type 0 where
   pub opened : List (String Global)
   pub saved : List (String Global)
   pub texts : List (Vec ℕ Global)
-
-abbrev pub used : List (String Global) → List (String Global) → List (Vec ℕ Global) → Used
-used opened saved texts = record { opened = opened; saved = saved; texts = texts }
 
 -- the image is opened, then the file that is read, and no other
 abbrev pub opens_all : Command → List (String Global) → List (String Global)
@@ -59,7 +55,7 @@ Saves order before now blank written (Err fault) =
 -- what a command read of a file says as much of its end as what is read of standard input; a device or memory can fail besides
 abbrev pub EndsOnFile : Command → Tape → Tape → Result Ending Fault → Type 0
 EndsOnFile order before now end =
-    IsBroken end ⊎ ((last : Reading) × CommandEnds order (is_some (image_of order)) (reading [] false 0) last before now end)
+    IsBroken end ⊎ ((last : Reading) × CommandEnds order (is_some (image_of order)) (record { given = []; ended = false; failures = 0 }) last before now end)
 
 abbrev pub EndsOnInput : Command → Reading → Reading → Tape → Tape → Result Ending Fault → Type 0
 EndsOnInput order old new before now end = IsBroken end ⊎ CommandEnds order (is_some (image_of order)) old new before now end

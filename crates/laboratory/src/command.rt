@@ -4,8 +4,6 @@ ghost use Rattle.std.specs.Prelude.{◌≡◌, Result, IfErr, IfOk, OnOk, is_som
 ghost use Rattle.crashlab.specs.Hunts.{IsFound};
 ghost use Rattle.laboratory.specs.Commands.{CommandEnds, ExplainEnds, HuntEnds, JudgeEnds, TellsFound};
 ghost use Rattle.schedule_commands.specs.Endings.{IsEnded};
-ghost use Rattle.schedule.specs.Tapes.{tape};
-ghost use Rattle.trials.specs.Wholes.{reading};
 ghost use Rattle.orders.specs.FilesNamed.{save_of};
 ghost use Rattle.laboratory.specs.Programs.{Closes};
 ghost use Rattle.schedule_commands.specs.Statuses.{status_of};
@@ -18,13 +16,13 @@ use meanings::{Topic, tell_all_names, tell_topic};
 use orders::order::{Command, HuntOrder};
 use progress::{Meter, Screen, Work};
 use schedule::device::write_all;
+use schedule::{Schedule, Sink, Source};
 use schedule_commands::drawn::draw_order;
 use schedule_commands::ending::{Ending, status_after_verdict};
 use schedule_commands::fault::Fault;
 use schedule_commands::line::told;
 use schedule_commands::replaying::replay_order;
 use schedule_commands::shrunk::{shrink_order, write_lines};
-use schedule::{Schedule, Sink, Source};
 use shrinking::shrink_found;
 use std::alloc::Global;
 use std::sync::Wait;
@@ -33,8 +31,8 @@ use trials::{judge_trace, put_verdict};
 
 /// The verdict line of a trace.
 fn judge_order<R: Source, W: Sink>(alloc: Global, r: &mut R, w: &mut W) -> Result<Ending, Fault>
-    ensures ends { JudgeEnds (reading (R.given r.old) (R.ended r.old) (R.failures r.old)) (reading (R.given r.new) (R.ended r.new) (R.failures r.new)) (tape (W.taken w.old) (W.failures w.old)) (tape (W.taken w.new) (W.failures w.new)) result }
-    ensures ended { IfOk result (IsEnded false (W.failures w.old) (W.failures w.new)) }
+    ensures ends { JudgeEnds (R.reading r.old) (R.reading r.new) (W.tape w.old) (W.tape w.new) result }
+    ensures ended { IfOk result (IsEnded false (W.tape w.old).failures (W.tape w.new).failures) }
 {
     let verdict = judge_trace(alloc, r)?;
     let mut line = Vec::new(alloc);
@@ -56,7 +54,7 @@ fn write_least<W: Sink>(
     w: &mut W,
 ) -> Result<(), Fault>
     requires { IsFound variant found.now }
-    ensures written { OnOk result (TellsFound true variant found.now (tape (W.taken w.old) (W.failures w.old)) (tape (W.taken w.new) (W.failures w.new))) }
+    ensures written { OnOk result (TellsFound true variant found.now (W.tape w.old) (W.tape w.new)) }
     ensures failed { IfErr result (λ fault. status_of fault ≡ 3) }
 {
     let least = shrink_found(alloc, variant, found)?;
@@ -71,7 +69,7 @@ fn write_found<W: Sink>(
     w: &mut W,
 ) -> Result<(), Fault>
     requires { IsFound order.now.variant found.now }
-    ensures written { OnOk result (TellsFound order.now.shrink order.now.variant found.now (tape (W.taken w.old) (W.failures w.old)) (tape (W.taken w.new) (W.failures w.new))) }
+    ensures written { OnOk result (TellsFound order.now.shrink order.now.variant found.now (W.tape w.old) (W.tape w.new)) }
     ensures failed { IfErr result (λ fault. status_of fault ≡ 3) }
 {
     if order.shrink {
@@ -88,8 +86,8 @@ pub fn hunt_order<S: Screen, W: Sink>(
     screen: &mut S,
     w: &mut W,
 ) -> Result<Ending, Fault>
-    ensures ends { HuntEnds order.now (tape (W.taken w.old) (W.failures w.old)) (tape (W.taken w.new) (W.failures w.new)) result }
-    ensures ended { IfOk result (IsEnded false (W.failures w.old) (W.failures w.new)) }
+    ensures ends { HuntEnds order.now (W.tape w.old) (W.tape w.new) result }
+    ensures ended { IfOk result (IsEnded false (W.tape w.old).failures (W.tape w.new).failures) }
 {
     let mut meter = Meter::new(screen, Work::Hunt);
     let found = hunt_watched(
@@ -121,8 +119,8 @@ pub fn hunt_order<S: Screen, W: Sink>(
 
 /// What a topic means, or the names of all topics.
 fn explain_order<W: Sink>(topic: Option<Topic>, w: &mut W) -> Result<Ending, Fault>
-    ensures ends { ExplainEnds topic (tape (W.taken w.old) (W.failures w.old)) (tape (W.taken w.new) (W.failures w.new)) result }
-    ensures ended { IfOk result (IsEnded false (W.failures w.old) (W.failures w.new)) }
+    ensures ends { ExplainEnds topic (W.tape w.old) (W.tape w.new) result }
+    ensures ended { IfOk result (IsEnded false (W.tape w.old).failures (W.tape w.new).failures) }
 {
     let told = match topic {
         Some(topic) => tell_topic(topic, w),
@@ -148,8 +146,8 @@ pub fn ended<T: Threads + Wait + Sync, S: Screen, R: Source, W: Sink>(
     r: &mut R,
     w: &mut W,
 ) -> Result<Ending, Fault>
-    ensures ends { CommandEnds command.now (is_some image.entry) (reading (R.given r.old) (R.ended r.old) (R.failures r.old)) (reading (R.given r.new) (R.ended r.new) (R.failures r.new)) (tape (W.taken w.old) (W.failures w.old)) (tape (W.taken w.new) (W.failures w.new)) result }
-    ensures ended { IfOk result (IsEnded (is_some (save_of command.now)) (W.failures w.old) (W.failures w.new)) }
+    ensures ends { CommandEnds command.now (is_some image.entry) (R.reading r.old) (R.reading r.new) (W.tape w.old) (W.tape w.new) result }
+    ensures ended { IfOk result (IsEnded (is_some (save_of command.now)) (W.tape w.old).failures (W.tape w.new).failures) }
 {
     match command {
         Command::Replay(order) => replay_order(alloc, order, image, r, w),
@@ -174,7 +172,7 @@ pub fn command<T: Threads + Wait + Sync, S: Screen, R: Source, W: Sink, E: Sink>
     w: &mut W,
     e: &mut E,
 ) -> Ending
-    ensures ends { (end : Result Ending Fault) × CommandEnds command.now (is_some image.entry) (reading (R.given r.old) (R.ended r.old) (R.failures r.old)) (reading (R.given r.new) (R.ended r.new) (R.failures r.new)) (tape (W.taken w.old) (W.failures w.old)) (tape (W.taken w.new) (W.failures w.new)) end × Closes (tape (E.taken e.old) (E.failures e.old)) (tape (E.taken e.new) (E.failures e.new)) end result.status }
+    ensures ends { (end : Result Ending Fault) × CommandEnds command.now (is_some image.entry) (R.reading r.old) (R.reading r.new) (W.tape w.old) (W.tape w.new) end × Closes (E.tape e.old) (E.tape e.new) end result.status }
     ensures unsaved { is_some (save_of command.now) ≡ false → is_some result.save ≡ false }
 {
     match ended(rt, alloc, command, image, screen, r, w) {

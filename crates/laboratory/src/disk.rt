@@ -45,11 +45,7 @@ fn file_fault(error: &io::Error) -> FileFault {
 impl<'a, R: Files> Folder for Disk<'a, R> {
     type Opened = FromReader<R::File>;
 
-    ghost opened = { λ d. d.opened.items };
-
-    ghost saved = { λ d. d.saved.items };
-
-    ghost texts = { λ d. d.texts.items };
+    ghost used = { λ d. record { opened = d.opened.items; saved = d.saved.items; texts = d.texts.items } };
 
     fn open(&mut self, name: &String) -> Result<FromReader<R::File>, FileFault> {
         self.opened = self.opened.and(name);

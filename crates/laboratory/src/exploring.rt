@@ -3,23 +3,23 @@
 ghost use Rattle.std.specs.Prelude.{◌≡◌, ◌++◌, ◌⊎◌, ◌∷◌, [], false, codes, length, ◌≤◌, take, replicate, IfErr, IfOk, IfSome, IsSome, OnOk, ◌↔◌};
 ghost use Rattle.std.specs.Fmt.{decimal};
 ghost use Rattle.schedule_commands.specs.Endings.{FailsToWrite, IsEnded};
-ghost use Rattle.schedule.specs.Tapes.{Writes, tape};
+ghost use Rattle.schedule.specs.Tapes.{Writes};
 ghost use Rattle.laboratory.specs.Explores.{appends as appends_of, asked, all_line, calls_of as calls_asked, ExploreEnds, schedule_of as schedule_by, within_line};
 ghost use Rattle.lock_spaces.specs.Spaces.{line_by};
 
-use lock_search::{Bounds, ExploreFault, Found, Move, shortest_schedule};
 use lines::{Count, Line};
+use lock_search::{Bounds, ExploreFault, Found, Move, shortest_schedule};
 use orders::order::ExploreOrder;
 use progress::{Meter, Screen, Work};
 use redomail::Layout;
 use rmecore::Body;
 use rmeworld::Call;
 use schedule::device::write_all;
+use schedule::{Schedule, Sink};
 use schedule_commands::ending::Ending;
 use schedule_commands::fault::Fault;
 use schedule_commands::line::line_around;
 use schedule_commands::shrunk::write_lines;
-use schedule::{Schedule, Sink};
 use std::alloc::{AllocError, Global};
 
 /// Lists a call, where it is asked for.
@@ -111,10 +111,10 @@ fn schedule_of(alloc: Global, order: &ExploreOrder, path: &[Move]) -> Result<Sch
 /// Tells that nothing was found, and how far was looked.
 fn tell_none<W: Sink>(before: &str, number: u64, after: &str, w: &mut W) -> Result<Ending, Fault>
     requires { (length before.now ≤ 21) × (length after.now ≤ 20) }
-    ensures told { OnOk result (Writes (tape (W.taken w.old) (W.failures w.old)) (tape (W.taken w.new) (W.failures w.new)) (before.now ++ decimal number ++ after.now)) }
+    ensures told { OnOk result (Writes (W.tape w.old) (W.tape w.new) (before.now ++ decimal number ++ after.now)) }
     ensures status { IfOk result (λ ending. ending.status ≡ 0) }
-    ensures ended { IfOk result (IsEnded false (W.failures w.old) (W.failures w.new)) }
-    ensures failed { IfErr result (FailsToWrite (tape (W.taken w.old) (W.failures w.old)) (tape (W.taken w.new) (W.failures w.new))) }
+    ensures ended { IfOk result (IsEnded false (W.tape w.old).failures (W.tape w.new).failures) }
+    ensures failed { IfErr result (FailsToWrite (W.tape w.old) (W.tape w.new)) }
 {
     let line = line_around(before, number, after);
     if write_all(w, line.as_bytes()).is_err() {
@@ -128,20 +128,20 @@ fn tell_none<W: Sink>(before: &str, number: u64, after: &str, w: &mut W) -> Resu
 
 /// Tells that no schedule of at most so many moves is found.
 fn tell_within<W: Sink>(moves: u64, w: &mut W) -> Result<Ending, Fault>
-    ensures told { OnOk result (Writes (tape (W.taken w.old) (W.failures w.old)) (tape (W.taken w.new) (W.failures w.new)) (within_line moves)) }
+    ensures told { OnOk result (Writes (W.tape w.old) (W.tape w.new) (within_line moves)) }
     ensures status { IfOk result (λ ending. ending.status ≡ 0) }
-    ensures ended { IfOk result (IsEnded false (W.failures w.old) (W.failures w.new)) }
-    ensures failed { IfErr result (FailsToWrite (tape (W.taken w.old) (W.failures w.old)) (tape (W.taken w.new) (W.failures w.new))) }
+    ensures ended { IfOk result (IsEnded false (W.tape w.old).failures (W.tape w.new).failures) }
+    ensures failed { IfErr result (FailsToWrite (W.tape w.old) (W.tape w.new)) }
 {
     tell_none("nothing found within ", moves, " moves\n", w)
 }
 
 /// Tells that none is found among so many states, which are all.
 fn tell_all<W: Sink>(states: u64, w: &mut W) -> Result<Ending, Fault>
-    ensures told { OnOk result (Writes (tape (W.taken w.old) (W.failures w.old)) (tape (W.taken w.new) (W.failures w.new)) (all_line states)) }
+    ensures told { OnOk result (Writes (W.tape w.old) (W.tape w.new) (all_line states)) }
     ensures status { IfOk result (λ ending. ending.status ≡ 0) }
-    ensures ended { IfOk result (IsEnded false (W.failures w.old) (W.failures w.new)) }
-    ensures failed { IfErr result (FailsToWrite (tape (W.taken w.old) (W.failures w.old)) (tape (W.taken w.new) (W.failures w.new))) }
+    ensures ended { IfOk result (IsEnded false (W.tape w.old).failures (W.tape w.new).failures) }
+    ensures failed { IfErr result (FailsToWrite (W.tape w.old) (W.tape w.new)) }
 {
     tell_none("nothing found: all ", states, " states\n", w)
 }
@@ -153,8 +153,8 @@ pub fn explore_order<S: Screen, W: Sink>(
     screen: &mut S,
     w: &mut W,
 ) -> Result<Ending, Fault>
-    ensures ends { ExploreEnds order.now (tape (W.taken w.old) (W.failures w.old)) (tape (W.taken w.new) (W.failures w.new)) result }
-    ensures ended { IfOk result (IsEnded false (W.failures w.old) (W.failures w.new)) }
+    ensures ends { ExploreEnds order.now (W.tape w.old) (W.tape w.new) result }
+    ensures ended { IfOk result (IsEnded false (W.tape w.old).failures (W.tape w.new).failures) }
 {
     if order.width == 0 || order.width > 8 {
         return Err(Fault::BadSize);

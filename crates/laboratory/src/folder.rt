@@ -1,8 +1,7 @@
 //! The files that a command names.
 
-ghost use Rattle.std.specs.Prelude.{◌≡◌, ◌++◌, ◌∷◌, ℕ, List, [], false, IfOk, String, Vec};
-ghost use Rattle.std.specs.declared.alloc.Global.{Global};
-ghost use Rattle.trials.specs.Wholes.{reading};
+ghost use Rattle.std.specs.Prelude.{◌≡◌, ◌++◌, ◌∷◌, [], false, IfOk};
+ghost use Rattle.laboratory.specs.Programs.{Used};
 
 use schedule::Source;
 
@@ -19,25 +18,19 @@ pub trait Folder {
     /// A file that is open to be read.
     type Opened: Source + Drop;
 
-    /// the names of the files that it was asked to open, in this order
-    ghost opened: { Self → List (String Global) };
-
-    /// the names of the files that it was asked to write, in this order
-    ghost saved: { Self → List (String Global) };
-
-    /// what it was asked to write to each of them
-    ghost texts: { Self → List (Vec ℕ Global) };
+    /// what it was asked for
+    ghost used: { Self → Used };
 
     /// Opens a file, of which nothing is read yet.
     fn open(&mut self, name: &String) -> Result<Self::Opened, FileFault>
-        ensures opened { opened self.new ≡ opened self.old ++ name.now ∷ [] }
-        ensures saved { saved self.new ≡ saved self.old }
-        ensures texts { texts self.new ≡ texts self.old }
-        ensures unread { IfOk result (λ file. reading (Self.Opened.given file) (Self.Opened.ended file) (Self.Opened.failures file) ≡ reading [] false 0) };
+        ensures opened { (used self.new).opened ≡ (used self.old).opened ++ name.now ∷ [] }
+        ensures saved { (used self.new).saved ≡ (used self.old).saved }
+        ensures texts { (used self.new).texts ≡ (used self.old).texts }
+        ensures unread { IfOk result (λ file. Self.Opened.reading file ≡ record { given = []; ended = false; failures = 0 }) };
 
     /// Writes a whole file, in place of the one of this name.
     fn save(&mut self, name: &String, text: &Vec<u8>) -> Result<(), FileFault>
-        ensures opened { opened self.new ≡ opened self.old }
-        ensures saved { saved self.new ≡ saved self.old ++ name.now ∷ [] }
-        ensures texts { texts self.new ≡ texts self.old ++ text.now ∷ [] };
+        ensures opened { (used self.new).opened ≡ (used self.old).opened }
+        ensures saved { (used self.new).saved ≡ (used self.old).saved ++ name.now ∷ [] }
+        ensures texts { (used self.new).texts ≡ (used self.old).texts ++ text.now ∷ [] };
 }

@@ -2,11 +2,10 @@
 
 ghost use Rattle.std.specs.Prelude.{◌≡◌, ◌⊎◌, ◌++◌, ◌∷◌, [], true, None, is_some, option_to_list, IfErr, IfOk, OnOk};
 ghost use Rattle.schedule_commands.specs.Endings.{IsEnded};
-ghost use Rattle.schedule.specs.Tapes.{Writes, tape};
-ghost use Rattle.trials.specs.Wholes.{reading};
+ghost use Rattle.schedule.specs.Tapes.{Writes};
 ghost use Rattle.orders.specs.FilesNamed.{image_of, input_of, save_of};
 ghost use Rattle.schedule_commands.specs.Lines.{IsTold};
-ghost use Rattle.laboratory.specs.Programs.{Answers, Closes, Does, EndsOnFile, EndsOnInput, Helps, IsProgram, Obeys, opens_all, OpensSome, SavesAll, Scolds, used};
+ghost use Rattle.laboratory.specs.Programs.{Answers, Closes, Does, EndsOnFile, EndsOnInput, Helps, IsProgram, Obeys, opens_all, OpensSome, SavesAll, Scolds};
 ghost use Rattle.orders.specs.Sizes.{IsSized};
 ghost use Rattle.laboratory.specs.Faults.{fault_of_opening, fault_of_saving};
 ghost use Rattle.schedule_commands.specs.Statuses.{status_of};
@@ -52,9 +51,9 @@ fn unsaved(fault: FileFault) -> Fault
 
 /// All bytes of a file.
 fn file_text<F: Folder>(alloc: Global, folder: &mut F, name: &String) -> Result<Vec<u8>, Fault>
-    ensures opened { F.opened folder.new ≡ F.opened folder.old ++ name.now ∷ [] }
-    ensures saved { F.saved folder.new ≡ F.saved folder.old }
-    ensures texts { F.texts folder.new ≡ F.texts folder.old }
+    ensures opened { (F.used folder.new).opened ≡ (F.used folder.old).opened ++ name.now ∷ [] }
+    ensures saved { (F.used folder.new).saved ≡ (F.used folder.old).saved }
+    ensures texts { (F.used folder.new).texts ≡ (F.used folder.old).texts }
     ensures failed { IfErr result (λ fault. status_of fault ≡ 3) }
 {
     let mut file = folder.open(name).map_err(unopened)?;
@@ -67,9 +66,9 @@ fn image_text<F: Folder>(
     order: &Command,
     folder: &mut F,
 ) -> Result<Option<Vec<u8>>, Fault>
-    ensures opened { F.opened folder.new ≡ F.opened folder.old ++ option_to_list (image_of order.now) }
-    ensures saved { F.saved folder.new ≡ F.saved folder.old }
-    ensures texts { F.texts folder.new ≡ F.texts folder.old }
+    ensures opened { (F.used folder.new).opened ≡ (F.used folder.old).opened ++ option_to_list (image_of order.now) }
+    ensures saved { (F.used folder.new).saved ≡ (F.used folder.old).saved }
+    ensures texts { (F.used folder.new).texts ≡ (F.used folder.old).texts }
     ensures named { IfOk result (λ text. is_some text ≡ is_some (image_of order.now)) }
     ensures failed { IfErr result (λ fault. status_of fault ≡ 3) }
 {
@@ -91,11 +90,11 @@ fn ended_on_file<T: Threads + Wait + Sync, F: Folder, S: Screen, W: Sink>(
     out: &mut W,
 ) -> Result<Ending, Fault>
     requires { is_some image ≡ is_some (image_of order.now) }
-    ensures opened { F.opened folder.new ≡ F.opened folder.old ++ name.now ∷ [] }
-    ensures saved { F.saved folder.new ≡ F.saved folder.old }
-    ensures texts { F.texts folder.new ≡ F.texts folder.old }
-    ensures ends { EndsOnFile order.now (tape (W.taken out.old) (W.failures out.old)) (tape (W.taken out.new) (W.failures out.new)) result }
-    ensures ended { IfOk result (IsEnded (is_some (save_of order.now)) (W.failures out.old) (W.failures out.new)) }
+    ensures opened { (F.used folder.new).opened ≡ (F.used folder.old).opened ++ name.now ∷ [] }
+    ensures saved { (F.used folder.new).saved ≡ (F.used folder.old).saved }
+    ensures texts { (F.used folder.new).texts ≡ (F.used folder.old).texts }
+    ensures ends { EndsOnFile order.now (W.tape out.old) (W.tape out.new) result }
+    ensures ended { IfOk result (IsEnded (is_some (save_of order.now)) (W.tape out.old).failures (W.tape out.new).failures) }
 {
     let mut file = folder.open(name).map_err(unopened)?;
     ended(rt, alloc, order, image, screen, &mut file, out)
@@ -111,14 +110,14 @@ fn ordered<T: Threads + Wait + Sync, F: Folder, S: Screen, R: Source, W: Sink>(
     input: &mut R,
     out: &mut W,
 ) -> Result<Ending, Fault>
-    ensures all { OnOk result (F.opened folder.new ≡ opens_all order.now (F.opened folder.old)) }
-    ensures opened { OpensSome order.now (F.opened folder.old) (F.opened folder.new) }
-    ensures saved { F.saved folder.new ≡ F.saved folder.old }
-    ensures texts { F.texts folder.new ≡ F.texts folder.old }
-    ensures ended { IfOk result (IsEnded (is_some (save_of order.now)) (W.failures out.old) (W.failures out.new)) }
-    ensures apart { is_some (input_of order.now) ≡ true → reading (R.given input.new) (R.ended input.new) (R.failures input.new) ≡ reading (R.given input.old) (R.ended input.old) (R.failures input.old) }
-    ensures on_input { input_of order.now ≡ None → EndsOnInput order.now (reading (R.given input.old) (R.ended input.old) (R.failures input.old)) (reading (R.given input.new) (R.ended input.new) (R.failures input.new)) (tape (W.taken out.old) (W.failures out.old)) (tape (W.taken out.new) (W.failures out.new)) result }
-    ensures on_file { is_some (input_of order.now) ≡ true → EndsOnFile order.now (tape (W.taken out.old) (W.failures out.old)) (tape (W.taken out.new) (W.failures out.new)) result }
+    ensures all { OnOk result ((F.used folder.new).opened ≡ opens_all order.now (F.used folder.old).opened) }
+    ensures opened { OpensSome order.now (F.used folder.old).opened (F.used folder.new).opened }
+    ensures saved { (F.used folder.new).saved ≡ (F.used folder.old).saved }
+    ensures texts { (F.used folder.new).texts ≡ (F.used folder.old).texts }
+    ensures ended { IfOk result (IsEnded (is_some (save_of order.now)) (W.tape out.old).failures (W.tape out.new).failures) }
+    ensures apart { is_some (input_of order.now) ≡ true → R.reading input.new ≡ R.reading input.old }
+    ensures on_input { input_of order.now ≡ None → EndsOnInput order.now (R.reading input.old) (R.reading input.new) (W.tape out.old) (W.tape out.new) result }
+    ensures on_file { is_some (input_of order.now) ≡ true → EndsOnFile order.now (W.tape out.old) (W.tape out.new) result }
 {
     let image = image_text(alloc, order, folder)?;
     match order.input_file() {
@@ -139,8 +138,8 @@ fn ordered<T: Threads + Wait + Sync, F: Folder, S: Screen, R: Source, W: Sink>(
 /// Saves the image, where the order names a file for it.
 fn save<F: Folder>(folder: &mut F, order: &Command, ending: &Ending) -> Result<(), Fault>
     requires { is_some ending.now.save ≡ is_some (save_of order.now) }
-    ensures opened { F.opened folder.new ≡ F.opened folder.old }
-    ensures saved { SavesAll order.now (used (F.opened folder.old) (F.saved folder.old) (F.texts folder.old)) (used (F.opened folder.new) (F.saved folder.new) (F.texts folder.new)) ending.now.save }
+    ensures opened { (F.used folder.new).opened ≡ (F.used folder.old).opened }
+    ensures saved { SavesAll order.now (F.used folder.old) (F.used folder.new) ending.now.save }
     ensures failed { IfErr result (λ fault. status_of fault ≡ 3) }
 {
     match (order.save_file(), &ending.save) {
@@ -160,7 +159,7 @@ fn carried_out<T: Threads + Wait + Sync, F: Folder, S: Screen, R: Source, W: Sin
     input: &mut R,
     out: &mut W,
 ) -> Result<Ending, Fault>
-    ensures { Does order.now (used (F.opened folder.old) (F.saved folder.old) (F.texts folder.old)) (used (F.opened folder.new) (F.saved folder.new) (F.texts folder.new)) (reading (R.given input.old) (R.ended input.old) (R.failures input.old)) (reading (R.given input.new) (R.ended input.new) (R.failures input.new)) (tape (W.taken out.old) (W.failures out.old)) (tape (W.taken out.new) (W.failures out.new)) result }
+    ensures { Does order.now (F.used folder.old) (F.used folder.new) (R.reading input.old) (R.reading input.new) (W.tape out.old) (W.tape out.new) result }
 {
     let ended = ordered(rt, alloc, order, folder, screen, input, out);
     if out.flush().is_err() {
@@ -173,7 +172,7 @@ fn carried_out<T: Threads + Wait + Sync, F: Folder, S: Screen, R: Source, W: Sin
 
 /// The exit status of this end. The one line of a fault goes to `err`.
 pub fn closed<E: Sink>(end: Result<Ending, Fault>, err: &mut E) -> u8
-    ensures { Closes (tape (E.taken err.old) (E.failures err.old)) (tape (E.taken err.new) (E.failures err.new)) end result }
+    ensures { Closes (E.tape err.old) (E.tape err.new) end result }
 {
     match end {
         Ok(ending) => ending.status,
@@ -193,7 +192,7 @@ pub fn obey<T: Threads + Wait + Sync, F: Folder, S: Screen, R: Source, W: Sink, 
     out: &mut W,
     err: &mut E,
 ) -> u8
-    ensures { Obeys order.now (used (F.opened folder.old) (F.saved folder.old) (F.texts folder.old)) (used (F.opened folder.new) (F.saved folder.new) (F.texts folder.new)) (reading (R.given input.old) (R.ended input.old) (R.failures input.old)) (reading (R.given input.new) (R.ended input.new) (R.failures input.new)) (tape (W.taken out.old) (W.failures out.old)) (tape (W.taken out.new) (W.failures out.new)) (tape (E.taken err.old) (E.failures err.old)) (tape (E.taken err.new) (E.failures err.new)) result }
+    ensures { Obeys order.now (F.used folder.old) (F.used folder.new) (R.reading input.old) (R.reading input.new) (W.tape out.old) (W.tape out.new) (E.tape err.old) (E.tape err.new) result }
 {
     let end = carried_out(rt, alloc, order, folder, screen, input, out);
     closed(end, err)
@@ -201,7 +200,7 @@ pub fn obey<T: Threads + Wait + Sync, F: Folder, S: Screen, R: Source, W: Sink, 
 
 /// Writes a text, and hands it on.
 fn printed<W: Sink>(text: &str, out: &mut W) -> Result<(), Failed>
-    ensures { OnOk result (Writes (tape (W.taken out.old) (W.failures out.old)) (tape (W.taken out.new) (W.failures out.new)) text.now) }
+    ensures { OnOk result (Writes (W.tape out.old) (W.tape out.new) text.now) }
 {
     write_all(out, text.as_bytes())?;
     out.flush()
@@ -209,7 +208,7 @@ fn printed<W: Sink>(text: &str, out: &mut W) -> Result<(), Failed>
 
 /// Prints the help that is asked for.
 fn helped<W: Sink, E: Sink>(text: &str, out: &mut W, err: &mut E) -> u8
-    ensures { Helps text.now (tape (W.taken out.old) (W.failures out.old)) (tape (W.taken out.new) (W.failures out.new)) (tape (E.taken err.old) (E.failures err.old)) (tape (E.taken err.new) (E.failures err.new)) result }
+    ensures { Helps text.now (W.tape out.old) (W.tape out.new) (E.tape err.old) (E.tape err.new) result }
 {
     match printed(text, out) {
         Ok(()) => 0,
@@ -219,7 +218,7 @@ fn helped<W: Sink, E: Sink>(text: &str, out: &mut W, err: &mut E) -> u8
 
 /// Tells what is wrong with the words.
 fn scolded<E: Sink>(text: &str, err: &mut E) -> u8
-    ensures { Scolds text.now (tape (E.taken err.old) (E.failures err.old)) (tape (E.taken err.new) (E.failures err.new)) result }
+    ensures { Scolds text.now (E.tape err.old) (E.tape err.new) result }
 {
     let _ = write_all(err, text.as_bytes());
     2
@@ -231,7 +230,7 @@ const UNREADABLE: &str =
 
 /// Answers words that are no command.
 fn answered<W: Sink, E: Sink>(fault: &WordsFault, out: &mut W, err: &mut E) -> u8
-    ensures { Answers fault.now (tape (W.taken out.old) (W.failures out.old)) (tape (W.taken out.new) (W.failures out.new)) (tape (E.taken err.old) (E.failures err.old)) (tape (E.taken err.new) (E.failures err.new)) result }
+    ensures { Answers fault.now (W.tape out.old) (W.tape out.new) (E.tape err.old) (E.tape err.new) result }
 {
     match fault {
         WordsFault::Help { text } => helped(text.as_str(), out, err),
@@ -262,7 +261,7 @@ pub fn program<T: Threads + Wait + Sync, F: Folder, S: Screen, R: Source, W: Sin
     out: &mut W,
     err: &mut E,
 ) -> u8
-    ensures { IsProgram (used (F.opened folder.old) (F.saved folder.old) (F.texts folder.old)) (used (F.opened folder.new) (F.saved folder.new) (F.texts folder.new)) (reading (R.given input.old) (R.ended input.old) (R.failures input.old)) (reading (R.given input.new) (R.ended input.new) (R.failures input.new)) (tape (W.taken out.old) (W.failures out.old)) (tape (W.taken out.new) (W.failures out.new)) (tape (E.taken err.old) (E.failures err.old)) (tape (E.taken err.new) (E.failures err.new)) result }
+    ensures { IsProgram (F.used folder.old) (F.used folder.new) (R.reading input.old) (R.reading input.new) (W.tape out.old) (W.tape out.new) (E.tape err.old) (E.tape err.new) result }
 {
     match order_of(alloc, words) {
         Ok(order) => obey(rt, alloc, &order, folder, screen, input, out, err),

@@ -114,7 +114,7 @@ fn write_lines<W: Sink>(
     w: &mut W,
 ) -> Result<(), Fault>
     ensures failed { IfErr result (λ fault. status_of fault ≡ 3) }
-    ensures whole { OnOk result (W.failures w.new ≡ W.failures w.old) }
+    ensures whole { OnOk result ((W.tape w.new).failures ≡ (W.tape w.old).failures) }
 {
     let text = lines_of(alloc, tallies)?;
     if write_all(w, text.as_bytes()).is_err() {
@@ -131,7 +131,7 @@ pub fn run_order<T: Threads + Wait + Sync, W: Sink>(
     w: &mut W,
 ) -> Result<Ending, Fault>
     ensures ends { RunEnds order.now result }
-    ensures ended { IfOk result (IsEnded false (W.failures w.old) (W.failures w.new)) }
+    ensures ended { IfOk result (IsEnded false (W.tape w.old).failures (W.tape w.new).failures) }
 {
     let tallies = counted(rt, alloc, order)?;
     write_lines(alloc, &tallies, w)?;

@@ -1,7 +1,7 @@
 //! What topics mean, written to a sink.
 
 ghost use Rattle.std.specs.Prelude.{◌≡◌, ◌+◌, ◌-◌, ◌^◌, min, OnOk, OnErr};
-ghost use Rattle.schedule.specs.Tapes.{tape, Writes};
+ghost use Rattle.schedule.specs.Tapes.{Writes};
 ghost use Rattle.meanings.specs.Told.{list_of, meaning_text, TellsTopic};
 ghost use Rattle.meanings.specs.declared.topic.TheConstants.{TOPICS as all_topics};
 
@@ -12,8 +12,8 @@ use schedule::{Failed, Sink};
 
 /// Writes a name, its two sentences, and the page that defines it.
 fn tell<W: Sink>(meaning: &Meaning, w: &mut W) -> Result<(), Failed>
-    ensures told { OnOk result (Writes (tape (W.taken w.old) (W.failures w.old)) (tape (W.taken w.new) (W.failures w.new)) (meaning_text meaning.now)) }
-    ensures failed { OnErr result (W.failures w.new ≡ min (W.failures w.old + 1) (2 ^ 64 - 1)) }
+    ensures told { OnOk result (Writes (W.tape w.old) (W.tape w.new) (meaning_text meaning.now)) }
+    ensures failed { OnErr result ((W.tape w.new).failures ≡ min ((W.tape w.old).failures + 1) (2 ^ 64 - 1)) }
 {
     write_all(w, meaning.name.as_bytes())?;
     write_all(w, b": ")?;
@@ -25,8 +25,8 @@ fn tell<W: Sink>(meaning: &Meaning, w: &mut W) -> Result<(), Failed>
 
 /// Writes what a topic means.
 pub fn tell_topic<W: Sink>(topic: Topic, w: &mut W) -> Result<(), Failed>
-    ensures told { OnOk result (TellsTopic topic (tape (W.taken w.old) (W.failures w.old)) (tape (W.taken w.new) (W.failures w.new))) }
-    ensures failed { OnErr result (W.failures w.new ≡ min (W.failures w.old + 1) (2 ^ 64 - 1)) }
+    ensures told { OnOk result (TellsTopic topic (W.tape w.old) (W.tape w.new)) }
+    ensures failed { OnErr result ((W.tape w.new).failures ≡ min ((W.tape w.old).failures + 1) (2 ^ 64 - 1)) }
 {
     let meaning = meaning_of(topic);
     tell(&meaning, w)
@@ -34,8 +34,8 @@ pub fn tell_topic<W: Sink>(topic: Topic, w: &mut W) -> Result<(), Failed>
 
 /// Writes the name of each of these topics, one a line.
 fn tell_names<W: Sink>(topics: &[Topic], w: &mut W) -> Result<(), Failed>
-    ensures told { OnOk result (Writes (tape (W.taken w.old) (W.failures w.old)) (tape (W.taken w.new) (W.failures w.new)) (list_of topics.now)) }
-    ensures failed { OnErr result (W.failures w.new ≡ min (W.failures w.old + 1) (2 ^ 64 - 1)) }
+    ensures told { OnOk result (Writes (W.tape w.old) (W.tape w.new) (list_of topics.now)) }
+    ensures failed { OnErr result ((W.tape w.new).failures ≡ min ((W.tape w.old).failures + 1) (2 ^ 64 - 1)) }
 {
     for topic in topics {
         write_all(w, meaning_of(*topic).name.as_bytes())?;
@@ -46,8 +46,8 @@ fn tell_names<W: Sink>(topics: &[Topic], w: &mut W) -> Result<(), Failed>
 
 /// Writes the names of all that there is to explain, one a line.
 pub fn tell_all_names<W: Sink>(w: &mut W) -> Result<(), Failed>
-    ensures told { OnOk result (Writes (tape (W.taken w.old) (W.failures w.old)) (tape (W.taken w.new) (W.failures w.new)) (list_of all_topics)) }
-    ensures failed { OnErr result (W.failures w.new ≡ min (W.failures w.old + 1) (2 ^ 64 - 1)) }
+    ensures told { OnOk result (Writes (W.tape w.old) (W.tape w.new) (list_of all_topics)) }
+    ensures failed { OnErr result ((W.tape w.new).failures ≡ min ((W.tape w.old).failures + 1) (2 ^ 64 - 1)) }
 {
     tell_names(&TOPICS, w)
 }

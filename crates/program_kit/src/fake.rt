@@ -71,11 +71,7 @@ fn fault_of(failing: Failing) -> Option<FileFault> {
 impl<'a> Folder for Fake<'a> {
     type Opened = FromReader<Feed<'a>>;
 
-    ghost opened = { λ f. f.opened.items };
-
-    ghost saved = { λ f. f.saved.items };
-
-    ghost texts = { λ f. f.texts.items };
+    ghost used = { λ f. record { opened = f.opened.items; saved = f.saved.items; texts = f.texts.items } };
 
     fn open(&mut self, name: &String) -> Result<FromReader<Feed<'a>>, FileFault> {
         self.opened = self.opened.and(name);

@@ -1,3 +1,4 @@
+pub mod Behaviours
 pub mod ImageRules
 pub mod ImageStart
 pub mod Whys

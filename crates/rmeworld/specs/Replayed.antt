@@ -16,6 +16,7 @@ use Rattle.redomail.specs.declared.layout.Layout.{Layout}
 use Rattle.redomail.specs.Layout.{Words, words_of}
 use Rattle.redomail.specs.declared.deed.Deed.{Deed}
 use Rattle.redomail.specs.declared.deed.Deed.TheVariants.{Outer as OuterDeed}
+use Rattle.rmeworld.specs.Behaviours.{Behaviour}
 use Rattle.rmeworld.specs.declared.call.Call.{Call}
 use Rattle.rmeworld.specs.declared.image.Image.{Image}
 use Rattle.rmeworld.specs.declared.outcome.Outcome.{Outcome}
@@ -151,3 +152,18 @@ crashed s p =
 -- the words that stand, with the sizes
 abbrev pub image_of : WorldState → Image
 image_of s = record { cap = s.layout.cap; cells = s.cells; limit = s.limit; lock = s.words; version = 2; width = s.layout.width }
+
+-- all of it
+abbrev pub world_behaviour : Behaviour WorldState
+world_behaviour =
+    record {
+      start_refusal = start_refusal;
+      started = started;
+      advance_refusal = advance_refusal;
+      stepped = stepped;
+      advanced = advanced;
+      crash_refusal = crash_refusal;
+      crash_deed = λ s p. crash_deed p;
+      crashed = crashed;
+      image_of = image_of;
+    }

@@ -407,25 +407,9 @@ impl World {
 }
 
 impl Machine for World {
-    ghost use Rattle.rmeworld.specs.Replayed as replayed;
+    ghost use Rattle.rmeworld.specs.Replayed.{world_behaviour};
 
-    ghost start_refusal = { replayed.start_refusal };
-
-    ghost started = { replayed.started };
-
-    ghost advance_refusal = { replayed.advance_refusal };
-
-    ghost stepped = { replayed.stepped };
-
-    ghost advanced = { replayed.advanced };
-
-    ghost crash_refusal = { replayed.crash_refusal };
-
-    ghost crash_deed = { λ s p. replayed.crash_deed p };
-
-    ghost crashed = { replayed.crashed };
-
-    ghost image_of = { replayed.image_of };
+    ghost behaviour = { world_behaviour };
 
     fn start(&mut self, p: u64, call: Call) -> Result<(), Refusal> {
         World::start(self, p, call)

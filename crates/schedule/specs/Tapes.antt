@@ -1,5 +1,11 @@
--- Bytes that are written a part at a time.
-use Rattle.std.specs.Prelude.{◌≡◌, ℕ, List, [], ◌++◌}
+-- Bytes that are read, and bytes that are written, a part at a time.
+use Rattle.std.specs.Prelude.{◌≡◌, ℕ, Bool, List, [], ◌++◌}
+
+-- how far a source was read: the bytes that it has given, whether it told its end, and how often it failed, held at 2^64 - 1
+pub record Reading : Type 0 where
+  pub given : List ℕ
+  pub ended : Bool
+  pub failures : ℕ
 
 -- of these bytes all but the rest were written
 pub record WritesFront (old new bytes rest : List ℕ) : Type 0 where
@@ -7,13 +13,10 @@ pub record WritesFront (old new bytes rest : List ℕ) : Type 0 where
   pub written : new ≡ old ++ front
   pub left : bytes ≡ front ++ rest
 
--- what a sink has taken, and how often it failed
+-- what a sink has taken, and how often it failed, held at 2^64 - 1
 pub record Tape : Type 0 where
   pub taken : List ℕ
   pub failures : ℕ
-
-abbrev pub tape : List ℕ → ℕ → Tape
-tape taken failures = record { taken = taken; failures = failures }
 
 -- all of the text was written
 pub record Writes (before now : Tape) (text : List ℕ) : Type 0 where

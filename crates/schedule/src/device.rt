@@ -1,7 +1,7 @@
 //! Bytes that come and bytes that go.
 
-ghost use Rattle.std.specs.Prelude.{◌≡◌, ◌+◌, ◌-◌, ◌^◌, ◌<◌, ◌≤◌, ◌++◌, List, ℕ, Bool, true, false, [], length, take, OnOk, OnErr, IfOk, IfErr, min};
-ghost use Rattle.schedule.specs.Tapes.{WritesFront};
+ghost use Rattle.std.specs.Prelude.{◌≡◌, ◌+◌, ◌-◌, ◌^◌, ◌<◌, ◌≤◌, ◌++◌, List, ℕ, true, false, [], length, take, OnOk, OnErr, IfOk, IfErr, min};
+ghost use Rattle.schedule.specs.Tapes.{WritesFront, Reading, Tape};
 
 use std::alloc::{AllocError, Global};
 use thiserror::Error;
@@ -13,49 +13,40 @@ pub struct Failed;
 
 /// Bytes that come, a piece at a time.
 pub trait Source {
-    /// the bytes that it has given so far
-    ghost given: { Self → List ℕ };
-
-    /// whether it has told its end
-    ghost ended: { Self → Bool };
-
-    /// how often it failed, held at 2^64 - 1
-    ghost failures: { Self → ℕ };
+    /// how far it was read
+    ghost reading: { Self → Reading };
 
     /// Reads into the front of the buffer. 0 at a buffer that is not empty tells the end.
     fn read(&mut self, buf: &mut [u8]) -> Result<usize, Failed>
         ensures bound { IfOk result (λ n. n ≤ length buf.new) }
-        ensures given { IfOk result (λ n. given self.new ≡ given self.old ++ take n buf.new) }
-        ensures end { IfOk result (λ n. n ≡ 0 → 0 < length buf.new → ended self.new ≡ true) }
-        ensures fine { OnOk result (failures self.new ≡ failures self.old) }
-        ensures failed { OnErr result (failures self.new ≡ min (failures self.old + 1) (2 ^ 64 - 1)) }
-        ensures kept { OnErr result (given self.new ≡ given self.old) }
+        ensures given { IfOk result (λ n. (reading self.new).given ≡ (reading self.old).given ++ take n buf.new) }
+        ensures end { IfOk result (λ n. n ≡ 0 → 0 < length buf.new → (reading self.new).ended ≡ true) }
+        ensures fine { OnOk result ((reading self.new).failures ≡ (reading self.old).failures) }
+        ensures failed { OnErr result ((reading self.new).failures ≡ min ((reading self.old).failures + 1) (2 ^ 64 - 1)) }
+        ensures kept { OnErr result ((reading self.new).given ≡ (reading self.old).given) }
         // What it gives is finite.
-        ensures finite { OnOk result (length (given self.new) ≤ 2 ^ 63) };
+        ensures finite { OnOk result (length (reading self.new).given ≤ 2 ^ 63) };
 }
 
 /// Bytes that go.
 pub trait Sink {
-    /// the bytes that it has taken
-    ghost taken: { Self → List ℕ };
-
-    /// how often it failed, held at 2^64 - 1
-    ghost failures: { Self → ℕ };
+    /// what it has taken
+    ghost tape: { Self → Tape };
 
     /// Takes some of the front of the bytes, at least one unless there is none.
     fn write(&mut self, bytes: &[u8]) -> Result<usize, Failed>
         ensures bound { IfOk result (λ n. n ≤ length bytes.now) }
         ensures moves { IfOk result (λ n. 0 < length bytes.now → 0 < n) }
-        ensures taken { IfOk result (λ n. taken self.new ≡ taken self.old ++ take n bytes.now) }
-        ensures fine { OnOk result (failures self.new ≡ failures self.old) }
-        ensures failed { OnErr result (failures self.new ≡ min (failures self.old + 1) (2 ^ 64 - 1)) }
-        ensures kept { OnErr result (taken self.new ≡ taken self.old) };
+        ensures taken { IfOk result (λ n. (tape self.new).taken ≡ (tape self.old).taken ++ take n bytes.now) }
+        ensures fine { OnOk result ((tape self.new).failures ≡ (tape self.old).failures) }
+        ensures failed { OnErr result ((tape self.new).failures ≡ min ((tape self.old).failures + 1) (2 ^ 64 - 1)) }
+        ensures kept { OnErr result ((tape self.new).taken ≡ (tape self.old).taken) };
 
     /// Hands on what it holds back; no bytes are taken.
     fn flush(&mut self) -> Result<(), Failed>
-        ensures taken { taken self.new ≡ taken self.old }
-        ensures fine { OnOk result (failures self.new ≡ failures self.old) }
-        ensures failed { OnErr result (failures self.new ≡ min (failures self.old + 1) (2 ^ 64 - 1)) };
+        ensures taken { (tape self.new).taken ≡ (tape self.old).taken }
+        ensures fine { OnOk result ((tape self.new).failures ≡ (tape self.old).failures) }
+        ensures failed { OnErr result ((tape self.new).failures ≡ min ((tape self.old).failures + 1) (2 ^ 64 - 1)) };
 }
 
 /// Bytes in memory as a source, in pieces of a length.
@@ -88,11 +79,7 @@ impl<'a> Text<'a> {
 }
 
 impl<'a> Source for Text<'a> {
-    ghost given = { λ s. take s.at s.all.now };
-
-    ghost ended = { λ s. s.ended };
-
-    ghost failures = { λ _. 0 };
+    ghost reading = { λ s. record { given = take s.at s.all.now; ended = s.ended; failures = 0 } };
 
     fn read(&mut self, buf: &mut [u8]) -> Result<usize, Failed> {
         let left = self.all.len() - self.at;
@@ -135,9 +122,7 @@ impl Page {
 }
 
 impl Sink for Page {
-    ghost taken = { λ s. s.bytes.items };
-
-    ghost failures = { λ s. s.failures };
+    ghost tape = { λ s. record { taken = s.bytes.items; failures = s.failures } };
 
     fn write(&mut self, bytes: &[u8]) -> Result<usize, Failed> {
         match self.bytes.extend_from_slice(bytes) {
@@ -156,10 +141,10 @@ impl Sink for Page {
 
 /// Writes all of the bytes.
 pub fn write_all<W: Sink>(sink: &mut W, bytes: &[u8]) -> Result<(), Failed>
-    ensures all { OnOk result (W.taken sink.new ≡ W.taken sink.old ++ bytes.now) }
-    ensures beginning { OnErr result ((rest : List ℕ) × WritesFront (W.taken sink.old) (W.taken sink.new) bytes.now rest) }
-    ensures fine { OnOk result (W.failures sink.new ≡ W.failures sink.old) }
-    ensures failed { OnErr result (W.failures sink.new ≡ min (W.failures sink.old + 1) (2 ^ 64 - 1)) }
+    ensures all { OnOk result ((W.tape sink.new).taken ≡ (W.tape sink.old).taken ++ bytes.now) }
+    ensures beginning { OnErr result ((rest : List ℕ) × WritesFront (W.tape sink.old).taken (W.tape sink.new).taken bytes.now rest) }
+    ensures fine { OnOk result ((W.tape sink.new).failures ≡ (W.tape sink.old).failures) }
+    ensures failed { OnErr result ((W.tape sink.new).failures ≡ min ((W.tape sink.old).failures + 1) (2 ^ 64 - 1)) }
 {
     let mut rest = bytes;
     while !rest.is_empty() {

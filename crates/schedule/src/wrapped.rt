@@ -69,11 +69,7 @@ impl<R> FromReader<R> {
 }
 
 impl<R: io::Read> Source for FromReader<R> {
-    ghost given = { λ s. s.given.items };
-
-    ghost ended = { λ s. s.ended };
-
-    ghost failures = { λ s. s.failures };
+    ghost reading = { λ s. record { given = s.given.items; ended = s.ended; failures = s.failures } };
 
     fn read(&mut self, buf: &mut [u8]) -> Result<usize, Failed> {
         let left = MOST_BYTES - self.count;
@@ -125,9 +121,7 @@ impl<W> ToWriter<W> {
 }
 
 impl<W: io::Write> Sink for ToWriter<W> {
-    ghost taken = { λ s. s.taken.items };
-
-    ghost failures = { λ s. s.failures };
+    ghost tape = { λ s. record { taken = s.taken.items; failures = s.failures } };
 
     fn write(&mut self, bytes: &[u8]) -> Result<usize, Failed> {
         match self.inner.write(bytes) {

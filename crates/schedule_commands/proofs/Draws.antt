@@ -2,8 +2,7 @@
 use Rattle.std.proofs.Common.{◌≡◌, ◌≤◌, ◌⊎◌, Bool, Err, refl, inl, inr, arith}
 use Rattle.crashlab.specs.declared.variant.Variant.{Variant}
 use Rattle.schedule_commands.specs.declared.fault.Fault.{Fault}
-use Rattle.schedule.specs.Tapes.{Tape}
-use Rattle.trials.specs.Wholes.{Reading}
+use Rattle.schedule.specs.Tapes.{Tape, Reading}
 use Rattle.orders.specs.declared.order.DrawOrder.{DrawOrder}
 use Rattle.schedule_commands.specs.Draws.{DrawEnds}
 use Rattle.schedule_commands.specs.Settings.{IsWrongText}

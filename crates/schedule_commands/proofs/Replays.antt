@@ -3,9 +3,9 @@ use Rattle.std.proofs.Common.{◌≡◌, Ok, Err, Some, None, Option, Result, �
 use Rattle.rmecore.specs.declared.refusal.Refusal.{Refusal}
 use Rattle.lines.specs.declared.fault.LineFault.{LineFault}
 use Rattle.trials.specs.declared.verdict.Verdict.{Verdict}
-use Rattle.schedule.specs.Tapes.{Tape}
+use Rattle.schedule.specs.Tapes.{Tape, Reading}
 use Rattle.schedule.specs.Schedules.{Scheduled, schedule_at}
-use Rattle.trials.specs.Wholes.{Reading, OfSchedule, OfText, ReplaysSource, layout_of}
+use Rattle.trials.specs.Wholes.{OfSchedule, OfText, ReplaysSource, layout_of}
 use Rattle.rmeworld.specs.WorldState.{new_refusal}
 
 scheduled_whole : (before now : Tape) (schedule : Scheduled) (refusal : Option Refusal) (verdict : Verdict) → OfSchedule before now schedule refusal (Ok verdict) → now.failures ≡ before.failures

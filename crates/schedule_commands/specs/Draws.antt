@@ -3,8 +3,7 @@ use Rattle.std.specs.Prelude.{◌≡◌, ◌≢◌, Bool, Result}
 use Rattle.crashlab.specs.declared.variant.Variant.TheVariants.{Right}
 use Rattle.schedule_commands.specs.declared.ending.Ending.{Ending}
 use Rattle.schedule_commands.specs.declared.fault.Fault.{Fault}
-use Rattle.schedule.specs.Tapes.{Tape}
-use Rattle.trials.specs.Wholes.{Reading}
+use Rattle.schedule.specs.Tapes.{Tape, Reading}
 use Rattle.orders.specs.declared.order.DrawOrder.{DrawOrder}
 use Rattle.schedule_commands.specs.Statuses.{status_ended}
 use Rattle.schedule_commands.specs.Tellings.{Drawn, TellsRead}

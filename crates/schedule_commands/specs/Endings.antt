@@ -1,7 +1,7 @@
 -- How any command ends.
 use Rattle.std.specs.Prelude.{◌≡◌, ◌⊎◌, ℕ, ◌+◌, ◌-◌, ◌^◌, ◌≤◌, min, Bool, is_some, Result, Ok, Err}
-use Rattle.trials.specs.Plays.{Tape}
-use Rattle.trials.specs.Wholes.{Reading, Silent}
+use Rattle.schedule.specs.Tapes.{Tape, Reading}
+use Rattle.trials.specs.Wholes.{Silent}
 use Rattle.schedule_commands.specs.declared.ending.Ending.{Ending}
 use Rattle.schedule_commands.specs.declared.fault.Fault.{Fault}
 use Rattle.schedule_commands.specs.declared.fault.Fault.TheVariants.{Read, Write, OutOfMemory}

@@ -9,11 +9,11 @@ use Rattle.rmecore.specs.declared.refusal.Refusal.{Refusal}
 use Rattle.judge.specs.Table.{State}
 use Rattle.trials.specs.declared.replay_fault.ReplayFault.{ReplayFault}
 use Rattle.trials.specs.declared.verdict.Verdict.{Verdict}
-use Rattle.trials.specs.Plays.{Tape}
+use Rattle.schedule.specs.Tapes.{Tape, Reading}
 use Rattle.schedule.specs.Schedules.{Scheduled, schedule_at}
 use Rattle.trials.specs.Runs.{Part, deeds_of}
 use Rattle.trials.specs.Verdicts.{verdict_on}
-use Rattle.trials.specs.Wholes.{Reading, WasRead, ReplaysSource, world_run}
+use Rattle.trials.specs.Wholes.{WasRead, ReplaysSource, world_run}
 use Rattle.orders.specs.declared.order.ReplayOrder.{ReplayOrder}
 use Rattle.schedule_commands.specs.declared.ending.Ending.{Ending}
 use Rattle.schedule_commands.specs.declared.fault.Fault.{Fault}

@@ -13,7 +13,8 @@ use Rattle.schedule.specs.Schedules.{Scheduled, schedule_at}
 use Rattle.schedule_commands.specs.declared.fault.Fault.{Fault}
 use Rattle.schedule_commands.specs.declared.fault.Fault.TheVariants.{Text, Refused}
 use Rattle.schedule_commands.specs.Statuses.{fault_of_header}
-use Rattle.trials.specs.Wholes.{Reading, WasRead, layout_of}
+use Rattle.trials.specs.Wholes.{WasRead, layout_of}
+use Rattle.schedule.specs.Tapes.{Reading}
 
 -- the text that was read is no schedule
 unfoldable pub IsWrongText : Reading → Reading → Fault → Type 0

@@ -3,10 +3,10 @@ use Rattle.std.specs.Prelude.{◌≡◌, ◌⊎◌, ℕ, List, Option, Some, Non
 use Rattle.crashlab.specs.declared.variant.Variant.{Variant}
 use Rattle.trials.specs.declared.replay_fault.ReplayFault.TheVariants as faults_of_replay
 use Rattle.trials.specs.declared.verdict.Verdict.TheVariants.{Fine}
-use Rattle.schedule.specs.Tapes.{Tape, Writes}
+use Rattle.schedule.specs.Tapes.{Tape, Writes, Reading}
 use Rattle.trials.specs.Reports.{verdict_line}
 use Rattle.schedule.specs.Schedules.{Scheduled, schedule_at, spelling}
-use Rattle.trials.specs.Wholes.{Reading, Silent, WasRead}
+use Rattle.trials.specs.Wholes.{Silent, WasRead}
 use Rattle.shrinking.specs.Shrunk.{IsWhy, Shrinks}
 use Rattle.schedule_commands.specs.declared.ending.Ending.{Ending}
 use Rattle.schedule_commands.specs.declared.fault.Fault.{Fault}

@@ -21,19 +21,20 @@ use Rattle.judge.specs.declared.start.Start.{Start}
 use Rattle.rmeworld.specs.declared.image.Image.{Image}
 use Rattle.rmeworld.specs.ImageRules.{IsLawfulImage}
 use Rattle.rmeworld.specs.ImageStart.{IsStartOf}
-use Rattle.rmeworld.specs.Replayed.{image_of}
+use Rattle.rmeworld.specs.Replayed.{image_of, world_behaviour}
 use Rattle.rmeworld.specs.WorldState.{image_world, new_world}
 use Rattle.trials.specs.declared.replay_fault.ReplayFault.{ReplayFault}
 use Rattle.trials.specs.declared.verdict.Verdict.{Verdict}
-use Rattle.schedule.specs.Tapes.{Tape, Writes, Begins}
-use Rattle.trials.specs.Runs.{Behaviour, behaviour, run_on}
+use Rattle.schedule.specs.Tapes.{Tape, Writes, Begins, Reading}
+use Rattle.trials.specs.Runs.{run_on}
+use Rattle.rmeworld.specs.Behaviours.{Behaviour}
 use Rattle.schedule.specs.Schedules.{Scheduled, head_of, schedule_at}
 use Rattle.schedule_commands.specs.declared.ending.Ending.{Ending}
 use Rattle.schedule_commands.specs.declared.fault.Fault.{Fault}
 use Rattle.schedule_commands.specs.declared.fault.Fault.TheVariants as faults
 use Rattle.schedule_commands.specs.Settings.{IsFitting, IsMisfit, IsUnmade, IsWrongText}
 use Rattle.schedule_commands.specs.Statuses.{outcome, outcome_told, status_after, status_of}
-use Rattle.trials.specs.Wholes.{Reading, Silent, WasRead, layout_of, world_behaviour}
+use Rattle.trials.specs.Wholes.{Silent, WasRead, layout_of}
 
 -- ---- one run
 
@@ -82,12 +83,6 @@ Tells Stepwise b picture_of start s first schedule before now end = FollowsRun b
 abbrev pub Refuses : Tape → Tape → (Fault → Type 0) → Result Ending Fault → Type 0
 Refuses before now Is end = Silent before now × ((fault : Fault) × (end ≡ Err fault) × Is fault)
 
--- a world of a variant as the machine that it is
-abbrev pub variant_behaviour : Behaviour variants.VariantState
-variant_behaviour =
-    behaviour variants.start_refusal variants.started variants.advance_refusal variants.stepped variants.advanced variants.crash_refusal (λ s p. variants.crash_deed p)
-    variants.crashed
-
 -- on a new world of the right lock, all processes at rest
 abbrev pub TellsNew : Manner → Scheduled → Tape → Tape → Result Ending Fault → Type 0
 TellsNew manner schedule before now end =
@@ -98,7 +93,7 @@ TellsNew manner schedule before now end =
 abbrev pub TellsVariant : Variant → Manner → Scheduled → Tape → Tape → Result Ending Fault → Type 0
 TellsVariant variant manner schedule before now end =
     Refuses before now (IsUnmade schedule) end
-    ⊎ Tells manner variant_behaviour variants.image_of (empty schedule.procs schedule.cap) (variants.new_world variant (layout_of schedule) schedule.limit) Rest schedule before now end
+    ⊎ Tells manner variants.variant_behaviour variants.image_of (empty schedule.procs schedule.cap) (variants.new_world variant (layout_of schedule) schedule.limit) Rest schedule before now end
 
 -- on the world of an image, all processes dead, before a judge that starts where the image stands
 pub record TellsOn (image : Image) (manner : Manner) (schedule : Scheduled) (before now : Tape) (end : Result Ending Fault) : Type 0 where

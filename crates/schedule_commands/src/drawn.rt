@@ -7,16 +7,14 @@ ghost use Rattle.judge.specs.Starts.{IsStart, state_of};
 ghost use Rattle.judge.specs.Table.{State};
 ghost use Rattle.rmeworld.specs.ImageRules.{IsLawfulImage};
 ghost use Rattle.rmeworld.specs.ImageStart.{IsStartOf};
-ghost use Rattle.rmeworld.specs.Replayed.{image_of};
+ghost use Rattle.rmeworld.specs.Replayed.{image_of, world_behaviour};
 ghost use Rattle.rmeworld.specs.WorldState.{image_world as world_of_image};
 ghost use Rattle.schedule_commands.specs.Endings.{IsEnded, TellsReads};
 ghost use Rattle.schedule_commands.specs.Draws.{DrawEnds};
 ghost use Rattle.schedule_commands.specs.Statuses.{status_after};
 ghost use Rattle.schedule_commands.specs.Tellings.{Drawn, ending_of as ending_for, IsWritten, Tells, TellsImage, TellsNew, TellsSchedule, TellsVariant};
-ghost use Rattle.schedule.specs.Tapes.{tape};
-ghost use Rattle.trials.specs.Runs.{behaviour, deeds_of, run_on};
+ghost use Rattle.trials.specs.Runs.{deeds_of, run_on};
 ghost use Rattle.trials.specs.Verdicts.{verdict_on};
-ghost use Rattle.trials.specs.Wholes.{reading, world_behaviour};
 
 use crate::ending::{Ending, status_after_verdict};
 use crate::fault::Fault;
@@ -53,8 +51,8 @@ fn write_drawn<W: Sink>(
     style: Style,
     w: &mut W,
 ) -> Result<Ending, Fault>
-    ensures written { IsWritten (tape (W.taken w.old) (W.failures w.old)) (tape (W.taken w.new) (W.failures w.new)) (spelled (sheet_of style drawing.now.head drawing.now.rows.items drawing.now.end) drawing.now.first drawing.now.rows.items drawing.now.end) drawing.now.end result }
-    ensures ended { IfOk result (IsEnded false (W.failures w.old) (W.failures w.new)) }
+    ensures written { IsWritten (W.tape w.old) (W.tape w.new) (spelled (sheet_of style drawing.now.head drawing.now.rows.items drawing.now.end) drawing.now.first drawing.now.rows.items drawing.now.end) drawing.now.end result }
+    ensures ended { IfOk result (IsEnded false (W.tape w.old).failures (W.tape w.new).failures) }
 {
     write_drawing(alloc, drawing, style, w)?;
     ending_of(drawing.end)
@@ -70,9 +68,9 @@ fn draw_machine<M: Machine, W: Sink>(
     style: Style,
     w: &mut W,
 ) -> Result<Ending, Fault>
-    ensures draws { (start : State) → Keeps judge.old start → Tells (Drawn style) (behaviour M.start_refusal M.started M.advance_refusal M.stepped M.advanced M.crash_refusal M.crash_deed M.crashed) M.image_of start machine.old first schedule.now (tape (W.taken w.old) (W.failures w.old)) (tape (W.taken w.new) (W.failures w.new)) result }
-    ensures status { (start : State) → Keeps judge.old start → IfOk result (λ ending. ending.status ≡ status_after (verdict_on start (deeds_of (run_on (behaviour M.start_refusal M.started M.advance_refusal M.stepped M.advanced M.crash_refusal M.crash_deed M.crashed) 2 machine.old schedule.now.lines).told))) }
-    ensures ended { IfOk result (IsEnded false (W.failures w.old) (W.failures w.new)) }
+    ensures draws { (start : State) → Keeps judge.old start → Tells (Drawn style) M.behaviour M.behaviour.image_of start machine.old first schedule.now (W.tape w.old) (W.tape w.new) result }
+    ensures status { (start : State) → Keeps judge.old start → IfOk result (λ ending. ending.status ≡ status_after (verdict_on start (deeds_of (run_on M.behaviour 2 machine.old schedule.now.lines).told))) }
+    ensures ended { IfOk result (IsEnded false (W.tape w.old).failures (W.tape w.new).failures) }
 {
     let drawing = draw(alloc, machine, judge, schedule, first)?;
     write_drawn(alloc, &drawing, style, w)
@@ -85,9 +83,9 @@ fn draw_new<W: Sink>(
     style: Style,
     w: &mut W,
 ) -> Result<Ending, Fault>
-    ensures draws { TellsNew (Drawn style) schedule.now (tape (W.taken w.old) (W.failures w.old)) (tape (W.taken w.new) (W.failures w.new)) result }
+    ensures draws { TellsNew (Drawn style) schedule.now (W.tape w.old) (W.tape w.new) result }
     ensures fine { IfOk result (λ ending. ending.status ≡ 0) }
-    ensures ended { IfOk result (IsEnded false (W.failures w.old) (W.failures w.new)) }
+    ensures ended { IfOk result (IsEnded false (W.tape w.old).failures (W.tape w.new).failures) }
 {
     worlds_are_never_found_out();
     let mut world = new_world(alloc, schedule)?;
@@ -111,8 +109,8 @@ fn draw_variant<W: Sink>(
     style: Style,
     w: &mut W,
 ) -> Result<Ending, Fault>
-    ensures draws { TellsVariant variant (Drawn style) schedule.now (tape (W.taken w.old) (W.failures w.old)) (tape (W.taken w.new) (W.failures w.new)) result }
-    ensures ended { IfOk result (IsEnded false (W.failures w.old) (W.failures w.new)) }
+    ensures draws { TellsVariant variant (Drawn style) schedule.now (W.tape w.old) (W.tape w.new) result }
+    ensures ended { IfOk result (IsEnded false (W.tape w.old).failures (W.tape w.new).failures) }
 {
     let mut world = variant_world(alloc, variant, schedule)?;
     let mut judge = new_judge(alloc, schedule)?;
@@ -139,9 +137,9 @@ fn draw_started<W: Sink>(
     requires lawful { IsLawfulImage image.now }
     requires begins { IsStartOf image.now start.now }
     requires judged { IsStart start.now }
-    ensures draws { Tells (Drawn style) world_behaviour image_of (state_of start.now) (world_of_image image.now) Phase.Dead schedule.now (tape (W.taken w.old) (W.failures w.old)) (tape (W.taken w.new) (W.failures w.new)) result }
+    ensures draws { Tells (Drawn style) world_behaviour image_of (state_of start.now) (world_of_image image.now) Phase.Dead schedule.now (W.tape w.old) (W.tape w.new) result }
     ensures fine { IfOk result (λ ending. ending.status ≡ 0) }
-    ensures ended { IfOk result (IsEnded false (W.failures w.old) (W.failures w.new)) }
+    ensures ended { IfOk result (IsEnded false (W.tape w.old).failures (W.tape w.new).failures) }
 {
     worlds_are_never_found_out();
     let mut world = image_world(alloc, image)?;
@@ -166,9 +164,9 @@ fn draw_image<W: Sink>(
     w: &mut W,
 ) -> Result<Ending, Fault>
     requires { IsLawfulImage image }
-    ensures draws { TellsImage (Drawn style) schedule.now (tape (W.taken w.old) (W.failures w.old)) (tape (W.taken w.new) (W.failures w.new)) result }
+    ensures draws { TellsImage (Drawn style) schedule.now (W.tape w.old) (W.tape w.new) result }
     ensures fine { IfOk result (λ ending. ending.status ≡ 0) }
-    ensures ended { IfOk result (IsEnded false (W.failures w.old) (W.failures w.new)) }
+    ensures ended { IfOk result (IsEnded false (W.tape w.old).failures (W.tape w.new).failures) }
 {
     let image = fitting(alloc, image, schedule)?;
     let start = start_at(alloc, &image)?;
@@ -184,9 +182,9 @@ fn draw_schedule<W: Sink>(
     w: &mut W,
 ) -> Result<Ending, Fault>
     requires { IfSome image IsLawfulImage }
-    ensures draws { TellsSchedule order.now.variant (is_some image) (Drawn order.now.style) schedule.now (tape (W.taken w.old) (W.failures w.old)) (tape (W.taken w.new) (W.failures w.new)) result }
+    ensures draws { TellsSchedule order.now.variant (is_some image) (Drawn order.now.style) schedule.now (W.tape w.old) (W.tape w.new) result }
     ensures fine { order.now.variant ≡ Variant.Right → IfOk result (λ ending. ending.status ≡ 0) }
-    ensures ended { IfOk result (IsEnded false (W.failures w.old) (W.failures w.new)) }
+    ensures ended { IfOk result (IsEnded false (W.tape w.old).failures (W.tape w.new).failures) }
 {
     match (image, order.variant) {
         (Some(image), _) => draw_image(alloc, image, schedule, order.style, w),
@@ -203,9 +201,9 @@ pub fn draw_order<R: Source, W: Sink>(
     r: &mut R,
     w: &mut W,
 ) -> Result<Ending, Fault>
-    ensures ends { DrawEnds order.now (is_some image.entry) (reading (R.given r.old) (R.ended r.old) (R.failures r.old)) (reading (R.given r.new) (R.ended r.new) (R.failures r.new)) (tape (W.taken w.old) (W.failures w.old)) (tape (W.taken w.new) (W.failures w.new)) result }
-    ensures reads { TellsReads (reading (R.given r.old) (R.ended r.old) (R.failures r.old)) (reading (R.given r.new) (R.ended r.new) (R.failures r.new)) result }
-    ensures ended { IfOk result (IsEnded false (W.failures w.old) (W.failures w.new)) }
+    ensures ends { DrawEnds order.now (is_some image.entry) (R.reading r.old) (R.reading r.new) (W.tape w.old) (W.tape w.new) result }
+    ensures reads { TellsReads (R.reading r.old) (R.reading r.new) result }
+    ensures ended { IfOk result (IsEnded false (W.tape w.old).failures (W.tape w.new).failures) }
 {
     let image = image_read(alloc, image)?;
     let schedule = schedule_read(alloc, r)?;

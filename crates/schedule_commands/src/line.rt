@@ -4,7 +4,6 @@ ghost use Rattle.std.specs.Prelude.{◌≡◌, ◌+◌, ◌≤◌, ◌++◌, ◌
 ghost use Rattle.std.specs.Fmt.{decimal};
 ghost use Rattle.schedule_commands.specs.Lines.{fault_line, IsTold};
 ghost use Rattle.schedule_commands.specs.Statuses.{status_of};
-ghost use Rattle.schedule.specs.Tapes.{tape};
 
 use crate::fault::Fault;
 use arrayvec::ArrayString;
@@ -76,7 +75,7 @@ pub fn line_of(fault: Fault) -> ArrayString<128>
 pub fn told<E: Sink>(fault: Fault, e: &mut E) -> u8
     ensures status { result ≡ status_of fault }
     ensures least { 2 ≤ result }
-    ensures line { IsTold (tape (E.taken e.old) (E.failures e.old)) (tape (E.taken e.new) (E.failures e.new)) (fault_line fault) }
+    ensures line { IsTold (E.tape e.old) (E.tape e.new) (fault_line fault) }
 {
     let line = line_of(fault);
     let _ = write_all(e, line.as_bytes());

@@ -10,16 +10,14 @@ ghost use Rattle.judge.specs.Table.{State};
 ghost use Rattle.rmeworld.specs.ImageRules.{IsLawfulImage};
 ghost use Rattle.rmeworld.specs.ImageStart.{IsStartOf};
 ghost use Rattle.imaging.specs.ImageText.{image_line};
-ghost use Rattle.rmeworld.specs.Replayed.{image_of};
+ghost use Rattle.rmeworld.specs.Replayed.{image_of, world_behaviour};
 ghost use Rattle.rmeworld.specs.WorldState.{image_world as world_of_image};
-ghost use Rattle.schedule.specs.Tapes.{tape};
-ghost use Rattle.trials.specs.Runs.{behaviour, run_on};
+ghost use Rattle.trials.specs.Runs.{run_on};
 ghost use Rattle.schedule.specs.Schedules.{head_of};
 ghost use Rattle.schedule_commands.specs.Endings.{IsEnded, TellsReads};
 ghost use Rattle.schedule_commands.specs.Replays.{IsLast, IsPlayed, IsReplayed, IsStepwise, ReplayEnds, TellsReplay};
 ghost use Rattle.schedule_commands.specs.Statuses.{answer_told, fault_on_page};
 ghost use Rattle.schedule_commands.specs.Tellings.{Stepwise, Tells, TellsImage, TellsNew, TellsSchedule, TellsVariant};
-ghost use Rattle.trials.specs.Wholes.{reading, world_behaviour};
 ghost use Rattle.std.proofs.Math.ListN.{replicate};
 
 use crate::ending::{Ending, status_after_verdict};
@@ -61,8 +59,8 @@ fn report<M: Machine, W: Sink>(
     each: bool,
     w: &mut W,
 ) -> Result<Verdict, ReplayFault>
-    ensures played { (start : State) → Keeps judge.old start → IfOk result (IsPlayed start (run_on (behaviour M.start_refusal M.started M.advance_refusal M.stepped M.advanced M.crash_refusal M.crash_deed M.crashed) 2 machine.old schedule.now.lines) machine.new (W.failures w.old) (W.failures w.new)) }
-    ensures follows { each ≡ true → (start : State) → Keeps judge.old start → Follows (tape (W.taken w.old) (W.failures w.old)) (tape (W.taken w.new) (W.failures w.new)) start M.image_of (run_on (behaviour M.start_refusal M.started M.advance_refusal M.stepped M.advanced M.crash_refusal M.crash_deed M.crashed) 2 machine.old schedule.now.lines) (followed (sizes_of (head_of schedule.now)) (replicate schedule.now.procs first) (events_on (behaviour M.start_refusal M.started M.advance_refusal M.stepped M.advanced M.crash_refusal M.crash_deed M.crashed) machine.old schedule.now.lines)) result }
+    ensures played { (start : State) → Keeps judge.old start → IfOk result (IsPlayed start (run_on M.behaviour 2 machine.old schedule.now.lines) machine.new (W.tape w.old).failures (W.tape w.new).failures) }
+    ensures follows { each ≡ true → (start : State) → Keeps judge.old start → Follows (W.tape w.old) (W.tape w.new) start M.behaviour.image_of (run_on M.behaviour 2 machine.old schedule.now.lines) (followed (sizes_of (head_of schedule.now)) (replicate schedule.now.procs first) (events_on M.behaviour machine.old schedule.now.lines)) result }
 {
     if each {
         return follow(alloc, machine, judge, schedule, first, w);
@@ -80,7 +78,7 @@ fn play_object<M: Machine, W: Sink>(
     each: bool,
     w: &mut W,
 ) -> Result<Verdict, Fault>
-    ensures { (start : State) → Keeps judge.old start → IfOk result (IsPlayed start (run_on (behaviour M.start_refusal M.started M.advance_refusal M.stepped M.advanced M.crash_refusal M.crash_deed M.crashed) 2 machine.old schedule.now.lines) machine.new (W.failures w.old) (W.failures w.new)) }
+    ensures { (start : State) → Keeps judge.old start → IfOk result (IsPlayed start (run_on M.behaviour 2 machine.old schedule.now.lines) machine.new (W.tape w.old).failures (W.tape w.new).failures) }
 {
     let mut page = Page::new(alloc);
     let verdict = report(alloc, machine, judge, schedule, first, each, &mut page).map_err(on_page)?;
@@ -101,8 +99,8 @@ fn play<M: Machine, W: Sink>(
     order: &ReplayOrder,
     w: &mut W,
 ) -> Result<Verdict, Fault>
-    ensures played { (start : State) → Keeps judge.old start → IfOk result (IsPlayed start (run_on (behaviour M.start_refusal M.started M.advance_refusal M.stepped M.advanced M.crash_refusal M.crash_deed M.crashed) 2 machine.old schedule.now.lines) machine.new (W.failures w.old) (W.failures w.new)) }
-    ensures follows { IsStepwise order.now → (start : State) → Keeps judge.old start → (answer : Result Verdict ReplayFault) × Follows (tape (W.taken w.old) (W.failures w.old)) (tape (W.taken w.new) (W.failures w.new)) start M.image_of (run_on (behaviour M.start_refusal M.started M.advance_refusal M.stepped M.advanced M.crash_refusal M.crash_deed M.crashed) 2 machine.old schedule.now.lines) (followed (sizes_of (head_of schedule.now)) (replicate schedule.now.procs first) (events_on (behaviour M.start_refusal M.started M.advance_refusal M.stepped M.advanced M.crash_refusal M.crash_deed M.crashed) machine.old schedule.now.lines)) answer × (result ≡ answer_told answer) }
+    ensures played { (start : State) → Keeps judge.old start → IfOk result (IsPlayed start (run_on M.behaviour 2 machine.old schedule.now.lines) machine.new (W.tape w.old).failures (W.tape w.new).failures) }
+    ensures follows { IsStepwise order.now → (start : State) → Keeps judge.old start → (answer : Result Verdict ReplayFault) × Follows (W.tape w.old) (W.tape w.new) start M.behaviour.image_of (run_on M.behaviour 2 machine.old schedule.now.lines) (followed (sizes_of (head_of schedule.now)) (replicate schedule.now.procs first) (events_on M.behaviour machine.old schedule.now.lines)) answer × (result ≡ answer_told answer) }
 {
     if order.json {
         return play_object(alloc, machine, judge, schedule, first, order.each, w);
@@ -117,7 +115,7 @@ fn play<M: Machine, W: Sink>(
 fn saved<M: Machine>(alloc: Global, machine: &M, save: bool) -> Result<Option<Vec<u8>>, Fault>
     ensures asked { IfOk result (λ text. is_some text ≡ save) }
     ensures memory { IfErr result (λ fault. fault ≡ Fault.OutOfMemory) }
-    ensures last { IfOk result (λ text. IfSome text (λ image. image.items ≡ image_line (M.image_of machine.now))) }
+    ensures last { IfOk result (λ text. IfSome text (λ image. image.items ≡ image_line (M.behaviour.image_of machine.now))) }
 {
     if !save {
         return Ok(None);
@@ -141,8 +139,8 @@ fn replay_machine<M: Machine, W: Sink>(
     order: &ReplayOrder,
     w: &mut W,
 ) -> Result<Ending, Fault>
-    ensures replayed { (start : State) → Keeps judge.old start → IfOk result (IsReplayed start (run_on (behaviour M.start_refusal M.started M.advance_refusal M.stepped M.advanced M.crash_refusal M.crash_deed M.crashed) 2 machine.old schedule.now.lines) M.image_of (is_some order.now.save) (W.failures w.old) (W.failures w.new)) }
-    ensures follows { IsStepwise order.now → (start : State) → Keeps judge.old start → Tells Stepwise (behaviour M.start_refusal M.started M.advance_refusal M.stepped M.advanced M.crash_refusal M.crash_deed M.crashed) M.image_of start machine.old first schedule.now (tape (W.taken w.old) (W.failures w.old)) (tape (W.taken w.new) (W.failures w.new)) result }
+    ensures replayed { (start : State) → Keeps judge.old start → IfOk result (IsReplayed start (run_on M.behaviour 2 machine.old schedule.now.lines) M.behaviour.image_of (is_some order.now.save) (W.tape w.old).failures (W.tape w.new).failures) }
+    ensures follows { IsStepwise order.now → (start : State) → Keeps judge.old start → Tells Stepwise M.behaviour M.behaviour.image_of start machine.old first schedule.now (W.tape w.old) (W.tape w.new) result }
 {
     let verdict = play(alloc, machine, judge, schedule, first, order, w)?;
     let save = saved(alloc, machine, order.save.is_some())?;
@@ -161,8 +159,8 @@ fn replay_new<W: Sink>(
 ) -> Result<Ending, Fault>
     ensures fine { IfOk result (λ ending. ending.status ≡ 0) }
     ensures last { IfOk result (λ ending. IfSome ending.save (λ image. IsLast schedule.now image.items)) }
-    ensures follows { IsStepwise order.now → TellsNew Stepwise schedule.now (tape (W.taken w.old) (W.failures w.old)) (tape (W.taken w.new) (W.failures w.new)) result }
-    ensures ended { IfOk result (IsEnded (is_some order.now.save) (W.failures w.old) (W.failures w.new)) }
+    ensures follows { IsStepwise order.now → TellsNew Stepwise schedule.now (W.tape w.old) (W.tape w.new) result }
+    ensures ended { IfOk result (IsEnded (is_some order.now.save) (W.tape w.old).failures (W.tape w.new).failures) }
 {
     worlds_are_never_found_out();
     let mut world = new_world(alloc, schedule)?;
@@ -188,8 +186,8 @@ fn replay_image<W: Sink>(
 ) -> Result<Ending, Fault>
     requires { IsLawfulImage image }
     ensures fine { IfOk result (λ ending. ending.status ≡ 0) }
-    ensures follows { IsStepwise order.now → TellsImage Stepwise schedule.now (tape (W.taken w.old) (W.failures w.old)) (tape (W.taken w.new) (W.failures w.new)) result }
-    ensures ended { IfOk result (IsEnded (is_some order.now.save) (W.failures w.old) (W.failures w.new)) }
+    ensures follows { IsStepwise order.now → TellsImage Stepwise schedule.now (W.tape w.old) (W.tape w.new) result }
+    ensures ended { IfOk result (IsEnded (is_some order.now.save) (W.tape w.old).failures (W.tape w.new).failures) }
 {
     let image = fitting(alloc, image, schedule)?;
     let start = start_at(alloc, &image)?;
@@ -209,8 +207,8 @@ fn replay_started<W: Sink>(
     requires begins { IsStartOf image.now start.now }
     requires judged { IsStart start.now }
     ensures fine { IfOk result (λ ending. ending.status ≡ 0) }
-    ensures follows { IsStepwise order.now → Tells Stepwise world_behaviour image_of (state_of start.now) (world_of_image image.now) Phase.Dead schedule.now (tape (W.taken w.old) (W.failures w.old)) (tape (W.taken w.new) (W.failures w.new)) result }
-    ensures ended { IfOk result (IsEnded (is_some order.now.save) (W.failures w.old) (W.failures w.new)) }
+    ensures follows { IsStepwise order.now → Tells Stepwise world_behaviour image_of (state_of start.now) (world_of_image image.now) Phase.Dead schedule.now (W.tape w.old) (W.tape w.new) result }
+    ensures ended { IfOk result (IsEnded (is_some order.now.save) (W.tape w.old).failures (W.tape w.new).failures) }
 {
     worlds_are_never_found_out();
     let mut world = image_world(alloc, image)?;
@@ -233,8 +231,8 @@ fn replay_variant<W: Sink>(
     order: &ReplayOrder,
     w: &mut W,
 ) -> Result<Ending, Fault>
-    ensures follows { IsStepwise order.now → TellsVariant order.now.variant Stepwise schedule.now (tape (W.taken w.old) (W.failures w.old)) (tape (W.taken w.new) (W.failures w.new)) result }
-    ensures ended { IfOk result (IsEnded (is_some order.now.save) (W.failures w.old) (W.failures w.new)) }
+    ensures follows { IsStepwise order.now → TellsVariant order.now.variant Stepwise schedule.now (W.tape w.old) (W.tape w.new) result }
+    ensures ended { IfOk result (IsEnded (is_some order.now.save) (W.tape w.old).failures (W.tape w.new).failures) }
 {
     let mut world = variant_world(alloc, order.variant, schedule)?;
     let mut judge = new_judge(alloc, schedule)?;
@@ -260,8 +258,8 @@ fn replay_schedule<W: Sink>(
     requires { IfSome image IsLawfulImage }
     ensures fine { order.now.variant ≡ Variant.Right → IfOk result (λ ending. ending.status ≡ 0) }
     ensures last { order.now.variant ≡ Variant.Right → is_some image ≡ false → IfOk result (λ ending. IfSome ending.save (λ image. IsLast schedule.now image.items)) }
-    ensures follows { IsStepwise order.now → TellsSchedule order.now.variant (is_some image) Stepwise schedule.now (tape (W.taken w.old) (W.failures w.old)) (tape (W.taken w.new) (W.failures w.new)) result }
-    ensures ended { IfOk result (IsEnded (is_some order.now.save) (W.failures w.old) (W.failures w.new)) }
+    ensures follows { IsStepwise order.now → TellsSchedule order.now.variant (is_some image) Stepwise schedule.now (W.tape w.old) (W.tape w.new) result }
+    ensures ended { IfOk result (IsEnded (is_some order.now.save) (W.tape w.old).failures (W.tape w.new).failures) }
 {
     match (image, order.variant) {
         (Some(image), _) => replay_image(alloc, image, schedule, order, w),
@@ -273,10 +271,10 @@ fn replay_schedule<W: Sink>(
 /// Replays on a new world of the right lock, to the writer.
 #[tactic(auto, using(crate::proofs::Replays::replayed_whole))]
 fn replay_plain<R: Source, W: Sink>(alloc: Global, r: &mut R, w: &mut W) -> Result<Ending, Fault>
-    ensures tells { TellsReplay (reading (R.given r.old) (R.ended r.old) (R.failures r.old)) (reading (R.given r.new) (R.ended r.new) (R.failures r.new)) (tape (W.taken w.old) (W.failures w.old)) (tape (W.taken w.new) (W.failures w.new)) result }
-    ensures reads { TellsReads (reading (R.given r.old) (R.ended r.old) (R.failures r.old)) (reading (R.given r.new) (R.ended r.new) (R.failures r.new)) result }
+    ensures tells { TellsReplay (R.reading r.old) (R.reading r.new) (W.tape w.old) (W.tape w.new) result }
+    ensures reads { TellsReads (R.reading r.old) (R.reading r.new) result }
     ensures fine { IfOk result (λ ending. (ending.status ≡ 0) × (ending.save ≡ None)) }
-    ensures ended { IfOk result (IsEnded false (W.failures w.old) (W.failures w.new)) }
+    ensures ended { IfOk result (IsEnded false (W.tape w.old).failures (W.tape w.new).failures) }
 {
     let verdict = replay(alloc, r, w)?;
     Ok(Ending {
@@ -293,8 +291,8 @@ pub fn replay_order<R: Source, W: Sink>(
     r: &mut R,
     w: &mut W,
 ) -> Result<Ending, Fault>
-    ensures ends { ReplayEnds order.now (is_some image.entry) (reading (R.given r.old) (R.ended r.old) (R.failures r.old)) (reading (R.given r.new) (R.ended r.new) (R.failures r.new)) (tape (W.taken w.old) (W.failures w.old)) (tape (W.taken w.new) (W.failures w.new)) result }
-    ensures ended { IfOk result (IsEnded (is_some order.now.save) (W.failures w.old) (W.failures w.new)) }
+    ensures ends { ReplayEnds order.now (is_some image.entry) (R.reading r.old) (R.reading r.new) (W.tape w.old) (W.tape w.new) result }
+    ensures ended { IfOk result (IsEnded (is_some order.now.save) (W.tape w.old).failures (W.tape w.new).failures) }
 {
     let plain = order.variant == Variant::Right
         && !order.json

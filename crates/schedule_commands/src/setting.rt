@@ -13,7 +13,7 @@ ghost use Rattle.crashlab.specs.VariantWorlds.{new_world as world_of_variant};
 ghost use Rattle.schedule.specs.Schedules.{schedule_at};
 ghost use Rattle.schedule_commands.specs.Settings.{CanFit, IsFitting, IsMadeFit, IsMisfit, IsPicture, IsUnmade, IsWrongText};
 ghost use Rattle.schedule_commands.specs.Statuses.{fault_of_header, fault_of_image, status_of};
-ghost use Rattle.trials.specs.Wholes.{WasRead, layout_of, reading};
+ghost use Rattle.trials.specs.Wholes.{WasRead, layout_of};
 
 use crate::fault::Fault;
 use crashlab::{Variant, VariantWorld};
@@ -66,9 +66,9 @@ pub fn image_read(alloc: Global, text: Option<&[u8]>) -> Result<Option<Image>, F
 /// The schedule that the reader gives.
 #[tactic(auto, unfolding(crate::specs::Settings::IsWrongText))]
 pub fn schedule_read<R: Source>(alloc: Global, r: &mut R) -> Result<Schedule, Fault>
-    ensures read { IfOk result (λ schedule. (text : List ℕ) × WasRead (reading (R.given r.old) (R.ended r.old) (R.failures r.old)) (reading (R.given r.new) (R.ended r.new) (R.failures r.new)) text × (schedule_at text ≡ Ok schedule)) }
-    ensures unread { IfErr result (λ fault. (R.failures r.new ≡ R.failures r.old) ⊎ (fault ≡ Fault.Read)) }
-    ensures wrong { IfErr result (λ fault. (status_of fault ≡ 3) ⊎ IsWrongText (reading (R.given r.old) (R.ended r.old) (R.failures r.old)) (reading (R.given r.new) (R.ended r.new) (R.failures r.new)) fault) }
+    ensures read { IfOk result (λ schedule. (text : List ℕ) × WasRead (R.reading r.old) (R.reading r.new) text × (schedule_at text ≡ Ok schedule)) }
+    ensures unread { IfErr result (λ fault. ((R.reading r.new).failures ≡ (R.reading r.old).failures) ⊎ (fault ≡ Fault.Read)) }
+    ensures wrong { IfErr result (λ fault. (status_of fault ≡ 3) ⊎ IsWrongText (R.reading r.old) (R.reading r.new) fault) }
     ensures status { IfErr result (λ fault. 2 ≤ status_of fault) }
 {
     let text = read_all(alloc, r)?;

@@ -1,13 +1,12 @@
 //! The command `shrink`.
 
 ghost use Rattle.std.specs.Prelude.{◌≡◌, IfErr, IfOk, OnOk, false};
-ghost use Rattle.schedule.specs.Tapes.{tape, Writes};
+ghost use Rattle.schedule.specs.Tapes.{Writes};
 ghost use Rattle.trials.specs.Reports.{verdict_line};
 ghost use Rattle.schedule.specs.Schedules.{spelling};
 ghost use Rattle.schedule_commands.specs.Endings.{FailsToWrite, IsEnded, TellsReads};
 ghost use Rattle.schedule_commands.specs.Shrinks.{ShrinkEnds, ShrinksSchedule};
 ghost use Rattle.schedule_commands.specs.Statuses.{status_of};
-ghost use Rattle.trials.specs.Wholes.{reading};
 
 use crate::ending::Ending;
 use crate::fault::Fault;
@@ -22,9 +21,9 @@ use trials::{Verdict, put_verdict};
 
 /// Writes a schedule as its text.
 pub fn write_lines<W: Sink>(alloc: Global, schedule: &Schedule, w: &mut W) -> Result<(), Fault>
-    ensures written { OnOk result (Writes (tape (W.taken w.old) (W.failures w.old)) (tape (W.taken w.new) (W.failures w.new)) (spelling schedule.now)) }
+    ensures written { OnOk result (Writes (W.tape w.old) (W.tape w.new) (spelling schedule.now)) }
     ensures failed { IfErr result (λ fault. status_of fault ≡ 3) }
-    ensures unwritten { IfErr result (FailsToWrite (tape (W.taken w.old) (W.failures w.old)) (tape (W.taken w.new) (W.failures w.new))) }
+    ensures unwritten { IfErr result (FailsToWrite (W.tape w.old) (W.tape w.new)) }
 {
     let text = write_schedule(alloc, schedule)?;
     if write_all(w, &text).is_err() {
@@ -35,7 +34,7 @@ pub fn write_lines<W: Sink>(alloc: Global, schedule: &Schedule, w: &mut W) -> Re
 
 /// Writes the line of a fine verdict.
 fn write_fine<W: Sink>(alloc: Global, w: &mut W) -> Result<(), Fault>
-    ensures written { OnOk result (Writes (tape (W.taken w.old) (W.failures w.old)) (tape (W.taken w.new) (W.failures w.new)) (verdict_line Verdict.Fine)) }
+    ensures written { OnOk result (Writes (W.tape w.old) (W.tape w.new) (verdict_line Verdict.Fine)) }
     ensures failed { IfErr result (λ fault. status_of fault ≡ 3) }
 {
     let mut line = Vec::new(alloc);
@@ -53,8 +52,8 @@ fn shrink_schedule<W: Sink>(
     schedule: &Schedule,
     w: &mut W,
 ) -> Result<Ending, Fault>
-    ensures shrinks { ShrinksSchedule variant schedule.now (tape (W.taken w.old) (W.failures w.old)) (tape (W.taken w.new) (W.failures w.new)) result }
-    ensures ended { IfOk result (IsEnded false (W.failures w.old) (W.failures w.new)) }
+    ensures shrinks { ShrinksSchedule variant schedule.now (W.tape w.old) (W.tape w.new) result }
+    ensures ended { IfOk result (IsEnded false (W.tape w.old).failures (W.tape w.new).failures) }
 {
     match shrink(alloc, variant, schedule)? {
         Some(least) => {
@@ -81,9 +80,9 @@ pub fn shrink_order<R: Source, W: Sink>(
     r: &mut R,
     w: &mut W,
 ) -> Result<Ending, Fault>
-    ensures ends { ShrinkEnds order.now (reading (R.given r.old) (R.ended r.old) (R.failures r.old)) (reading (R.given r.new) (R.ended r.new) (R.failures r.new)) (tape (W.taken w.old) (W.failures w.old)) (tape (W.taken w.new) (W.failures w.new)) result }
-    ensures reads { TellsReads (reading (R.given r.old) (R.ended r.old) (R.failures r.old)) (reading (R.given r.new) (R.ended r.new) (R.failures r.new)) result }
-    ensures ended { IfOk result (IsEnded false (W.failures w.old) (W.failures w.new)) }
+    ensures ends { ShrinkEnds order.now (R.reading r.old) (R.reading r.new) (W.tape w.old) (W.tape w.new) result }
+    ensures reads { TellsReads (R.reading r.old) (R.reading r.new) result }
+    ensures ended { IfOk result (IsEnded false (W.tape w.old).failures (W.tape w.new).failures) }
 {
     let schedule = schedule_read(alloc, r)?;
     shrink_schedule(alloc, order.variant, &schedule, w)

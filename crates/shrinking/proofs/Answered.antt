@@ -14,8 +14,8 @@ use Rattle.schedule.specs.Schedules.{Scheduled, head_of}
 use Rattle.trials.specs.Verdicts.{verdict_on}
 use Rattle.trials.specs.Wholes.{layout_of}
 use Rattle.crashlab.specs.declared.variant.Variant.{Variant}
-use Rattle.crashlab.specs.VariantWorlds.{VariantState, new_world}
-use Rattle.shrinking.specs.Shrunk.{Answers, at_header, variant_behaviour, variant_run}
+use Rattle.crashlab.specs.VariantWorlds.{VariantState, new_world, variant_behaviour}
+use Rattle.shrinking.specs.Shrunk.{Answers, at_header, variant_run}
 
 -- a judge that has heard nothing keeps what it began with
 keeps_first : (start : State) (judge : Kept) → StandsAfter start [] judge → Keeps judge start

@@ -14,15 +14,16 @@ use Rattle.lines.specs.declared.line.Line.{Line}
 use Rattle.lines.specs.declared.line.Line.TheVariants.{Start, Step, Crash}
 use Rattle.trials.specs.declared.verdict.Verdict.TheVariants.{Against}
 use Rattle.lines.specs.Commands.{IsLine}
-use Rattle.trials.specs.Runs.{Behaviour, Told, Did, deeds_of, did, told_of, steps, line_on, run_on}
+use Rattle.trials.specs.Runs.{Told, Did, deeds_of, did, told_of, steps, line_on, run_on}
+use Rattle.rmeworld.specs.Behaviours.{Behaviour}
 use Rattle.schedule.specs.Schedules.{Scheduled, IsScheduled}
 use Rattle.trials.specs.Verdicts.{number_of_fault, ruled, verdict_from, verdict_on}
 use Rattle.trials.specs.Wholes.{layout_of}
 use Rattle.trials.proofs.Playing.{deeds_append, deeds_told}
 use Rattle.crashlab.specs.declared.variant.Variant.{Variant}
 use Rattle.crashlab.specs.Hunts.{first_world, is_answered, after_steps, after_line, deeds_of_steps, deeds_of_line, deeds_of_lines, Unless, MaySteps, MayLine, MayLines, IsFound}
-use Rattle.crashlab.specs.VariantWorlds.{VariantState, new_world, stepped, advanced}
-use Rattle.shrinking.specs.Shrunk.{variant_behaviour, variant_run, at_header, GoesWrong}
+use Rattle.crashlab.specs.VariantWorlds.{VariantState, new_world, stepped, advanced, variant_behaviour}
+use Rattle.shrinking.specs.Shrunk.{variant_run, at_header, GoesWrong}
 
 -- ---- on any machine
 

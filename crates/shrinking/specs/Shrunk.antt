@@ -14,15 +14,11 @@ use Rattle.trials.specs.declared.replay_fault.ReplayFault.TheVariants.{Refused, 
 use Rattle.schedule.specs.Schedules.{Scheduled, head_of}
 use Rattle.trials.specs.Wholes.{layout_of}
 use Rattle.trials.specs.Verdicts.{number_of_fault, verdict_on}
-use Rattle.trials.specs.Runs.{Behaviour, Part, behaviour, deeds_of, run_on}
+use Rattle.trials.specs.Runs.{Part, deeds_of, run_on}
 use Rattle.crashlab.specs.declared.variant.Variant.{Variant}
-use Rattle.crashlab.specs.VariantWorlds.{VariantState, new_world, start_refusal, started, advance_refusal, stepped, advanced, crash_refusal, crash_deed, crashed}
+use Rattle.crashlab.specs.VariantWorlds.{VariantState, new_world, variant_behaviour}
 
 -- ---- what a schedule comes to
-
--- a world of a variant as the machine that it is
-abbrev pub variant_behaviour : Behaviour VariantState
-variant_behaviour = behaviour start_refusal started advance_refusal stepped advanced crash_refusal (λ s p. crash_deed p) crashed
 
 -- the run of a schedule on a new world of the variant
 unfoldable pub variant_run : Variant → Scheduled → Part VariantState (ℕ × Refusal)

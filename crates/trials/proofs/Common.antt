@@ -33,11 +33,13 @@ pub use Rattle.schedule.specs.declared.trace.TraceHead.{TraceHead}
 pub use Rattle.trials.specs.declared.verdict.Verdict.{Verdict}
 pub use Rattle.trials.specs.declared.verdict.Verdict.TheVariants.{Fine, Against}
 pub use Rattle.trials.specs.Hearings.{opened, bench, with_more, heard_with, Hears, Bench, if_allowed, heard}
-pub use Rattle.schedule.specs.Tapes.{Tape, Writes, BreaksOff, tape}
+pub use Rattle.schedule.specs.Tapes.{Tape, Writes, BreaksOff}
 pub use Rattle.trials.specs.Plays.{Ends, IsRefused, halted, halt_of, Halts, Tells, Stops, IsRefusal, Plays, fault_at, IsOver}
 pub use Rattle.trials.specs.Reports.{told_text, owns_text, words_of_verdict, verdict_line, IsEnd, told_line, messages_text}
-pub use Rattle.trials.specs.Runs.{Part, deeds_of, Told, Did, told_of, Behaviour, unless, followed, Answered, did, answered, behaviour}
+pub use Rattle.trials.specs.Runs.{Part, deeds_of, Told, Did, told_of, unless, followed, Answered, did, answered}
+pub use Rattle.rmeworld.specs.Behaviours.{Behaviour}
 unfoldable pub use Rattle.trials.specs.Runs.{steps, line_on, run_on}
 pub use Rattle.trials.specs.Trials.{Stands, trace_answer, answer_of, judged_of, judge_refusal, numbered, JudgesTrace, Fed, Trial}
 pub use Rattle.trials.specs.Verdicts.{verdict_on, ruled, verdict_from}
-pub use Rattle.trials.specs.Wholes.{Silent, header_fault, layout_of, OfSchedule, OfText, world_behaviour}
+pub use Rattle.trials.specs.Wholes.{Silent, header_fault, layout_of, OfSchedule, OfText}
+pub use Rattle.rmeworld.specs.Replayed.{world_behaviour}

@@ -2,6 +2,7 @@
 use Rattle.std.specs.Prelude.{ℕ, zero, suc, ◌+◌, List, [], ◌∷◌, ◌++◌, Option, Some, None, is_some, if◌then◌else◌}
 use Rattle.rmecore.specs.declared.refusal.Refusal.{Refusal}
 use Rattle.redomail.specs.declared.deed.Deed.{Deed}
+use Rattle.rmeworld.specs.Behaviours.{Behaviour}
 use Rattle.rmeworld.specs.declared.call.Call.{Call}
 use Rattle.rmeworld.specs.declared.answer.Answer.{Answer}
 use Rattle.rmeworld.specs.declared.stepped.Stepped.{Stepped}
@@ -29,31 +30,6 @@ abbrev pub deeds_of : List Told → List Deed
 deeds_of [] = []
 deeds_of (Did deed ∷ told) = deed ∷ deeds_of told
 deeds_of (Answered p answer ∷ told) = deeds_of told
-
--- what a machine with these states does
-pub record Behaviour (S : Type 0) : Type 0 where
-  pub start_refusal : S → ℕ → Call → Option Refusal
-  pub started : S → ℕ → Call → S
-  pub advance_refusal : S → ℕ → Option Refusal
-  pub stepped : S → ℕ → Stepped
-  pub advanced : S → ℕ → S
-  pub crash_refusal : S → ℕ → Option Refusal
-  pub crash_deed : S → ℕ → Deed
-  pub crashed : S → ℕ → S
-
-abbrev pub behaviour : {S : Type 0} → (S → ℕ → Call → Option Refusal) → (S → ℕ → Call → S) → (S → ℕ → Option Refusal) → (S → ℕ → Stepped) → (S → ℕ → S)
-    → (S → ℕ → Option Refusal) → (S → ℕ → Deed) → (S → ℕ → S) → Behaviour S
-behaviour start_refusal started advance_refusal stepped advanced crash_refusal crash_deed crashed =
-    record {
-      start_refusal = start_refusal;
-      started = started;
-      advance_refusal = advance_refusal;
-      stepped = stepped;
-      advanced = advanced;
-      crash_refusal = crash_refusal;
-      crash_deed = crash_deed;
-      crashed = crashed;
-    }
 
 -- what a part of a run tells, and leaves, unless it is refused
 pub record Part (S R : Type 0) : Type 0 where

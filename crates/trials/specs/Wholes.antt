@@ -5,21 +5,16 @@ use Rattle.rmecore.specs.Refused.{number_of}
 use Rattle.redomail.specs.declared.layout.Layout.{Layout}
 use Rattle.judge.specs.Table.{empty}
 use Rattle.rmeworld.specs.WorldState.{WorldState, new_world, new_refusal}
-use Rattle.rmeworld.specs.Replayed as world
+use Rattle.rmeworld.specs.Replayed.{image_of, world_behaviour}
 use Rattle.lines.specs.declared.fault.LineFault.{LineFault}
 use Rattle.trials.specs.declared.verdict.Verdict.{Verdict}
 use Rattle.trials.specs.declared.replay_fault.ReplayFault.{ReplayFault}
 use Rattle.trials.specs.declared.replay_fault.ReplayFault.TheVariants.{Text, Refused, Read, OutOfMemory}
 use Rattle.lines.specs.Numbers.{number_of as number_of_line}
 use Rattle.schedule.specs.Schedules.{Scheduled, schedule_at}
-use Rattle.trials.specs.Runs.{Behaviour, Part, behaviour, run_on}
-use Rattle.schedule.specs.Tapes.{Tape}
+use Rattle.trials.specs.Runs.{Part, run_on}
+use Rattle.schedule.specs.Tapes.{Tape, Reading}
 use Rattle.trials.specs.Replays.{Replays}
-
--- a world as the machine that it is
-abbrev pub world_behaviour : Behaviour WorldState
-world_behaviour =
-    behaviour world.start_refusal world.started world.advance_refusal world.stepped world.advanced world.crash_refusal (λ s p. world.crash_deed p) world.crashed
 
 abbrev pub layout_of : Scheduled → Layout
 layout_of schedule = record { procs = schedule.procs; cap = schedule.cap; width = schedule.width }
@@ -42,21 +37,12 @@ header_fault (Some number) = Refused 1 number
 abbrev pub OfSchedule : Tape → Tape → Scheduled → Option Refusal → Result Verdict ReplayFault → Type 0
 OfSchedule before now schedule (Some refusal) answer = Silent before now × ((answer ≡ Err (header_fault (number_of refusal))) ⊎ (answer ≡ Err OutOfMemory))
 OfSchedule before now schedule None answer =
-    Replays before now (empty schedule.procs schedule.cap) world.image_of (world_run schedule) answer ⊎ (Silent before now × (answer ≡ Err OutOfMemory))
+    Replays before now (empty schedule.procs schedule.cap) image_of (world_run schedule) answer ⊎ (Silent before now × (answer ≡ Err OutOfMemory))
 
 -- a text that is no schedule has a fault, and nothing is written
 abbrev pub OfText : Tape → Tape → Result Scheduled (ℕ × LineFault) → Result Verdict ReplayFault → Type 0
 OfText before now (Err fault) answer = Silent before now × ((answer ≡ Err (Text fault.0 (number_of_line fault.1))) ⊎ (answer ≡ Err OutOfMemory))
 OfText before now (Ok schedule) answer = OfSchedule before now schedule (new_refusal (layout_of schedule) schedule.limit) answer
-
--- how far a source was read: the bytes that it has given, whether it told its end, and how often it failed
-pub record Reading : Type 0 where
-  pub given : List ℕ
-  pub ended : Bool
-  pub failures : ℕ
-
-abbrev pub reading : List ℕ → Bool → ℕ → Reading
-reading given ended failures = record { given = given; ended = ended; failures = failures }
 
 -- the source was not read to its end, and nothing was written
 abbrev pub Unread : Reading → Reading → Result Verdict ReplayFault → Type 0

@@ -2,7 +2,7 @@
 
 ghost use Rattle.std.specs.Prelude.{◌≡◌, ◌++◌, ◌∷◌, [], None, IfErr, OnOk, OnErr};
 ghost use Rattle.trials.specs.Hearings.{opened, bench, Hears};
-ghost use Rattle.schedule.specs.Tapes.{tape, Writes};
+ghost use Rattle.schedule.specs.Tapes.{Writes};
 ghost use Rattle.trials.specs.Plays.{Tells, Halts};
 ghost use Rattle.trials.specs.Reports.{told_text};
 ghost use Rattle.trials.specs.Runs.{deeds_of, did, told_of};
@@ -69,8 +69,8 @@ impl Clerk {
         deed: &Option<Deed>,
         answer: &Option<Answer>,
     ) -> Result<(), Halt>
-        ensures written { OnOk result (Writes (tape (W.taken w.old) (W.failures w.old)) (tape (W.taken w.new) (W.failures w.new)) (told_text (told_of p deed.now answer.now))) }
-        ensures halted { IfErr result (λ halt. Halts (tape (W.taken w.old) (W.failures w.old)) (tape (W.taken w.new) (W.failures w.new)) (told_text (told_of p deed.now answer.now)) None halt) }
+        ensures written { OnOk result (Writes (W.tape w.old) (W.tape w.new) (told_text (told_of p deed.now answer.now))) }
+        ensures halted { IfErr result (λ halt. Halts (W.tape w.old) (W.tape w.new) (told_text (told_of p deed.now answer.now)) None halt) }
         ensures same { self.new ≡ self.old }
     {
         self.page.clear();
@@ -89,7 +89,7 @@ impl Clerk {
         deed: &Option<Deed>,
         answer: &Option<Answer>,
     ) -> Result<(), Halt>
-        ensures { Tells (tape (W.taken w.old) (W.failures w.old)) (tape (W.taken w.new) (W.failures w.new)) (bench judge.old self.old) (bench judge.new self.new) (told_of p deed.now answer.now) result }
+        ensures { Tells (W.tape w.old) (W.tape w.new) (bench judge.old self.old) (bench judge.new self.new) (told_of p deed.now answer.now) result }
     {
         self.hear(judge, deed);
         self.write(w, p, deed, answer)
@@ -104,7 +104,7 @@ impl Clerk {
         deed: &Option<Deed>,
         answer: &Option<Answer>,
     ) -> Result<(), Halt>
-        ensures { Tells (tape (W.taken w.old) (W.failures w.old)) (tape (W.taken w.new) (W.failures w.new)) (bench judge.old self.old) (bench judge.new self.new) (told_of p deed.now answer.now) result }
+        ensures { Tells (W.tape w.old) (W.tape w.new) (bench judge.old self.old) (bench judge.new self.new) (told_of p deed.now answer.now) result }
     {
         if deed.is_none() && answer.is_none() {
             return Ok(());

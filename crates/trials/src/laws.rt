@@ -8,7 +8,7 @@ ghost use Rattle.judge.specs.declared.start.Start.{Start as StartOf};
 ghost use Rattle.rmeworld.specs.declared.image.Image.{Image as ImageOf};
 ghost use Rattle.rmeworld.specs.ImageRules.{layout_of, IsLawfulImage};
 ghost use Rattle.rmeworld.specs.ImageStart.{IsStartOf};
-ghost use Rattle.rmeworld.specs.Replayed.{image_of};
+ghost use Rattle.rmeworld.specs.Replayed.{image_of, world_behaviour};
 ghost use Rattle.rmeworld.specs.WorldState.{new_world, new_refusal, image_world};
 ghost use Rattle.lines.specs.declared.line.Line.{Line as LineOf};
 ghost use Rattle.trials.specs.declared.replay_fault.ReplayFault.{ReplayFault as ReplayFaultOf};
@@ -19,7 +19,6 @@ ghost use Rattle.trials.specs.Replays.{Replays};
 ghost use Rattle.trials.specs.Runs.{deeds_of, run_on};
 ghost use Rattle.trials.specs.Stories.{IsStory};
 ghost use Rattle.trials.specs.Verdicts.{verdict_on};
-ghost use Rattle.trials.specs.Wholes.{world_behaviour};
 
 /// The run of a schedule on a world is a story of the definition, whether a line is refused or not, and whether memory is
 /// found or not. From a new world, or from that of a lawful image, some story tells just the deeds and answers that the run

@@ -65,13 +65,13 @@ pub fn take_lines<S: Source, T: TakeLine>(
     source: &mut S,
     taker: &mut T,
 ) -> Result<Vec<u8>, ReplayFault>
-    ensures taken { (lines : List (List ℕ)) → T.after taker.old lines → IfOk result (λ rest. (text : List ℕ) × (S.given source.new ≡ S.given source.old ++ text)
+    ensures taken { (lines : List (List ℕ)) → T.after taker.old lines → IfOk result (λ rest. (text : List ℕ) × ((S.reading source.new).given ≡ (S.reading source.old).given ++ text)
         × ((more : List (List ℕ)) × (parts_of text ≡ more ++ rest.items ∷ []) × T.after taker.new (lines ++ more))) }
-    ensures ended { OnOk result (S.ended source.new ≡ true) }
-    ensures finite { OnOk result (length (S.given source.new) ≤ 2 ^ 63) }
-    ensures fine { OnOk result (S.failures source.new ≡ S.failures source.old) }
-    ensures fault { IfErr result (λ fault. (fault ≡ ReplayFault.Read) × (S.failures source.new ≡ min (S.failures source.old + 1) (2 ^ 64 - 1))
-        ⊎ (fault ≡ ReplayFault.OutOfMemory) × (S.failures source.new ≡ S.failures source.old)) }
+    ensures ended { OnOk result ((S.reading source.new).ended ≡ true) }
+    ensures finite { OnOk result (length (S.reading source.new).given ≤ 2 ^ 63) }
+    ensures fine { OnOk result ((S.reading source.new).failures ≡ (S.reading source.old).failures) }
+    ensures fault { IfErr result (λ fault. (fault ≡ ReplayFault.Read) × ((S.reading source.new).failures ≡ min ((S.reading source.old).failures + 1) (2 ^ 64 - 1))
+        ⊎ (fault ≡ ReplayFault.OutOfMemory) × ((S.reading source.new).failures ≡ (S.reading source.old).failures)) }
 {
     let mut buffer = Vec::with_capacity(alloc, LINE_ROOM)?;
     let mut piece = [0; 4096];
@@ -87,11 +87,11 @@ pub fn take_lines<S: Source, T: TakeLine>(
 
 /// All bytes that the source still gives.
 pub fn read_all<S: Source>(alloc: Global, source: &mut S) -> Result<Vec<u8>, ReplayFault>
-    ensures given { IfOk result (λ text. S.given source.new ≡ S.given source.old ++ text.items) }
-    ensures ended { OnOk result (S.ended source.new ≡ true) }
-    ensures fine { OnOk result (S.failures source.new ≡ S.failures source.old) }
-    ensures fault { IfErr result (λ fault. (fault ≡ ReplayFault.Read) × (S.failures source.new ≡ min (S.failures source.old + 1) (2 ^ 64 - 1))
-        ⊎ (fault ≡ ReplayFault.OutOfMemory) × (S.failures source.new ≡ S.failures source.old)) }
+    ensures given { IfOk result (λ text. (S.reading source.new).given ≡ (S.reading source.old).given ++ text.items) }
+    ensures ended { OnOk result ((S.reading source.new).ended ≡ true) }
+    ensures fine { OnOk result ((S.reading source.new).failures ≡ (S.reading source.old).failures) }
+    ensures fault { IfErr result (λ fault. (fault ≡ ReplayFault.Read) × ((S.reading source.new).failures ≡ min ((S.reading source.old).failures + 1) (2 ^ 64 - 1))
+        ⊎ (fault ≡ ReplayFault.OutOfMemory) × ((S.reading source.new).failures ≡ (S.reading source.old).failures)) }
 {
     let mut text = Vec::new(alloc);
     let mut piece = [0; 4096];

@@ -2,9 +2,8 @@
 
 ghost use Rattle.std.specs.Prelude.{◌≡◌, ◌≤◌, ◌∷◌, [], None, Some};
 ghost use Rattle.trials.specs.Hearings.{bench};
-ghost use Rattle.schedule.specs.Tapes.{tape};
 ghost use Rattle.trials.specs.Plays.{Plays, Runs};
-ghost use Rattle.trials.specs.Runs.{Did, behaviour, steps, unless, line_on, run_on};
+ghost use Rattle.trials.specs.Runs.{Did, steps, unless, line_on, run_on};
 
 use crate::clerk::Clerk;
 use crate::halt::Halt;
@@ -24,7 +23,7 @@ fn more_steps<M: Machine, W: Sink>(
     p: u64,
     n: u64,
 ) -> Result<(), Halt>
-    ensures { Plays (tape (W.taken w.old) (W.failures w.old)) (tape (W.taken w.new) (W.failures w.new)) (bench judge.old clerk.old) (bench judge.new clerk.new) (steps (behaviour M.start_refusal M.started M.advance_refusal M.stepped M.advanced M.crash_refusal M.crash_deed M.crashed) p n machine.old).0 (steps (behaviour M.start_refusal M.started M.advance_refusal M.stepped M.advanced M.crash_refusal M.crash_deed M.crashed) p n machine.old).1 None machine.new result }
+    ensures { Plays (W.tape w.old) (W.tape w.new) (bench judge.old clerk.old) (bench judge.new clerk.new) (steps M.behaviour p n machine.old).0 (steps M.behaviour p n machine.old).1 None machine.new result }
 {
     for _ in 0..n {
         if machine.step_quietly(p) {
@@ -56,7 +55,7 @@ fn take_told_steps<M: Machine, W: Sink>(
     n: u64,
 ) -> Result<(), Halt>
     requires { 1 ≤ n }
-    ensures { Plays (tape (W.taken w.old) (W.failures w.old)) (tape (W.taken w.new) (W.failures w.new)) (bench judge.old clerk.old) (bench judge.new clerk.new) (steps (behaviour M.start_refusal M.started M.advance_refusal M.stepped M.advanced M.crash_refusal M.crash_deed M.crashed) p n machine.old).0 (steps (behaviour M.start_refusal M.started M.advance_refusal M.stepped M.advanced M.crash_refusal M.crash_deed M.crashed) p n machine.old).1 (M.advance_refusal machine.old p) machine.new result }
+    ensures { Plays (W.tape w.old) (W.tape w.new) (bench judge.old clerk.old) (bench judge.new clerk.new) (steps M.behaviour p n machine.old).0 (steps M.behaviour p n machine.old).1 (M.behaviour.advance_refusal machine.old p) machine.new result }
 {
     let stepped = machine.advance(p)?;
     let deed = stepped.deed;
@@ -82,7 +81,7 @@ pub(crate) fn take_steps<M: Machine, W: Sink>(
     n: u64,
 ) -> Result<(), Halt>
     requires { 1 ≤ n }
-    ensures { Plays (tape (W.taken w.old) (W.failures w.old)) (tape (W.taken w.new) (W.failures w.new)) (bench judge.old clerk.old) (bench judge.new clerk.new) (steps (behaviour M.start_refusal M.started M.advance_refusal M.stepped M.advanced M.crash_refusal M.crash_deed M.crashed) p n machine.old).0 (steps (behaviour M.start_refusal M.started M.advance_refusal M.stepped M.advanced M.crash_refusal M.crash_deed M.crashed) p n machine.old).1 (M.advance_refusal machine.old p) machine.new result }
+    ensures { Plays (W.tape w.old) (W.tape w.new) (bench judge.old clerk.old) (bench judge.new clerk.new) (steps M.behaviour p n machine.old).0 (steps M.behaviour p n machine.old).1 (M.behaviour.advance_refusal machine.old p) machine.new result }
 {
     if !machine.step_quietly(p) {
         return take_told_steps(machine, judge, clerk, w, p, n);
@@ -103,7 +102,7 @@ fn take_crash<M: Machine, W: Sink>(
     w: &mut W,
     p: u64,
 ) -> Result<(), Halt>
-    ensures { let part = unless (M.crash_refusal machine.old p) machine.old (Did (M.crash_deed machine.old p) ∷ []) (M.crashed machine.old p) in Plays (tape (W.taken w.old) (W.failures w.old)) (tape (W.taken w.new) (W.failures w.new)) (bench judge.old clerk.old) (bench judge.new clerk.new) part.told part.left part.refused machine.new result }
+    ensures { let part = unless (M.behaviour.crash_refusal machine.old p) machine.old (Did (M.behaviour.crash_deed machine.old p) ∷ []) (M.behaviour.crashed machine.old p) in Plays (W.tape w.old) (W.tape w.new) (bench judge.old clerk.old) (bench judge.new clerk.new) part.told part.left part.refused machine.new result }
 {
     let deed = Some(machine.crash(p)?);
     let nothing = None;
@@ -118,7 +117,7 @@ pub(crate) fn play_line<M: Machine, W: Sink>(
     w: &mut W,
     line: &Line,
 ) -> Result<(), Halt>
-    ensures { let part = line_on (behaviour M.start_refusal M.started M.advance_refusal M.stepped M.advanced M.crash_refusal M.crash_deed M.crashed) machine.old line.now in Plays (tape (W.taken w.old) (W.failures w.old)) (tape (W.taken w.new) (W.failures w.new)) (bench judge.old clerk.old) (bench judge.new clerk.new) part.told part.left part.refused machine.new result }
+    ensures { let part = line_on M.behaviour machine.old line.now in Plays (W.tape w.old) (W.tape w.new) (bench judge.old clerk.old) (bench judge.new clerk.new) part.told part.left part.refused machine.new result }
 {
     match *line {
         Line::Start(p, call) => {
@@ -138,7 +137,7 @@ pub fn play_lines<M: Machine, W: Sink>(
     w: &mut W,
     lines: &[Line],
 ) -> Result<(), ReplayFault>
-    ensures { Runs (tape (W.taken w.old) (W.failures w.old)) (tape (W.taken w.new) (W.failures w.new)) (bench judge.old clerk.old) (bench judge.new clerk.new) (run_on (behaviour M.start_refusal M.started M.advance_refusal M.stepped M.advanced M.crash_refusal M.crash_deed M.crashed) 2 machine.old lines.now) machine.new result }
+    ensures { Runs (W.tape w.old) (W.tape w.new) (bench judge.old clerk.old) (bench judge.new clerk.new) (run_on M.behaviour 2 machine.old lines.now) machine.new result }
 {
     let mut number = 2;
     for line in lines {

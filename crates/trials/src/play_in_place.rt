@@ -7,9 +7,8 @@ ghost use Rattle.schedule.specs.Texts.{items_at};
 ghost use Rattle.fronts.specs.Fronts.{IsRead, Begins};
 ghost use Rattle.lines.specs.Words.{parts_of};
 ghost use Rattle.trials.specs.Hearings.{bench};
-ghost use Rattle.schedule.specs.Tapes.{tape};
 ghost use Rattle.trials.specs.Plays.{Plays, Runs};
-ghost use Rattle.trials.specs.Runs.{behaviour, line_on, run_on};
+ghost use Rattle.trials.specs.Runs.{line_on, run_on};
 
 use crate::clerk::Clerk;
 use crate::halt::Halt;
@@ -34,8 +33,8 @@ fn play_next<'a, M: Machine, W: Sink>(
     requires width { (1 ≤ width) × (width ≤ 8) }
     requires some { 0 < length text.now }
     requires read { IsRead (line_at width) text.now }
-    ensures ok { IfOk result (λ rest. (line : LineOf) × Begins (line_at width) text.now line rest.now × (let part = line_on (behaviour M.start_refusal M.started M.advance_refusal M.stepped M.advanced M.crash_refusal M.crash_deed M.crashed) machine.old line in Plays (tape (W.taken w.old) (W.failures w.old)) (tape (W.taken w.new) (W.failures w.new)) (bench judge.old clerk.old) (bench judge.new clerk.new) part.told part.left part.refused machine.new result)) }
-    ensures err { IfErr result (λ _. (line : LineOf) × (after : List ℕ) × Begins (line_at width) text.now line after × (let part = line_on (behaviour M.start_refusal M.started M.advance_refusal M.stepped M.advanced M.crash_refusal M.crash_deed M.crashed) machine.old line in Plays (tape (W.taken w.old) (W.failures w.old)) (tape (W.taken w.new) (W.failures w.new)) (bench judge.old clerk.old) (bench judge.new clerk.new) part.told part.left part.refused machine.new result)) }
+    ensures ok { IfOk result (λ rest. (line : LineOf) × Begins (line_at width) text.now line rest.now × (let part = line_on M.behaviour machine.old line in Plays (W.tape w.old) (W.tape w.new) (bench judge.old clerk.old) (bench judge.new clerk.new) part.told part.left part.refused machine.new result)) }
+    ensures err { IfErr result (λ _. (line : LineOf) × (after : List ℕ) × Begins (line_at width) text.now line after × (let part = line_on M.behaviour machine.old line in Plays (W.tape w.old) (W.tape w.new) (bench judge.old clerk.old) (bench judge.new clerk.new) part.told part.left part.refused machine.new result)) }
 {
     let Ok((line, after)) = next_line(width, text) else {
         unreachable!()
@@ -57,8 +56,8 @@ fn play_first<'a, M: Machine, W: Sink>(
     requires width { (1 ≤ width) × (width ≤ 8) }
     requires some { 0 < length text.now }
     requires read { IsRead (line_at width) text.now }
-    ensures ok { IfOk result (λ rest. (line : LineOf) × Begins (line_at width) text.now line rest.now × (let part = line_on (behaviour M.start_refusal M.started M.advance_refusal M.stepped M.advanced M.crash_refusal M.crash_deed M.crashed) machine.old line in Plays (tape (W.taken w.old) (W.failures w.old)) (tape (W.taken w.new) (W.failures w.new)) (bench judge.old clerk.old) (bench judge.new clerk.new) part.told part.left part.refused machine.new result)) }
-    ensures err { IfErr result (λ _. (line : LineOf) × (after : List ℕ) × Begins (line_at width) text.now line after × (let part = line_on (behaviour M.start_refusal M.started M.advance_refusal M.stepped M.advanced M.crash_refusal M.crash_deed M.crashed) machine.old line in Plays (tape (W.taken w.old) (W.failures w.old)) (tape (W.taken w.new) (W.failures w.new)) (bench judge.old clerk.old) (bench judge.new clerk.new) part.told part.left part.refused machine.new result)) }
+    ensures ok { IfOk result (λ rest. (line : LineOf) × Begins (line_at width) text.now line rest.now × (let part = line_on M.behaviour machine.old line in Plays (W.tape w.old) (W.tape w.new) (bench judge.old clerk.old) (bench judge.new clerk.new) part.told part.left part.refused machine.new result)) }
+    ensures err { IfErr result (λ _. (line : LineOf) × (after : List ℕ) × Begins (line_at width) text.now line after × (let part = line_on M.behaviour machine.old line in Plays (W.tape w.old) (W.tape w.new) (bench judge.old clerk.old) (bench judge.new clerk.new) part.told part.left part.refused machine.new result)) }
 {
     let Some((p, n, after)) = steps(text) else {
         return play_next(machine, judge, clerk, w, width, text);
@@ -80,7 +79,7 @@ pub(crate) fn play_text<M: Machine, W: Sink>(
     requires width { (1 ≤ width) × (width ≤ 8) }
     requires room { length text.now + 2 < 2 ^ 64 }
     requires read { (lines : List LineOf) × (items_at (line_at width) 2 (parts_of text.now) ≡ Ok lines) }
-    ensures { (lines : List LineOf) → items_at (line_at width) 2 (parts_of text.now) ≡ Ok lines → Runs (tape (W.taken w.old) (W.failures w.old)) (tape (W.taken w.new) (W.failures w.new)) (bench judge.old clerk.old) (bench judge.new clerk.new) (run_on (behaviour M.start_refusal M.started M.advance_refusal M.stepped M.advanced M.crash_refusal M.crash_deed M.crashed) 2 machine.old lines) machine.new result }
+    ensures { (lines : List LineOf) → items_at (line_at width) 2 (parts_of text.now) ≡ Ok lines → Runs (W.tape w.old) (W.tape w.new) (bench judge.old clerk.old) (bench judge.new clerk.new) (run_on M.behaviour 2 machine.old lines) machine.new result }
 {
     let mut rest = text;
     let mut number = 2;

@@ -4,7 +4,7 @@ ghost use Rattle.std.specs.Prelude.{◌≡◌, ◌+◌, ◌^◌, ◌<◌, ◌≤
 ghost use Rattle.judge.specs.Table.{State};
 ghost use Rattle.judge.specs.Stands.{Keeps};
 ghost use Rattle.trials.specs.Replays.{Replays};
-ghost use Rattle.trials.specs.Runs.{behaviour, run_on};
+ghost use Rattle.trials.specs.Runs.{run_on};
 ghost use Rattle.rmecore.specs.Refused.{number_of};
 ghost use Rattle.rmeworld.specs.WorldState.{new_refusal};
 ghost use Rattle.lines.specs.declared.line.Line.{Line as LineOf};
@@ -12,10 +12,9 @@ ghost use Rattle.lines.specs.Commands.{line_at};
 ghost use Rattle.schedule.specs.Texts.{items_at};
 ghost use Rattle.lines.specs.Words.{parts_of};
 ghost use Rattle.trials.specs.Hearings.{bench};
-ghost use Rattle.schedule.specs.Tapes.{tape};
 ghost use Rattle.trials.specs.Plays.{Runs};
 ghost use Rattle.schedule.specs.Schedules.{schedule_at, scheduled_with};
-ghost use Rattle.trials.specs.Wholes.{layout_of, header_fault, OfSchedule, OfText, reading, ReplaysSource};
+ghost use Rattle.trials.specs.Wholes.{layout_of, header_fault, OfSchedule, OfText, ReplaysSource};
 
 use crate::clerk::Clerk;
 use crate::laws::worlds_are_never_found_out;
@@ -56,7 +55,7 @@ fn play_behind<M: Machine, W: Sink>(
     requires room { length text.items + 2 < 2 ^ 64 }
     requires within { from ≤ length text.items }
     requires read { (lines : List LineOf) × (items_at (line_at width) 2 (parts_of (drop from text.items)) ≡ Ok lines) }
-    ensures { (lines : List LineOf) → items_at (line_at width) 2 (parts_of (drop from text.items)) ≡ Ok lines → Runs (tape (W.taken w.old) (W.failures w.old)) (tape (W.taken w.new) (W.failures w.new)) (bench judge.old clerk.old) (bench judge.new clerk.new) (run_on (behaviour M.start_refusal M.started M.advance_refusal M.stepped M.advanced M.crash_refusal M.crash_deed M.crashed) 2 machine.old lines) machine.new result }
+    ensures { (lines : List LineOf) → items_at (line_at width) 2 (parts_of (drop from text.items)) ≡ Ok lines → Runs (W.tape w.old) (W.tape w.new) (bench judge.old clerk.old) (bench judge.new clerk.new) (run_on M.behaviour 2 machine.old lines) machine.new result }
 {
     play_text(machine, judge, clerk, w, width, &text[from..])
 }
@@ -76,7 +75,7 @@ fn replay_in_place<M: Machine, W: Sink>(
     requires room { length text.items + 2 < 2 ^ 64 }
     requires within { from ≤ length text.items }
     requires read { (lines : List LineOf) × (items_at (line_at width) 2 (parts_of (drop from text.items)) ≡ Ok lines) }
-    ensures { (start : State) (lines : List LineOf) → Keeps judge.old start → items_at (line_at width) 2 (parts_of (drop from text.items)) ≡ Ok lines → Replays (tape (W.taken w.old) (W.failures w.old)) (tape (W.taken w.new) (W.failures w.new)) start M.image_of (run_on (behaviour M.start_refusal M.started M.advance_refusal M.stepped M.advanced M.crash_refusal M.crash_deed M.crashed) 2 machine.old lines) result }
+    ensures { (start : State) (lines : List LineOf) → Keeps judge.old start → items_at (line_at width) 2 (parts_of (drop from text.items)) ≡ Ok lines → Replays (W.tape w.old) (W.tape w.new) start M.behaviour.image_of (run_on M.behaviour 2 machine.old lines) result }
 {
     let mut clerk = Clerk::new(alloc);
     if let Err(fault) = play_behind(machine, judge, &mut clerk, w, width, text, from) {
@@ -102,7 +101,7 @@ fn replay_new<W: Sink>(
     requires room { length text.items + 2 < 2 ^ 64 }
     requires within { from ≤ length text.items }
     requires read { (all : List LineOf) × (items_at (line_at head.width) 2 (parts_of (drop from text.items)) ≡ Ok all) }
-    ensures of { (all : List LineOf) → items_at (line_at head.width) 2 (parts_of (drop from text.items)) ≡ Ok all → OfSchedule (tape (W.taken w.old) (W.failures w.old)) (tape (W.taken w.new) (W.failures w.new)) (scheduled_with (head, all)) (new_refusal (layout_of (scheduled_with (head, all))) head.limit) result }
+    ensures of { (all : List LineOf) → items_at (line_at head.width) 2 (parts_of (drop from text.items)) ≡ Ok all → OfSchedule (W.tape w.old) (W.tape w.new) (scheduled_with (head, all)) (new_refusal (layout_of (scheduled_with (head, all))) head.limit) result }
     ensures fine { IfOk result (λ verdict. verdict ≡ Verdict.Fine) }
 {
     worlds_are_never_found_out();
@@ -120,7 +119,7 @@ fn replay_new<W: Sink>(
 /// Replays the schedule that the text spells.
 fn replay_text<W: Sink>(alloc: Global, text: Vec<u8>, w: &mut W) -> Result<Verdict, ReplayFault>
     requires room { length text.items + 2 < 2 ^ 64 }
-    ensures of { OfText (tape (W.taken w.old) (W.failures w.old)) (tape (W.taken w.new) (W.failures w.new)) (schedule_at text.items) result }
+    ensures of { OfText (W.tape w.old) (W.tape w.new) (schedule_at text.items) result }
     ensures fine { IfOk result (λ verdict. verdict ≡ Verdict.Fine) }
 {
     match read_whole(&text) {
@@ -141,8 +140,8 @@ pub fn replay<R: Source, W: Sink>(
     w: &mut W,
 ) -> Result<Verdict, ReplayFault>
     // What was read, written and answered.
-    ensures replay { ReplaysSource (reading (R.given source.old) (R.ended source.old) (R.failures source.old)) (reading (R.given source.new) (R.ended source.new) (R.failures source.new))
-        (tape (W.taken w.old) (W.failures w.old)) (tape (W.taken w.new) (W.failures w.new)) result }
+    ensures replay { ReplaysSource (R.reading source.old) (R.reading source.new)
+        (W.tape w.old) (W.tape w.new) result }
     // By the lock theorem no replay answers `Against`.
     ensures fine { IfOk result (λ verdict. verdict ≡ Verdict.Fine) }
 {

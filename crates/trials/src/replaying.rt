@@ -3,9 +3,9 @@
 ghost use Rattle.std.specs.Prelude.{◌≡◌, ℕ, ◌+◌, ◌-◌, ◌^◌, min, ◌⊎◌, List, None, Some, OnOk, IfErr};
 ghost use Rattle.judge.specs.Table.{State};
 ghost use Rattle.judge.specs.Stands.{Keeps};
-ghost use Rattle.schedule.specs.Tapes.{tape, Writes, Begins};
+ghost use Rattle.schedule.specs.Tapes.{Writes, Begins};
 ghost use Rattle.trials.specs.Plays.{IsRefused, IsOver};
-ghost use Rattle.trials.specs.Runs.{behaviour, deeds_of, run_on};
+ghost use Rattle.trials.specs.Runs.{deeds_of, run_on};
 ghost use Rattle.trials.specs.Hearings.{heard};
 ghost use Rattle.trials.specs.Replays.{Replays, Closes};
 
@@ -22,8 +22,8 @@ use std::alloc::Global;
 
 /// Writes a text and flushes the sink.
 fn put_out<W: Sink>(w: &mut W, text: &[u8]) -> Result<(), ReplayFault>
-    ensures written { OnOk result (Writes (tape (W.taken w.old) (W.failures w.old)) (tape (W.taken w.new) (W.failures w.new)) text.now) }
-    ensures failed { IfErr result (λ fault. (fault ≡ ReplayFault.Write) × Begins (W.taken w.old) (W.taken w.new) text.now × (W.failures w.new ≡ min (W.failures w.old + 1) (2 ^ 64 - 1))) }
+    ensures written { OnOk result (Writes (W.tape w.old) (W.tape w.new) text.now) }
+    ensures failed { IfErr result (λ fault. (fault ≡ ReplayFault.Write) × Begins (W.tape w.old).taken (W.tape w.new).taken text.now × ((W.tape w.new).failures ≡ min ((W.tape w.old).failures + 1) (2 ^ 64 - 1))) }
 {
     write_all(w, text)?;
     w.flush()?;
@@ -37,7 +37,7 @@ pub fn close<W: Sink>(
     verdict: Verdict,
     w: &mut W,
 ) -> Result<(), ReplayFault>
-    ensures { Closes (tape (W.taken w.old) (W.failures w.old)) (tape (W.taken w.new) (W.failures w.new)) image.now verdict result }
+    ensures { Closes (W.tape w.old) (W.tape w.new) image.now verdict result }
 {
     let mut page = Vec::new(alloc);
     put_end(alloc, &mut page, image, verdict)?;
@@ -46,8 +46,8 @@ pub fn close<W: Sink>(
 
 /// Flushes the sink after a run that was not played to its end.
 pub(crate) fn settle<W: Sink>(w: &mut W, fault: ReplayFault) -> ReplayFault
-    ensures taken { W.taken w.new ≡ W.taken w.old }
-    ensures fault { (result ≡ fault) × (W.failures w.new ≡ W.failures w.old) ⊎ (result ≡ ReplayFault.Write) × (W.failures w.new ≡ min (W.failures w.old + 1) (2 ^ 64 - 1)) × IsRefused fault }
+    ensures taken { (W.tape w.new).taken ≡ (W.tape w.old).taken }
+    ensures fault { (result ≡ fault) × ((W.tape w.new).failures ≡ (W.tape w.old).failures) ⊎ (result ≡ ReplayFault.Write) × ((W.tape w.new).failures ≡ min ((W.tape w.old).failures + 1) (2 ^ 64 - 1)) × IsRefused fault }
 {
     match fault {
         ReplayFault::Refused { .. } => match w.flush() {
@@ -69,11 +69,11 @@ pub fn replay_on<M: Machine, W: Sink>(
     w: &mut W,
 ) -> Result<Verdict, ReplayFault>
     // The report of just this run is written, and its verdict answered; or why not.
-    ensures replay { (start : State) → Keeps judge.old start → Replays (tape (W.taken w.old) (W.failures w.old)) (tape (W.taken w.new) (W.failures w.new)) start M.image_of (run_on (behaviour M.start_refusal M.started M.advance_refusal M.stepped M.advanced M.crash_refusal M.crash_deed M.crashed) 2 machine.old schedule.now.lines) result }
+    ensures replay { (start : State) → Keeps judge.old start → Replays (W.tape w.old) (W.tape w.new) start M.behaviour.image_of (run_on M.behaviour 2 machine.old schedule.now.lines) result }
     // After a verdict, or a refused line, the machine is left as the run leaves it: a run stops at the line that is refused.
-    ensures left { IsOver result → machine.new ≡ (run_on (behaviour M.start_refusal M.started M.advance_refusal M.stepped M.advanced M.crash_refusal M.crash_deed M.crashed) 2 machine.old schedule.now.lines).left }
+    ensures left { IsOver result → machine.new ≡ (run_on M.behaviour 2 machine.old schedule.now.lines).left }
     // And the judge has heard the deeds of just this run, up to the first that is not allowed.
-    ensures heard { (start : State) → Keeps judge.old start → IsOver result → Keeps judge.new (heard start (deeds_of (run_on (behaviour M.start_refusal M.started M.advance_refusal M.stepped M.advanced M.crash_refusal M.crash_deed M.crashed) 2 machine.old schedule.now.lines).told)) }
+    ensures heard { (start : State) → Keeps judge.old start → IsOver result → Keeps judge.new (heard start (deeds_of (run_on M.behaviour 2 machine.old schedule.now.lines).told)) }
 {
     let mut clerk = Clerk::new(alloc);
     if let Err(fault) = play_lines(machine, judge, &mut clerk, w, schedule.lines()) {

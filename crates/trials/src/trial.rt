@@ -91,7 +91,7 @@ impl TakeLine for TraceJudge {
 /// the bytes are cut into pieces: the first fault of the text, or else why there is no judge of its sizes, as `Refused` at
 /// line 1, or else the verdict on its deeds. A source that fails comes before all of these.
 pub fn judge_trace<S: Source>(alloc: Global, source: &mut S) -> Result<Verdict, ReplayFault>
-    ensures { JudgesTrace (S.given source.old) (S.given source.new) (S.failures source.old) (S.failures source.new) (S.ended source.new) result }
+    ensures { JudgesTrace (S.reading source.old).given (S.reading source.new).given (S.reading source.old).failures (S.reading source.new).failures (S.reading source.new).ended result }
 {
     let mut trial = TraceJudge::new(alloc);
     let rest = take_lines(alloc, source, &mut trial)?;

@@ -1,5 +1,5 @@
 use Rattle.std.proofs.Common.{◌≡◌, suc, ◌+◌, ◌-◌, [], ◌∷◌, refl, sym, ap, ◌∙◌, arith}
-use Rattle.drawing.proofs.Common.{halted, behaviour, steps, is_refused, Took, steps_of}
+use Rattle.drawing.proofs.Common.{halted, steps, is_refused, Took, steps_of}
 use Rattle.drawing.proofs.Shown.{shown_all, shown_none, shown_some, steps_none, steps_refused, steps_ended, steps_go_on}
 use Rattle.drawing.proofs.collecting.more_steps.Goals as goal
 
@@ -30,7 +30,7 @@ loop-preserved g c =
 pub returns : goal.returns
 returns g c =
     let none : c.args.n - c.loop.counter ≡ 0 = omega (arith, c.loop-test.false) in
-    let b = behaviour g.M.Machine.start_refusal g.M.Machine.started g.M.Machine.advance_refusal g.M.Machine.stepped g.M.Machine.advanced g.M.Machine.crash_refusal g.M.Machine.crash_deed g.M.Machine.crashed in
+    let b = g.M.Machine.behaviour in
     let last = steps_none b c.args.p c.loop.machine in (
       shown_none c.args.rows.now.items c.loop.rows.items _ _ c.loop.invariant.0 (ap (λ n. steps_of b c.args.p n c.loop.machine) none ∙ last.0),
       refl,

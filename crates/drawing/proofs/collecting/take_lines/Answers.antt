@@ -1,5 +1,5 @@
 use Rattle.std.proofs.Common.{◌≡◌, ◌+◌, ◌∷◌, drop, [], refl, sym, ap, ◌∙◌, arith}
-use Rattle.drawing.proofs.Common.{drop_more, length-drop, nil_from_length, behaviour, run_on, events_on}
+use Rattle.drawing.proofs.Common.{drop_more, length-drop, nil_from_length, run_on, events_on}
 use Rattle.drawing.proofs.Shown.{shown_none, shown_some, lines_none, line_goes_on, stops}
 use Rattle.drawing.proofs.collecting.take_lines.Goals as goal
 
@@ -8,7 +8,7 @@ loop-line-init g c = (refl, refl, refl, refl)
 
 pub returns-in-Err : goal.returns-in-Err
 returns-in-Err g c =
-    let b = behaviour g.M.Machine.start_refusal g.M.Machine.started g.M.Machine.advance_refusal g.M.Machine.stepped g.M.Machine.advanced g.M.Machine.crash_refusal g.M.Machine.crash_deed g.M.Machine.crashed in
+    let b = g.M.Machine.behaviour in
     let i = c.loop-line.line-index in
     let lines = c.args.lines.now in
     let item = c.line-item.result in
@@ -32,7 +32,7 @@ loop-line-preserved g c =
 
 pub returns : goal.returns
 returns g c =
-    let b = behaviour g.M.Machine.start_refusal g.M.Machine.started g.M.Machine.advance_refusal g.M.Machine.stepped g.M.Machine.advanced g.M.Machine.crash_refusal g.M.Machine.crash_deed g.M.Machine.crashed in
+    let b = g.M.Machine.behaviour in
     let i = c.loop-line.line-index in
     let lines = c.args.lines.now in
     let none : drop i lines ≡ [] = nil_from_length (drop i lines) (omega (arith, length-drop i lines, c.loop-line-test.false)) in

@@ -1,12 +1,12 @@
 use Rattle.std.proofs.Common.{List, ap, subst, ◌∙◌, rules}
-use Rattle.drawing.proofs.Common.{Line, deeds_of, behaviour, run_on, verdict_on, Row, told_in, events_on, events_in, PlaysOn}
+use Rattle.drawing.proofs.Common.{Line, deeds_of, run_on, verdict_on, Row, told_in, events_on, events_in, PlaysOn}
 use Rattle.drawing.proofs.Telling.{run_tells}
 use Rattle.drawing.proofs.Drawn.{drawn}
 use Rattle.drawing.proofs.drawing.draw.Goals as goal
 
 pub returns : goal.returns
 returns g c =
-    let b = behaviour g.M.Machine.start_refusal g.M.Machine.started g.M.Machine.advance_refusal g.M.Machine.stepped g.M.Machine.advanced g.M.Machine.crash_refusal g.M.Machine.crash_deed g.M.Machine.crashed in
+    let b = g.M.Machine.behaviour in
     let m = c.args.machine.now in
     let lines = c.args.schedule.now.lines in
     let now = c.take_lines-played.new.rows.items in

@@ -1,16 +1,16 @@
 use Rattle.std.proofs.Common.{refl, subst, Err}
-use Rattle.drawing.proofs.Common.{err_from_is_err_and, Image, tape, begins_nothing, Judged, Ending}
+use Rattle.drawing.proofs.Common.{err_from_is_err_and, Image, begins_nothing, Judged, Ending}
 use Rattle.drawing.proofs.Ended.{not_closed}
 use Rattle.drawing.proofs.following.write_end.Goals as goal
 
 pub returns-in_default : goal.returns-in_default
 returns-in_default g c =
-    rw c.in-Judged.is (λ end is. begins_nothing (g.W.Sink.taken c.args.w.now) end, refl)
+    rw c.in-Judged.is (λ end is. begins_nothing (g.W.Sink.tape c.args.w.now).taken end, refl)
 
 pub returns-in_err-close-in-Judged : goal.returns-in_err-close-in-Judged
 returns-in_err-close-in-Judged g c =
-    let t = tape (g.W.Sink.taken c.args.w.now) (g.W.Sink.failures c.args.w.now) in
-    let u = tape (g.W.Sink.taken c.close.new.w) (g.W.Sink.failures c.close.new.w) in
+    let t = g.W.Sink.tape c.args.w.now in
+    let u = g.W.Sink.tape c.close.new.w in
     let p = err_from_is_err_and c.from_residual.result c.from_residual.ensures.1 in
     let fault = c.in_err-close-in-Judged.field-0.0 in
     let verdict = c.in-Judged.verdict in

@@ -1,11 +1,11 @@
 use Rattle.std.proofs.Common.{◌≡◌, ℕ, ◌+◌, ◌∷◌, List, drop, [], map, refl, sym, ap, subst, ◌∙◌, arith}
-use Rattle.drawing.proofs.Common.{drop_more, length-drop, nil_from_length, err_from_is_err_and, WritesFront, tape, Row, Phase, row_of, phases_behind, rows_told, followed, events_in, events_shown}
+use Rattle.drawing.proofs.Common.{drop_more, length-drop, nil_from_length, err_from_is_err_and, WritesFront, Row, Phase, row_of, phases_behind, rows_told, followed, events_in, events_shown}
 use Rattle.drawing.proofs.Steps.{followed_more}
 use Rattle.drawing.proofs.Written.{nothing_yet, one_more_part, all_parts, stops_within}
 use Rattle.drawing.proofs.following.write_rows.Goals as goal
 
 pub loop-row-init : goal.loop-row-init
-loop-row-init g c = (nothing_yet (tape (g.W.Sink.taken c.args.w.now) (g.W.Sink.failures c.args.w.now)) _, refl)
+loop-row-init g c = (nothing_yet (g.W.Sink.tape c.args.w.now) _, refl)
 
 pub returns-in_err-write_shown : goal.returns-in_err-write_shown
 returns-in_err-write_shown g c =
@@ -14,9 +14,9 @@ returns-in_err-write_shown g c =
     let item = c.row-item.result in
     let layout = c.args.layout.now in
     let phases = c.loop-row.pen.phases in
-    let first = tape (g.W.Sink.taken c.args.w.now) (g.W.Sink.failures c.args.w.now) in
-    let mid = tape (g.W.Sink.taken c.loop-row.w) (g.W.Sink.failures c.loop-row.w) in
-    let last = tape (g.W.Sink.taken c.write_shown.new.w) (g.W.Sink.failures c.write_shown.new.w) in
+    let first = g.W.Sink.tape c.args.w.now in
+    let mid = g.W.Sink.tape c.loop-row.w in
+    let last = g.W.Sink.tape c.write_shown.new.w in
     let e : drop i rows ≡ item ∷ drop (i + 1) rows = drop_more rows i item c.loop-row-test.true ∙ ap (λ x. x ∷ drop (i + 1) rows) (sym c.row-item.is) in
     let p = err_from_is_err_and c.from_residual.result c.from_residual.ensures.1 in
     let whole = followed layout c.args.pen.now.phases (events_in rows) in
@@ -32,9 +32,9 @@ loop-row-preserved g c =
     let item = c.row-item.result in
     let layout = c.args.layout.now in
     let phases = c.loop-row.pen.phases in
-    let first = tape (g.W.Sink.taken c.args.w.now) (g.W.Sink.failures c.args.w.now) in
-    let mid = tape (g.W.Sink.taken c.loop-row.w) (g.W.Sink.failures c.loop-row.w) in
-    let last = tape (g.W.Sink.taken c.write_shown.new.w) (g.W.Sink.failures c.write_shown.new.w) in
+    let first = g.W.Sink.tape c.args.w.now in
+    let mid = g.W.Sink.tape c.loop-row.w in
+    let last = g.W.Sink.tape c.write_shown.new.w in
     let e : drop i rows ≡ item ∷ drop (i + 1) rows = drop_more rows i item c.loop-row-test.true ∙ ap (λ x. x ∷ drop (i + 1) rows) (sym c.row-item.is) in
     let whole = followed layout c.args.pen.now.phases (events_in rows) in
     let shown = map row_of (events_shown item.p item.act) in
@@ -48,8 +48,8 @@ returns g c =
     let i = c.loop-row.row-index in
     let rows = c.args.rows.now in
     let layout = c.args.layout.now in
-    let first = tape (g.W.Sink.taken c.args.w.now) (g.W.Sink.failures c.args.w.now) in
-    let mid = tape (g.W.Sink.taken c.loop-row.w) (g.W.Sink.failures c.loop-row.w) in
+    let first = g.W.Sink.tape c.args.w.now in
+    let mid = g.W.Sink.tape c.loop-row.w in
     let none : drop i rows ≡ [] = nil_from_length (drop i rows) (omega (arith, length-drop i rows, c.loop-row-test.false)) in
     let whole = followed layout c.args.pen.now.phases (events_in rows) in
     all_parts first mid whole (subst (λ (rs : List Row). WritesFront first.taken mid.taken whole (followed layout c.loop-row.pen.phases (events_in rs))) none c.loop-row.invariant.0) c.loop-row.invariant.1

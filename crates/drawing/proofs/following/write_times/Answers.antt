@@ -1,21 +1,21 @@
 use Rattle.std.proofs.Common.{◌≡◌, ℕ, suc, ◌+◌, ◌-◌, Err, refl, sym, subst, ◌∙◌, arith}
-use Rattle.drawing.proofs.Common.{replicate, err_from_is_err_and, WritesFront, Writes, tape, Spells, row_told, phases_with, phases_behind, rows_told, PenState}
+use Rattle.drawing.proofs.Common.{replicate, err_from_is_err_and, WritesFront, Writes, Spells, row_told, phases_with, phases_behind, rows_told, PenState}
 use Rattle.drawing.proofs.Written.{nothing_yet, one_more_part, all_parts, stops_within}
 use Rattle.drawing.proofs.following.write_times.Goals as goal
 
 pub loop-init : goal.loop-init
 loop-init g c =
     let all : c.args.times - 0 ≡ c.args.times = omega arith in
-    rw all (nothing_yet (tape (g.W.Sink.taken c.args.w.now) (g.W.Sink.failures c.args.w.now)) _, refl, refl)
+    rw all (nothing_yet (g.W.Sink.tape c.args.w.now) _, refl, refl)
 
 pub returns-in_err-write_row : goal.returns-in_err-write_row
 returns-in_err-write_row g c =
     let layout = c.args.layout.now in
     let row = c.args.row.now in
     let pen = c.loop.pen in
-    let first = tape (g.W.Sink.taken c.args.w.now) (g.W.Sink.failures c.args.w.now) in
-    let mid = tape (g.W.Sink.taken c.loop.w) (g.W.Sink.failures c.loop.w) in
-    let last = tape (g.W.Sink.taken c.write_row.new.w) (g.W.Sink.failures c.write_row.new.w) in
+    let first = g.W.Sink.tape c.args.w.now in
+    let mid = g.W.Sink.tape c.loop.w in
+    let last = g.W.Sink.tape c.write_row.new.w in
     let left : ℕ = c.args.times - (c.loop.counter + 1) in
     let count : c.args.times - c.loop.counter ≡ suc left = omega (arith, c.loop-test.true) in
     let p = err_from_is_err_and c.from_residual.result c.from_residual.ensures.1 in
@@ -30,9 +30,9 @@ loop-preserved g c =
     let layout = c.args.layout.now in
     let row = c.args.row.now in
     let pen = c.loop.pen in
-    let first = tape (g.W.Sink.taken c.args.w.now) (g.W.Sink.failures c.args.w.now) in
-    let mid = tape (g.W.Sink.taken c.loop.w) (g.W.Sink.failures c.loop.w) in
-    let last = tape (g.W.Sink.taken c.write_row.new.w) (g.W.Sink.failures c.write_row.new.w) in
+    let first = g.W.Sink.tape c.args.w.now in
+    let mid = g.W.Sink.tape c.loop.w in
+    let last = g.W.Sink.tape c.write_row.new.w in
     let left : ℕ = c.args.times - (c.loop.counter + 1) in
     let count : c.args.times - c.loop.counter ≡ suc left = omega (arith, c.loop-test.true) in
     let whole = rows_told layout c.args.pen.now.phases (replicate c.args.times row) in
@@ -50,8 +50,8 @@ returns g c =
     let layout = c.args.layout.now in
     let row = c.args.row.now in
     let pen = c.loop.pen in
-    let first = tape (g.W.Sink.taken c.args.w.now) (g.W.Sink.failures c.args.w.now) in
-    let mid = tape (g.W.Sink.taken c.loop.w) (g.W.Sink.failures c.loop.w) in
+    let first = g.W.Sink.tape c.args.w.now in
+    let mid = g.W.Sink.tape c.loop.w in
     let none : c.args.times - c.loop.counter ≡ 0 = omega (arith, c.loop-test.false) in
     let whole = rows_told layout c.args.pen.now.phases (replicate c.args.times row) in (
       all_parts first mid whole (subst (λ (n : ℕ). WritesFront first.taken mid.taken whole (rows_told layout pen.phases (replicate n row))) none c.loop.invariant.0) c.loop.invariant.1,

@@ -1,5 +1,5 @@
 use Rattle.std.proofs.Common.{◌++◌, List, Err, refl, subst, ◌∙◌}
-use Rattle.drawing.proofs.Common.{err_from_is_err_and, Writes, tape, Phase, Spells, rows_spelled, top_in, end_in}
+use Rattle.drawing.proofs.Common.{err_from_is_err_and, Writes, Phase, Spells, rows_spelled, top_in, end_in}
 use Rattle.drawing.specs.Drawings.{spelled_from}
 use Rattle.drawing.proofs.Written.{nothing_yet, one_more_part, stops_within, spells_rest}
 use Rattle.drawing.proofs.writing.write_parts.Goals as goal
@@ -7,8 +7,8 @@ use Rattle.drawing.proofs.writing.write_parts.Goals as goal
 pub returns-in_err-write_top : goal.returns-in_err-write_top
 unfolding spelled_from
 returns-in_err-write_top g c =
-    let t = (tape (g.W.Sink.taken c.args.w.now) (g.W.Sink.failures c.args.w.now)) in
-    let u = tape (g.W.Sink.taken c.write_top.new.w) (g.W.Sink.failures c.write_top.new.w) in
+    let t = g.W.Sink.tape c.args.w.now in
+    let u = g.W.Sink.tape c.write_top.new.w in
     let sheet = c.args.sheet.now in
     let pen = c.args.pen.now in
     let top = top_in sheet.style sheet pen.phases in
@@ -22,15 +22,15 @@ returns-in_err-write_top g c =
 pub returns-in_err-write_rows : goal.returns-in_err-write_rows
 unfolding spelled_from
 returns-in_err-write_rows g c =
-    let t = (tape (g.W.Sink.taken c.args.w.now) (g.W.Sink.failures c.args.w.now)) in
-    let u = tape (g.W.Sink.taken c.write_top.new.w) (g.W.Sink.failures c.write_top.new.w) in
+    let t = g.W.Sink.tape c.args.w.now in
+    let u = g.W.Sink.tape c.write_top.new.w in
     let sheet = c.args.sheet.now in
     let pen = c.args.pen.now in
     let top = top_in sheet.style sheet pen.phases in
     let rows = rows_spelled sheet pen c.args.rows.now in
     let end = end_in sheet.style sheet c.args.end.now in
     let whole = top ++ (rows ++ end) in
-    let v = tape (g.W.Sink.taken c.write_rows.new.w) (g.W.Sink.failures c.write_rows.new.w) in
+    let v = g.W.Sink.tape c.write_rows.new.w in
     let first = subst (λ (ps : List Phase). Writes t u (top_in sheet.style sheet ps)) c.phases.ensures c.in_ok-write_top.ensures in
     let p = err_from_is_err_and c.from_residual-in_err-write_rows.result c.from_residual-in_err-write_rows.ensures.1 in
     rw (p.1, p.2) (stops_within t u v whole rows end c.in_err-write_rows.field-0.0 (one_more_part t t u whole top (rows ++ end) (nothing_yet t whole) first) first.fine c.in_err-write_rows.ensures)
@@ -38,16 +38,16 @@ returns-in_err-write_rows g c =
 pub returns : goal.returns
 unfolding spelled_from
 returns g c =
-    let t = (tape (g.W.Sink.taken c.args.w.now) (g.W.Sink.failures c.args.w.now)) in
-    let u = tape (g.W.Sink.taken c.write_top.new.w) (g.W.Sink.failures c.write_top.new.w) in
+    let t = g.W.Sink.tape c.args.w.now in
+    let u = g.W.Sink.tape c.write_top.new.w in
     let sheet = c.args.sheet.now in
     let pen = c.args.pen.now in
     let top = top_in sheet.style sheet pen.phases in
     let rows = rows_spelled sheet pen c.args.rows.now in
     let end = end_in sheet.style sheet c.args.end.now in
     let whole = top ++ (rows ++ end) in
-    let v = tape (g.W.Sink.taken c.write_rows.new.w) (g.W.Sink.failures c.write_rows.new.w) in
-    let x = tape (g.W.Sink.taken c.write_end.new.w) (g.W.Sink.failures c.write_end.new.w) in
+    let v = g.W.Sink.tape c.write_rows.new.w in
+    let x = g.W.Sink.tape c.write_end.new.w in
     let first = subst (λ (ps : List Phase). Writes t u (top_in sheet.style sheet ps)) c.phases.ensures c.in_ok-write_top.ensures in
     let second = c.in_ok-write_rows.ensures in
     spells_rest t v x whole end c.write_end.result

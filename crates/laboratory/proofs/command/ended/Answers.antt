@@ -1,6 +1,4 @@
 use Rattle.std.proofs.Common.{is_some, subst, sym}
-use Rattle.schedule.specs.Tapes.{tape}
-use Rattle.trials.specs.Wholes.{reading}
 use Rattle.laboratory.specs.Commands.{CommandEnds}
 use Rattle.laboratory.proofs.command.ended.Goals as goal
 
@@ -9,10 +7,10 @@ pub returns-in-Replay-clause-ends : goal.returns-in-Replay-clause-ends
 returns-in-Replay-clause-ends g c =
     subst
     (λ command. CommandEnds command (is_some c.args.image)
-    (reading (g.R.Source.given c.args.r.now) (g.R.Source.ended c.args.r.now) (g.R.Source.failures c.args.r.now))
-    (reading (g.R.Source.given c.replay_order.new.r) (g.R.Source.ended c.replay_order.new.r) (g.R.Source.failures c.replay_order.new.r))
-    (tape (g.W.Sink.taken c.args.w.now) (g.W.Sink.failures c.args.w.now))
-    (tape (g.W.Sink.taken c.replay_order.new.w) (g.W.Sink.failures c.replay_order.new.w))
+    (g.R.Source.reading c.args.r.now)
+    (g.R.Source.reading c.replay_order.new.r)
+    (g.W.Sink.tape c.args.w.now)
+    (g.W.Sink.tape c.replay_order.new.w)
     c.replay_order.result)
     (sym c.in-Replay.is)
     c.replay_order.ensures.ends
@@ -22,10 +20,10 @@ pub returns-in-Draw-clause-ends : goal.returns-in-Draw-clause-ends
 returns-in-Draw-clause-ends g c =
     subst
     (λ command. CommandEnds command (is_some c.args.image)
-    (reading (g.R.Source.given c.args.r.now) (g.R.Source.ended c.args.r.now) (g.R.Source.failures c.args.r.now))
-    (reading (g.R.Source.given c.draw_order.new.r) (g.R.Source.ended c.draw_order.new.r) (g.R.Source.failures c.draw_order.new.r))
-    (tape (g.W.Sink.taken c.args.w.now) (g.W.Sink.failures c.args.w.now))
-    (tape (g.W.Sink.taken c.draw_order.new.w) (g.W.Sink.failures c.draw_order.new.w))
+    (g.R.Source.reading c.args.r.now)
+    (g.R.Source.reading c.draw_order.new.r)
+    (g.W.Sink.tape c.args.w.now)
+    (g.W.Sink.tape c.draw_order.new.w)
     c.draw_order.result)
     (sym c.in-Draw.is)
     (c.draw_order.ensures.ends, c.draw_order.ensures.reads)
@@ -35,10 +33,10 @@ pub returns-in-Shrink-clause-ends : goal.returns-in-Shrink-clause-ends
 returns-in-Shrink-clause-ends g c =
     subst
     (λ command. CommandEnds command (is_some c.args.image)
-    (reading (g.R.Source.given c.args.r.now) (g.R.Source.ended c.args.r.now) (g.R.Source.failures c.args.r.now))
-    (reading (g.R.Source.given c.shrink_order.new.r) (g.R.Source.ended c.shrink_order.new.r) (g.R.Source.failures c.shrink_order.new.r))
-    (tape (g.W.Sink.taken c.args.w.now) (g.W.Sink.failures c.args.w.now))
-    (tape (g.W.Sink.taken c.shrink_order.new.w) (g.W.Sink.failures c.shrink_order.new.w))
+    (g.R.Source.reading c.args.r.now)
+    (g.R.Source.reading c.shrink_order.new.r)
+    (g.W.Sink.tape c.args.w.now)
+    (g.W.Sink.tape c.shrink_order.new.w)
     c.shrink_order.result)
     (sym c.in-Shrink.is)
     (c.shrink_order.ensures.ends, c.shrink_order.ensures.reads)

@@ -4,8 +4,8 @@ use Rattle.schedule.proofs.device.write_all.Given as goal
 
 abbrev pub invariant-loop-rest : goal.invariant-loop-rest
 invariant-loop-rest g l = record {
-  front : WritesFront (g.W.Sink.taken l.initial.sink) (g.W.Sink.taken l.sink) l.bytes l.rest;
-  fine : g.W.Sink.failures l.sink ≡ g.W.Sink.failures l.initial.sink;
+  front : WritesFront (g.W.Sink.tape l.initial.sink).taken (g.W.Sink.tape l.sink).taken l.bytes l.rest;
+  fine : (g.W.Sink.tape l.sink).failures ≡ (g.W.Sink.tape l.initial.sink).failures;
 }
 
 abbrev pub decreases-loop-rest : goal.decreases-loop-rest

@@ -2,14 +2,12 @@ use Rattle.std.proofs.Common.{is_some}
 use Rattle.std.proofs.lemmas.Result.{err_from_is_err_and}
 use Rattle.schedule_commands.proofs.Draws.{unread}
 use Rattle.schedule_commands.proofs.drawn.draw_order.Goals as goal
-use Rattle.schedule.specs.Tapes.{tape}
-use Rattle.trials.specs.Wholes.{reading}
 
 pub returns-in_err-schedule-clause-ends : goal.returns-in_err-schedule-clause-ends
 returns-in_err-schedule-clause-ends g c =
     let p = err_from_is_err_and c.from_residual-in_err-schedule.result c.from_residual-in_err-schedule.ensures.1 in
     rw (p.1, p.2)
     (unread c.args.order.now (is_some c.args.image)
-    (reading (g.R.Source.given c.args.r.now) (g.R.Source.ended c.args.r.now) (g.R.Source.failures c.args.r.now))
-    (reading (g.R.Source.given c.schedule_read.new.r) (g.R.Source.ended c.schedule_read.new.r) (g.R.Source.failures c.schedule_read.new.r))
-    (tape (g.W.Sink.taken c.args.w.now) (g.W.Sink.failures c.args.w.now)) _ c.in_err-schedule.ensures.status c.in_err-schedule.ensures.wrong)
+    (g.R.Source.reading c.args.r.now)
+    (g.R.Source.reading c.schedule_read.new.r)
+    (g.W.Sink.tape c.args.w.now) _ c.in_err-schedule.ensures.status c.in_err-schedule.ensures.wrong)

@@ -3,8 +3,6 @@ use Rattle.std.proofs.lemmas.Result.{err_from_is_err_and}
 use Rattle.schedule_commands.specs.Tellings.{Stepwise}
 use Rattle.schedule_commands.proofs.Draws.{untold}
 use Rattle.schedule_commands.proofs.replaying.replay_order.Goals as goal
-use Rattle.schedule.specs.Tapes.{tape}
-use Rattle.trials.specs.Wholes.{reading}
 
 pub returns-in_err-schedule-clause-ends : goal.returns-in_err-schedule-clause-ends
 returns-in_err-schedule-clause-ends g c =
@@ -15,8 +13,8 @@ returns-in_err-schedule-clause-ends g c =
       λ new. tt,
       λ stepwise.
           untold c.args.order.now.variant Stepwise (is_some c.args.image)
-          (reading (g.R.Source.given c.args.r.now) (g.R.Source.ended c.args.r.now) (g.R.Source.failures c.args.r.now))
-          (reading (g.R.Source.given c.schedule_read.new.r) (g.R.Source.ended c.schedule_read.new.r) (g.R.Source.failures c.schedule_read.new.r))
-          (tape (g.W.Sink.taken c.args.w.now) (g.W.Sink.failures c.args.w.now)) _ c.in_err-schedule.ensures.wrong,
+          (g.R.Source.reading c.args.r.now)
+          (g.R.Source.reading c.schedule_read.new.r)
+          (g.W.Sink.tape c.args.w.now) _ c.in_err-schedule.ensures.wrong,
       c.in_err-schedule.ensures.unread,
     )

@@ -3,8 +3,8 @@ use Rattle.trials.proofs.pieces.read_all.Given as goal
 
 abbrev pub invariant-loop : goal.invariant-loop
 invariant-loop g l = record {
-  given : g.S.Source.given l.source ≡ g.S.Source.given l.fn.source ++ l.text.items;
+  given : (g.S.Source.reading l.source).given ≡ (g.S.Source.reading l.fn.source).given ++ l.text.items;
   count : l.counter ≤ length l.text.items;
   few : l.counter ≤ 2 ^ 63;
-  fine : g.S.Source.failures l.source ≡ g.S.Source.failures l.fn.source;
+  fine : (g.S.Source.reading l.source).failures ≡ (g.S.Source.reading l.fn.source).failures;
 }

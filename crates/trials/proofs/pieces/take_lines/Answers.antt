@@ -7,11 +7,11 @@ loop-preserved g c =
     let inv = c.loop.invariant.text in
     let text : List ℕ = inv.0 in
     let piece : List ℕ = take c.in-Ok.n c.read.new.buf in
-    let given : g.S.Source.given c.read.new.self ≡ g.S.Source.given c.args.source.now ++ (text ++ piece) =
-    c.in-Ok.ensures.given ∙ ap (λ (l : List ℕ). l ++ piece) inv.1 ∙ append_assoc (g.S.Source.given c.args.source.now) text piece in
+    let given : (g.S.Source.reading c.read.new.self).given ≡ (g.S.Source.reading c.args.source.now).given ++ (text ++ piece) =
+    c.in-Ok.ensures.given ∙ ap (λ (l : List ℕ). l ++ piece) inv.1 ∙ append_assoc (g.S.Source.reading c.args.source.now).given text piece in
     let taken : length piece ≡ c.in-Ok.n = omega (arith, length-take c.in-Ok.n c.read.new.buf, c.in-Ok.ensures.bound) in
     let more : c.loop.counter + 1 ≤ length (text ++ piece) = omega (arith, inv.2, length-append text piece, c.in-Ok.n-test) in
-    let all = ap length given ∙ length-append (g.S.Source.given c.args.source.now) (text ++ piece) in
+    let all = ap length given ∙ length-append (g.S.Source.reading c.args.source.now).given (text ++ piece) in
     let few : c.loop.counter + 1 ≤ 2 ^ 63 = omega (arith, c.in-Ok.ensures.finite) in
     record {
       text = (

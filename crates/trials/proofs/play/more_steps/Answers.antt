@@ -1,7 +1,6 @@
 use Rattle.std.proofs.Common.{◌≡◌, suc, ◌+◌, ◌-◌, ◌++◌, None, [], Err, refl, sym, ap, ◌∙◌, arith, append-nil}
 use Rattle.trials.proofs.Common.{err_from_is_err_and, halted, told_of}
-use Rattle.trials.proofs.Playing.{unnumbered, played_none, played_more, halts_here, halts_further, still_there, step_more, step_silent, step_last, step_begun, step_refused, steps_none, is_refused}
-use Rattle.trials.proofs.Playing.{never_stops, plays_all}
+use Rattle.trials.proofs.Playing.{unnumbered, played_none, played_more, halts_here, halts_further, still_there, step_more, step_silent, step_last, step_begun, step_refused, steps_none, is_refused, never_stops, plays_all}
 use Rattle.trials.proofs.play.more_steps.Goals as goal
 
 pub loop-init : goal.loop-init
@@ -15,8 +14,8 @@ returns-in-None g c =
     let still = still_there _ c.args.p _ c.loop.invariant.0 _ c.loop.machine here c.loop.invariant.2 (c.if-step_quietly.ensures.same refl) in
     let count : c.args.n - c.loop.counter ≡ suc (c.args.n - (c.loop.counter + 1)) = omega (arith, c.loop-test.true) in
     let wants = c.in-Err.ensures.memory (ap (λ e. Err e) (unnumbered c.in-Err.refusal (sym c.number.ensures ∙ c.in-None.is))) in
-    let begun = step_begun _ c.args.p _ c.loop.invariant.0 _ _ here (g.M.Machine.stepped here c.args.p) still count wants.0 refl in
-    (halts_here _ _ _ _ c.loop.invariant.0 begun.0 _ c.args.p (g.M.Machine.stepped here c.args.p) None c.loop.invariant.1 begun.1 wants.1, λ no. absurd no)
+    let begun = step_begun _ c.args.p _ c.loop.invariant.0 _ _ here (g.M.Machine.behaviour.stepped here c.args.p) still count wants.0 refl in
+    (halts_here _ _ _ _ c.loop.invariant.0 begun.0 _ c.args.p (g.M.Machine.behaviour.stepped here c.args.p) None c.loop.invariant.1 begun.1 wants.1, λ no. absurd no)
 
 pub returns-in-Some : goal.returns-in-Some
 returns-in-Some g c =

@@ -1,5 +1,5 @@
 use Rattle.std.proofs.Common.{Err, refl, ap, inr}
-use Rattle.trials.proofs.Common.{err_from_is_err_and, bench, tape}
+use Rattle.trials.proofs.Common.{err_from_is_err_and, bench}
 use Rattle.trials.proofs.Playing.{played_none, unless_halts, start_part, step_part, crash_part}
 use Rattle.trials.proofs.play.play_line.Goals as goal
 
@@ -10,7 +10,7 @@ returns-in_err-start-in-Start g c =
 
 pub returns-in_ok-start-in-Start : goal.returns-in_ok-start-in-Start
 returns-in_ok-start-in-Start g c =
-    let none = played_none (tape (g.W.Sink.taken c.args.w.now) (g.W.Sink.failures c.args.w.now)) (bench c.args.judge.now c.args.clerk.now) in
+    let none = played_none (g.W.Sink.tape c.args.w.now) (bench c.args.judge.now c.args.clerk.now) in
     rw (start_part _ c.args.machine.now c.args.line.now c.in-Start.p c.in-Start.call c.in-Start.is, c.in_ok-start-in-Start.ensures.accepted) (none.writes, none.hears, refl, c.in_ok-start-in-Start.ensures.ok)
 
 pub returns-in-Step : goal.returns-in-Step

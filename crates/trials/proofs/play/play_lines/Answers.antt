@@ -1,5 +1,5 @@
 use Rattle.std.proofs.Common.{◌≡◌, ◌+◌, ◌∷◌, ◌++◌, drop, [], refl, sym, ap, ◌∙◌, arith, length-drop}
-use Rattle.trials.proofs.Common.{nil_from_length, drop_more, bench, behaviour, line_on}
+use Rattle.trials.proofs.Common.{nil_from_length, drop_more, bench, line_on}
 use Rattle.trials.proofs.Playing.{played_none, played_more, runs_begin, runs_more, runs_halt, runs_end}
 use Rattle.trials.proofs.play.play_lines.Goals as goal
 
@@ -16,7 +16,7 @@ returns-in-Err g c =
 
 pub loop-line-preserved : goal.loop-line-preserved
 loop-line-preserved g c =
-    let b = behaviour g.M.Machine.start_refusal g.M.Machine.started g.M.Machine.advance_refusal g.M.Machine.stepped g.M.Machine.advanced g.M.Machine.crash_refusal g.M.Machine.crash_deed g.M.Machine.crashed in
+    let b = g.M.Machine.behaviour in
     let i = c.loop-line.line-index in
     let lines = c.args.lines.now in
     let item = c.line-item.result in

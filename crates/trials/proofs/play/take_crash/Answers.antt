@@ -7,7 +7,7 @@ pub returns-in_err-crash : goal.returns-in_err-crash
 returns-in_err-crash g c =
     let p = err_from_is_err_and c.from_residual.result c.from_residual.ensures.1 in
     rw (p.1, p.2) (unless_halts _ _ _ _ _ _ _ c.in_err-crash.field-0.0 c.in_err-crash.ensures.refused
-    (λ is. (c.in_err-crash.ensures.memory (ap (λ e. Err e) is), told_some (Did (g.M.Machine.crash_deed c.args.machine.now c.args.p)) [])) c.in_err-crash.ensures.err)
+    (λ is. (c.in_err-crash.ensures.memory (ap (λ e. Err e) is), told_some (Did (g.M.Machine.behaviour.crash_deed c.args.machine.now c.args.p)) [])) c.in_err-crash.ensures.err)
 
 pub returns : goal.returns
 returns g c =

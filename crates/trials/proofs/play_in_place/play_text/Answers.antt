@@ -1,5 +1,5 @@
 use Rattle.std.proofs.Common.{◌++◌, [], arith}
-use Rattle.trials.proofs.Common.{line_at, bench, behaviour, line_on}
+use Rattle.trials.proofs.Common.{line_at, bench, line_on}
 use Rattle.fronts.proofs.InPlace.{shorter, reads_on, reads_nothing}
 use Rattle.trials.proofs.Playing.{played_none, played_more, runs_begin, runs_more, runs_halt, runs_end}
 use Rattle.trials.proofs.play_in_place.play_text.Goals as goal
@@ -23,7 +23,7 @@ loop-rest-smaller g c = let one = c.in-Ok.ensures.ok in omega (arith, shorter (l
 
 pub loop-rest-preserved : goal.loop-rest-preserved
 loop-rest-preserved g c =
-    let b = behaviour g.M.Machine.start_refusal g.M.Machine.started g.M.Machine.advance_refusal g.M.Machine.stepped g.M.Machine.advanced g.M.Machine.crash_refusal g.M.Machine.crash_deed g.M.Machine.crashed in
+    let b = g.M.Machine.behaviour in
     let one = c.in-Ok.ensures.ok in
     let item = line_at c.args.width in
     let told = (line_on b c.loop-rest.machine one.0).told in

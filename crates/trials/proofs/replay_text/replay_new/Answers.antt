@@ -1,5 +1,5 @@
 use Rattle.std.proofs.Common.{inl}
-use Rattle.trials.proofs.Common.{empty, new_refusal, tape, scheduled_with, layout_of}
+use Rattle.trials.proofs.Common.{empty, new_refusal, scheduled_with, layout_of}
 use Rattle.trials.proofs.Heading.{header_refused, no_memory}
 use Rattle.trials.proofs.Judging.{stands_first}
 use Rattle.trials.proofs.replay_text.replay_new.Goals as goal
@@ -7,12 +7,12 @@ use Rattle.trials.proofs.replay_text.replay_new.Goals as goal
 pub returns-in-Err-clause-of : goal.returns-in-Err-clause-of
 returns-in-Err-clause-of g c all read =
     let schedule = scheduled_with (c.args.head, all) in
-    rw c.at_header.ensures (header_refused (tape (g.W.Sink.taken c.args.w.now) (g.W.Sink.failures c.args.w.now)) schedule c.in-Err.refusal (new_refusal (layout_of schedule) schedule.limit) c.in-Err.ensures.refused)
+    rw c.at_header.ensures (header_refused (g.W.Sink.tape c.args.w.now) schedule c.in-Err.refusal (new_refusal (layout_of schedule) schedule.limit) c.in-Err.ensures.refused)
 
 pub returns-in-Err-new-clause-of : goal.returns-in-Err-new-clause-of
 returns-in-Err-new-clause-of g c all read =
     let schedule = scheduled_with (c.args.head, all) in
-    no_memory (tape (g.W.Sink.taken c.args.w.now) (g.W.Sink.failures c.args.w.now)) schedule (new_refusal (layout_of schedule) schedule.limit)
+    no_memory (g.W.Sink.tape c.args.w.now) schedule (new_refusal (layout_of schedule) schedule.limit)
 
 pub returns-clause-of : goal.returns-clause-of
 returns-clause-of g c all read =

@@ -6,7 +6,7 @@ use Rattle.trials.proofs.replaying.replay_on.Goals as goal
 
 pub returns-in-Err-clause-replay : goal.returns-in-Err-clause-replay
 returns-in-Err-clause-replay g c start keeps =
-    rw (← c.lines.ensures) (settled start g.M.Machine.image_of _ _ _ _ c.in-Err.fault c.settle.result c.in-Err.ensures.0 c.settle.ensures.taken c.settle.ensures.fault)
+    rw (← c.lines.ensures) (settled start g.M.Machine.behaviour.image_of _ _ _ _ c.in-Err.fault c.settle.result c.in-Err.ensures.0 c.settle.ensures.taken c.settle.ensures.fault)
 
 pub returns-in_err-close-clause-replay : goal.returns-in_err-close-clause-replay
 returns-in_err-close-clause-replay g c start keeps =
@@ -14,16 +14,16 @@ returns-in_err-close-clause-replay g c start keeps =
     let played = c.in_default.ensures in
     let ruled = ruled_on c.args.judge.now c.play_lines.new.judge c.new-clerk.result c.play_lines.new.clerk _ start c.new-clerk.ensures played.1 keeps in
     rw (p.1, p.2, ← c.lines.ensures)
-    (cut_end start g.M.Machine.image_of _ _ _ _ c.in-Ok.image c.verdict-verdict.result c.in_err-close.field-0.0 played.0 played.2
-    (c.in-Ok.ensures.ok ∙ ap g.M.Machine.image_of played.3) (c.verdict-verdict.ensures ∙ ruled) c.in_err-close.ensures)
+    (cut_end start g.M.Machine.behaviour.image_of _ _ _ _ c.in-Ok.image c.verdict-verdict.result c.in_err-close.field-0.0 played.0 played.2
+    (c.in-Ok.ensures.ok ∙ ap g.M.Machine.behaviour.image_of played.3) (c.verdict-verdict.ensures ∙ ruled) c.in_err-close.ensures)
 
 pub returns-clause-replay : goal.returns-clause-replay
 returns-clause-replay g c start keeps =
     let played = c.in_default.ensures in
     let ruled = ruled_on c.args.judge.now c.play_lines.new.judge c.new-clerk.result c.play_lines.new.clerk _ start c.new-clerk.ensures played.1 keeps in
     rw (← c.lines.ensures)
-    (reported start g.M.Machine.image_of _ _ _ _ c.in-Ok.image c.verdict-verdict.result played.0 played.2
-    (c.in-Ok.ensures.ok ∙ ap g.M.Machine.image_of played.3) (c.verdict-verdict.ensures ∙ ruled) c.in_ok-close.ensures)
+    (reported start g.M.Machine.behaviour.image_of _ _ _ _ c.in-Ok.image c.verdict-verdict.result played.0 played.2
+    (c.in-Ok.ensures.ok ∙ ap g.M.Machine.behaviour.image_of played.3) (c.verdict-verdict.ensures ∙ ruled) c.in_ok-close.ensures)
 
 pub returns-in-Err-clause-left : goal.returns-in-Err-clause-left
 returns-in-Err-clause-left g c over =

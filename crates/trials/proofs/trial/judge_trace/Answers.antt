@@ -10,7 +10,7 @@ returns g c =
     let text = taken.0 in
     let lines = taken.2.0 in
     let parts = taken.2.1 in
-    let size = ap length taken.1 ∙ length-append (g.S.Source.given c.args.source.now) text in
+    let size = ap length taken.1 ∙ length-append (g.S.Source.reading c.args.source.now).given text in
     let few : length lines + 3 < 2 ^ 64 = omega (arith, size, c.in_ok-rest.ensures.finite, lines-few text c.in_ok-rest.rest.items lines parts) in
     let answer : c.answer.result ≡ trace_answer (parts_of text) = c.answer.ensures lines taken.2.2 few ∙ rw (c.deref.ensures.value, parts) refl in
     judges _ _ text _ _ _ c.answer.result taken.1 c.in_ok-rest.ensures.ended c.in_ok-rest.ensures.fine answer (is_of_text (parts_of text) c.answer.result answer)

@@ -10,7 +10,8 @@ use Rattle.rmecore.specs.declared.phase.Phase.TheVariants.{Out, Door, Ready}
 use Rattle.redomail.proofs.Stands.{get_or-entries}
 use Rattle.judge.proofs.Counts.{one_if, count_cons}
 use Rattle.judge.proofs.Numbers.{Numbered, Numbered-more, AreNumbered-from}
-use Rattle.rmeworld.proofs.ImageRules.{only_one, record_is_numbered, alone}
+use Rattle.rmeworld.proofs.FromImages.{alone}
+use Rattle.rmeworld.proofs.ImageRules.{only_one, record_is_numbered}
 use Rattle.rmecore.specs.declared.phase.Phase.{Phase}
 use Rattle.rmecore.specs.AbstractLock.{is_inside, is_ready, is_dead_in}
 use Rattle.redomail.proofs.Changes.{length-entries}

@@ -1,4 +1,5 @@
-//! The laboratory: workers that send numbered messages through one mailbox while their plans let them crash.
+//! What the laboratories share. In each, workers send numbered messages through one mailbox while their plans let them
+//! crash.
 
 pub mod ending;
 mod gate;

@@ -8,7 +8,7 @@ use Rattle.rmeworld.specs.ImageRules.{IsIn as IsInImage}
 use Rattle.rmeworld.proofs.LawfulNow.{find_in}
 use Rattle.rmeworld.proofs.WorldSteps.{le-ltb}
 use Rattle.rmeworld.proofs.WorldTallies.{unstarted}
-use Rattle.rmeworld.proofs.ImageRules.{alone, lawful_content}
+use Rattle.rmeworld.proofs.ImageRules.{only_one, lawful_content}
 use Rattle.rmeworld.proofs.Stories.{in_numbers}
 
 numbers_in : (c k i : ℕ) → 0 < k → 0 < i → IsIn (dead_phase c k i)
@@ -117,6 +117,14 @@ crashed_spots l limit = λ i. λ p. each p i
           | inl h ↦ rw (lt-ltb p l.procs h) (ap spot_of (crashed-at l limit 0 l.procs p h))
           | inr h ↦ let off : nat_lt p l.procs ≡ false = le-ltb p l.procs h in rw off (ap spot_of (get_or_past (crashed_from l limit 0 l.procs) p absent (rw length-crashed h)))
         ]
+
+-- some process that nobody else is in beside
+pub alone : (i : Image) → IsLawfulImage i → (p : ℕ) × IsInAlone i p
+alone i k = by (find_in (length i.lock) (start_of (own_at i.lock)).phase)
+  where
+    by : ((r : ℕ) × (r < length i.lock) × IsIn ((start_of (own_at i.lock)).phase r)) ⊎ ((r : ℕ) → r < length i.lock → IsIn ((start_of (own_at i.lock)).phase r) → ⊥) → (p : ℕ) × IsInAlone i p
+    by (inl h) = let x = is_in i k h.0 h.1 h.2 in (h.0, λ q y. only_one (length i.lock) i.limit (own_at i.lock) q h.0 (k.lawful (omega arith)) y.0 h.1 y.1 y.2 x.1 x.2)
+    by (inr h) = (0, λ q y. absurd (h q y.0 (phase_in i k q y)))
 
 abbrev state_at : Image → ℕ → State
 state_at i p = record { procs = length i.lock; cap = i.cap; lock = start_of (own_at i.lock); mail = mailbox_of (layout_of i) p (words_of i.cells) }

@@ -1,6 +1,6 @@
 -- The rules of an image, one by another.
-use Rattle.std.proofs.Common.{◌≡◌, ◌≢◌, ◌⊎◌, ℕ, zero, suc, ◌<◌, true, length, slice_index, inl, inr, sym, subst, arith}
-use Rattle.rmeworld.proofs.Common.{cases_eq, cases_lt, Own, IsLawful, is_before, own_at, Layout, Words, words_of, RecordRule, IsNumbered, Image, layout_of, IsLawfulImage, IsRecorded, Keeps, IsInAlone}
+use Rattle.std.proofs.Common.{◌≡◌, ◌≢◌, ℕ, ◌<◌, true, length, slice_index, inl, inr, sym, subst, arith}
+use Rattle.rmeworld.proofs.Common.{cases_eq, Own, IsLawful, is_before, own_at, Layout, Words, words_of, RecordRule, IsNumbered, Image, layout_of, IsLawfulImage, IsRecorded, Keeps}
 use Rattle.redomail.specs.Content.{IsContent}
 use Rattle.std.proofs.lemmas.Bool.Decides.{nat_tests}
 use Rattle.rmeworld.specs.ImageRules.{IsIn}
@@ -42,38 +42,6 @@ is_recorded_by i p inside clean r = record {
   clean = λ armed c. (p, inside, r);
   ruined = λ armed ruined. absurd (clean ruined);
 }
-
--- someone is in, or nobody
-someone_to : (i : Image) (n : ℕ) → ((p : ℕ) × IsIn i p) ⊎ ((p : ℕ) → p < n → IsIn i p → ⊥)
-someone_to i zero = inr (λ p h x. absurd (omega arith))
-someone_to i (suc n) =
-    elim (someone_to i n) [
-      | inl found ↦ inl found
-      | inr none ↦
-          elim (cases_lt n (length i.lock)) [
-            | inl low ↦
-                elim (cases_lt 0 (own_at i.lock n).number) [
-                  | inl number ↦
-                      elim (cases_lt 0 (own_at i.lock n).inside) [
-                        | inl inside ↦ inl (n, (low, number, inside))
-                        | inr out ↦
-                            inr (λ p h x. elim (cases_eq p n) [ inl same ↦ omega (arith, out, (subst (IsIn i) same x).2) | inr other ↦ none p (omega (arith, other)) x ])
-                      ]
-                  | inr none_held ↦
-                      inr (λ p h x. elim (cases_eq p n) [ inl same ↦ omega (arith, none_held, (subst (IsIn i) same x).1) | inr other ↦ none p (omega (arith, other)) x ])
-                ]
-            | inr past ↦ inr (λ p h x. elim (cases_eq p n) [ inl same ↦ omega (arith, past, (subst (IsIn i) same x).0) | inr other ↦ none p (omega (arith, other)) x ])
-          ]
-    ]
-
--- some process that nobody else is in beside
-pub alone : (i : Image) → IsLawfulImage i → (p : ℕ) × IsInAlone i p
-alone i k =
-    elim (someone_to i (length i.lock)) [
-      | inl found ↦
-          (found.0, λ q x. only_one (length i.lock) i.limit (own_at i.lock) q found.0 (k.lawful (omega arith)) x.0 found.1.0 x.1 x.2 found.1.1 found.1.2)
-      | inr none ↦ (0, λ q x. absurd (none q x.0 x))
-    ]
 
 -- a lawful image's words have content
 pub lawful_content : (i : Image) → IsLawfulImage i → IsContent (layout_of i) i.cells

@@ -92,13 +92,13 @@ Explains None before now = Writes before now (list_of TOPICS)
 abbrev pub ExplainEnds : Option Topic → Tape → Tape → Result Ending Fault → Type 0
 ExplainEnds topic before now end = (outcome end ≡ Ok 0) × Explains topic before now ⊎ (outcome end ≡ Err Write) × (now.failures ≡ min (before.failures + 1) (2 ^ 64 - 1))
 
--- by the command, and whether an image is given; by how far its input was read and what it has written, before and now
-abbrev pub CommandEnds : Command → Bool → Reading → Reading → Tape → Tape → Result Ending Fault → Type 0
-CommandEnds (Replay order) pictured old new before now end = ReplayEnds order pictured old new before now end
-CommandEnds (Run order) pictured old new before now end = RunEnds order end
-CommandEnds (Hunt order) pictured old new before now end = HuntEnds order before now end
-CommandEnds (Explore order) pictured old new before now end = ExploreEnds order before now end
-CommandEnds (Judge file) pictured old new before now end = JudgeEnds old new before now end
-CommandEnds (Draw order) pictured old new before now end = DrawEnds order pictured old new before now end × TellsReads old new end
-CommandEnds (Shrink order) pictured old new before now end = ShrinkEnds order old new before now end × TellsReads old new end
-CommandEnds (Explain topic) pictured old new before now end = (new ≡ old) × ExplainEnds topic before now end
+-- by the command, and the text of the image that is given; by how far its input was read and what it has written, before and now
+abbrev pub CommandEnds : Command → Option (List ℕ) → Reading → Reading → Tape → Tape → Result Ending Fault → Type 0
+CommandEnds (Replay order) image old new before now end = ReplayEnds order image old new before now end
+CommandEnds (Run order) image old new before now end = RunEnds order end
+CommandEnds (Hunt order) image old new before now end = HuntEnds order before now end
+CommandEnds (Explore order) image old new before now end = ExploreEnds order before now end
+CommandEnds (Judge file) image old new before now end = JudgeEnds old new before now end
+CommandEnds (Draw order) image old new before now end = DrawEnds order image old new before now end × TellsReads old new end
+CommandEnds (Shrink order) image old new before now end = ShrinkEnds order old new before now end × TellsReads old new end
+CommandEnds (Explain topic) image old new before now end = (new ≡ old) × ExplainEnds topic before now end

@@ -52,13 +52,14 @@ Saves order before now blank written (Err fault) =
 
 -- ---- what is read, written and told
 
--- what a command read of a file says as much of its end as what is read of standard input; a device or memory can fail besides
-abbrev pub EndsOnFile : Command → Tape → Tape → Result Ending Fault → Type 0
-EndsOnFile order before now end =
-    IsBroken end ⊎ ((last : Reading) × CommandEnds order (is_some (image_of order)) (record { given = []; ended = false; failures = 0 }) last before now end)
-
+-- the command ends so, beside the text of an image where the order names one; a device or memory can fail besides
 abbrev pub EndsOnInput : Command → Reading → Reading → Tape → Tape → Result Ending Fault → Type 0
-EndsOnInput order old new before now end = IsBroken end ⊎ CommandEnds order (is_some (image_of order)) old new before now end
+EndsOnInput order old new before now end =
+    IsBroken end ⊎ ((image : Option (List ℕ)) × (is_some image ≡ is_some (image_of order)) × CommandEnds order image old new before now end)
+
+-- what it read of a file says as much of its end as what is read of standard input
+abbrev pub EndsOnFile : Command → Tape → Tape → Result Ending Fault → Type 0
+EndsOnFile order before now end = (last : Reading) × EndsOnInput order (record { given = []; ended = false; failures = 0 }) last before now end
 
 -- where there is no fault, no write and no flush has failed
 abbrev pub IsWhole : Tape → Tape → Result Ending Fault → Type 0

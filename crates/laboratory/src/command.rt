@@ -1,6 +1,6 @@
 //! The commands, over a reader and two writers.
 
-ghost use Rattle.std.specs.Prelude.{◌≡◌, Result, IfErr, IfOk, OnOk, is_some, true, false};
+ghost use Rattle.std.specs.Prelude.{◌≡◌, Result, IfErr, IfOk, OnOk, is_some, option_copied, true, false};
 ghost use Rattle.crashlab.specs.Hunts.{IsFound};
 ghost use Rattle.laboratory.specs.Commands.{CommandEnds, ExplainEnds, HuntEnds, JudgeEnds, TellsFound};
 ghost use Rattle.schedule_commands.specs.Endings.{IsEnded};
@@ -146,7 +146,7 @@ pub fn ended<T: Threads + Wait + Sync, S: Screen, R: Source, W: Sink>(
     r: &mut R,
     w: &mut W,
 ) -> Result<Ending, Fault>
-    ensures ends { CommandEnds command.now (is_some image.entry) (R.reading r.old) (R.reading r.new) (W.tape w.old) (W.tape w.new) result }
+    ensures ends { CommandEnds command.now (option_copied image.entry) (R.reading r.old) (R.reading r.new) (W.tape w.old) (W.tape w.new) result }
     ensures ended { IfOk result (IsEnded (is_some (save_of command.now)) (W.tape w.old).failures (W.tape w.new).failures) }
 {
     match command {
@@ -172,7 +172,7 @@ pub fn command<T: Threads + Wait + Sync, S: Screen, R: Source, W: Sink, E: Sink>
     w: &mut W,
     e: &mut E,
 ) -> Ending
-    ensures ends { (end : Result Ending Fault) × CommandEnds command.now (is_some image.entry) (R.reading r.old) (R.reading r.new) (W.tape w.old) (W.tape w.new) end × Closes (E.tape e.old) (E.tape e.new) end result.status }
+    ensures ends { (end : Result Ending Fault) × CommandEnds command.now (option_copied image.entry) (R.reading r.old) (R.reading r.new) (W.tape w.old) (W.tape w.new) end × Closes (E.tape e.old) (E.tape e.new) end result.status }
     ensures unsaved { is_some (save_of command.now) ≡ false → is_some result.save ≡ false }
 {
     match ended(rt, alloc, command, image, screen, r, w) {

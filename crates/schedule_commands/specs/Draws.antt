@@ -1,5 +1,5 @@
 -- How drawing a schedule ends.
-use Rattle.std.specs.Prelude.{◌≡◌, ◌≢◌, Bool, Result}
+use Rattle.std.specs.Prelude.{◌≡◌, ◌≢◌, List, ℕ, Option, Result}
 use Rattle.crashlab.specs.declared.variant.Variant.TheVariants.{Right}
 use Rattle.schedule_commands.specs.declared.ending.Ending.{Ending}
 use Rattle.schedule_commands.specs.declared.fault.Fault.{Fault}
@@ -9,6 +9,6 @@ use Rattle.schedule_commands.specs.Statuses.{status_ended}
 use Rattle.schedule_commands.specs.Tellings.{Drawn, TellsRead}
 
 -- nothing finds the right lock out
-abbrev pub DrawEnds : DrawOrder → Bool → Reading → Reading → Tape → Tape → Result Ending Fault → Type 0
-DrawEnds order pictured old new before now end =
-    (status_ended end ≡ 1 → order.variant ≢ Right) × TellsRead order.variant (Drawn order.style) pictured old new before now end
+abbrev pub DrawEnds : DrawOrder → Option (List ℕ) → Reading → Reading → Tape → Tape → Result Ending Fault → Type 0
+DrawEnds order image old new before now end =
+    (status_ended end ≡ 1 → order.variant ≢ Right) × TellsRead order.variant (Drawn order.style) image old new before now end

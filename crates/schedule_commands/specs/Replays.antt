@@ -1,5 +1,5 @@
 -- How a replay ends.
-use Rattle.std.specs.Prelude.{◌≡◌, ◌≢◌, ◌⊎◌, ℕ, Bool, true, false, List, Option, None, IfSome, Vec, Result, Ok, IfOk}
+use Rattle.std.specs.Prelude.{◌≡◌, ◌≢◌, ℕ, Bool, false, List, Option, None, IfSome, Vec, Result, Ok, IfOk}
 use Rattle.std.specs.declared.alloc.Global.{Global}
 use Rattle.crashlab.specs.declared.variant.Variant.TheVariants.{Right}
 use Rattle.rmeworld.specs.declared.image.Image.{Image}
@@ -19,15 +19,15 @@ use Rattle.schedule_commands.specs.declared.ending.Ending.{Ending}
 use Rattle.schedule_commands.specs.declared.fault.Fault.{Fault}
 use Rattle.schedule_commands.specs.Endings.{IsEnded, TellsReads}
 use Rattle.schedule_commands.specs.Statuses.{outcome, outcome_told, status_after, status_ended}
-use Rattle.schedule_commands.specs.Tellings.{Stepwise, TellsRead}
+use Rattle.schedule_commands.specs.Tellings.{Replayed, TellsRead}
 
 -- just the report of a schedule on the right lock is asked for
-abbrev pub IsPlainReplay : ReplayOrder → Bool → Type 0
-IsPlainReplay order pictured = (pictured ≡ false) × (order.variant ≡ Right) × (order.json ≡ false) × (order.each ≡ false) × (order.save ≡ None)
+abbrev pub IsPlainReplay : ReplayOrder → Option (List ℕ) → Type 0
+IsPlainReplay order image = (image ≡ None) × (order.variant ≡ Right) × (order.json ≡ false) × (order.each ≡ false) × (order.save ≡ None)
 
--- the lines of each step are asked for
-abbrev pub IsStepwise : ReplayOrder → Type 0
-IsStepwise order = (order.each ≡ true) × (order.json ≡ false)
+-- something is asked for beside, and no JSON
+abbrev pub IsTold : ReplayOrder → Option (List ℕ) → Type 0
+IsTold order image = (order.json ≡ false) × (IsPlainReplay order image → ⊥)
 
 -- the report of the schedule that was read was written, or why not is told
 abbrev pub TellsReplay : Reading → Reading → Tape → Tape → Result Ending Fault → Type 0
@@ -35,8 +35,8 @@ TellsReplay old new before now end =
     (answer : Result Verdict ReplayFault) × ReplaysSource old new before now answer × (outcome end ≡ outcome_told answer)
 
 -- the right lock is asked for, from its beginning
-abbrev pub IsNew : ReplayOrder → Bool → Type 0
-IsNew order pictured = (pictured ≡ false) × (order.variant ≡ Right)
+abbrev pub IsNew : ReplayOrder → Option (List ℕ) → Type 0
+IsNew order image = (image ≡ None) × (order.variant ≡ Right)
 
 -- these bytes are the image that the run of a schedule on a new world leaves
 abbrev pub IsLast : Scheduled → List ℕ → Type 0
@@ -63,8 +63,8 @@ pub record IsReplayed {S : Type 0} (start : State) (run : Part S (ℕ × Refusal
   pub ended : IsEnded saves before now ending
 
 -- whatever is asked for beside, nothing finds the right lock out, and no failed read is taken for the end of the text
-abbrev pub ReplayEnds : ReplayOrder → Bool → Reading → Reading → Tape → Tape → Result Ending Fault → Type 0
-ReplayEnds order pictured old new before now end =
-    (status_ended end ≡ 1 → order.variant ≢ Right) × (IsPlainReplay order pictured → TellsReplay old new before now end)
-    × (IsNew order pictured → IfOk end (λ ending. SavesLast old new ending.save))
-    × (IsStepwise order → TellsRead order.variant Stepwise pictured old new before now end) × TellsReads old new end
+abbrev pub ReplayEnds : ReplayOrder → Option (List ℕ) → Reading → Reading → Tape → Tape → Result Ending Fault → Type 0
+ReplayEnds order image old new before now end =
+    (status_ended end ≡ 1 → order.variant ≢ Right) × (IsPlainReplay order image → TellsReplay old new before now end)
+    × (IsNew order image → IfOk end (λ ending. SavesLast old new ending.save))
+    × (IsTold order image → TellsRead order.variant (Replayed order.each) image old new before now end) × TellsReads old new end

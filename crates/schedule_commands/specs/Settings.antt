@@ -6,13 +6,14 @@ use Rattle.rmecore.specs.Simulated.{cause}
 use Rattle.rmeworld.specs.declared.image.Image.{Image}
 use Rattle.imaging.specs.ImageText.{Spells, version_of}
 use Rattle.imaging.specs.ImageWiden.{IsUnwidened, IsWider}
+use Rattle.imaging.specs.ImageText.{IsUnread as IsNoImage}
 use Rattle.rmeworld.specs.WorldState.{new_refusal}
 use Rattle.lines.specs.declared.fault.LineFault.{LineFault}
 use Rattle.lines.specs.Numbers.{number_of as number_of_line}
 use Rattle.schedule.specs.Schedules.{Scheduled, schedule_at}
 use Rattle.schedule_commands.specs.declared.fault.Fault.{Fault}
 use Rattle.schedule_commands.specs.declared.fault.Fault.TheVariants.{Text, Refused}
-use Rattle.schedule_commands.specs.Statuses.{fault_of_header}
+use Rattle.schedule_commands.specs.Statuses.{fault_of_header, fault_of_image}
 use Rattle.trials.specs.Wholes.{WasRead, layout_of}
 use Rattle.schedule.specs.Tapes.{Reading}
 
@@ -30,6 +31,11 @@ abbrev pub IsPicture : Option (List ℕ) → Option Image → Type 0
 IsPicture None None = Unit {0}
 IsPicture (Some text) (Some image) = IsImageOf text image
 IsPicture _ _ = ⊥
+
+-- the text that is given is no image
+abbrev pub IsWrongImage : Option (List ℕ) → Fault → Type 0
+IsWrongImage None fault = ⊥
+IsWrongImage (Some text) fault = (refusal : Refusal) × IsNoImage text refusal × (fault ≡ fault_of_image refusal)
 
 -- no world has the header's sizes, or there was no memory for it
 abbrev pub IsUnmade : Scheduled → Fault → Type 0

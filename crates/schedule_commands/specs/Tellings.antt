@@ -1,5 +1,5 @@
--- What is told of a schedule's run, on the machine that is asked for: a drawing, or the run step by step.
-use Rattle.std.specs.Prelude.{◌≡◌, ◌≢◌, ◌⊎◌, ℕ, ◌+◌, ◌-◌, ◌^◌, min, Bool, true, false, List, None, Result, Ok, Err}
+-- What is told of a schedule's run, on the machine that is asked for: a drawing, the run step by step, or its report.
+use Rattle.std.specs.Prelude.{◌≡◌, ◌≢◌, ◌⊎◌, ℕ, ◌+◌, ◌-◌, ◌^◌, min, Bool, true, false, List, Option, Some, None, Result, Ok, Err}
 use Rattle.std.proofs.Math.ListN.{replicate}
 use Rattle.crashlab.specs.declared.variant.Variant.{Variant}
 use Rattle.crashlab.specs.declared.variant.Variant.TheVariants.{Right}
@@ -28,20 +28,21 @@ use Rattle.trials.specs.declared.verdict.Verdict.{Verdict}
 use Rattle.schedule.specs.Tapes.{Tape, Writes, Begins, Reading}
 use Rattle.trials.specs.Runs.{run_on}
 use Rattle.rmeworld.specs.Behaviours.{Behaviour}
+use Rattle.trials.specs.Replays.{Replays}
 use Rattle.schedule.specs.Schedules.{Scheduled, head_of, schedule_at}
 use Rattle.schedule_commands.specs.declared.ending.Ending.{Ending}
 use Rattle.schedule_commands.specs.declared.fault.Fault.{Fault}
 use Rattle.schedule_commands.specs.declared.fault.Fault.TheVariants as faults
-use Rattle.schedule_commands.specs.Settings.{IsFitting, IsMisfit, IsUnmade, IsWrongText}
+use Rattle.schedule_commands.specs.Settings.{IsFitting, IsMadeFit, IsMisfit, IsPicture, IsUnmade, IsWrongImage, IsWrongText}
 use Rattle.schedule_commands.specs.Statuses.{outcome, outcome_told, status_after, status_of}
 use Rattle.trials.specs.Wholes.{Silent, WasRead, layout_of}
 
 -- ---- one run
 
--- as a drawing, or step by step
+-- as a drawing, or as a replay: each step is told, or the report alone
 pub data Manner : Type 0 where
   Drawn : Style → Manner
-  Stepwise : Manner
+  Replayed : Bool → Manner
 
 -- the status of a run that is drawn whole is that of its verdict; where a line was refused, that is told
 abbrev pub ending_of : End → Result Ending Fault
@@ -62,10 +63,16 @@ pub record DrawsRun {S : Type 0} (b : Behaviour S) (start : State) (s : S) (firs
   pub ends_as : EndsAs start (run_on b 2 s schedule.lines) last
   pub written : IsWritten before now (spelled (sheet_of style (head_of schedule) rows last) first rows last) last end
 
--- the steps of the run were told, and the command ends as that does; or memory for the image that is to be saved is wanted
-pub record FollowsRun {S : Type 0} (b : Behaviour S) (picture_of : S → Image) (start : State) (s : S) (first : Phase) (schedule : Scheduled) (before now : Tape) (end : Result Ending Fault) : Type 0 where
+-- what telling each step of the run answers, or its report alone
+abbrev pub AnswersRun : {S : Type 0} → Bool → Behaviour S → (S → Image) → State → S → Phase → Scheduled → Tape → Tape → Result Verdict ReplayFault → Type 0
+AnswersRun true b picture_of start s first schedule before now answer =
+    Follows before now start picture_of (run_on b 2 s schedule.lines) (followed (sizes_of (head_of schedule)) (replicate schedule.procs first) (events_on b s schedule.lines)) answer
+AnswersRun false b picture_of start s first schedule before now answer = Replays before now start picture_of (run_on b 2 s schedule.lines) answer
+
+-- the run was told, and the command ends as that does; or memory for the image that is to be saved is wanted
+pub record ReplaysRun {S : Type 0} (each : Bool) (b : Behaviour S) (picture_of : S → Image) (start : State) (s : S) (first : Phase) (schedule : Scheduled) (before now : Tape) (end : Result Ending Fault) : Type 0 where
   pub answer : Result Verdict ReplayFault
-  pub follows : Follows before now start picture_of (run_on b 2 s schedule.lines) (followed (sizes_of (head_of schedule)) (replicate schedule.procs first) (events_on b s schedule.lines)) answer
+  pub answers : AnswersRun each b picture_of start s first schedule before now answer
   pub ends_so : (outcome end ≡ outcome_told answer) ⊎ (end ≡ Err faults.OutOfMemory)
 
 -- nothing is told, for want of memory
@@ -75,7 +82,7 @@ pub record Wants (before now : Tape) (end : Result Ending Fault) : Type 0 where
 
 abbrev pub Tells : {S : Type 0} → Manner → Behaviour S → (S → Image) → State → S → Phase → Scheduled → Tape → Tape → Result Ending Fault → Type 0
 Tells (Drawn style) b picture_of start s first schedule before now end = DrawsRun b start s first style schedule before now end ⊎ Wants before now end
-Tells Stepwise b picture_of start s first schedule before now end = FollowsRun b picture_of start s first schedule before now end ⊎ Wants before now end
+Tells (Replayed each) b picture_of start s first schedule before now end = ReplaysRun each b picture_of start s first schedule before now end ⊎ Wants before now end
 
 -- ---- the machine that is asked for
 
@@ -103,34 +110,36 @@ pub record TellsOn (image : Image) (manner : Manner) (schedule : Scheduled) (bef
   pub begins : IsStartOf image start
   pub tells : Tells manner world_behaviour image_of (state_of start) (image_world image) Dead schedule before now end
 
--- an image fits the header, once it is as wide
-abbrev pub TellsImage : Manner → Scheduled → Tape → Tape → Result Ending Fault → Type 0
-TellsImage manner schedule before now end =
-    Refuses before now (λ fault. (image : Image) × IsLawfulImage image × IsMisfit image schedule fault) end
-    ⊎ (Wants before now end ⊎ ((image : Image) × TellsOn image manner schedule before now end))
+-- on that of this image, where it fits the header, or once it is as wide
+abbrev pub TellsImage : Image → Manner → Scheduled → Tape → Tape → Result Ending Fault → Type 0
+TellsImage image manner schedule before now end =
+    Refuses before now (IsMisfit image schedule) end
+    ⊎ (Wants before now end ⊎ ((fitted : Image) × IsMadeFit schedule.width image fitted × TellsOn fitted manner schedule before now end))
 
 -- an image goes with the right lock alone
-pub record TellsSchedule (variant : Variant) (pictured : Bool) (manner : Manner) (schedule : Scheduled) (before now : Tape) (end : Result Ending Fault) : Type 0 where
-  pub on_image : pictured ≡ true → TellsImage manner schedule before now end
-  pub on_new : pictured ≡ false → variant ≡ Right → TellsNew manner schedule before now end
-  pub on_variant : pictured ≡ false → variant ≢ Right → TellsVariant variant manner schedule before now end
+abbrev pub TellsSchedule : Variant → Option Image → Manner → Scheduled → Tape → Tape → Result Ending Fault → Type 0
+TellsSchedule variant (Some image) manner schedule before now end = TellsImage image manner schedule before now end
+TellsSchedule variant None manner schedule before now end =
+    (variant ≡ Right → TellsNew manner schedule before now end) × (variant ≢ Right → TellsVariant variant manner schedule before now end)
 
 -- ---- the whole
 
--- the run of the schedule that was read is told
-pub record TellsText (variant : Variant) (manner : Manner) (pictured : Bool) (old new : Reading) (before now : Tape) (end : Result Ending Fault) : Type 0 where
+-- the run of the schedule that was read is told, on the image that its text spells where one is given
+pub record TellsText (variant : Variant) (manner : Manner) (image : Option (List ℕ)) (old new : Reading) (before now : Tape) (end : Result Ending Fault) : Type 0 where
   pub text : List ℕ
   pub read : WasRead old new text
   pub schedule : Scheduled
   pub spelled_so : schedule_at text ≡ Ok schedule
-  pub told : TellsSchedule variant pictured manner schedule before now end
+  pub picture : Option Image
+  pub pictured : IsPicture image picture
+  pub told : TellsSchedule variant picture manner schedule before now end
 
 -- what is wrong with what is read: the image, or the text; or a device or memory fails
-abbrev pub IsUnread : Bool → Reading → Reading → Fault → Type 0
-IsUnread pictured old new fault =
-    (status_of fault ≡ 3) ⊎ (((pictured ≡ true) × ((rule : ℕ) × (fault ≡ faults.Image rule))) ⊎ IsWrongText old new fault)
+abbrev pub IsUnread : Option (List ℕ) → Reading → Reading → Fault → Type 0
+IsUnread image old new fault =
+    (status_of fault ≡ 3) ⊎ (IsWrongImage image fault ⊎ IsWrongText old new fault)
 
 -- the run is told, or a fault of what was to be read
-abbrev pub TellsRead : Variant → Manner → Bool → Reading → Reading → Tape → Tape → Result Ending Fault → Type 0
-TellsRead variant manner pictured old new before now end =
-    Refuses before now (IsUnread pictured old new) end ⊎ TellsText variant manner pictured old new before now end
+abbrev pub TellsRead : Variant → Manner → Option (List ℕ) → Reading → Reading → Tape → Tape → Result Ending Fault → Type 0
+TellsRead variant manner image old new before now end =
+    Refuses before now (IsUnread image old new) end ⊎ TellsText variant manner image old new before now end

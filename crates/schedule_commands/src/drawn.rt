@@ -1,6 +1,6 @@
 //! The command `draw`.
 
-ghost use Rattle.std.specs.Prelude.{◌≡◌, IfOk, IfSome, is_some, false};
+ghost use Rattle.std.specs.Prelude.{◌≡◌, IfOk, IfSome, option_copied, false};
 ghost use Rattle.drawing.specs.Drawings.{sheet_of, spelled};
 ghost use Rattle.judge.specs.Stands.{Keeps};
 ghost use Rattle.judge.specs.Starts.{IsStart, state_of};
@@ -164,7 +164,7 @@ fn draw_image<W: Sink>(
     w: &mut W,
 ) -> Result<Ending, Fault>
     requires { IsLawfulImage image }
-    ensures draws { TellsImage (Drawn style) schedule.now (W.tape w.old) (W.tape w.new) result }
+    ensures draws { TellsImage image (Drawn style) schedule.now (W.tape w.old) (W.tape w.new) result }
     ensures fine { IfOk result (λ ending. ending.status ≡ 0) }
     ensures ended { IfOk result (IsEnded false (W.tape w.old).failures (W.tape w.new).failures) }
 {
@@ -182,7 +182,7 @@ fn draw_schedule<W: Sink>(
     w: &mut W,
 ) -> Result<Ending, Fault>
     requires { IfSome image IsLawfulImage }
-    ensures draws { TellsSchedule order.now.variant (is_some image) (Drawn order.now.style) schedule.now (W.tape w.old) (W.tape w.new) result }
+    ensures draws { TellsSchedule order.now.variant image (Drawn order.now.style) schedule.now (W.tape w.old) (W.tape w.new) result }
     ensures fine { order.now.variant ≡ Variant.Right → IfOk result (λ ending. ending.status ≡ 0) }
     ensures ended { IfOk result (IsEnded false (W.tape w.old).failures (W.tape w.new).failures) }
 {
@@ -201,7 +201,7 @@ pub fn draw_order<R: Source, W: Sink>(
     r: &mut R,
     w: &mut W,
 ) -> Result<Ending, Fault>
-    ensures ends { DrawEnds order.now (is_some image.entry) (R.reading r.old) (R.reading r.new) (W.tape w.old) (W.tape w.new) result }
+    ensures ends { DrawEnds order.now (option_copied image.entry) (R.reading r.old) (R.reading r.new) (W.tape w.old) (W.tape w.new) result }
     ensures reads { TellsReads (R.reading r.old) (R.reading r.new) result }
     ensures ended { IfOk result (IsEnded false (W.tape w.old).failures (W.tape w.new).failures) }
 {

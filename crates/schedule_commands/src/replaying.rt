@@ -1,10 +1,7 @@
 //! The command `replay`.
 
-ghost use Rattle.std.specs.Prelude.{◌≡◌, ◌≤◌, IfErr, IfOk, IfSome, None, Result, is_some, true, false};
+ghost use Rattle.std.specs.Prelude.{◌≡◌, ◌≤◌, IfErr, IfOk, IfSome, None, Result, is_some, option_copied, false};
 ghost use Rattle.judge.specs.Stands.{Keeps};
-ghost use Rattle.drawing.specs.Events.{events_on};
-ghost use Rattle.drawing.specs.Followed.{followed, Follows};
-ghost use Rattle.drawing.specs.Sheets.{layout_of as sizes_of};
 ghost use Rattle.judge.specs.Starts.{IsStart, state_of};
 ghost use Rattle.judge.specs.Table.{State};
 ghost use Rattle.rmeworld.specs.ImageRules.{IsLawfulImage};
@@ -13,12 +10,10 @@ ghost use Rattle.imaging.specs.ImageText.{image_line};
 ghost use Rattle.rmeworld.specs.Replayed.{image_of, world_behaviour};
 ghost use Rattle.rmeworld.specs.WorldState.{image_world as world_of_image};
 ghost use Rattle.trials.specs.Runs.{run_on};
-ghost use Rattle.schedule.specs.Schedules.{head_of};
 ghost use Rattle.schedule_commands.specs.Endings.{IsEnded, TellsReads};
-ghost use Rattle.schedule_commands.specs.Replays.{IsLast, IsPlayed, IsReplayed, IsStepwise, ReplayEnds, TellsReplay};
+ghost use Rattle.schedule_commands.specs.Replays.{IsLast, IsPlayed, IsReplayed, ReplayEnds, TellsReplay};
 ghost use Rattle.schedule_commands.specs.Statuses.{answer_told, fault_on_page};
-ghost use Rattle.schedule_commands.specs.Tellings.{Stepwise, Tells, TellsImage, TellsNew, TellsSchedule, TellsVariant};
-ghost use Rattle.std.proofs.Math.ListN.{replicate};
+ghost use Rattle.schedule_commands.specs.Tellings.{AnswersRun, Replayed, Tells, TellsImage, TellsNew, TellsSchedule, TellsVariant};
 
 use crate::ending::{Ending, status_after_verdict};
 use crate::fault::Fault;
@@ -60,7 +55,7 @@ fn report<M: Machine, W: Sink>(
     w: &mut W,
 ) -> Result<Verdict, ReplayFault>
     ensures played { (start : State) → Keeps judge.old start → IfOk result (IsPlayed start (run_on M.behaviour 2 machine.old schedule.now.lines) machine.new (W.tape w.old).failures (W.tape w.new).failures) }
-    ensures follows { each ≡ true → (start : State) → Keeps judge.old start → Follows (W.tape w.old) (W.tape w.new) start M.behaviour.image_of (run_on M.behaviour 2 machine.old schedule.now.lines) (followed (sizes_of (head_of schedule.now)) (replicate schedule.now.procs first) (events_on M.behaviour machine.old schedule.now.lines)) result }
+    ensures told { (start : State) → Keeps judge.old start → AnswersRun each M.behaviour M.behaviour.image_of start machine.old first schedule.now (W.tape w.old) (W.tape w.new) result }
 {
     if each {
         return follow(alloc, machine, judge, schedule, first, w);
@@ -100,7 +95,7 @@ fn play<M: Machine, W: Sink>(
     w: &mut W,
 ) -> Result<Verdict, Fault>
     ensures played { (start : State) → Keeps judge.old start → IfOk result (IsPlayed start (run_on M.behaviour 2 machine.old schedule.now.lines) machine.new (W.tape w.old).failures (W.tape w.new).failures) }
-    ensures follows { IsStepwise order.now → (start : State) → Keeps judge.old start → (answer : Result Verdict ReplayFault) × Follows (W.tape w.old) (W.tape w.new) start M.behaviour.image_of (run_on M.behaviour 2 machine.old schedule.now.lines) (followed (sizes_of (head_of schedule.now)) (replicate schedule.now.procs first) (events_on M.behaviour machine.old schedule.now.lines)) answer × (result ≡ answer_told answer) }
+    ensures told { order.now.json ≡ false → (start : State) → Keeps judge.old start → (answer : Result Verdict ReplayFault) × AnswersRun order.now.each M.behaviour M.behaviour.image_of start machine.old first schedule.now (W.tape w.old) (W.tape w.new) answer × (result ≡ answer_told answer) }
 {
     if order.json {
         return play_object(alloc, machine, judge, schedule, first, order.each, w);
@@ -140,7 +135,7 @@ fn replay_machine<M: Machine, W: Sink>(
     w: &mut W,
 ) -> Result<Ending, Fault>
     ensures replayed { (start : State) → Keeps judge.old start → IfOk result (IsReplayed start (run_on M.behaviour 2 machine.old schedule.now.lines) M.behaviour.image_of (is_some order.now.save) (W.tape w.old).failures (W.tape w.new).failures) }
-    ensures follows { IsStepwise order.now → (start : State) → Keeps judge.old start → Tells Stepwise M.behaviour M.behaviour.image_of start machine.old first schedule.now (W.tape w.old) (W.tape w.new) result }
+    ensures told { order.now.json ≡ false → (start : State) → Keeps judge.old start → Tells (Replayed order.now.each) M.behaviour M.behaviour.image_of start machine.old first schedule.now (W.tape w.old) (W.tape w.new) result }
 {
     let verdict = play(alloc, machine, judge, schedule, first, order, w)?;
     let save = saved(alloc, machine, order.save.is_some())?;
@@ -159,7 +154,7 @@ fn replay_new<W: Sink>(
 ) -> Result<Ending, Fault>
     ensures fine { IfOk result (λ ending. ending.status ≡ 0) }
     ensures last { IfOk result (λ ending. IfSome ending.save (λ image. IsLast schedule.now image.items)) }
-    ensures follows { IsStepwise order.now → TellsNew Stepwise schedule.now (W.tape w.old) (W.tape w.new) result }
+    ensures told { order.now.json ≡ false → TellsNew (Replayed order.now.each) schedule.now (W.tape w.old) (W.tape w.new) result }
     ensures ended { IfOk result (IsEnded (is_some order.now.save) (W.tape w.old).failures (W.tape w.new).failures) }
 {
     worlds_are_never_found_out();
@@ -186,7 +181,7 @@ fn replay_image<W: Sink>(
 ) -> Result<Ending, Fault>
     requires { IsLawfulImage image }
     ensures fine { IfOk result (λ ending. ending.status ≡ 0) }
-    ensures follows { IsStepwise order.now → TellsImage Stepwise schedule.now (W.tape w.old) (W.tape w.new) result }
+    ensures told { order.now.json ≡ false → TellsImage image (Replayed order.now.each) schedule.now (W.tape w.old) (W.tape w.new) result }
     ensures ended { IfOk result (IsEnded (is_some order.now.save) (W.tape w.old).failures (W.tape w.new).failures) }
 {
     let image = fitting(alloc, image, schedule)?;
@@ -207,7 +202,7 @@ fn replay_started<W: Sink>(
     requires begins { IsStartOf image.now start.now }
     requires judged { IsStart start.now }
     ensures fine { IfOk result (λ ending. ending.status ≡ 0) }
-    ensures follows { IsStepwise order.now → Tells Stepwise world_behaviour image_of (state_of start.now) (world_of_image image.now) Phase.Dead schedule.now (W.tape w.old) (W.tape w.new) result }
+    ensures told { order.now.json ≡ false → Tells (Replayed order.now.each) world_behaviour image_of (state_of start.now) (world_of_image image.now) Phase.Dead schedule.now (W.tape w.old) (W.tape w.new) result }
     ensures ended { IfOk result (IsEnded (is_some order.now.save) (W.tape w.old).failures (W.tape w.new).failures) }
 {
     worlds_are_never_found_out();
@@ -231,7 +226,7 @@ fn replay_variant<W: Sink>(
     order: &ReplayOrder,
     w: &mut W,
 ) -> Result<Ending, Fault>
-    ensures follows { IsStepwise order.now → TellsVariant order.now.variant Stepwise schedule.now (W.tape w.old) (W.tape w.new) result }
+    ensures told { order.now.json ≡ false → TellsVariant order.now.variant (Replayed order.now.each) schedule.now (W.tape w.old) (W.tape w.new) result }
     ensures ended { IfOk result (IsEnded (is_some order.now.save) (W.tape w.old).failures (W.tape w.new).failures) }
 {
     let mut world = variant_world(alloc, order.variant, schedule)?;
@@ -258,7 +253,7 @@ fn replay_schedule<W: Sink>(
     requires { IfSome image IsLawfulImage }
     ensures fine { order.now.variant ≡ Variant.Right → IfOk result (λ ending. ending.status ≡ 0) }
     ensures last { order.now.variant ≡ Variant.Right → is_some image ≡ false → IfOk result (λ ending. IfSome ending.save (λ image. IsLast schedule.now image.items)) }
-    ensures follows { IsStepwise order.now → TellsSchedule order.now.variant (is_some image) Stepwise schedule.now (W.tape w.old) (W.tape w.new) result }
+    ensures told { order.now.json ≡ false → TellsSchedule order.now.variant image (Replayed order.now.each) schedule.now (W.tape w.old) (W.tape w.new) result }
     ensures ended { IfOk result (IsEnded (is_some order.now.save) (W.tape w.old).failures (W.tape w.new).failures) }
 {
     match (image, order.variant) {
@@ -291,7 +286,7 @@ pub fn replay_order<R: Source, W: Sink>(
     r: &mut R,
     w: &mut W,
 ) -> Result<Ending, Fault>
-    ensures ends { ReplayEnds order.now (is_some image.entry) (R.reading r.old) (R.reading r.new) (W.tape w.old) (W.tape w.new) result }
+    ensures ends { ReplayEnds order.now (option_copied image.entry) (R.reading r.old) (R.reading r.new) (W.tape w.old) (W.tape w.new) result }
     ensures ended { IfOk result (IsEnded (is_some order.now.save) (W.tape w.old).failures (W.tape w.new).failures) }
 {
     let plain = order.variant == Variant::Right

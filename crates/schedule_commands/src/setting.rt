@@ -11,7 +11,7 @@ ghost use Rattle.imaging.specs.ImageWiden.{IsWider};
 ghost use Rattle.rmeworld.specs.WorldState.{image_world as world_of_image, new_refusal, new_world as world_of_sizes};
 ghost use Rattle.crashlab.specs.VariantWorlds.{new_world as world_of_variant};
 ghost use Rattle.schedule.specs.Schedules.{schedule_at};
-ghost use Rattle.schedule_commands.specs.Settings.{CanFit, IsFitting, IsMadeFit, IsMisfit, IsPicture, IsUnmade, IsWrongText};
+ghost use Rattle.schedule_commands.specs.Settings.{CanFit, IsFitting, IsMadeFit, IsMisfit, IsPicture, IsUnmade, IsWrongText, IsWrongImage};
 ghost use Rattle.schedule_commands.specs.Statuses.{fault_of_header, fault_of_image, status_of};
 ghost use Rattle.trials.specs.Wholes.{WasRead, layout_of};
 
@@ -52,6 +52,7 @@ pub fn image_read(alloc: Global, text: Option<&[u8]>) -> Result<Option<Image>, F
     ensures lawful { IfOk result (λ image. IfSome image IsLawfulImage) }
     ensures given { IfOk result (λ image. is_some image ≡ is_some text.entry) }
     ensures pictured { IfOk result (IsPicture (option_copied text.entry)) }
+    ensures unread { IfErr result (IsWrongImage (option_copied text.entry)) }
     ensures wrong { IfErr result (λ fault. (fault ≡ Fault.OutOfMemory) ⊎ ((is_some text.entry ≡ true) × ((rule : ℕ) × (fault ≡ Fault.Image rule)))) }
 {
     match text {

@@ -1,4 +1,4 @@
-use Rattle.std.proofs.Common.{is_some, subst, sym}
+use Rattle.std.proofs.Common.{subst, sym, option_copied}
 use Rattle.laboratory.specs.Commands.{CommandEnds}
 use Rattle.laboratory.proofs.command.ended.Goals as goal
 
@@ -6,7 +6,7 @@ use Rattle.laboratory.proofs.command.ended.Goals as goal
 pub returns-in-Replay-clause-ends : goal.returns-in-Replay-clause-ends
 returns-in-Replay-clause-ends g c =
     subst
-    (λ command. CommandEnds command (is_some c.args.image)
+    (λ command. CommandEnds command (option_copied c.args.image)
     (g.R.Source.reading c.args.r.now)
     (g.R.Source.reading c.replay_order.new.r)
     (g.W.Sink.tape c.args.w.now)
@@ -19,7 +19,7 @@ returns-in-Replay-clause-ends g c =
 pub returns-in-Draw-clause-ends : goal.returns-in-Draw-clause-ends
 returns-in-Draw-clause-ends g c =
     subst
-    (λ command. CommandEnds command (is_some c.args.image)
+    (λ command. CommandEnds command (option_copied c.args.image)
     (g.R.Source.reading c.args.r.now)
     (g.R.Source.reading c.draw_order.new.r)
     (g.W.Sink.tape c.args.w.now)
@@ -32,7 +32,7 @@ returns-in-Draw-clause-ends g c =
 pub returns-in-Shrink-clause-ends : goal.returns-in-Shrink-clause-ends
 returns-in-Shrink-clause-ends g c =
     subst
-    (λ command. CommandEnds command (is_some c.args.image)
+    (λ command. CommandEnds command (option_copied c.args.image)
     (g.R.Source.reading c.args.r.now)
     (g.R.Source.reading c.shrink_order.new.r)
     (g.W.Sink.tape c.args.w.now)

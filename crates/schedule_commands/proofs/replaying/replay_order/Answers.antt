@@ -1,6 +1,6 @@
-use Rattle.std.proofs.Common.{rules, is_some, arith}
+use Rattle.std.proofs.Common.{rules, option_copied, arith}
 use Rattle.std.proofs.lemmas.Result.{err_from_is_err_and}
-use Rattle.schedule_commands.specs.Tellings.{Stepwise}
+use Rattle.schedule_commands.specs.Tellings.{Replayed}
 use Rattle.schedule_commands.proofs.Draws.{untold}
 use Rattle.schedule_commands.proofs.replaying.replay_order.Goals as goal
 
@@ -11,8 +11,8 @@ returns-in_err-schedule-clause-ends g c =
       λ one right. omega (arith, one, c.in_err-schedule.ensures.status),
       search rules,
       λ new. tt,
-      λ stepwise.
-          untold c.args.order.now.variant Stepwise (is_some c.args.image)
+      λ told.
+          untold c.args.order.now.variant (Replayed c.args.order.now.each) (option_copied c.args.image)
           (g.R.Source.reading c.args.r.now)
           (g.R.Source.reading c.schedule_read.new.r)
           (g.W.Sink.tape c.args.w.now) _ c.in_err-schedule.ensures.wrong,

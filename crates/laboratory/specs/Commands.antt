@@ -11,10 +11,8 @@ use Rattle.schedule.specs.Schedules.{Scheduled, spelling}
 use Rattle.lines.specs.Words.{line_of, parts_of}
 use Rattle.schedule.specs.Tapes.{Tape, Writes, Reading}
 use Rattle.trials.specs.Reports.{verdict_line}
-use Rattle.trials.specs.Runs.{Part, deeds_of}
 use Rattle.trials.specs.Trials.{trace_answer}
-use Rattle.trials.specs.Verdicts.{verdict_on}
-use Rattle.trials.specs.Wholes.{ReplaysSource, WasRead, world_run}
+use Rattle.trials.specs.Wholes.{WasRead}
 use Rattle.trials.specs.declared.replay_fault.ReplayFault.{ReplayFault}
 use Rattle.trials.specs.declared.verdict.Verdict.{Verdict}
 use Rattle.shrinking.specs.Shrunk.{Shrinks}

@@ -52,14 +52,19 @@ Saves order before now blank written (Err fault) =
 
 -- ---- what is read, written and told
 
--- the command ends so, beside the text of an image where the order names one; a device or memory can fail besides
+-- the command ends so, beside the text of an image where the order names one
+abbrev pub EndsBeside : Command → Reading → Reading → Tape → Tape → Result Ending Fault → Type 0
+EndsBeside order old new before now end =
+    (image : Option (List ℕ)) × (is_some image ≡ is_some (image_of order)) × CommandEnds order image old new before now end
+
+-- a device or memory can fail besides
 abbrev pub EndsOnInput : Command → Reading → Reading → Tape → Tape → Result Ending Fault → Type 0
-EndsOnInput order old new before now end =
-    IsBroken end ⊎ ((image : Option (List ℕ)) × (is_some image ≡ is_some (image_of order)) × CommandEnds order image old new before now end)
+EndsOnInput order old new before now end = IsBroken end ⊎ EndsBeside order old new before now end
 
 -- what it read of a file says as much of its end as what is read of standard input
 abbrev pub EndsOnFile : Command → Tape → Tape → Result Ending Fault → Type 0
-EndsOnFile order before now end = (last : Reading) × EndsOnInput order (record { given = []; ended = false; failures = 0 }) last before now end
+EndsOnFile order before now end =
+    IsBroken end ⊎ ((last : Reading) × EndsBeside order (record { given = []; ended = false; failures = 0 }) last before now end)
 
 -- where there is no fault, no write and no flush has failed
 abbrev pub IsWhole : Tape → Tape → Result Ending Fault → Type 0

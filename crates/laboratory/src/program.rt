@@ -5,6 +5,7 @@ ghost use Rattle.schedule_commands.specs.Endings.{IsEnded};
 ghost use Rattle.schedule.specs.Tapes.{Writes};
 ghost use Rattle.orders.specs.FilesNamed.{image_of, input_of, save_of};
 ghost use Rattle.schedule_commands.specs.Lines.{IsTold};
+ghost use Rattle.schedule_commands.specs.declared.fault.Fault.TheVariants.{Write as WriteFault};
 ghost use Rattle.laboratory.specs.Programs.{Answers, Closes, Does, EndsOnFile, EndsOnInput, Helps, IsProgram, Obeys, opens_all, OpensSome, SavesAll, Scolds};
 ghost use Rattle.orders.specs.Sizes.{IsSized};
 ghost use Rattle.laboratory.specs.Faults.{fault_of_opening, fault_of_saving};
@@ -148,6 +149,18 @@ fn save<F: Folder>(folder: &mut F, order: &Command, ending: &Ending) -> Result<(
     }
 }
 
+/// Hands on what is printed.
+#[tactic(auto, using(crate::proofs::Tapes::same_tape))]
+fn handed_on<W: Sink>(out: &mut W) -> Result<(), Fault>
+    ensures same { OnOk result (W.tape out.new ≡ W.tape out.old) }
+    ensures failed { IfErr result (λ fault. fault ≡ WriteFault) }
+{
+    if out.flush().is_err() {
+        return Err(Fault::Write);
+    }
+    Ok(())
+}
+
 /// Does what the order says, hands on what is printed, and then saves the image. Where the output can't be handed on, that
 /// is the fault.
 fn carried_out<T: Threads + Wait + Sync, F: Folder, S: Screen, R: Source, W: Sink>(
@@ -162,9 +175,7 @@ fn carried_out<T: Threads + Wait + Sync, F: Folder, S: Screen, R: Source, W: Sin
     ensures { Does order.now (F.used folder.old) (F.used folder.new) (R.reading input.old) (R.reading input.new) (W.tape out.old) (W.tape out.new) result }
 {
     let ended = ordered(rt, alloc, order, folder, screen, input, out);
-    if out.flush().is_err() {
-        return Err(Fault::Write);
-    }
+    handed_on(out)?;
     let ending = ended?;
     save(folder, order, &ending)?;
     Ok(ending)

@@ -1,5 +1,5 @@
-//! The laboratory of recoverable first-come first-served locks: the commands over readers and writers, and the program that
-//! reads files, picks the command, and ends with a status.
+//! The laboratory of recoverable first-come first-served locks: the commands that read no schedule, and the program that reads
+//! files, picks the command, and ends with a status.
 #![tactic(auto)]
 
 pub mod command;

@@ -1,5 +1,5 @@
 //! `replay`: reads a schedule from standard input and prints its report, as `rmelab replay` does for the right lock. It stands
-//! on the simulated side alone, so that a first proved report takes few minutes.
+//! on the simulated side alone, so that a first proved report needs few libraries.
 #![tactic(auto)]
 
 use schedule::{FromReader, ToWriter};

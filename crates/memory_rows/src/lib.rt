@@ -1,5 +1,5 @@
 //! Each request for memory refused in turn, of worlds, images, replays, traces and labs. Tests alone: each names public
-//! functions of `rmeworld`, `schedule` or `robust`.
+//! functions of `rmeworld`, `imaging`, `trials` or `robust`.
 #![tactic(auto)]
 
 #[cfg(test)]

@@ -3,8 +3,9 @@
 use super::phrase::{Phrase, cut};
 use imaging::{read_image, start_of, widen, write_image};
 use judge::{Judge, Start};
-use redomail::Message;
+use redomail::{Layout, Message};
 use rmecore::{Own, Phase, Refusal};
+use rmeworld::image::rules::{find_in, layout, word};
 use rmeworld::{Cells, Image, Owns, first_rule};
 use std::alloc::Global;
 
@@ -363,4 +364,30 @@ fn who_is_ahead_in_a_start(rt: HostRuntime) {
         Err(_) => false,
     };
     assert!(rt; is_so);
+}
+
+/// Are these the sizes, a data word and the words past the last, and the process that is in?
+fn is_seen(image: &Image) -> bool {
+    let one = Layout {
+        procs: 1,
+        cap: 1,
+        width: 1,
+    };
+    let words = image.cells.as_slice();
+    layout(image) == one
+        && word(words, 7) == 5
+        && word(words, 15) == 0
+        && find_in(image.lock.as_slice()) == Some(0)
+}
+
+/// What the rules look at.
+#[test]
+fn what_the_rules_look_at(rt: HostRuntime) {
+    let is_so = match read_image(rt.alloc(), SHOWN.as_bytes()) {
+        Ok(image) => is_seen(&image),
+        Err(_) => false,
+    };
+    assert!(rt; is_so);
+    let nobody: [Own; 0] = [];
+    assert!(rt; find_in(&nobody) == None);
 }

@@ -147,6 +147,18 @@ fn odd_flags(rt: HostRuntime) {
     assert!(rt; job.next() == Next::Done(Reply::Ruined(true)));
 }
 
+/// The call consistent asks whether the lock is ruined. If so that is its reply; else its repair comes next.
+#[test]
+fn consistent_asks_first(rt: HostRuntime) {
+    let mut ruined = Job::seam_mending(ONE, 0);
+    assert!(rt; ruined.next() == Next::Get(0) && ruined.reply() == None);
+    ruined.feed(1);
+    assert!(rt; ruined.reply() == Some(Reply::Ruined(true)));
+    let mut usable = Job::seam_mending(ONE, 0);
+    usable.feed(0);
+    assert!(rt; usable.next() == Next::Get(3) && usable.reply() == None);
+}
+
 /// Sums and products are held at the greatest u64: a place that no layout has.
 #[test]
 fn indexes_are_held(rt: HostRuntime) {

@@ -38,7 +38,7 @@ pub use Rattle.rmeworld.specs.Replayed.{list_of, mail_by, or_else, words_by, cel
 pub use Rattle.rmeworld.specs.Spot.{Doing, Spot, Happening, Begins, Falls, Moves, next_spot, begun_from, only_spot, settled, outer_by}
 pub use Rattle.rmeworld.specs.Stand.{Stand, access_by, spot_of, IsSize, next_access, outcome, started, spot_after, IsAllowed, StoresOwn, job_left, happening, InWords}
 pub use Rattle.rmeworld.specs.World.{reading_of}
-pub use Rattle.lines.specs.declared.line.Line.TheVariants.{Start}
+pub use Rattle.schedule.specs.declared.lines.line.Line.TheVariants.{Start}
 pub use Rattle.schedule.specs.Schedules.{Scheduled}
 pub use Rattle.crashlab.specs.declared.change.Change.{Change}
 pub use Rattle.crashlab.specs.declared.change.Change.TheVariants.{Nothing, LeavesOut, Counts, Counted}

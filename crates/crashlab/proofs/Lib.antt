@@ -12,3 +12,7 @@ pub mod Choices
 pub mod LockWorlds
 pub mod Lines
 pub mod Scans
+pub mod Answered
+pub mod Found
+pub mod Sizes
+pub mod Needed

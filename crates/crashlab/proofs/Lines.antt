@@ -5,8 +5,8 @@ use Rattle.crashlab.proofs.Common.{Right, VariantState, advance_refusal, start_r
 use Rattle.rmecore.specs.declared.fault.Fault.{Fault}
 use Rattle.judge.specs.Legal.{judged_all}
 use Rattle.judge.specs.Kept.{Kept}
-use Rattle.lines.specs.declared.line.Line.{Line}
-use Rattle.lines.specs.declared.line.Line.TheVariants.{Step, Crash}
+use Rattle.schedule.specs.declared.lines.line.Line.{Line}
+use Rattle.schedule.specs.declared.lines.line.Line.TheVariants.{Step, Crash}
 use Rattle.crashlab.specs.Hunts.{hunt_layout, is_answered, after_steps, after_line, after_lines, deeds_of_steps, deeds_of_line, Unless, MaySteps, MayLine, MayLines, IsOfHunt, IsFound}
 use Rattle.crashlab.specs.declared.moves.Made.{Made}
 use Rattle.crashlab.specs.declared.moves.Made.TheVariants.{Caught}

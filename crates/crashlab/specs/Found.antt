@@ -10,8 +10,8 @@ use Rattle.judge.specs.Legal.{judged_all}
 use Rattle.judge.specs.Stands.{StandsAfter}
 use Rattle.judge.specs.Table.{empty}
 use Rattle.rmeworld.specs.Replayed.{list_of}
-use Rattle.lines.specs.declared.line.Line.{Line}
-use Rattle.lines.specs.declared.line.Line.TheVariants as line
+use Rattle.schedule.specs.declared.lines.line.Line.{Line}
+use Rattle.schedule.specs.declared.lines.line.Line.TheVariants as line
 use Rattle.rmeworld.specs.declared.call.Call.{Call}
 use Rattle.rmeworld.specs.declared.call.Call.TheVariants as call
 use Rattle.crashlab.specs.declared.moves.Due.{Due}

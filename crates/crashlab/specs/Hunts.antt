@@ -8,8 +8,8 @@ use Rattle.judge.specs.Legal.{judged_all, IsLegal}
 use Rattle.judge.specs.Kept.{Kept}
 use Rattle.judge.specs.Stands.{StandsAfter}
 use Rattle.rmeworld.specs.Replayed.{list_of}
-use Rattle.lines.specs.declared.line.Line.{Line}
-use Rattle.lines.specs.declared.line.Line.TheVariants.{Start, Step, Crash}
+use Rattle.schedule.specs.declared.lines.line.Line.{Line}
+use Rattle.schedule.specs.declared.lines.line.Line.TheVariants.{Start, Step, Crash}
 use Rattle.schedule.specs.Schedules.{Scheduled}
 use Rattle.crashlab.specs.declared.variant.Variant.{Variant}
 use Rattle.crashlab.specs.VariantWorlds.{VariantState, new_world, start_refusal, started, advance_refusal, stepped, advanced, crash_refusal, crash_deed, crashed}

@@ -1,4 +1,4 @@
-pub use Rattle.plans.specs.Plans
+pub use Rattle.crash_plans.specs.Plans
 pub mod Variants
 pub mod VariantScripts
 pub mod VariantSpots
@@ -9,3 +9,5 @@ pub mod VariantRuns
 pub mod LockWorlds
 pub mod Hunts
 pub mod Found
+-- The definitions that the contracts cite.
+pub mod Shrunk

@@ -3,7 +3,7 @@
 ghost use Rattle.std.specs.Prelude.{◌≡◌, ◌∷◌, []};
 ghost use Rattle.crashlab.specs.Found.{call_by, line_by};
 
-use lines::{Count, Line};
+use schedule::{Count, Line};
 use rmecore::Body;
 use rmeworld::Call;
 

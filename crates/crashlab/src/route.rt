@@ -3,7 +3,7 @@
 ghost use Rattle.std.specs.Prelude.{◌≡◌, ◌∷◌, [], map, take, IfOk, OnOk, IfErr};
 ghost use Rattle.crashlab.specs.Found.{line_by, route_of, with_line};
 
-use crate::hunt::{CAP, LIMIT, PROCS, WIDTH};
+use crate::hunting::{CAP, LIMIT, PROCS, WIDTH};
 use crate::hunt_fault::HuntFault;
 use crate::moves::Move;
 use schedule::Schedule;

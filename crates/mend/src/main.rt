@@ -1,7 +1,7 @@
 //! Three senders on threads of their own. One has died inside: it comes back, mends and goes on.
 #![tactic(auto)]
 
-use plans::{At, Never};
+use crash_plans::{At, Never};
 use redomail::Reply;
 use rmecore::Body;
 use robust::{Arena, Entry, LockFault, Member};

@@ -5,8 +5,8 @@ use Rattle.one_lock.proofs.Common.{EndsAtLock, reply_by, entry_by, Seat, IsTold,
 use Rattle.std.proofs.lemmas.Bool.{true≢false}
 use Rattle.redomail.specs.declared.reply.Reply.{Reply}
 use Rattle.rmeworld.specs.declared.call.Call.TheVariants.{Lock}
-use Rattle.runs.specs.declared.lock_fault.LockFault.{LockFault}
-use Rattle.runs.specs.declared.lock_fault.LockFault.TheVariants.{Crashed, OutOfMemory, NotRecoverable as RuinFault}
+use Rattle.execution.specs.declared.lock_fault.LockFault.{LockFault}
+use Rattle.execution.specs.declared.lock_fault.LockFault.TheVariants.{Crashed, OutOfMemory, NotRecoverable as RuinFault}
 use Rattle.one_lock.specs.declared.member_state.MemberState.TheVariants.{Mended}
 use Rattle.rmecore.specs.Simulated.{tally_at}
 use Rattle.rmecore.specs.declared.refusal.Refusal.{Refusal}
@@ -14,7 +14,7 @@ use Rattle.rmeworld.specs.declared.call.Call.{Call}
 use Rattle.rmeworld.specs.declared.answer.Answer.{Answer}
 use Rattle.rmeworld.specs.declared.answer.Answer.TheVariants.{NotRecoverable, Clean, OwnerDied, NumbersSpent, Unlocked, Withdrawn, Found, Mail}
 use Rattle.rmeworld.specs.Replayed.{stepped, advanced, advance_refusal}
-use Rattle.runs.specs.declared.entry_kind.Entry.{Entry}
+use Rattle.execution.specs.declared.entry_kind.Entry.{Entry}
 use Rattle.one_lock.specs.declared.opening.Opening.{Opening}
 use Rattle.one_lock.specs.declared.shared.Turn.{Turn}
 use Rattle.one_lock.specs.declared.member_state.MemberState.{MemberState}

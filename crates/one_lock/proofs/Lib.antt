@@ -3,3 +3,6 @@ pub mod Stories
 pub mod Steps
 pub mod Seats
 pub mod Answered
+pub mod LabCommon
+pub mod Endings
+pub mod Places

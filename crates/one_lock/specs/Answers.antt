@@ -13,15 +13,15 @@ use Rattle.rmeworld.specs.declared.answer.Answer.{Answer}
 use Rattle.rmeworld.specs.declared.answer.Answer.TheVariants.{Clean, OwnerDied, NumbersSpent, Found as FoundOut, Mail}
 use Rattle.rmeworld.specs.Replayed.{stepped, advanced, started, crashed, start_refusal, advance_refusal, crash_refusal}
 use Rattle.rmeworld.specs.WorldState.{WorldState}
-use Rattle.runs.specs.declared.entry_kind.Entry.{Entry}
-use Rattle.runs.specs.declared.entry_kind.Entry.TheVariants.{Clean as CleanEntry, OwnerDied as OwnerDiedEntry}
-use Rattle.runs.specs.declared.lock_fault.LockFault.{LockFault}
-use Rattle.runs.specs.declared.lock_fault.LockFault.TheVariants.{Crashed, NotYet, NumbersSpent as SpentFault, NotRecoverable as RuinFault, OutOfMemory}
+use Rattle.execution.specs.declared.entry_kind.Entry.{Entry}
+use Rattle.execution.specs.declared.entry_kind.Entry.TheVariants.{Clean as CleanEntry, OwnerDied as OwnerDiedEntry}
+use Rattle.execution.specs.declared.lock_fault.LockFault.{LockFault}
+use Rattle.execution.specs.declared.lock_fault.LockFault.TheVariants.{Crashed, NotYet, NumbersSpent as SpentFault, NotRecoverable as RuinFault, OutOfMemory}
 use Rattle.one_lock.specs.declared.opening.Opening.{Opening}
 use Rattle.one_lock.specs.declared.member_state.MemberState.{MemberState}
 use Rattle.one_lock.specs.declared.member_state.MemberState.TheVariants.{Mended}
 use Rattle.one_lock.specs.Member.{Seat, is_lost}
-use Rattle.runs.specs.declared.setup.Setup.{Setup}
+use Rattle.execution.specs.declared.setup.Setup.{Setup}
 use Rattle.one_lock.specs.Story.{IsTold, AreSizes}
 
 abbrev pub crash_by : Bool → ℕ → WorldState → WorldState

@@ -2,7 +2,7 @@
 use Rattle.std.specs.Prelude.{◌≡◌, ◌≢◌, ℕ, zero, suc, ◌+◌, ◌*◌, ◌<◌, ◌^◌, ◌⊎◌, List, [], ◌∷◌, ◌++◌, length, filter}
 use Rattle.redomail.specs.declared.message.Message.{Message}
 use Rattle.redomail.specs.Mailbox.{message, is_by}
-use Rattle.runs.specs.declared.setup.Setup.{Setup}
+use Rattle.execution.specs.declared.setup.Setup.{Setup}
 use Rattle.one_lock.specs.declared.lab.spec.Spec.{Spec}
 
 -- a number isn't 1 to `most`

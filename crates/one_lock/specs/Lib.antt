@@ -3,3 +3,5 @@ pub mod Endings
 pub mod Story
 pub mod Member
 pub mod Answers
+pub mod LabEndings
+pub mod Shown

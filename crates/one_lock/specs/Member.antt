@@ -6,10 +6,10 @@ use Rattle.rmecore.specs.declared.found.Found.TheVariants.{Inside as FoundInside
 use Rattle.redomail.specs.declared.layout.Layout.{Layout}
 use Rattle.rmeworld.specs.declared.call.Call.{Call}
 use Rattle.rmeworld.specs.declared.call.Call.TheVariants.{Lock, Recover, Consistent, Append, Close, Withdraw}
-use Rattle.runs.specs.declared.lock_fault.LockFault.{LockFault}
-use Rattle.runs.specs.declared.lock_fault.LockFault.TheVariants.{Crashed, NotYet, NumbersSpent, NotRecoverable, OutOfMemory}
-use Rattle.runs.specs.declared.entry_kind.Entry.{Entry}
-use Rattle.runs.specs.declared.entry_kind.Entry.TheVariants.{Clean, OwnerDied}
+use Rattle.execution.specs.declared.lock_fault.LockFault.{LockFault}
+use Rattle.execution.specs.declared.lock_fault.LockFault.TheVariants.{Crashed, NotYet, NumbersSpent, NotRecoverable, OutOfMemory}
+use Rattle.execution.specs.declared.entry_kind.Entry.{Entry}
+use Rattle.execution.specs.declared.entry_kind.Entry.TheVariants.{Clean, OwnerDied}
 use Rattle.one_lock.specs.declared.member_state.MemberState.{MemberState}
 use Rattle.one_lock.specs.declared.member_state.MemberState.TheVariants.{Out, Lost, Mended, Unmended}
 

@@ -6,7 +6,7 @@ use Rattle.rmeworld.specs.Replayed.{image_of}
 use Rattle.rmeworld.specs.WorldState.{WorldState, scene_of}
 use Rattle.rmeworld.specs.declared.image.Image.{Image}
 use Rattle.redomail.specs.declared.layout.Layout.{Layout}
-use Rattle.runs.specs.declared.setup.Setup.{Setup}
+use Rattle.execution.specs.declared.setup.Setup.{Setup}
 
 -- how many of the happenings are steps, loads or stores of one word
 abbrev pub steps_of : List Happening → ℕ

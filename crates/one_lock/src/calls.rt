@@ -10,11 +10,11 @@ ghost use Rattle.one_lock.specs.Member.{Goes, AskedEach, AskedOnceMore, Counts, 
 use crate::member::Member;
 use crate::member_state::MemberState;
 use crate::sizes::Sizes;
-use plans::CrashPlan;
+use crash_plans::CrashPlan;
 use redomail::Reply;
 use rmecore::{Body, Found};
 use rmeworld::{Answer, Call};
-use runs::{Entry, LockFault};
+use execution::{Entry, LockFault};
 use std::sync::Wait;
 use std::sync::ledger::Ledger;
 

@@ -6,7 +6,7 @@ use schedule::{FromReader, ToWriter};
 use std::alloc::Global;
 use std::io::{self, BufReader, BufWriter};
 use std::process::ExitCode;
-use trials::{ReplayFault, replay};
+use schedule::{ReplayFault, replay};
 
 /// Replays what standard input gives to standard output.
 fn report<R: Input + Print>(rt: &R, alloc: Global) -> Result<(), ReplayFault> {

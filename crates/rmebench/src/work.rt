@@ -5,7 +5,7 @@ ghost use Rattle.rmebench.specs.Sizes.{IsFit};
 
 use crate::fault::Fault;
 use crate::order::{MOST_MESSAGES, Order};
-use plans::Never;
+use crash_plans::Never;
 use redomail::Reply;
 use rmecore::Body;
 use robust::{Arena, LockFault, Member};

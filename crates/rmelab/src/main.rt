@@ -1,10 +1,10 @@
 //! `rmelab`: a laboratory of recoverable first-come first-served locks.
 #![tactic(auto)]
 
-use laboratory::disk::Disk;
-use laboratory::program::run_program;
-use orders::words::words_given;
-use progress::Terminal;
+use commands::disk::Disk;
+use commands::program::run_program;
+use cli::arguments::words::words_given;
+use commands::Terminal;
 use std::io::IsTerminal;
 use std::process::ExitCode;
 

@@ -31,3 +31,12 @@ pub mod Asked
 pub mod Sent
 pub mod Replies
 pub mod Storing
+pub mod ImageCommon
+pub mod ImageForms
+pub mod ImageJudged
+pub mod ImageStarts
+pub mod ImageTexts
+pub mod LineFeeds
+pub mod ImageSpelt
+pub mod ImageWidens
+pub mod WideWords

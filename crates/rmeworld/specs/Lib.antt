@@ -25,3 +25,6 @@ pub mod CallWalk
 pub mod Tallied
 pub mod Sent
 pub mod InPlace
+pub mod ImageText
+pub mod ImageWiden
+pub mod WideWords

@@ -1,6 +1,12 @@
 //! What outlives a crash of everything.
 
+pub mod beginning;
+mod form;
+pub mod laws;
+pub mod reading;
 pub mod rules;
+pub mod widening;
+pub mod writing;
 
 use crate::cells::Cells;
 use crate::owns::Owns;

@@ -7,7 +7,7 @@ use Rattle.robust.proofs.Common.{shown_on, all_both, member_at, Keeps, Holds, al
 use Rattle.robust.proofs.Common.{HasSent, sizes_of}
 use Rattle.judge.specs.Table.{State, empty}
 use Rattle.judge.proofs.Halves.{state_led}
-use Rattle.runs.specs.Rule.{Begins as Starts}
+use Rattle.execution.specs.Rule.{Begins as Starts}
 use Rattle.robust.proofs.Appended.{own_taken, own_passed, among_more}
 use Rattle.robust.proofs.Numbered.{many, few, sent_by, senders, counted_all}
 

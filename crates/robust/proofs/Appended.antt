@@ -6,12 +6,12 @@ use Rattle.robust.proofs.Common.{Unlock, Consistent, answer_at, is_idle_by, mail
 use Rattle.robust.proofs.Common.{Story, TakenStep, Entry as Entering, LockFault, Setup, spot_before, AreMoves, ServedAll, refusal_now, ready, answer_of, shown_by, judged_by, spot_at, EndsAppend}
 use Rattle.robust.proofs.Common.{EveryRunIsSound, IsPass, spot_now, Seated, began, before, spelled, own, IsRun, gone, spot_of, ToldIn, Appends, WholeEnds, calls_inside, answers_inside, gone-append}
 use Rattle.robust.proofs.Common.{own-append, spelled-append, scene-append, shown_on, OfStart}
-use Rattle.runs.proofs.Headline.{scene_at, spot_is, spelled_to}
-use Rattle.runs.proofs.Running.{spot_begun, taken_moves}
+use Rattle.execution.proofs.Headline.{scene_at, spot_is, spelled_to}
+use Rattle.execution.proofs.Running.{spot_begun, taken_moves}
 use Rattle.rmecore.specs.Paid.{is_glance}
 use Rattle.rmecore.specs.declared.refusal.Refusal.{Refusal}
 use Rattle.redomail.specs.declared.task.Task.TheVariants as task
-use Rattle.runs.specs.declared.entry_kind.Entry.TheVariants as entering
+use Rattle.execution.specs.declared.entry_kind.Entry.TheVariants as entering
 use Rattle.robust.proofs.Working.{kept_ready}
 use Rattle.robust.proofs.Errands.{none_in, Only, Brings, each_start, only_begun, Answering, find, IsTasks, task_mails}
 

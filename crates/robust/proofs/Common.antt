@@ -30,33 +30,33 @@ pub use Rattle.rmeworld.specs.Sent.{EveryMessageWasSent, IsSent, mail_after, Rep
 pub use Rattle.rmeworld.specs.Spot.{Happening, Begins, Falls, Errand, Free, Doing, Spot, Moves, at_rest, at_lock, settled, only_spot, moved_by, inside_only, begun_from, next_spot, who}
 pub use Rattle.rmeworld.specs.World.{Scene, at_first, last_scene, Story, onward, reading}
 pub use Rattle.rmeworld.proofs.ImageRules.{lawful_content}
-pub use Rattle.runs.specs.declared.entry.TakenStep.{TakenStep}
-pub use Rattle.runs.specs.declared.entry_kind.Entry.{Entry}
-pub use Rattle.runs.specs.declared.lock_fault.LockFault.{LockFault}
-pub use Rattle.runs.specs.declared.lock_fault.LockFault.TheVariants.{Crashed, NotYet, AlreadyIn}
-pub use Rattle.runs.specs.declared.setup.Setup.{Setup}
-pub use Rattle.runs.specs.Board.{last_put, value_or, LastIsOwn}
-pub use Rattle.runs.specs.Calls.{spot_before, AreMoves, ServedAll, answers_from, and_call, starts, Served}
-pub use Rattle.runs.specs.Faults.{refusal_now, ready, answer_of, CutBy}
-pub use Rattle.runs.specs.Gathering.{Gathers, IsGlance, IsTold, has_member, image_at, OneArena, procs_of, IsMissing, Absorbs, Knows, Stays}
-pub use Rattle.runs.specs.Headline.{deeds_of, shown_by, judged_by, spot_at, EndsAppend, EveryRunIsSound}
-pub use Rattle.runs.specs.Pass.{IsPass, spot_now, Pass, Calls, own_of, rest_known, alone}
-pub use Rattle.runs.specs.Reading.{cells_of, RunsShow, LoadsTell}
-pub use Rattle.runs.specs.Ruins.{AreInOrder, NobodyRuins, HasReadRuin, last_call, last_of, settles, MayStart}
-pub use Rattle.runs.specs.Rule.{count_from, stepper}
-pub use Rattle.runs.specs.Running.{Seated, fell, began}
-pub use Rattle.runs.specs.Runs.{before, taken, happenings, spelled, own, IsRun, end_of, gone, spot_of, crash_first, Goes, has, word_count}
-pub use Rattle.runs.specs.Telling.{ToldIn}
-pub use Rattle.runs.specs.Under.{Appends, Replies, Mends}
-pub use Rattle.runs.specs.Whole.{WholeEnds, calls_inside, answers_inside, AppendFails, Comes, IsFront, IsWithin, WholeFails}
-pub use Rattle.runs.proofs.Counted.{few_out, err_any, ok_any, called_counts}
-pub use Rattle.runs.proofs.Gathered.{all_left, all_right, knows_some, absorbs_on, knows_first, one_table, stays_on, looked_stays, found_first, knows_all, still_all, image_is, gathers, may_glance, all_some, looked, first_removed}
-pub use Rattle.runs.proofs.LawfulEnd.{length-counted, cells_counted, lawful_end}
-pub use Rattle.runs.proofs.Leads.{gone-append, has_one}
-pub use Rattle.runs.proofs.Opens.{size_small, mapped_more}
-pub use Rattle.runs.proofs.Runs.{by_kind, own-append, spelled-append, scene-append, legal_front, spot_in_run}
-pub use Rattle.runs.proofs.Shown.{shown_on}
-pub use Rattle.runs.proofs.Together.{all_both, member_at, Keeps, Holds, all_hold, each_holds}
+pub use Rattle.execution.specs.declared.entry.TakenStep.{TakenStep}
+pub use Rattle.execution.specs.declared.entry_kind.Entry.{Entry}
+pub use Rattle.execution.specs.declared.lock_fault.LockFault.{LockFault}
+pub use Rattle.execution.specs.declared.lock_fault.LockFault.TheVariants.{Crashed, NotYet, AlreadyIn}
+pub use Rattle.execution.specs.declared.setup.Setup.{Setup}
+pub use Rattle.execution.specs.Board.{last_put, value_or, LastIsOwn}
+pub use Rattle.execution.specs.Calls.{spot_before, AreMoves, ServedAll, answers_from, and_call, starts, Served}
+pub use Rattle.execution.specs.Faults.{refusal_now, ready, answer_of, CutBy}
+pub use Rattle.execution.specs.Gathering.{Gathers, IsGlance, IsTold, has_member, image_at, OneArena, procs_of, IsMissing, Absorbs, Knows, Stays}
+pub use Rattle.execution.specs.Headline.{deeds_of, shown_by, judged_by, spot_at, EndsAppend, EveryRunIsSound}
+pub use Rattle.execution.specs.Pass.{IsPass, spot_now, Pass, Calls, own_of, rest_known, alone}
+pub use Rattle.execution.specs.Reading.{cells_of, RunsShow, LoadsTell}
+pub use Rattle.execution.specs.Ruins.{AreInOrder, NobodyRuins, HasReadRuin, last_call, last_of, settles, MayStart}
+pub use Rattle.execution.specs.Rule.{count_from, stepper}
+pub use Rattle.execution.specs.Running.{Seated, fell, began}
+pub use Rattle.execution.specs.Runs.{before, taken, happenings, spelled, own, IsRun, end_of, gone, spot_of, crash_first, Goes, has, word_count}
+pub use Rattle.execution.specs.Telling.{ToldIn}
+pub use Rattle.execution.specs.Under.{Appends, Replies, Mends}
+pub use Rattle.execution.specs.Whole.{WholeEnds, calls_inside, answers_inside, AppendFails, Comes, IsFront, IsWithin, WholeFails}
+pub use Rattle.execution.proofs.Counted.{few_out, err_any, ok_any, called_counts}
+pub use Rattle.execution.proofs.Gathered.{all_left, all_right, knows_some, absorbs_on, knows_first, one_table, stays_on, looked_stays, found_first, knows_all, still_all, image_is, gathers, may_glance, all_some, looked, first_removed}
+pub use Rattle.execution.proofs.LawfulEnd.{length-counted, cells_counted, lawful_end}
+pub use Rattle.execution.proofs.Leads.{gone-append, has_one}
+pub use Rattle.execution.proofs.Opens.{size_small, mapped_more}
+pub use Rattle.execution.proofs.Runs.{by_kind, own-append, spelled-append, scene-append, legal_front, spot_in_run}
+pub use Rattle.execution.proofs.Shown.{shown_on}
+pub use Rattle.execution.proofs.Together.{all_both, member_at, Keeps, Holds, all_hold, each_holds}
 pub use Rattle.one_lock.specs.declared.lab.ending.Ending.TheVariants.{AllSent, Fault, Refused}
 pub use Rattle.one_lock.specs.declared.lab.lab_fault.LabFault.TheVariants.{Member}
 pub use Rattle.one_lock.specs.declared.lab.spec.Spec.{Spec}
@@ -69,4 +69,4 @@ pub use Rattle.robust.specs.LabRuns.{AreShownByRun, IsLabRun}
 pub use Rattle.robust.specs.Making.{fresh_member, fresh_members}
 pub use Rattle.robust.specs.Sending.{OfStart, IsSending, AreSending, HasSent, HasShown, SendsOnly, IsNew}
 pub use Rattle.robust.specs.Worked.{sizes_of, HasWorked, seat_done, seat_promised}
-pub use Rattle.table_calls.specs.Working.{seat_of, seats_of}
+pub use Rattle.robust.specs.Working.{seat_of, seats_of}

@@ -9,7 +9,7 @@ use Rattle.rmecore.specs.Machine.{answer}
 use Rattle.redomail.specs.Tasks.{script, consistent}
 use Rattle.rmeworld.specs.declared.why.Why.TheVariants.{Checking, Ruining, Mending, Working}
 use Rattle.rmeworld.specs.Entered.{is_entry}
-use Rattle.runs.proofs.Begun.{mends_consistent}
+use Rattle.execution.proofs.Begun.{mends_consistent}
 use Rattle.rmecore.specs.declared.core_call.CoreCall.TheVariants as core
 use Rattle.rmecore.specs.declared.core_done.CoreDone.{CoreDone}
 use Rattle.rmecore.specs.declared.core_done.CoreDone.TheVariants as ends

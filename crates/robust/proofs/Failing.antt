@@ -4,7 +4,7 @@ use Rattle.robust.proofs.Common.{TableId, Reply, IsAmong, Answer, Call, Append, 
 use Rattle.robust.proofs.Common.{judged_by, spot_now, Calls, Seated, fell, began, ToldIn, Appends, WholeEnds, AppendFails, Comes, shown_on, RefusedAt, HasShown, seat_of}
 use Rattle.rmecore.specs.declared.refusal.Refusal.TheVariants.{AlreadyIn as IsIn, CallUnderWay}
 use Rattle.redomail.specs.declared.reply.Reply.TheVariants as reply
-use Rattle.runs.specs.declared.lock_fault.LockFault.TheVariants.{NumbersSpent, NotRecoverable, BadWidth}
+use Rattle.execution.specs.declared.lock_fault.LockFault.TheVariants.{NumbersSpent, NotRecoverable, BadWidth}
 use Rattle.robust.proofs.Appended.{among_more}
 use Rattle.robust.proofs.Working.{kept_ready}
 

@@ -6,11 +6,11 @@ use Rattle.robust.proofs.Common.{has_member, image_at, shown_by, judged_by, cell
 use Rattle.robust.proofs.Common.{own-append, legal_front, shown_on, Keeps, Holds, all_hold, each_holds, AllSent, Fault, Refused, Member, Spec, fault_by, Done, IsFirstFault, EndsSo, EndsLab, WasSpent}
 use Rattle.robust.proofs.Common.{IsLabRun, OfStart, IsSending, AreSending, sizes_of, HasWorked}
 use Rattle.redomail.proofs.Changes.{length-entries}
-use Rattle.runs.proofs.Ordered.{order_more}
+use Rattle.execution.proofs.Ordered.{order_more}
 use Rattle.one_lock.specs.declared.lab.lab_fault.LabFault.{LabFault}
 use Rattle.one_lock.specs.declared.lab.lab_fault.LabFault.TheVariants.{Reply as Replied}
 use Rattle.one_lock.specs.declared.lab.ending.Ending.{Ending}
-use Rattle.runs.specs.Rule.{Begins as Starts}
+use Rattle.execution.specs.Rule.{Begins as Starts}
 use Rattle.robust.proofs.AllSent.{OfBegins, begins_all, begins_it, content_numbered, shown_entries, gathered_layout, at_most, sending_more}
 use Rattle.robust.proofs.Appended.{all_at}
 use Rattle.robust.proofs.Numbered.{senders, has_all, fewer_all}

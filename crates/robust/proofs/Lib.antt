@@ -1,3 +1,12 @@
+pub mod AccessCommon
+pub mod FreeSteps
+pub mod Peeks
+pub mod Waits
+pub mod Straight
+pub mod Entering
+pub mod FastAppend
+pub mod CallCommon
+pub mod FastCalls
 pub mod Common
 pub mod Errands
 pub mod Appended

@@ -2,7 +2,7 @@
 use Rattle.std.proofs.Common.{◌≡◌, ◌⊎◌, ℕ, List, [], ◌∷◌, ◌++◌, Result, Ok, Err, IfOk, IfErr, All, refl, sym, ap, ◌∙◌, subst, inl, inr}
 use Rattle.robust.proofs.Common.{All-nil, All-cons, All-append, Reply, Answer, Call, Append, Lock, Unlock, Consistent, TakenStep, Entry as Entering, LockFault, starts, ready, CutBy, Calls, own_of}
 use Rattle.robust.proofs.Common.{Seated, began, own, WholeEnds, calls_inside, AppendFails, Comes, IsFront, IsWithin, all_left, own-append, OfStart, IsSending, AreSending, SendsOnly}
-use Rattle.runs.specs.declared.entry_kind.Entry.TheVariants as entering
+use Rattle.execution.specs.declared.entry_kind.Entry.TheVariants as entering
 use Rattle.robust.proofs.Errands.{each_start}
 use Rattle.robust.proofs.Working.{kept_ready}
 

@@ -2,10 +2,10 @@
 use Rattle.std.proofs.Common.{◌≡◌, ◌⊎◌, ℕ, List, [], ◌∷◌, ◌++◌, Result, Ok, Err, IfErr, refl, sym, ap, ◌∙◌, subst, inl, inr}
 use Rattle.robust.proofs.Common.{Reply, Answer, NumbersSpent as SpentAnswer, Call, Append, Lock, at_rest, TakenStep, LockFault, NotYet, Setup, ServedAll, answers_from, ready, own_of, HasReadRuin}
 use Rattle.robust.proofs.Common.{Seated, began, spelled, gone, WholeEnds, AppendFails, Comes, WasSpent}
-use Rattle.runs.proofs.Ordered.{own_now}
+use Rattle.execution.proofs.Ordered.{own_now}
 use Rattle.robust.proofs.Working.{kept_ready}
-use Rattle.runs.proofs.Turned.{answers-append}
-use Rattle.runs.specs.declared.lock_fault.LockFault.TheVariants.{NumbersSpent, NotRecoverable}
+use Rattle.execution.proofs.Turned.{answers-append}
+use Rattle.execution.specs.declared.lock_fault.LockFault.TheVariants.{NumbersSpent, NotRecoverable}
 
 -- a call that is answered so
 served_spent : (x y : Seated) (order : List Call) (answers : List Answer) (blocked : ℕ) (mine : List TakenStep) → ServedAll (began (ready x) Lock) order answers blocked y mine → answers ≡ SpentAnswer ∷ [] → WasSpent y.pass.setup (own_of y.pass)

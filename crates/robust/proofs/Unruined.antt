@@ -3,10 +3,10 @@ use Rattle.std.proofs.Common.{◌≡◌, ℕ, zero, suc, ◌<◌, ◌==◌, Bool
 use Rattle.robust.proofs.Common.{cases_eq, All-nil, All-cons, Kind, Word, Layout, IsLayout, Call, Unlock, EveryRuinWasAsked, IsLeftUnmended, Happening, Begins, Falls, Spot, at_rest, next_spot, who}
 use Rattle.robust.proofs.Common.{Scene, at_first, last_scene, Story, onward, reading, TakenStep, Setup, cells_of, LoadsTell, AreInOrder, NobodyRuins, HasReadRuin, last_call, last_of, settles}
 use Rattle.robust.proofs.Common.{MayStart, before, taken, happenings, spelled, own, IsRun, end_of, spot_of, crash_first, Goes, by_kind, own-append, spelled-append, legal_front, spot_in_run}
-use Rattle.runs.proofs.OneStep.{run_goes, goes_back}
+use Rattle.execution.proofs.OneStep.{run_goes, goes_back}
 use Rattle.robust.proofs.Errands.{none_in}
 use Rattle.robust.proofs.Appended.{Own, own_split, own_taken, all_at}
-use Rattle.runs.proofs.Ruins.{walk, unlocks_mended}
+use Rattle.execution.proofs.Ruins.{walk, unlocks_mended}
 
 -- a story is its processes' own
 pub story_within : (l : Layout) (limit : ℕ) (w : Scene) (hs : List Happening) → Story l limit w hs → All (λ (h : Happening). who h < l.procs) hs

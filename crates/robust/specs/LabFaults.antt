@@ -6,9 +6,9 @@ use Rattle.rmeworld.specs.Sent.{ReplyTells}
 use Rattle.rmeworld.specs.declared.answer.Answer.{Answer}
 use Rattle.rmeworld.specs.declared.answer.Answer.TheVariants.{NumbersSpent as SpentAnswer}
 use Rattle.rmeworld.specs.Spot.{at_rest}
-use Rattle.runs.specs.declared.entry.TakenStep.{TakenStep}
-use Rattle.runs.specs.declared.setup.Setup.{Setup}
-use Rattle.runs.specs.declared.lock_fault.LockFault.TheVariants as fault
+use Rattle.execution.specs.declared.entry.TakenStep.{TakenStep}
+use Rattle.execution.specs.declared.setup.Setup.{Setup}
+use Rattle.execution.specs.declared.lock_fault.LockFault.TheVariants as fault
 use Rattle.one_lock.specs.declared.lab.lab_fault.LabFault.{LabFault}
 use Rattle.one_lock.specs.declared.lab.lab_fault.LabFault.TheVariants.{BadSpec, OutOfMemory, Member, Reply as Replied}
 use Rattle.one_lock.specs.declared.lab.spec.Spec.{Spec}
@@ -17,12 +17,12 @@ use Rattle.one_lock.specs.declared.lab.ending.Ending.{Ending}
 use Rattle.one_lock.specs.declared.lab.ending.Ending.TheVariants.{AllSent, Fault, Refused}
 use Rattle.one_lock.specs.Endings.{fault_by}
 use Rattle.one_lock.specs.Lab.{setup_of}
-use Rattle.runs.specs.Calls.{answers_from}
-use Rattle.runs.specs.Headline.{judged_by}
-use Rattle.runs.specs.Pass.{own_of}
-use Rattle.runs.specs.Ruins.{HasReadRuin}
-use Rattle.runs.specs.Running.{Seated}
-use Rattle.runs.specs.Runs.{own}
+use Rattle.execution.specs.Calls.{answers_from}
+use Rattle.execution.specs.Headline.{judged_by}
+use Rattle.execution.specs.Pass.{own_of}
+use Rattle.execution.specs.Ruins.{HasReadRuin}
+use Rattle.execution.specs.Running.{Seated}
+use Rattle.execution.specs.Runs.{own}
 use Rattle.robust.specs.LabRuns.{IsLabRun}
 use Rattle.robust.specs.Sending.{HasShown}
 

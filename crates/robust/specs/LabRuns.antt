@@ -1,9 +1,9 @@
 -- The runs that a lab leads to.
 use Rattle.std.specs.Prelude.{◌≡◌, ℕ, ◌<◌, List}
 use Rattle.redomail.specs.declared.message.Message.{Message}
-use Rattle.runs.specs.declared.entry.TakenStep.{TakenStep}
-use Rattle.runs.specs.Headline.{shown_by}
-use Rattle.runs.specs.Runs.{own, IsRun}
+use Rattle.execution.specs.declared.entry.TakenStep.{TakenStep}
+use Rattle.execution.specs.Headline.{shown_by}
+use Rattle.execution.specs.Runs.{own, IsRun}
 use Rattle.one_lock.specs.declared.lab.spec.Spec.{Spec}
 use Rattle.one_lock.specs.Lab.{setup_of}
 use Rattle.robust.specs.Sending.{AreSending}

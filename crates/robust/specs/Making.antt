@@ -3,10 +3,10 @@ use Rattle.std.specs.Prelude.{ℕ, ◌^◌, ◌&&◌, nat_lt, nat_le, if◌then�
 use Rattle.atomic_table.specs.Seated.{TableId}
 use Rattle.rmecore.specs.declared.refusal.Refusal.{Refusal}
 use Rattle.rmecore.specs.declared.refusal.Refusal.TheVariants.{BadProcs, BadLimit, BadCap, BadWidth}
-use Rattle.runs.specs.declared.setup.Setup.{Setup}
-use Rattle.runs.specs.Rule.{count_from}
-use Rattle.runs.specs.Pass.{fresh}
-use Rattle.runs.specs.Running.{Seated}
+use Rattle.execution.specs.declared.setup.Setup.{Setup}
+use Rattle.execution.specs.Rule.{count_from}
+use Rattle.execution.specs.Pass.{fresh}
+use Rattle.execution.specs.Running.{Seated}
 
 -- why a lock of these sizes isn't made. Want of memory is no such cause
 abbrev pub making_refusal : ℕ → ℕ → ℕ → ℕ → Option Refusal

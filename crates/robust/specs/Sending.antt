@@ -3,13 +3,13 @@ use Rattle.std.specs.Prelude.{◌≡◌, ℕ, ◌≤◌, List, [], Option, Some,
 use Rattle.redomail.specs.Mailbox.{IsAmong}
 use Rattle.rmeworld.specs.declared.call.Call.{Call}
 use Rattle.rmeworld.specs.declared.call.Call.TheVariants.{Lock, Unlock, Consistent, Append}
-use Rattle.runs.specs.declared.entry.TakenStep.{TakenStep}
-use Rattle.runs.specs.declared.setup.Setup.{Setup}
-use Rattle.runs.specs.Faults.{refusal_now, ready}
-use Rattle.runs.specs.Headline.{shown_by}
+use Rattle.execution.specs.declared.entry.TakenStep.{TakenStep}
+use Rattle.execution.specs.declared.setup.Setup.{Setup}
+use Rattle.execution.specs.Faults.{refusal_now, ready}
+use Rattle.execution.specs.Headline.{shown_by}
 use Rattle.one_lock.specs.Lab.{words_sent}
-use Rattle.runs.specs.Pass.{own_of}
-use Rattle.runs.specs.Running.{Seated}
+use Rattle.execution.specs.Pass.{own_of}
+use Rattle.execution.specs.Running.{Seated}
 
 -- what holds of the call that a step starts, if it does
 abbrev pub OfStart : (Call → Type 0) → Option Call → Type 0

@@ -1,15 +1,15 @@
 -- What workers that have ended hand back.
 use Rattle.std.specs.Prelude.{ℕ, None}
 use Rattle.atomic_table.specs.Seated.{TableId}
-use Rattle.runs.specs.declared.setup.Setup.{Setup}
+use Rattle.execution.specs.declared.setup.Setup.{Setup}
 use Rattle.one_lock.specs.declared.lab.spec.Spec.{Spec}
 use Rattle.robust.specs.declared.lab.worker.Done.{Done}
 use Rattle.robust.specs.declared.lab.worker.HandsBack.{HandsBack}
 use Rattle.robust.specs.LabFaults.{EndsSo}
-use Rattle.runs.specs.Pass.{own_of}
-use Rattle.runs.specs.Ruins.{AreInOrder}
+use Rattle.execution.specs.Pass.{own_of}
+use Rattle.execution.specs.Ruins.{AreInOrder}
 use Rattle.robust.specs.Sending.{SendsOnly}
-use Rattle.table_calls.specs.Working.{seat_of}
+use Rattle.robust.specs.Working.{seat_of}
 
 -- the seat of the member that a worker has handed back
 abbrev pub seat_done : Done → TableId × Setup × ℕ

@@ -3,18 +3,18 @@ ghost use Rattle.std.specs.Prelude.{◌≡◌, ℕ, ◌<◌, ◌≤◌, ◌^◌,
 ghost use Rattle.redomail.specs.Layout.{size};
 ghost use Rattle.rmeworld.specs.Stand.{IsSize};
 ghost use Rattle.atomic_table.specs.Seated.{TableId};
-ghost use Rattle.runs.specs.Runs.{word_count};
+ghost use Rattle.execution.specs.Runs.{word_count};
 ghost use Rattle.robust.specs.Making.{making_refusal, fresh_members};
 
 use crate::member::Member;
 use redomail::Layout;
 use rmecore::Refusal;
-use runs::Setup;
+use execution::Setup;
 use std::alloc::{AllocError, Global};
 use std::sync::Arc;
-use table_walk::Walker;
-use table_walk::table::Board;
-use table_walk::walker::data_words;
+use crate::access::walker::Walker;
+use crate::access::table::Board;
+use crate::access::walker::data_words;
 
 /// Makes the members of a running lock with its mailbox.
 pub struct Arena;

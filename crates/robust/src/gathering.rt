@@ -5,21 +5,21 @@ ghost use Rattle.redomail.specs.Layout.{size};
 ghost use Rattle.rmeworld.specs.ImageRules.{IsLawfulImage};
 ghost use Rattle.rmeworld.specs.Stand.{IsSize};
 ghost use Rattle.one_lock.specs.declared.gather_fault.GatherFault.TheVariants.{NotAll, OutOfMemory};
-ghost use Rattle.runs.specs.Runs.{InTable, IsRun, end_of, has as answers_for, word_count};
-ghost use Rattle.runs.specs.Rule.{count_from, Did, IsIn, stepper};
-ghost use Rattle.runs.specs.Pass.{alone, glanced};
-ghost use Rattle.runs.specs.Gathering.{OneArena, has_member, IsMissing, Gathers, Knows, Absorbs, AnswersAll, Looked, Stays};
+ghost use Rattle.execution.specs.Runs.{InTable, IsRun, end_of, has as answers_for, word_count};
+ghost use Rattle.execution.specs.Rule.{count_from, Did, IsIn, stepper};
+ghost use Rattle.execution.specs.Pass.{alone, glanced};
+ghost use Rattle.execution.specs.Gathering.{OneArena, has_member, IsMissing, Gathers, Knows, Absorbs, AnswersAll, Looked, Stays};
 
 use crate::member::Member;
 use one_lock::GatherFault;
 use rmecore::{Own, Word};
 use rmeworld::{Cells, Image, Owns};
-use runs::Setup;
+use execution::Setup;
 use std::alloc::Global;
 use std::sync::Arc;
-use table_walk::table;
-use table_walk::table::{Board, RunSeat};
-use table_walk::walker::{Walker, data_words, index};
+use crate::access::table;
+use crate::access::table::{Board, RunSeat};
+use crate::access::walker::{Walker, data_words, index};
 
 /// The words of an arena, once all its members are back: those at the end of the one run of which each member's pass is a
 /// beginning. The caller gives members of one arena, in any order. With a fault the members are handed back as they were:

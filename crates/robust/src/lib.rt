@@ -1,7 +1,9 @@
 //! The running lock: members that step over the words of one atomic table, each with a pass, a beginning of one run.
 #![tactic(auto)]
 
+pub mod access;
 pub mod arena;
+pub mod call;
 pub mod gathering;
 pub mod lab;
 pub mod laws;
@@ -14,4 +16,4 @@ pub use lab::{Gate, LabFault, LabResult, Spec, run_lab};
 pub use member::Member;
 pub use one_lock;
 pub use one_lock::GatherFault;
-pub use runs::{Entry, LockFault, Setup};
+pub use execution::{Entry, LockFault, Setup};

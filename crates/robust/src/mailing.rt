@@ -2,22 +2,22 @@
 //! the task's reply.
 ghost use Rattle.std.specs.Prelude.{◌≡◌, ◌≢◌, ◌⊎◌, ℕ, ◌+◌, ◌≤◌, length, Ok, Err, IfOk, IfErr, OnOk};
 ghost use Rattle.redomail.specs.Mailbox.{IsAmong};
-ghost use Rattle.runs.specs.Running.{began};
-ghost use Rattle.runs.specs.Faults.{refusal_now, ready};
-ghost use Rattle.runs.specs.Headline.{shown_by};
-ghost use Rattle.runs.specs.Telling.{ToldIn};
-ghost use Rattle.runs.specs.Under.{Appends};
-ghost use Rattle.table_calls.specs.Working.{seat_of};
-ghost use Rattle.runs.specs.WholeSteps.{most_whole};
-ghost use Rattle.runs.specs.Whole.{WholeEnds, WholeFails, AppendFails};
+ghost use Rattle.execution.specs.Running.{began};
+ghost use Rattle.execution.specs.Faults.{refusal_now, ready};
+ghost use Rattle.execution.specs.Headline.{shown_by};
+ghost use Rattle.execution.specs.Telling.{ToldIn};
+ghost use Rattle.execution.specs.Under.{Appends};
+ghost use Rattle.robust.specs.Working.{seat_of};
+ghost use Rattle.execution.specs.WholeSteps.{most_whole};
+ghost use Rattle.execution.specs.Whole.{WholeEnds, WholeFails, AppendFails};
 
 use crate::laws;
 use crate::member::Member;
-use plans::CrashPlan;
+use crash_plans::CrashPlan;
 use redomail::Reply;
 use rmecore::Body;
 use rmeworld::Call;
-use runs::LockFault;
+use execution::LockFault;
 use std::sync::Wait;
 
 impl Member {

@@ -1,30 +1,30 @@
 //! A process of the running lock.
 ghost use Rattle.std.specs.Prelude.{◌≡◌, ◌≢◌, ℕ, ◌+◌, ◌*◌, ◌≤◌, ◌⊎◌, List, [], ◌∷◌, length, Some, None, Err, IfOk, IfErr, OnOk, OnErr};
 ghost use Rattle.redomail.specs.declared.reply.Reply.{Reply as ReplyOf};
-ghost use Rattle.runs.specs.declared.entry.TakenStep.{TakenStep};
+ghost use Rattle.execution.specs.declared.entry.TakenStep.{TakenStep};
 ghost use Rattle.rmeworld.specs.OwnSteps.{most_steps};
-ghost use Rattle.runs.specs.Pass.{fresh, spot_now, IsPass};
-ghost use Rattle.runs.specs.Running.{Seated, began};
-ghost use Rattle.runs.specs.Calls.{Served, Calm};
-ghost use Rattle.runs.specs.Under.{Fits};
-ghost use Rattle.runs.specs.Reading.{ReadsFrom, ReadsCount};
-ghost use Rattle.runs.specs.Headline.{IsSoundRun};
-ghost use Rattle.runs.specs.Tabled.{table_steps, LockCounts, LockCountsOut};
-ghost use Rattle.table_calls.specs.Working.{seat_of};
-ghost use Rattle.runs.specs.Board.{last_put, value_or, LastIsOwn};
-ghost use Rattle.runs.specs.Faults.{refusal_now, ready, Fails, FailsOut, AnsweredIn, LockEnds, LockFails, answer_of};
+ghost use Rattle.execution.specs.Pass.{fresh, spot_now, IsPass};
+ghost use Rattle.execution.specs.Running.{Seated, began};
+ghost use Rattle.execution.specs.Calls.{Served, Calm};
+ghost use Rattle.execution.specs.Under.{Fits};
+ghost use Rattle.execution.specs.Reading.{ReadsFrom, ReadsCount};
+ghost use Rattle.execution.specs.Headline.{IsSoundRun};
+ghost use Rattle.execution.specs.Tabled.{table_steps, LockCounts, LockCountsOut};
+ghost use Rattle.robust.specs.Working.{seat_of};
+ghost use Rattle.execution.specs.Board.{last_put, value_or, LastIsOwn};
+ghost use Rattle.execution.specs.Faults.{refusal_now, ready, Fails, FailsOut, AnsweredIn, LockEnds, LockFails, answer_of};
 
 use crate::laws;
-use plans::CrashPlan;
+use crash_plans::CrashPlan;
 use redomail::{Message, Reply};
 use rmecore::Found;
 use rmeworld::{Answer, Call};
-use runs::{Entry, LockFault, Setup};
+use execution::{Entry, LockFault, Setup};
 use std::alloc::{AllocError, Global};
 use std::marker::Model;
 use std::sync::Wait;
-use table_calls::Runner;
-use table_walk::Walker;
+use crate::call::runner::Runner;
+use crate::access::walker::Walker;
 
 /// A process of the running lock. It owns a seat at the table and may move to a thread. Contracts see it as its pass, a
 /// beginning of the one run, with the own steps of its last call.
@@ -40,7 +40,7 @@ pub struct Member {
 
 impl Model for Member {
     ghost use Rattle.std.specs.Prelude.{◌≡◌, None};
-    ghost use Rattle.runs.specs.Running.{Seated};
+    ghost use Rattle.execution.specs.Running.{Seated};
 
     ghost Value = { Seated };
 

@@ -1,12 +1,12 @@
 -- First lines: what is read is spelled so, and what is spelled so is read.
 use Rattle.std.proofs.Common.{◌≡◌, ℕ, suc, ◌^◌, ◌<◌, ◌≤◌, ◌==◌, Bool, true, false, cond, not, if◌then◌else◌, slice_index_or, eqb, codes, List, [], ◌∷◌, ◌++◌, length, Ok, refl, sym, ap, ◌∙◌, arith, inl, inr, lit<, lit≤, ne_eqb}
-use Rattle.schedule.proofs.Common.{AllByRecursion, LineFault, NoHeader, Form, named_sizes, words_of_width, words_of_header, IsHeader, is_wide, size_places, width_places, header_places, Shape}
-use Rattle.schedule.proofs.Common.{has_fixed, numbers_at, ◌>>=◌}
+use Rattle.schedule.proofs.TextsCommon.{AllByRecursion, LineFault, NoHeader, Form, named_sizes, words_of_width, words_of_header, IsHeader, is_wide, size_places, width_places, header_places, Shape}
+use Rattle.schedule.proofs.TextsCommon.{has_fixed, numbers_at, ◌>>=◌}
 use Rattle.schedule.specs.Headers.{header_at}
 use Rattle.std.proofs.lemmas.Bool.{cases_eq}
 use Rattle.std.specs.Fmt.{decimal}
-use Rattle.lines.proofs.Places.{bind_ok, taken, ok_is, spelled, Fits, AreNarrow, numbers_take, numbers_again, fixed_again}
-use Rattle.lines.proofs.Joins.{ArePlain, is_above, decimal_above}
+use Rattle.schedule.proofs.Places.{bind_ok, taken, ok_is, spelled, Fits, AreNarrow, numbers_take, numbers_again, fixed_again}
+use Rattle.schedule.proofs.Joins.{ArePlain, is_above, decimal_above}
 
 -- the numbers of a width: none for 1
 abbrev pub of_width : ℕ → List ℕ

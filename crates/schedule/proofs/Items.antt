@@ -1,6 +1,6 @@
 -- Reading lines one after the other, as a loop does.
 use Rattle.std.proofs.Common.{◌≡◌, ℕ, ◌+◌, ◌<◌, false, eqb, List, [], ◌∷◌, ◌++◌, length, Result, Ok, Err, refl, sym, ap, ◌∙◌, append_assoc, arith, ne_eqb, append-nil}
-use Rattle.schedule.proofs.Common.{length-slice_split, LineFault, NoNewline, parts_of, on_line, items_at, words_of, ◌>>=◌}
+use Rattle.schedule.proofs.TextsCommon.{length-slice_split, LineFault, NoNewline, parts_of, on_line, items_at, words_of, ◌>>=◌}
 
 module _ {A : Type 0} (item : List (List ℕ) → Result A LineFault) where
   -- what was read before, and what is still read

@@ -1,12 +1,12 @@
 -- A schedule's text: what is read is spelled so, and what is spelled so is read.
 use Rattle.std.proofs.Common.{◌≡◌, ℕ, List, [], ◌∷◌, ◌++◌, arith, Ok, refl, ap, subst}
-use Rattle.schedule.proofs.Common.{LineFault, words_of_line, IsLine, line_at, IsHeader, Scheduled, head_at, schedule_at, scheduled_with, words_of_head, head_of, sizes_of, schedule_form, head_with}
-use Rattle.schedule.proofs.Common.{spelling, IsHead, IsScheduled, parts_of, text_at}
-use Rattle.schedule.specs.declared.head.Head.{Head}
-use Rattle.lines.proofs.Places.{bind_ok, ok_is}
-use Rattle.lines.proofs.Commands.{line_codec}
+use Rattle.schedule.proofs.TextsCommon.{LineFault, words_of_line, IsLine, line_at, IsHeader, Scheduled, head_at, schedule_at, scheduled_with, words_of_head, head_of, sizes_of, schedule_form, head_with}
+use Rattle.schedule.proofs.TextsCommon.{spelling, IsHead, IsScheduled, parts_of, text_at}
+use Rattle.schedule.specs.declared.texts.head.Head.{Head}
+use Rattle.schedule.proofs.Places.{bind_ok, ok_is}
+use Rattle.schedule.proofs.Commands.{line_codec}
 use Rattle.schedule.proofs.Heads.{of_width, last_width, header_takes, header_again, header_plain}
-use Rattle.lines.proofs.Joins.{IsCodec}
+use Rattle.schedule.proofs.Joins.{IsCodec}
 use Rattle.schedule.proofs.Texts.{text_takes, text_again}
 
 -- a header's numbers are its sizes and, unless it is 1, its width

@@ -1,11 +1,11 @@
 -- A whole text: what is read is spelled so, and what is spelled so is read.
 use Rattle.std.proofs.Common.{◌≡◌, ℕ, ◌+◌, ◌==◌, Bool, true, false, cond, List, [], ◌∷◌, ◌++◌, length, Result, Ok, Err, IfOk, refl, sym, ap, subst, ◌∙◌, append_assoc, eqb-true}
-use Rattle.schedule.proofs.Common.{join_with_byte-slice_split, join_with_byte, AllByRecursion, flat_map, LineFault, NoNewline, TextFault, parts_of, line_of, on_line, Gives, text_at, items_at}
-use Rattle.schedule.proofs.Common.{words_of, ◌>>=◌}
+use Rattle.schedule.proofs.TextsCommon.{join_with_byte-slice_split, join_with_byte, AllByRecursion, flat_map, LineFault, NoNewline, TextFault, parts_of, line_of, on_line, Gives, text_at, items_at}
+use Rattle.schedule.proofs.TextsCommon.{words_of, ◌>>=◌}
 use Rattle.std.proofs.lemmas.List.{nil_from_length}
 use Rattle.std.proofs.lemmas.List.Concat.{flat_map-cons}
-use Rattle.lines.proofs.Places.{bind_ok, ok_is, taken}
-use Rattle.lines.proofs.Joins.{IsCodec, words_of-join, parts_of-line}
+use Rattle.schedule.proofs.Places.{bind_ok, ok_is, taken}
+use Rattle.schedule.proofs.Joins.{IsCodec, words_of-join, parts_of-line}
 use Rattle.schedule.proofs.Items.{items_at-cut}
 use Rattle.schedule.proofs.Wholes.{text_at-cut}
 

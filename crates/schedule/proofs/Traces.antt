@@ -1,13 +1,13 @@
 -- A trace's text: what is read is spelled so, and what is spelled so is read.
 use Rattle.std.proofs.Common.{◌≡◌, ℕ, List, [], ◌∷◌, ◌++◌, arith, Ok, refl, ap, subst}
-use Rattle.schedule.proofs.Common.{LineFault, IsHeader, parts_of, text_at, trace_head_at, Traced, words_of_trace_head, trace_head_of, trace_sizes, trace_form, trace_head_with, trace_spelling}
-use Rattle.schedule.proofs.Common.{IsTraceHead, IsTraced, traced_with, trace_at}
-use Rattle.schedule.specs.declared.trace.TraceHead.{TraceHead}
-use Rattle.lines.specs.Deeds.{deed_at, words_of_deed, IsDeed}
-use Rattle.lines.proofs.Places.{bind_ok, ok_is}
-use Rattle.lines.proofs.Deeds.{deed_codec}
+use Rattle.schedule.proofs.TextsCommon.{LineFault, IsHeader, parts_of, text_at, trace_head_at, Traced, words_of_trace_head, trace_head_of, trace_sizes, trace_form, trace_head_with, trace_spelling}
+use Rattle.schedule.proofs.TextsCommon.{IsTraceHead, IsTraced, traced_with, trace_at}
+use Rattle.schedule.specs.declared.texts.trace.TraceHead.{TraceHead}
+use Rattle.schedule.specs.Deeds.{deed_at, words_of_deed, IsDeed}
+use Rattle.schedule.proofs.Places.{bind_ok, ok_is}
+use Rattle.schedule.proofs.Deeds.{deed_codec}
 use Rattle.schedule.proofs.Heads.{of_width, last_width, header_takes, header_again, header_plain}
-use Rattle.lines.proofs.Joins.{IsCodec}
+use Rattle.schedule.proofs.Joins.{IsCodec}
 use Rattle.schedule.proofs.Texts.{text_takes, text_again}
 
 -- a header's numbers are its sizes and, unless it is 1, its width

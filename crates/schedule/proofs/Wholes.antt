@@ -1,7 +1,7 @@
 -- Reading a whole text.
 use Rattle.std.proofs.Common.{◌≡◌, ℕ, ◌<◌, false, eqb, List, [], ◌∷◌, length, Result, Ok, Err, refl, ap, ◌∙◌, arith, ne_eqb}
-use Rattle.schedule.proofs.Common.{length-slice_split, LineFault, NoHeader, NoNewline, TextFault, parts_of, Fails, on_line, text_at, items_at, words_of, ◌>>=◌}
-use Rattle.schedule.specs.declared.fault.TextFault.TheVariants as faults
+use Rattle.schedule.proofs.TextsCommon.{length-slice_split, LineFault, NoHeader, NoNewline, TextFault, parts_of, Fails, on_line, text_at, items_at, words_of, ◌>>=◌}
+use Rattle.schedule.specs.declared.texts.fault.TextFault.TheVariants as faults
 
 module _ {H A : Type 0} (head : List (List ℕ) → Result H LineFault) (item : H → List (List ℕ) → Result A LineFault) where
   pub text_at-cons : (line : List ℕ) (parts : List (List ℕ)) → 0 < length parts

@@ -3,9 +3,9 @@
 use Rattle.std.specs.Prelude.{◌≡◌, ℕ, ◌<◌, ◌≤◌, ◌^◌, ◌==◌, Bool, List, [], ◌∷◌, ◌++◌, drop, length, Result, Ok, Err, if◌then◌else◌, codes}
 use Rattle.std.specs.List.{AllByRecursion}
 use Rattle.std.specs.Fmt.{decimal}
-use Rattle.lines.specs.declared.fault.LineFault.{LineFault}
-use Rattle.lines.specs.declared.fault.LineFault.TheVariants.{NoHeader}
-use Rattle.lines.specs.Words.{Shape, Fixed, Number, any, begins_with, has_fixed, numbers_at, ◌>>=◌}
+use Rattle.schedule.specs.declared.lines.fault.LineFault.{LineFault}
+use Rattle.schedule.specs.declared.lines.fault.LineFault.TheVariants.{NoHeader}
+use Rattle.schedule.specs.Words.{Shape, Fixed, Number, any, begins_with, has_fixed, numbers_at, ◌>>=◌}
 
 -- the first word of such a header, and the names of its sizes
 pub record Form : Type 0 where

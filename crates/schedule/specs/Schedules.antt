@@ -1,12 +1,12 @@
 -- Schedules as texts.
 use Rattle.std.specs.Prelude.{ℕ, List, [], ◌∷◌, ◌++◌, Result, Ok, codes, slice_index, slice_index_or}
 use Rattle.std.specs.List.{AllByRecursion, flat_map}
-use Rattle.lines.specs.declared.fault.LineFault.{LineFault}
-use Rattle.lines.specs.declared.line.Line.{Line}
-use Rattle.schedule.specs.declared.head.Head.{Head}
-use Rattle.lines.specs.Words.{◌>>=◌, line_of, parts_of}
+use Rattle.schedule.specs.declared.lines.fault.LineFault.{LineFault}
+use Rattle.schedule.specs.declared.lines.line.Line.{Line}
+use Rattle.schedule.specs.declared.texts.head.Head.{Head}
+use Rattle.schedule.specs.Words.{◌>>=◌, line_of, parts_of}
 use Rattle.schedule.specs.Headers.{Form, IsHeader, words_of_header, header_at}
-use Rattle.lines.specs.Commands.{words_of_line, IsLine, line_at}
+use Rattle.schedule.specs.Commands.{words_of_line, IsLine, line_at}
 use Rattle.schedule.specs.Texts.{text_at}
 
 -- a schedule without where it lies in memory

@@ -1,10 +1,10 @@
 -- A text is lines: the first says what the text is of, and each other is an item. The first faulty line gives the fault.
 use Rattle.std.specs.Prelude.{◌≡◌, ℕ, ◌+◌, ◌==◌, List, [], ◌∷◌, length, Result, Ok, Err, if◌then◌else◌}
-use Rattle.lines.specs.declared.fault.LineFault.{LineFault}
-use Rattle.lines.specs.declared.fault.LineFault.TheVariants.{NoHeader, NoNewline}
-use Rattle.schedule.specs.declared.fault.TextFault.{TextFault}
-use Rattle.schedule.specs.declared.fault.TextFault.TheVariants as faults
-use Rattle.lines.specs.Words.{words_of, ◌>>=◌}
+use Rattle.schedule.specs.declared.lines.fault.LineFault.{LineFault}
+use Rattle.schedule.specs.declared.lines.fault.LineFault.TheVariants.{NoHeader, NoNewline}
+use Rattle.schedule.specs.declared.texts.fault.TextFault.{TextFault}
+use Rattle.schedule.specs.declared.texts.fault.TextFault.TheVariants as faults
+use Rattle.schedule.specs.Words.{words_of, ◌>>=◌}
 
 -- a fault, with the number of its line
 abbrev pub on_line : {A : Type 0} → ℕ → Result A LineFault → Result A (ℕ × LineFault)

@@ -1,12 +1,12 @@
 -- Traces as texts.
 use Rattle.std.specs.Prelude.{ℕ, List, [], ◌∷◌, ◌++◌, Result, Ok, codes, slice_index, slice_index_or}
 use Rattle.std.specs.List.{AllByRecursion, flat_map}
-use Rattle.lines.specs.declared.fault.LineFault.{LineFault}
+use Rattle.schedule.specs.declared.lines.fault.LineFault.{LineFault}
 use Rattle.redomail.specs.declared.deed.Deed.{Deed}
-use Rattle.schedule.specs.declared.trace.TraceHead.{TraceHead}
-use Rattle.lines.specs.Words.{◌>>=◌, line_of, parts_of}
+use Rattle.schedule.specs.declared.texts.trace.TraceHead.{TraceHead}
+use Rattle.schedule.specs.Words.{◌>>=◌, line_of, parts_of}
 use Rattle.schedule.specs.Headers.{Form, IsHeader, words_of_header, header_at}
-use Rattle.lines.specs.Deeds.{words_of_deed, IsDeed, deed_at}
+use Rattle.schedule.specs.Deeds.{words_of_deed, IsDeed, deed_at}
 use Rattle.schedule.specs.Texts.{text_at}
 
 -- a trace without where it lies in memory

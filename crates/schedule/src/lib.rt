@@ -1,19 +1,23 @@
-//! Schedules and traces as texts, read and written, and the devices that their bytes come from and go to.
+//! Schedules, traces and reports: their texts, and replays of a schedule on any machine before any judge.
 #![tactic(auto)]
 
-pub mod device;
-pub mod fault;
-pub mod head;
-pub mod laws;
-pub mod schedule;
-pub mod trace;
-pub mod whole;
-pub mod wrapped;
-mod writing;
+pub mod lexer;
+pub mod lines;
+pub mod replays;
+pub mod texts;
 
-pub use device::{Failed, Page, Sink, Source, Text};
-pub use fault::{OutOfMemory, TextFault};
-pub use schedule::{Schedule, read_schedule};
-pub use trace::{Trace, read_trace};
-pub use wrapped::{FromReader, ToWriter};
-pub use writing::write_schedule;
+pub use lines::count::Count;
+pub use lines::fault::LineFault;
+pub use lines::line::Line;
+pub use replays::last_words::put_verdict;
+pub use replays::replay_fault::ReplayFault;
+pub use replays::replay_text::replay;
+pub use replays::replaying::replay_on;
+pub use replays::trial::judge_trace;
+pub use replays::verdict::Verdict;
+pub use texts::device::{Failed, Page, Sink, Source, Text};
+pub use texts::fault::{OutOfMemory, TextFault};
+pub use texts::schedule::{Schedule, read_schedule};
+pub use texts::trace::{Trace, read_trace};
+pub use texts::wrapped::{FromReader, ToWriter};
+pub use texts::writing::write_schedule;

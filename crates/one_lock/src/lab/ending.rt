@@ -1,7 +1,7 @@
 //! How a worker of a lab ended.
 
 use redomail::Reply;
-use runs::LockFault;
+use execution::LockFault;
 
 /// How a worker ended.
 #[derive(Clone, Copy, Debug, PartialEq, Eq)]

@@ -2,7 +2,7 @@
 
 ghost use Rattle.std.specs.Prelude.{◌≡◌, ⊤, ℕ};
 
-use plans::{CrashPlan, Never, Seeded};
+use crash_plans::{CrashPlan, Never, Seeded};
 
 /// A worker's plan of crashes, which also hears of the worker's answers. A test can hold a worker at an asking by one.
 pub trait Gate: CrashPlan {

@@ -1,7 +1,7 @@
 //! Why a lab has no result.
 
 use redomail::Reply;
-use runs::LockFault;
+use execution::LockFault;
 use thiserror::Error;
 
 /// Why a lab has no result. `BadSpec` and `OutOfMemory` come first, then what ended the least worker that has ended early.

@@ -5,7 +5,7 @@ ghost use Rattle.one_lock.specs.Lab.{words_sent};
 
 use redomail::Reply;
 use rmecore::Body;
-use runs::LockFault;
+use execution::LockFault;
 
 /// The value of worker p's message with this number, of so many words: word j is 1,000,000 * p + seq + j.
 pub fn value_sent(p: u64, seq: u64, width: u64) -> Body

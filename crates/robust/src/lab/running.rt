@@ -13,7 +13,7 @@ ghost use Rattle.robust.specs.LabRuns.{AreShownByRun};
 ghost use Rattle.robust.specs.Making.{fresh_members};
 ghost use Rattle.robust.specs.Worked.{seat_done, seat_promised, sizes_of, HasWorked};
 ghost use Rattle.robust.specs.Sending.{IsNew};
-ghost use Rattle.table_calls.specs.Working.{seats_of};
+ghost use Rattle.robust.specs.Working.{seats_of};
 
 use crate::arena::Arena;
 use crate::gathering::gather;

@@ -2,22 +2,22 @@
 
 ghost use Rattle.std.specs.Prelude.{◌≡◌, ◌≤◌, ◌⊎◌, ℕ, None, IfOk, IfErr, OnOk, length};
 ghost use Rattle.rmeworld.specs.declared.call.Call.TheVariants.{Lock, Append};
-ghost use Rattle.runs.specs.Faults.{refusal_now, ready};
-ghost use Rattle.runs.specs.Pass.{own_of};
-ghost use Rattle.runs.specs.Ruins.{AreInOrder, HasReadRuin};
-ghost use Rattle.runs.specs.Telling.{ToldIn};
-ghost use Rattle.runs.specs.Under.{Appends};
+ghost use Rattle.execution.specs.Faults.{refusal_now, ready};
+ghost use Rattle.execution.specs.Pass.{own_of};
+ghost use Rattle.execution.specs.Ruins.{AreInOrder, HasReadRuin};
+ghost use Rattle.execution.specs.Telling.{ToldIn};
+ghost use Rattle.execution.specs.Under.{Appends};
 ghost use Rattle.robust.specs.LabFaults.{WasSpent};
 ghost use Rattle.robust.specs.Worked.{HasWorked, sizes_of};
 ghost use Rattle.robust.specs.Sending.{IsNew, IsSending, SendsOnly, HasShown};
-ghost use Rattle.table_calls.specs.Working.{seat_of};
+ghost use Rattle.robust.specs.Working.{seat_of};
 
 use crate::member::Member;
 use one_lock::lab::sending::{is_crash, is_sent, value_sent};
 use one_lock::lab::{Ending, Gate, Spec};
 use redomail::Reply;
 use rmecore::Body;
-use runs::LockFault;
+use execution::LockFault;
 use std::snapshot::Snapshot;
 use std::sync::Wait;
 use std::thread::Promise;
@@ -36,7 +36,7 @@ pub struct HandsBack(pub Snapshot<Member>, pub Spec);
 impl Promise<Done> for HandsBack {
     ghost use Rattle.std.specs.Prelude.{◌≡◌};
     ghost use Rattle.robust.specs.Worked.{HasWorked};
-    ghost use Rattle.table_calls.specs.Working.{seat_of};
+    ghost use Rattle.robust.specs.Working.{seat_of};
 
     ghost kept_by = { λ promise done. (seat_of done.member ≡ seat_of promise.0.value) × HasWorked promise.1 done };
 }

@@ -1,6 +1,6 @@
 use Rattle.std.proofs.Common.{◌≡◌, ℕ, ◌+◌, ◌*◌, List, [], ◌∷◌, ◌++◌, map, replicate, sym, ap, ◌∙◌, arith}
 use Rattle.robust.proofs.Common.{TableId, Pass, count_from, Seated, word_count, size_small, mapped_more, fresh_member}
-use Rattle.runs.proofs.Keeps.{opens}
+use Rattle.execution.proofs.Keeps.{opens}
 use Rattle.robust.proofs.arena.made.Goals as goal
 
 pub overflow_add-count : goal.overflow_add-count

@@ -1,7 +1,7 @@
 use Rattle.std.proofs.Common.{◌≡◌, ◌<◌, ℕ, true, List, sym, ap, ◌∙◌, subst, arith}
 use Rattle.robust.proofs.Common.{TableId, stepper, has, has_one}
-use Rattle.runs.specs.declared.entry.Known.{Known}
-use Rattle.runs.proofs.Keeps.{glues}
+use Rattle.execution.specs.declared.entry.Known.{Known}
+use Rattle.execution.proofs.Keeps.{glues}
 use Rattle.robust.proofs.gathering.absorb.Goals as goal
 
 pub take_in-requires : goal.take_in-requires

@@ -1,5 +1,5 @@
 use Rattle.robust.proofs.Common.{deeds_of, spelled}
-use Rattle.runs.proofs.Headline.{answered, words_sit}
+use Rattle.execution.proofs.Headline.{answered, words_sit}
 use Rattle.robust.proofs.laws.every_run_is_sound.Goals as goal
 
 pub returns : goal.returns

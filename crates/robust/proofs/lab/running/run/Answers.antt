@@ -1,7 +1,7 @@
 use Rattle.std.proofs.Common.{◌≡◌, ◌∙◌, List, map, All, slice_index, sym, ap, subst}
 use Rattle.robust.proofs.Common.{words_of, entries, IsNumbered, Gathers, Seated, AllSent, AreAllSent, Done, IsFirstFault, AreShownByRun, HasSent, sizes_of, seats_of}
 use Rattle.std.specs.Prelude.{vec_len}
-use Rattle.runs.proofs.Glanced.{both_ok}
+use Rattle.execution.proofs.Glanced.{both_ok}
 use Rattle.robust.proofs.AllSent.{lab_sent, lab_shown, gathered_layout}
 use Rattle.robust.proofs.LabEnds.{member_of, lab_ends}
 use Rattle.robust.proofs.Worked.{one_arena, none_missing, all_setups, good_sizes, good_messages, good_layout, members_seats, members_sent}

@@ -1,10 +1,10 @@
 use Rattle.std.proofs.Common.{◌≡◌, ℕ, true, false, ◌∙◌, sym, ap, subst}
 use Rattle.robust.proofs.Common.{TableId, IsAmong, Append, Setup, shown_by}
-use Rattle.runs.proofs.Ordered.{orders_append}
+use Rattle.execution.proofs.Ordered.{orders_append}
 use Rattle.robust.proofs.Failing.{append_left, append_faults, append_grows, grown_on, told_from}
 use Rattle.robust.proofs.Sending.{sends_append}
 use Rattle.robust.proofs.Spent.{append_spent}
-use Rattle.runs.proofs.Told.{append_told}
+use Rattle.execution.proofs.Told.{append_told}
 use Rattle.robust.proofs.Working.{sent_seat, fits_seat}
 use Rattle.robust.proofs.lab.worker.send.Goals as goal
 

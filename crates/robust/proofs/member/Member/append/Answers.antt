@@ -1,6 +1,6 @@
 use Rattle.std.proofs.Common.{◌≡◌, ◌⊎◌, ℕ, length, Ok, IfOk, IfErr, ap, ◌∙◌, subst, inr, arith}
 use Rattle.robust.proofs.Common.{Stored, Already, IsAmong, Append, Lock, Setup, ready, shown_by, Seated, began, ToldIn, WholeEnds, WholeFails, seat_of}
-use Rattle.runs.proofs.WholeCalls.{err_more}
+use Rattle.execution.proofs.WholeCalls.{err_more}
 use Rattle.robust.proofs.Appended.{append_shown, append_tells}
 use Rattle.robust.proofs.Working.{mail_seat}
 use Rattle.robust.proofs.member.Member.append.Goals as goal

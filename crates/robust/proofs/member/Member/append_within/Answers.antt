@@ -1,6 +1,6 @@
 use Rattle.std.proofs.Common.{◌≡◌, ◌⊎◌, IfOk, ap, ◌∙◌, subst}
 use Rattle.robust.proofs.Common.{Stored, Already, IsAmong, Append, shown_by, Seated, ToldIn, seat_of}
-use Rattle.runs.proofs.WholeCalls.{ok_some}
+use Rattle.execution.proofs.WholeCalls.{ok_some}
 use Rattle.robust.proofs.Appended.{append_shown, append_tells}
 use Rattle.robust.proofs.Working.{within_seat}
 use Rattle.robust.proofs.member.Member.append_within.Goals as goal

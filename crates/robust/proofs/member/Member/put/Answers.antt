@@ -1,6 +1,6 @@
 use Rattle.std.proofs.Common.{rules, ◌≡◌, [], ◌∷◌, Some, subst}
 use Rattle.robust.proofs.Common.{Answer, Mail, TakenStep, last_put, Served, Seated, began}
-use Rattle.runs.proofs.OneStep.{has_put}
+use Rattle.execution.proofs.OneStep.{has_put}
 use Rattle.rmeworld.specs.declared.call.Call.TheVariants.{Put}
 use Rattle.robust.proofs.member.Member.put.Goals as goal
 

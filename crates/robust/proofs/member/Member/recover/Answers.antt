@@ -1,6 +1,6 @@
 use Rattle.std.proofs.Common.{rules, ◌≡◌, ◌≢◌, ◌≤◌, [], ◌∷◌, Some, Ok, subst}
 use Rattle.robust.proofs.Common.{Layout, Answer, Found, Recover, most_steps, AlreadyIn, Served, ready, Seated, few_out, err_any, called_counts}
-use Rattle.runs.specs.Tabled.{table_steps}
+use Rattle.execution.specs.Tabled.{table_steps}
 use Rattle.robust.proofs.member.Member.recover.Goals as goal
 
 pub returns-clause-table : goal.returns-clause-table

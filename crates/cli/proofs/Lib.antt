@@ -1,0 +1,2 @@
+pub mod ExplainCommon
+pub mod Listed

@@ -1,0 +1,4 @@
+pub mod Names
+pub mod Told
+pub mod FilesNamed
+pub mod Sizes

@@ -1,0 +1,23 @@
+-- The ranges of the numbers that the program is asked for.
+use Rattle.std.specs.Prelude.{◌≤◌}
+use Rattle.cli.specs.declared.arguments.order.Command.{Command}
+use Rattle.cli.specs.declared.arguments.order.Command.TheVariants.{Replay, Run, Hunt, Explore, Judge, Draw, Shrink, Explain}
+use Rattle.cli.specs.declared.arguments.order.HuntOrder.{HuntOrder}
+use Rattle.cli.specs.declared.arguments.order.RunOrder.{RunOrder}
+
+abbrev pub HuntFits : HuntOrder → Type 0
+HuntFits order = ((1 ≤ order.rounds) × (order.rounds ≤ 10000)) × (1 ≤ order.steps) × (order.steps ≤ 10000)
+
+-- so many processes, messages of each, crashes of 1,000 askings, and words of a message
+abbrev pub RunFits : RunOrder → Type 0
+RunFits order = ((1 ≤ order.procs) × (order.procs ≤ 16)) × ((1 ≤ order.messages) × (order.messages ≤ 4096)) × (order.crash ≤ 50) × (1 ≤ order.width) × (order.width ≤ 8)
+
+abbrev pub IsSized : Command → Type 0
+IsSized (Replay order) = Unit {0}
+IsSized (Run order) = RunFits order
+IsSized (Hunt order) = HuntFits order
+IsSized (Explore order) = Unit {0}
+IsSized (Judge file) = Unit {0}
+IsSized (Draw order) = Unit {0}
+IsSized (Shrink order) = Unit {0}
+IsSized (Explain topic) = Unit {0}

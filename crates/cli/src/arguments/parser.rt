@@ -1,0 +1,204 @@
+//! The program's words, as `clap` reads them: its commands, their options and their help.
+
+use crate::arguments::argument::{Argument, Form};
+use clap::Command as Parser;
+use std::alloc::{AllocError, Global};
+
+const STATUSES: &str =
+    "Exit status: 0 fine, 1 a verdict against, a schedule found, or a message twice or out of order, 2 a fault of the \
+input, 3 a fault of a device, of memory or of a member, or too many states in `explore`.";
+
+const REPLAY_HELP: &str =
+    "In: a schedule, as `rme 1 procs 2 limit 10 cap 1`, then lines such as `lock 0`, `step 0 5`, \
+`crash 0`, each ended by a line feed.\nOut: its report: the deeds and answers of each step, the last words, the mailbox and \
+the verdict.\nExit status: 0 where the verdict is fine, 1 where it is against, 2 after a fault of the words, the schedule or the image, 3 \
+after one of a device or of memory.\n\nExample: rmelab replay examples/tie.rme";
+
+const RUN_HELP: &str =
+    "In: nothing. Each sender sends its messages through one running lock, on a thread of its own, and sends a message \
+again after each crash.\nOut: what stands in the mailbox of each sender, as `sender 0 messages 50 twice 0 order yes`, and the \
+total.\nExit status: 0 where each message stands once and in its order, 1 where not, 2 after a fault of the words, 3 after one of a \
+device, of memory or of a sender.\n\nExample: rmelab run --procs 4 --messages 50 --crash 20 --seed 7";
+
+const HUNT_HELP: &str =
+    "In: nothing.\nOut: the schedule found, which `rmelab replay --variant V` replays to its fault, or `nothing \
+found`.\nShown: on standard error, where that is a terminal, the rounds, the moves and the moves a second, once a \
+second while it works.\nExit status: 0 where nothing was found, 1 where a schedule was, 2 after a fault of the words, 3 after one of a device or \
+of memory.\n\nExample: rmelab hunt --variant no-look --seed 1 --rounds 10000 --steps 1000";
+
+const EXPLORE_HELP: &str =
+    "In: nothing. All schedules are tried whose moves are the start of a call of --calls, one step, or a crash, of which there \
+are at most --crashes: the shorter before the longer. Two worlds are one where their words, their processes, the judge and the \
+crashes left are.\nOut: the schedule of fewest moves that goes wrong, which `rmelab replay --variant V` replays to its fault; \
+`nothing found within K moves`; or, where all was tried, `nothing found: all N states`. Nothing is said of a greater size, limit \
+or number of crashes.\nShown: on standard error, where that is a terminal, the states, how many moves deep and the \
+states a second, once a second while it works.\nExit status: 0 where nothing was found, 1 where a schedule was, 2 after a fault of the words, 3 after one of \
+a device or of memory, or where there are more states than --states.\n\nExample: rmelab explore --variant no-look --procs 2";
+
+const JUDGE_HELP: &str =
+    "In: a trace, as `trace 1 procs 2 cap 1`, then deeds such as `begin 0`, `ready 0`, `enter 0`.\nOut: the verdict \
+line.\nExit status: 0 where the verdict is fine, 1 where it is against, 2 after a fault of the words or the trace, 3 after one of a \
+device or of memory.\n\nExample: rmelab judge examples/overtaken.trace";
+
+const DRAW_HELP: &str =
+    "In: a schedule, as `rme 1 procs 2 limit 10 cap 1`, then lines such as `lock 0`, `step 0 5`, \
+`crash 0`, each ended by a line feed.\nOut: its run, time downward: a column for each process, a row for each step or crash, \
+and what it tells at the right; with --svg a picture of this.\nExit status: 0 where the verdict is fine, 1 where it is against, 2 after \
+a fault of the words, the schedule or the image, 3 after one of a device or of memory.\n\nExample: rmelab draw examples/tie.rme";
+
+const SHRINK_HELP: &str =
+    "In: a schedule, as `rme 1 procs 2 limit 10 cap 1`, then lines such as `lock 0`, `step 0 5`, \
+`crash 0`, each ended by a line feed.\nOut: where its verdict on the variant is against, a least schedule with a verdict against the same \
+number: no line can be left out and no count of steps lowered by one. Else the verdict line.\nExit status: 0 where the verdict is \
+fine, 1 where it is against, 2 after a fault of the words or the schedule, 3 after one of a device or of memory.\n\nExample: rmelab \
+shrink --variant no-look examples/two-in-the-doorway.rme";
+
+const EXPLAIN_HELP: &str =
+    "In: nothing.\nOut: what the words name, in two sentences, and the page that defines it; without words the names of \
+all that is explained, one a line.\nExit status: 0 where the words are a name, 2 where they are none, 3 after a fault of a device or \
+of memory.\n\nExample: rmelab explain fault 5";
+
+/// What `--version` tells.
+const VERSION: &str = "0.1.0";
+
+/// A command that takes these arguments.
+fn command<'a>(
+    alloc: Global,
+    name: &'a str,
+    about: &'a str,
+    help: &'a str,
+    arguments: &[Argument<'a>],
+) -> Result<Parser<'a>, AllocError> {
+    let mut command = Parser::new(alloc, name).about(about).after_help(help);
+    for argument in arguments {
+        command = command.arg(argument.arg(alloc))?;
+    }
+    Ok(command)
+}
+
+fn replay<'a>(alloc: Global) -> Result<Parser<'a>, AllocError> {
+    let about = "Runs a schedule of steps and crashes, and prints its report";
+    let arguments = [
+        Argument::flag("json", "Print one JSON object of the report's lines"),
+        Argument::flag(
+            "each",
+            "Tell each step, with its word and where its process stands",
+        ),
+        Argument::variant(),
+        Argument::image(),
+        Argument::text("save", "FILE", "Write the last image to this file"),
+        Argument::file("The schedule; without it, standard input is read"),
+    ];
+    command(alloc, "replay", about, REPLAY_HELP, &arguments)
+}
+
+fn run<'a>(alloc: Global) -> Result<Parser<'a>, AllocError> {
+    let about = "Runs senders on threads, with drawn crashes, and counts what came through";
+    let arguments = [
+        Argument::number("procs", "N", "1 to 16 senders").required(),
+        Argument::number("messages", "M", "1 to 4096 messages of each").required(),
+        Argument::number("crash", "C", "0 to 50 crashes in 1000 askings").required(),
+        Argument::number("seed", "S", "The seed of the crashes").required(),
+        Argument::number("width", "W", "1 to 8 words a message; 1 without it"),
+    ];
+    command(alloc, "run", about, RUN_HELP, &arguments)
+}
+
+fn hunt<'a>(alloc: Global) -> Result<Parser<'a>, AllocError> {
+    let about = "Draws schedules until a variant of the lock goes wrong";
+    let arguments = [
+        Argument::variant().required(),
+        Argument::number("seed", "S", "The seed of the moves").required(),
+        Argument::number("rounds", "R", "1 to 10000 rounds").required(),
+        Argument::number("steps", "K", "1 to 10000 moves a round").required(),
+        Argument::flag("shrink", "Make the schedule found least, as `shrink` does"),
+    ];
+    command(alloc, "hunt", about, HUNT_HELP, &arguments)
+}
+
+fn explore<'a>(alloc: Global) -> Result<Parser<'a>, AllocError> {
+    let about = "Tries all schedules up to a bound, for the shortest that goes wrong";
+    let calls =
+        "lock, unlock, recover, consistent, withdraw, append and close, with commas; lock,unlock without it";
+    let arguments = [
+        Argument::variant().required(),
+        Argument::number("procs", "N", "1 to 64 processes").required(),
+        Argument::text("calls", "LIST", calls),
+        Argument::number("crashes", "C", "At most C crashes; 0 without it"),
+        Argument::number("moves", "K", "At most K moves; no bound without it"),
+        Argument::number("states", "S", "At most S states; 10000000 without it"),
+        Argument::number("limit", "L", "Numbers up to L; 4 without it"),
+        Argument::number("cap", "M", "Room for M messages; 1 without it"),
+        Argument::number("width", "W", "1 to 8 words a message; 1 without it"),
+    ];
+    command(alloc, "explore", about, EXPLORE_HELP, &arguments)
+}
+
+fn judge<'a>(alloc: Global) -> Result<Parser<'a>, AllocError> {
+    let about = "Judges a trace of deeds, and prints the verdict";
+    let arguments = [Argument::file("The trace; without it, standard input is read")];
+    command(alloc, "judge", about, JUDGE_HELP, &arguments)
+}
+
+fn draw<'a>(alloc: Global) -> Result<Parser<'a>, AllocError> {
+    let about = "Draws the run of a schedule as a space-time diagram";
+    let arguments = [
+        Argument::variant(),
+        Argument::image(),
+        Argument::flag("svg", "Write a picture, as SVG"),
+        Argument::file("The schedule; without it, standard input is read"),
+    ];
+    command(alloc, "draw", about, DRAW_HELP, &arguments)
+}
+
+fn shrink<'a>(alloc: Global) -> Result<Parser<'a>, AllocError> {
+    let about = "Makes a schedule that goes wrong on a variant of the lock least";
+    let arguments = [
+        Argument::variant().required(),
+        Argument::file("The schedule; without it, standard input is read"),
+    ];
+    command(alloc, "shrink", about, SHRINK_HELP, &arguments)
+}
+
+fn explain<'a>(alloc: Global) -> Result<Parser<'a>, AllocError> {
+    let about = "Says what a number or a word of reports and faults means";
+    let names =
+        "The name, as `fault 5`, `refused 12`, `rule 7`, `against 4`, `answer clean` or `step look`";
+    let arguments = [Argument::new(Form::Words, "WORDS", "", names)];
+    command(alloc, "explain", about, EXPLAIN_HELP, &arguments)
+}
+
+fn head<'a>(alloc: Global) -> Parser<'a> {
+    Parser::new(alloc, "rmelab")
+        .about("A laboratory of recoverable first-come first-served locks")
+        .after_help(STATUSES)
+        .version(VERSION)
+        .subcommand_required(true)
+}
+
+/// A parser with one command more.
+fn with<'a>(
+    whole: Parser<'a>,
+    part: Result<Parser<'a>, AllocError>,
+) -> Result<Parser<'a>, AllocError> {
+    whole.subcommand(part?)
+}
+
+/// The whole command line.
+pub fn parser<'a>(alloc: Global) -> Result<Parser<'a>, AllocError> {
+    let parts = [
+        replay(alloc),
+        run(alloc),
+        hunt(alloc),
+        explore(alloc),
+        judge(alloc),
+        draw(alloc),
+        shrink(alloc),
+        explain(alloc),
+    ];
+    let mut whole = head(alloc);
+    for part in parts {
+        whole = with(whole, part)?;
+    }
+    Ok(whole)
+}

@@ -1,0 +1,301 @@
+//! The words of the command line, read.
+
+ghost use Rattle.std.specs.Prelude.{◌≡◌, ◌↔◌, IfOk, IsOk, OnErr, IsErrOf};
+ghost use Rattle.cli.specs.declared.explain.topic.Topic.{Topic as AnyTopic};
+ghost use Rattle.cli.specs.Names.{name_of};
+ghost use Rattle.cli.specs.Sizes.{IsSized, HuntFits, RunFits};
+
+use crate::arguments::order::{
+    Alphabet, Command, DrawOrder, ExploreOrder, HuntOrder, ReplayOrder, RunOrder, ShrinkOrder,
+};
+use crate::arguments::parser::parser;
+use clap::error::ErrorKind;
+use clap::{ArgMatches, Error};
+use crashlab::Variant;
+use diagram::Style;
+use crate::explain::topic::{Topic, topic_named};
+use std::alloc::{AllocError, Global};
+use std::io;
+use std::rt::Env;
+
+/// Why the words are no command, in the order in which it is found.
+#[derive(Debug, Drop)]
+pub enum WordsFault {
+    /// The help or the version that is asked for, to be printed; the status is 0.
+    Help { text: String },
+    /// What `clap` says against them, or that they name no topic, to be told; the status is 2.
+    Refused { text: String },
+    /// No such variant, or one other than `right` together with an image.
+    BadVariant,
+    /// A number of `run` or `hunt` outside its range.
+    BadSize,
+    /// A word is no text.
+    Unreadable,
+    OutOfMemory,
+}
+
+impl From<AllocError> for WordsFault {
+    fn from(_e: AllocError) -> WordsFault {
+        WordsFault::OutOfMemory
+    }
+}
+
+/// The words that the process was given, of which the first is the program's name.
+pub fn words_given<R: Env + Alloc<A = Global>>(rt: &R) -> Result<Vec<String>, WordsFault> {
+    match std::env::args(rt) {
+        Ok(words) => Ok(words.collect(rt.alloc())?),
+        Err(error) => match error.kind() {
+            io::ErrorKind::OutOfMemory => Err(WordsFault::OutOfMemory),
+            _ => Err(WordsFault::Unreadable),
+        },
+    }
+}
+
+/// The variant of this name.
+fn variant_named(name: &str) -> Option<Variant> {
+    match name {
+        "right" => Some(Variant::Right),
+        "no-look" => Some(Variant::NoLook),
+        "no-ties" => Some(Variant::NoTies),
+        "renumber" => Some(Variant::Renumber),
+        "exit-on-crash" => Some(Variant::ExitOnCrash),
+        "count-up" => Some(Variant::CountUp),
+        "last-skipped" => Some(Variant::LastSkipped),
+        _ => None,
+    }
+}
+
+fn text_of(
+    alloc: Global,
+    matches: &ArgMatches<'_>,
+    name: &str,
+) -> Result<Option<String>, AllocError> {
+    match matches.get_str(name) {
+        Some(text) => Ok(Some(String::from_str(alloc, text)?)),
+        None => Ok(None),
+    }
+}
+
+fn number_of(matches: &ArgMatches<'_>, name: &str) -> u64 {
+    matches.get_one::<u64>(name).unwrap_or(0)
+}
+
+/// The variant that is asked for, or the one of this name.
+fn variant_of(matches: &ArgMatches<'_>, without: &str) -> Result<Variant, WordsFault> {
+    let name = matches.get_str("variant").unwrap_or(without);
+    variant_named(name).ok_or(WordsFault::BadVariant)
+}
+
+/// The variant that is asked for, `right` without one. Only `right` goes together with an image.
+fn variant_beside_image(matches: &ArgMatches<'_>) -> Result<Variant, WordsFault> {
+    let variant = variant_of(matches, "right")?;
+    if variant != Variant::Right && matches.get_str("image").is_some() {
+        return Err(WordsFault::BadVariant);
+    }
+    Ok(variant)
+}
+
+fn replay_words(alloc: Global, matches: &ArgMatches<'_>) -> Result<ReplayOrder, WordsFault> {
+    Ok(ReplayOrder {
+        json: matches.get_flag("json"),
+        each: matches.get_flag("each"),
+        variant: variant_beside_image(matches)?,
+        image: text_of(alloc, matches, "image")?,
+        save: text_of(alloc, matches, "save")?,
+        file: text_of(alloc, matches, "FILE")?,
+    })
+}
+
+fn style_of(matches: &ArgMatches<'_>) -> Style {
+    if matches.get_flag("svg") {
+        Style::Svg
+    } else {
+        Style::Text
+    }
+}
+
+fn draw_words(alloc: Global, matches: &ArgMatches<'_>) -> Result<DrawOrder, WordsFault> {
+    Ok(DrawOrder {
+        style: style_of(matches),
+        variant: variant_beside_image(matches)?,
+        image: text_of(alloc, matches, "image")?,
+        file: text_of(alloc, matches, "FILE")?,
+    })
+}
+
+/// The order of a hunt, where its numbers are in their ranges.
+fn hunt_of(order: HuntOrder) -> Result<HuntOrder, WordsFault>
+    ensures fits { IsOk result ↔ HuntFits order }
+    ensures same { IfOk result (λ sized. sized ≡ order) }
+    ensures size { OnErr result (IsErrOf result WordsFault.BadSize) }
+{
+    let fits = (1..=10_000).contains(&order.rounds) && (1..=10_000).contains(&order.steps);
+    if fits {
+        Ok(order)
+    } else {
+        Err(WordsFault::BadSize)
+    }
+}
+
+fn hunt_words(matches: &ArgMatches<'_>) -> Result<HuntOrder, WordsFault>
+    ensures { IfOk result HuntFits }
+{
+    hunt_of(HuntOrder {
+        variant: variant_of(matches, "")?,
+        seed: number_of(matches, "seed"),
+        rounds: number_of(matches, "rounds"),
+        steps: number_of(matches, "steps"),
+        shrink: matches.get_flag("shrink"),
+    })
+}
+
+fn shrink_words(alloc: Global, matches: &ArgMatches<'_>) -> Result<ShrinkOrder, WordsFault> {
+    Ok(ShrinkOrder {
+        variant: variant_of(matches, "")?,
+        file: text_of(alloc, matches, "FILE")?,
+    })
+}
+
+/// The calls of this list, with commas between them.
+fn alphabet_of(list: &str) -> Result<Alphabet, WordsFault> {
+    let mut calls = Alphabet {
+        lock: false,
+        unlock: false,
+        recover: false,
+        consistent: false,
+        withdraw: false,
+        append: false,
+        close: false,
+    };
+    for name in list.split(',') {
+        match name {
+            "lock" => calls.lock = true,
+            "unlock" => calls.unlock = true,
+            "recover" => calls.recover = true,
+            "consistent" => calls.consistent = true,
+            "withdraw" => calls.withdraw = true,
+            "append" => calls.append = true,
+            "close" => calls.close = true,
+            _ => return Err(WordsFault::BadSize),
+        }
+    }
+    Ok(calls)
+}
+
+/// The number of this name, or another without it.
+fn number_or(matches: &ArgMatches<'_>, name: &str, without: u64) -> u64 {
+    matches.get_one::<u64>(name).unwrap_or(without)
+}
+
+fn explore_words(matches: &ArgMatches<'_>) -> Result<ExploreOrder, WordsFault> {
+    Ok(ExploreOrder {
+        variant: variant_of(matches, "")?,
+        procs: number_of(matches, "procs"),
+        calls: alphabet_of(matches.get_str("calls").unwrap_or("lock,unlock"))?,
+        crashes: number_of(matches, "crashes"),
+        moves: number_or(matches, "moves", u64::MAX),
+        states: number_or(matches, "states", 10_000_000),
+        limit: number_or(matches, "limit", 4),
+        cap: number_or(matches, "cap", 1),
+        width: number_or(matches, "width", 1),
+    })
+}
+
+/// The order of a run, where its numbers are in their ranges.
+fn run_of(order: RunOrder) -> Result<RunOrder, WordsFault>
+    ensures fits { IsOk result ↔ RunFits order }
+    ensures same { IfOk result (λ sized. sized ≡ order) }
+    ensures size { OnErr result (IsErrOf result WordsFault.BadSize) }
+{
+    let fits = (1..=16).contains(&order.procs)
+        && (1..=4096).contains(&order.messages)
+        && order.crash <= 50
+        && (1..=8).contains(&order.width);
+    if fits {
+        Ok(order)
+    } else {
+        Err(WordsFault::BadSize)
+    }
+}
+
+fn run_words(matches: &ArgMatches<'_>) -> Result<RunOrder, WordsFault>
+    ensures { IfOk result RunFits }
+{
+    run_of(RunOrder {
+        procs: number_of(matches, "procs"),
+        messages: number_of(matches, "messages"),
+        crash: number_of(matches, "crash"),
+        seed: number_of(matches, "seed"),
+        width: matches.get_one::<u64>("width").unwrap_or(1),
+    })
+}
+
+/// What is told of words that name no topic.
+fn unnamed(alloc: Global, name: &str) -> Result<String, AllocError> {
+    format!(in alloc;
+        "error: '{name}' names nothing that is explained\n\nFor more information, try 'rmelab explain'.\n"
+    )
+}
+
+/// The topic of this name.
+fn topic_of(alloc: Global, name: &str) -> Result<Topic, WordsFault>
+    ensures named { IfOk result (λ topic. name_of topic ≡ name.now) }
+    ensures found { (topic : AnyTopic) → name_of topic ≡ name.now → IsOk result }
+{
+    match topic_named(name) {
+        Some(topic) => Ok(topic),
+        None => Err(WordsFault::Refused {
+            text: unnamed(alloc, name)?,
+        }),
+    }
+}
+
+/// The topic that the words name, one space between two; none without words.
+fn explain_words(alloc: Global, matches: &ArgMatches<'_>) -> Result<Option<Topic>, WordsFault> {
+    match matches.get_strs("WORDS") {
+        Some(words) => {
+            let name = words.join(alloc, " ")?;
+            Ok(Some(topic_of(alloc, &name)?))
+        }
+        None => Ok(None),
+    }
+}
+
+fn command_of(alloc: Global, matches: &ArgMatches<'_>) -> Result<Command, WordsFault>
+    ensures { IfOk result IsSized }
+{
+    match matches.subcommand() {
+        Some(("replay", inner)) => Ok(Command::Replay(replay_words(alloc, inner)?)),
+        Some(("run", inner)) => Ok(Command::Run(run_words(inner)?)),
+        Some(("hunt", inner)) => Ok(Command::Hunt(hunt_words(inner)?)),
+        Some(("explore", inner)) => Ok(Command::Explore(explore_words(inner)?)),
+        Some(("draw", inner)) => Ok(Command::Draw(draw_words(alloc, inner)?)),
+        Some(("shrink", inner)) => Ok(Command::Shrink(shrink_words(alloc, inner)?)),
+        Some(("explain", inner)) => Ok(Command::Explain(explain_words(alloc, inner)?)),
+        Some((_, inner)) => Ok(Command::Judge(text_of(alloc, inner, "FILE")?)),
+        None => Err(WordsFault::BadVariant),
+    }
+}
+
+fn refused(alloc: Global, error: &Error) -> Result<WordsFault, AllocError> {
+    if error.kind() == ErrorKind::OutOfMemory {
+        return Ok(WordsFault::OutOfMemory);
+    }
+    let text = format!(in alloc; "{error}")?;
+    if error.use_stderr() {
+        Ok(WordsFault::Refused { text })
+    } else {
+        Ok(WordsFault::Help { text })
+    }
+}
+
+/// Reads the words of a command line, of which the first is the program's name. What `clap` refuses is found first, then
+/// a bad variant, then a bad size. Words of `explain` that name no topic are refused as `clap` refuses words.
+pub fn read_words(alloc: Global, words: &[String]) -> Result<Command, WordsFault>
+    ensures sized { IfOk result IsSized }
+{
+    match parser(alloc)?.try_get_matches_from(words) {
+        Ok(matches) => command_of(alloc, &matches),
+        Err(error) => Err(refused(alloc, &error)?),
+    }
+}

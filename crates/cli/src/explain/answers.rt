@@ -1,0 +1,185 @@
+//! What the answers of calls mean.
+
+ghost use Rattle.std.specs.Prelude.{◌≡◌};
+ghost use Rattle.cli.specs.declared.explain.topic.Topic.TheVariants.{Answer as OfAnswer};
+ghost use Rattle.cli.specs.Names.{name_of, name_of_found, name_of_reply};
+
+use crate::explain::meaning::Meaning;
+use redomail::Reply;
+use rmecore::Found;
+use rmeworld::Answer;
+
+const CLEAN: &str = "The process is inside, by the line. Nothing is left to be mended.";
+
+const OWNER_DIED: &str =
+    "The process is inside again, where it had crashed. It has to mend by `consistent` before it leaves, else the lock is \
+ruined.";
+
+const NUMBERS_SPENT: &str =
+    "A number in the line is the limit, so no greater one can be taken. The process has left the doorway, and is at rest.";
+
+const NOT_RECOVERABLE: &str =
+    "The lock is ruined, since someone left it without mending. After `lock` the process is outside again; after \
+`consistent` it is still inside.";
+
+const UNLOCKED: &str =
+    "The process has left the section. Where it had to mend and has not, it has ruined the lock.";
+
+const WITHDRAWN: &str = "The process has given up its place in the line. It is at rest.";
+
+const IDLE: &str =
+    "`recover` read the words 0,0,0: the process was neither inside nor on its way. It is at rest.";
+
+const LEFT: &str =
+    "`recover` read the words 0,0,1: the process had crashed on its way out. It has made its exit whole, and is at rest.";
+
+const DOORWAY: &str =
+    "`recover` read the words 1,0,0: the process had crashed in the doorway, without a number. Its next lock goes \
+through the doorway from its first reading.";
+
+const WAITING: &str =
+    "`recover` read a number and not inside: the process has its place in the line. Its next lock waits on with the same \
+number.";
+
+const INSIDE: &str =
+    "`recover` read a number and inside: the process had crashed inside, and is inside again. It has to mend by \
+`consistent` before it leaves, else the lock is ruined.";
+
+const STORED: &str =
+    "The message is committed and shown. It stands at the next place of the mailbox.";
+
+const ALREADY: &str =
+    "The sender's message with this number is there. Nothing was written, so an append that a crash cut off can be \
+made again.";
+
+const OUT_OF_ORDER: &str =
+    "The number is 0, or greater than the sender's next one. Nothing was written.";
+
+const FULL: &str = "The mailbox has no place left. Nothing was written.";
+
+const CLOSED: &str =
+    "The mailbox was closed before, and takes no more messages. Nothing was written.";
+
+const CLOSED_NOW: &str =
+    "The mailbox was open, and is closed from now on. The messages in it stay.";
+
+const ALREADY_CLOSED: &str = "The mailbox was closed before. Nothing was written.";
+
+const WORD: &str = "A word of the board was read. It stands behind, as in `answer 0 word 7`.";
+
+const DONE: &str = "A word of the board was written. The messages stay as they are.";
+
+const MENDED: &str =
+    "A message was committed by the one that crashed, and all that was left of its append is done now. The process \
+holds the lock as any other from here on.";
+
+const NOTHING_TO_MEND: &str =
+    "No message was committed and left. The process holds the lock as any other from here on.";
+
+const RUINED: &str =
+    "The task Check read that the lock is ruined. It is told to programs alone: in a report the lock answers \
+`not-recoverable`.";
+
+const NOT_RUINED: &str =
+    "The task Check read that the lock is not ruined. It is told to programs alone: in a report the lock answers `clean` \
+or `owner-died`.";
+
+fn of_lock(name: &'static str, text: &'static str) -> Meaning
+    ensures { result.name.now ≡ name.now }
+{
+    Meaning {
+        name,
+        text,
+        page: "docs/model.md, Calls as rows of steps",
+    }
+}
+
+fn of_restart(name: &'static str, text: &'static str) -> Meaning
+    ensures { result.name.now ≡ name.now }
+{
+    Meaning {
+        name,
+        text,
+        page: "docs/model.md, Restart table",
+    }
+}
+
+fn of_task(name: &'static str, text: &'static str) -> Meaning
+    ensures { result.name.now ≡ name.now }
+{
+    Meaning {
+        name,
+        text,
+        page: "docs/mailbox.md, Tasks",
+    }
+}
+
+/// What a call is answered.
+pub fn of_answer(answer: Answer) -> Meaning
+    ensures { result.name.now ≡ name_of (OfAnswer answer) }
+{
+    match answer {
+        Answer::Clean => of_lock("answer clean", CLEAN),
+        Answer::OwnerDied => of_lock("answer owner-died", OWNER_DIED),
+        Answer::NumbersSpent => of_lock("answer numbers-spent", NUMBERS_SPENT),
+        Answer::NotRecoverable => of_lock("answer not-recoverable", NOT_RECOVERABLE),
+        Answer::Unlocked => of_lock("answer unlocked", UNLOCKED),
+        Answer::Withdrawn => of_lock("answer withdrawn", WITHDRAWN),
+        Answer::Found(found) => of_found(found),
+        Answer::Mail(reply) => of_reply(reply),
+    }
+}
+
+/// What `recover` finds.
+fn of_found(found: Found) -> Meaning
+    ensures { result.name.now ≡ name_of_found found }
+{
+    match found {
+        Found::Idle => of_restart("answer found idle", IDLE),
+        Found::Left => of_restart("answer found left", LEFT),
+        Found::Doorway => of_restart("answer found doorway", DOORWAY),
+        Found::Waiting => of_restart("answer found waiting", WAITING),
+        Found::Inside => of_restart("answer found inside", INSIDE),
+    }
+}
+
+/// What a task answers.
+fn of_reply(reply: Reply) -> Meaning
+    ensures { result.name.now ≡ name_of_reply reply }
+{
+    match reply {
+        Reply::Stored => of_task("answer stored", STORED),
+        Reply::Already => of_task("answer already", ALREADY),
+        Reply::OutOfOrder => of_task("answer out-of-order", OUT_OF_ORDER),
+        Reply::Full => of_task("answer full", FULL),
+        Reply::Closed => of_task("answer closed", CLOSED),
+        Reply::ClosedNow => of_task("answer closed-now", CLOSED_NOW),
+        Reply::AlreadyClosed => of_task("answer already-closed", ALREADY_CLOSED),
+        Reply::Mended(mended) => of_mending(mended),
+        Reply::Word(_) => of_task("answer word", WORD),
+        Reply::Done => of_task("answer put", DONE),
+        Reply::Ruined(ruined) => of_check(ruined),
+    }
+}
+
+/// What `consistent` has found to mend.
+fn of_mending(mended: bool) -> Meaning
+    ensures { result.name.now ≡ name_of_reply (Reply.Mended mended) }
+{
+    if mended {
+        of_task("answer mended", MENDED)
+    } else {
+        of_task("answer nothing-to-mend", NOTHING_TO_MEND)
+    }
+}
+
+/// Whether a lock finds itself ruined.
+fn of_check(ruined: bool) -> Meaning
+    ensures { result.name.now ≡ name_of_reply (Reply.Ruined ruined) }
+{
+    if ruined {
+        of_task("answer ruined", RUINED)
+    } else {
+        of_task("answer not-ruined", NOT_RUINED)
+    }
+}

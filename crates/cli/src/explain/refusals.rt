@@ -1,0 +1,96 @@
+//! What the refusals of calls mean.
+
+ghost use Rattle.std.specs.Prelude.{◌≡◌};
+ghost use Rattle.cli.specs.declared.explain.topic.Topic.TheVariants.{Refused as OfRefused};
+ghost use Rattle.cli.specs.Names.{name_of};
+
+use crate::explain::meaning::Meaning;
+use rmecore::Refusal;
+
+const BAD_PROCS: &str =
+    "The number of processes is not 1 to 64. It stands as `procs` in the first line.";
+
+const BAD_LIMIT: &str =
+    "The limit of the lock's numbers is not 1 to 4611686018427387904. It stands as `limit` in the first line.";
+
+const NO_SUCH_PROCESS: &str =
+    "There is no process with this number. Processes count from 0, so the last is one less than `procs`.";
+
+const CALL_UNDER_WAY: &str =
+    "A call of the process is under way. Its steps come first, up to its answer, or the process has to crash.";
+
+const NOT_OWNER: &str =
+    "The process is not in the section. So it can neither leave it nor use what it guards; POSIX says EPERM.";
+
+const ALREADY_IN: &str =
+    "The process is in the section already. It may lock or recover once it has left or crashed.";
+
+const NOTHING_TO_DO: &str =
+    "No call of the process is under way, so it has no step to take. A line that starts one, such as `lock P`, has to \
+come first.";
+
+const BAD_CAP: &str =
+    "The capacity of the mailbox is not 1 to 65536. It stands as `cap` in the first line.";
+
+const BAD_IMAGE: &str =
+    "The first line doesn't fit the image: its processes, limit and capacity have to be the image's, and its width not \
+below. An image that is wrong in itself is told by the rule that it breaks.";
+
+const NOT_INCONSISTENT: &str =
+    "The process holds nothing that it has to mend: it came in by the line, or has mended already. POSIX says EINVAL.";
+
+const BAD_SHAPE: &str =
+    "The words are not those of a mailbox, or no judge can begin from such a start. It is told to programs alone: a \
+report says `mail broken`.";
+
+const UNMENDED: &str =
+    "The process came back after a crash inside, and has not mended what it found. First `consistent P` has to be \
+answered.";
+
+const BAD_INDEX: &str =
+    "There is no word with this index. The board has four, with the indexes 0 to 3.";
+
+const NOT_WAITING: &str =
+    "Only a lock that waits can be withdrawn. At rest, in the doorway and inside there is nothing to give up.";
+
+const BAD_WIDTH: &str =
+    "The number of words is not one that is allowed here. A message has 1 to 8, and as many as all messages of its \
+world.";
+
+const OUT_OF_MEMORY: &str =
+    "A request for memory was refused. It counts only where no other cause holds, and the call may be made again.";
+
+fn of_call(name: &'static str, text: &'static str) -> Meaning
+    ensures { result.name.now ≡ name.now }
+{
+    Meaning {
+        name,
+        text,
+        page: "docs/surface.md, Rules for all calls",
+    }
+}
+
+/// Why a call was refused.
+#[tactic(auto, unfolding(crate::proofs::Common::digits))]
+pub fn of_refusal(refusal: Refusal) -> Meaning
+    ensures { result.name.now ≡ name_of (OfRefused refusal) }
+{
+    match refusal {
+        Refusal::BadProcs => of_call("refused 1", BAD_PROCS),
+        Refusal::BadLimit => of_call("refused 2", BAD_LIMIT),
+        Refusal::NoSuchProcess => of_call("refused 3", NO_SUCH_PROCESS),
+        Refusal::CallUnderWay => of_call("refused 4", CALL_UNDER_WAY),
+        Refusal::NotOwner => of_call("refused 5", NOT_OWNER),
+        Refusal::AlreadyIn => of_call("refused 6", ALREADY_IN),
+        Refusal::NothingToDo => of_call("refused 7", NOTHING_TO_DO),
+        Refusal::BadCap => of_call("refused 8", BAD_CAP),
+        Refusal::BadImage { .. } => of_call("refused 9", BAD_IMAGE),
+        Refusal::NotInconsistent => of_call("refused 10", NOT_INCONSISTENT),
+        Refusal::BadShape => of_call("refused 11", BAD_SHAPE),
+        Refusal::Unmended => of_call("refused 12", UNMENDED),
+        Refusal::BadIndex => of_call("refused 13", BAD_INDEX),
+        Refusal::NotWaiting => of_call("refused 14", NOT_WAITING),
+        Refusal::BadWidth => of_call("refused 15", BAD_WIDTH),
+        Refusal::OutOfMemory => of_call("out of memory", OUT_OF_MEMORY),
+    }
+}

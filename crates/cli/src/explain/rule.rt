@@ -1,0 +1,39 @@
+//! The rules of an image.
+
+ghost use Rattle.std.specs.Prelude.{◌≡◌, ◌≤◌};
+
+/// A rule that an image keeps, in the order in which they are asked.
+#[derive(Clone, Copy, Debug, PartialEq, Eq)]
+pub enum Rule {
+    Form,
+    Version,
+    Sizes,
+    Length,
+    Rows,
+    Inside,
+    Heads,
+    List,
+    Record,
+}
+
+impl Rule {
+    ghost use Rattle.cli.specs.Names.{number_of_rule};
+
+    /// Its number, from 1 to 9.
+    pub fn number(self) -> u64
+        ensures told { result ≡ number_of_rule self }
+        ensures few { result ≤ 9 }
+    {
+        match self {
+            Rule::Form => 1,
+            Rule::Version => 2,
+            Rule::Sizes => 3,
+            Rule::Length => 4,
+            Rule::Rows => 5,
+            Rule::Inside => 6,
+            Rule::Heads => 7,
+            Rule::List => 8,
+            Rule::Record => 9,
+        }
+    }
+}

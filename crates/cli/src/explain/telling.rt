@@ -1,0 +1,53 @@
+//! What topics mean, written to a sink.
+
+ghost use Rattle.std.specs.Prelude.{◌≡◌, ◌+◌, ◌-◌, ◌^◌, min, OnOk, OnErr};
+ghost use Rattle.schedule.specs.Tapes.{Writes};
+ghost use Rattle.cli.specs.Told.{list_of, meaning_text, TellsTopic};
+ghost use Rattle.cli.specs.declared.explain.topic.TheConstants.{TOPICS as all_topics};
+
+use crate::explain::meaning::{Meaning, meaning_of};
+use crate::explain::topic::{TOPICS, Topic};
+use schedule::texts::device::write_all;
+use schedule::{Failed, Sink};
+
+/// Writes a name, its two sentences, and the page that defines it.
+fn tell<W: Sink>(meaning: &Meaning, w: &mut W) -> Result<(), Failed>
+    ensures told { OnOk result (Writes (W.tape w.old) (W.tape w.new) (meaning_text meaning.now)) }
+    ensures failed { OnErr result ((W.tape w.new).failures ≡ min ((W.tape w.old).failures + 1) (2 ^ 64 - 1)) }
+{
+    write_all(w, meaning.name.as_bytes())?;
+    write_all(w, b": ")?;
+    write_all(w, meaning.text.as_bytes())?;
+    write_all(w, b"\nSee ")?;
+    write_all(w, meaning.page.as_bytes())?;
+    write_all(w, b".\n")
+}
+
+/// Writes what a topic means.
+pub fn tell_topic<W: Sink>(topic: Topic, w: &mut W) -> Result<(), Failed>
+    ensures told { OnOk result (TellsTopic topic (W.tape w.old) (W.tape w.new)) }
+    ensures failed { OnErr result ((W.tape w.new).failures ≡ min ((W.tape w.old).failures + 1) (2 ^ 64 - 1)) }
+{
+    let meaning = meaning_of(topic);
+    tell(&meaning, w)
+}
+
+/// Writes the name of each of these topics, one a line.
+fn tell_names<W: Sink>(topics: &[Topic], w: &mut W) -> Result<(), Failed>
+    ensures told { OnOk result (Writes (W.tape w.old) (W.tape w.new) (list_of topics.now)) }
+    ensures failed { OnErr result ((W.tape w.new).failures ≡ min ((W.tape w.old).failures + 1) (2 ^ 64 - 1)) }
+{
+    for topic in topics {
+        write_all(w, meaning_of(*topic).name.as_bytes())?;
+        write_all(w, b"\n")?;
+    }
+    Ok(())
+}
+
+/// Writes the names of all that there is to explain, one a line.
+pub fn tell_all_names<W: Sink>(w: &mut W) -> Result<(), Failed>
+    ensures told { OnOk result (Writes (W.tape w.old) (W.tape w.new) (list_of all_topics)) }
+    ensures failed { OnErr result ((W.tape w.new).failures ≡ min ((W.tape w.old).failures + 1) (2 ^ 64 - 1)) }
+{
+    tell_names(&TOPICS, w)
+}

@@ -1,0 +1,173 @@
+//! What the faults of texts, the rules of images and the faults of judges mean.
+
+ghost use Rattle.std.specs.Prelude.{◌≡◌};
+ghost use Rattle.cli.specs.declared.explain.topic.Topic.TheVariants.{Fault as OfFault, Rule as OfRule, Against as OfAgainst};
+ghost use Rattle.cli.specs.Names.{name_of};
+
+use crate::explain::meaning::Meaning;
+use crate::explain::rule::Rule;
+use schedule::LineFault;
+use rmecore::Fault;
+
+const NO_HEADER: &str =
+    "The first line is no header, or there is no line at all. A schedule begins with `rme 1 procs N limit L cap C` and a \
+trace with `trace 1 procs N cap C`; where it reads 2 in place of 1, `width W` stands behind.";
+
+const BAD_WORD: &str =
+    "The first word of the line is no command of a schedule, or no deed of a trace. An empty line has an empty first \
+word.";
+
+const BAD_NUMBER: &str =
+    "Where a number has to stand there is none, or it has a sign, a leading zero or another byte that is no digit. A \
+number of steps or a width that is written out is at least 2.";
+
+const TOO_BIG: &str =
+    "The number is greater than any that may stand there. A number of steps is at most 1000000, the width of a header \
+at most 8, and any other number at most 18446744073709551615.";
+
+const NO_NEWLINE: &str =
+    "The last line is not ended by a line feed. Each line of a schedule or a trace ends with one, the last one too.";
+
+const TRAILING_TEXT: &str =
+    "Behind the last word that the line can have stands a space. There may be a value too many for the width of the \
+header, or a space at the end of the line.";
+
+const FORM: &str =
+    "The text is JSON, one object of the five members `cap`, `data`, `limit`, `lock` and `version`, with `width` or without. \
+Each number in it is whole, at most 18446744073709551615, and written without point or exponent.";
+
+const VERSION: &str =
+    "The version is 1 without `width`, or 2 with it. An image of version 1 has width 1.";
+
+const SIZES: &str =
+    "The sizes are in their ranges. `lock` has 1 to 64 processes, `limit` is 1 to 4611686018427387904, `cap` 1 to \
+65536 and `width` 1 to 8.";
+
+const LENGTH: &str =
+    "`data` has as many words as the other sizes ask for. With n processes and width W these are 10 + W + n and \
+another 2 + W for each place of `cap`.";
+
+const ROWS: &str =
+    "The three words of each process are a row of the restart table, and its number is at most the limit. That table \
+stands in docs/model.md.";
+
+const INSIDE: &str =
+    "At most one process is inside, which the words 0, a number and 1 tell. It is the first in the line: its pair of \
+number and process is the least of all whose number is not 0.";
+
+const HEADS: &str =
+    "The words ruined, closed and armed are at most 1, and count is at most the capacity. Closed and armed are not \
+both 1.";
+
+const LIST: &str =
+    "Where no record is armed, the entries are messages of processes, and each process has numbered its own 1, 2, 3 and \
+so on. The word `last` of each process is how many are its own.";
+
+const RECORD: &str =
+    "Where a record is armed, the process inside can have written it, and its entry is not begun, under way or \
+whole. In a ruined lock any process can have written it.";
+
+const OUT_OF_PLACE: &str =
+    "The deed can't follow from where its process stands, or there is no such process. A begin comes from outside the \
+line, a ready from the doorway, an enter from the line, a re-entry after a crash inside, a leave from inside, and a quit from \
+the doorway or the line.";
+
+const TWO_INSIDE: &str =
+    "A process entered while another one was inside. Mutual exclusion is broken.";
+
+const NOT_REENTERED: &str =
+    "A process entered while one that had crashed inside was still to come back. Nobody enters before that one has \
+entered again.";
+
+const OVERTAKEN: &str =
+    "`by Q of P`: process Q entered, though P was ready before Q began, and P has neither entered since nor given up \
+its place. First come, first served is broken.";
+
+const NOT_INSIDE: &str =
+    "A process that is not inside wrote to the mailbox. Commit, show, close and ruin are deeds of the one inside.";
+
+const MAIL_ORDER: &str =
+    "The mailbox is in no state for the deed. A message is pending or none is, the place or the number is not the next \
+one, there is no place left, or the lock is ruined.";
+
+const AFTER_CLOSE: &str =
+    "The mailbox was closed before. After a close nothing is committed, and it is not closed again.";
+
+fn of_text(name: &'static str, text: &'static str) -> Meaning
+    ensures { result.name.now ≡ name.now }
+{
+    Meaning {
+        name,
+        text,
+        page: "docs/texts.md, Faults of the text",
+    }
+}
+
+fn of_image(name: &'static str, text: &'static str) -> Meaning
+    ensures { result.name.now ≡ name.now }
+{
+    Meaning {
+        name,
+        text,
+        page: "docs/texts.md, Image",
+    }
+}
+
+fn of_judge(name: &'static str, text: &'static str) -> Meaning
+    ensures { result.name.now ≡ name.now }
+{
+    Meaning {
+        name,
+        text,
+        page: "docs/judge.md, The judge table",
+    }
+}
+
+/// What is wrong with a line of a schedule or a trace.
+#[tactic(auto, unfolding(crate::proofs::Common::digits))]
+pub fn of_line_fault(fault: LineFault) -> Meaning
+    ensures { result.name.now ≡ name_of (OfFault fault) }
+{
+    match fault {
+        LineFault::NoHeader => of_text("fault 1", NO_HEADER),
+        LineFault::BadWord => of_text("fault 2", BAD_WORD),
+        LineFault::BadNumber => of_text("fault 3", BAD_NUMBER),
+        LineFault::TooBig => of_text("fault 4", TOO_BIG),
+        LineFault::NoNewline => of_text("fault 5", NO_NEWLINE),
+        LineFault::TrailingText => of_text("fault 6", TRAILING_TEXT),
+    }
+}
+
+/// What a rule asks of an image.
+#[tactic(auto, unfolding(crate::proofs::Common::digits))]
+pub fn of_rule(rule: Rule) -> Meaning
+    ensures { result.name.now ≡ name_of (OfRule rule) }
+{
+    match rule {
+        Rule::Form => of_image("rule 1", FORM),
+        Rule::Version => of_image("rule 2", VERSION),
+        Rule::Sizes => of_image("rule 3", SIZES),
+        Rule::Length => of_image("rule 4", LENGTH),
+        Rule::Rows => of_image("rule 5", ROWS),
+        Rule::Inside => of_image("rule 6", INSIDE),
+        Rule::Heads => of_image("rule 7", HEADS),
+        Rule::List => of_image("rule 8", LIST),
+        Rule::Record => of_image("rule 9", RECORD),
+    }
+}
+
+/// Why a judge refuses a deed.
+#[tactic(auto, unfolding(crate::proofs::Common::digits))]
+pub fn of_judge_fault(fault: Fault) -> Meaning
+    ensures { result.name.now ≡ name_of (OfAgainst fault) }
+{
+    match fault {
+        Fault::OutOfPlace => of_judge("against 1", OUT_OF_PLACE),
+        Fault::TwoInside => of_judge("against 2", TWO_INSIDE),
+        Fault::NotReentered => of_judge("against 3", NOT_REENTERED),
+        Fault::Overtaken { .. } => of_judge("against 4", OVERTAKEN),
+        Fault::NotInside => of_judge("against 5", NOT_INSIDE),
+        Fault::MailOrder => of_judge("against 6", MAIL_ORDER),
+        Fault::AfterClose => of_judge("against 7", AFTER_CLOSE),
+    }
+}

@@ -1,0 +1,7 @@
+pub mod Draws
+pub mod Replays
+pub mod Gates
+pub mod Leasts
+pub mod Pictures
+pub mod Runs
+pub mod Tapes

@@ -1,0 +1,33 @@
+-- The sizes of a run that fits are those of a lab.
+use Rattle.std.proofs.Common.{◌≡◌, ℕ, ◌-◌, ◌*◌, ◌^◌, ◌≤◌, min, refl, inl, inr, arith}
+use Rattle.std.proofs.Math.Nat.{min-eq_left, one-le-mul}
+use Rattle.std.proofs.lemmas.Nat.{mul-le}
+use Rattle.one_lock.specs.Lab.{IsBadSpec}
+use Rattle.cli.specs.declared.arguments.order.RunOrder.{RunOrder}
+use Rattle.commands.specs.Commands.{lab_for}
+use Rattle.cli.specs.Sizes.{RunFits}
+
+-- room for each message is within a mailbox's room
+room_fits : (p m : ℕ) → p ≤ 16 → m ≤ 4096 → min (p * m) (2 ^ 64 - 1) ≡ p * m
+room_fits p m few some =
+    let most = mul-le p m 16 4096 few some in
+    min-eq_left (omega (arith, most))
+
+pub fits_lab : (order : RunOrder) → RunFits order → IsBadSpec (lab_for order) order.procs → ⊥
+fits_lab order fits (inl (inl none)) = omega (arith, fits.0.0, none)
+fits_lab order fits (inl (inr more)) = omega (arith, fits.0.1, more)
+fits_lab order fits (inr (inl (inl none))) = omega (arith, none)
+fits_lab order fits (inr (inl (inr more))) = omega (arith, more)
+fits_lab order fits (inr (inr (inl (inl none)))) =
+    let room = room_fits order.procs order.messages fits.0.1 fits.1.1 in
+    let some = one-le-mul fits.0.0 fits.1.0 in
+    omega (arith, none, room, some)
+fits_lab order fits (inr (inr (inl (inr more)))) =
+    let room = room_fits order.procs order.messages fits.0.1 fits.1.1 in
+    let most = mul-le order.procs order.messages 16 4096 fits.0.1 fits.1.1 in
+    omega (arith, more, room, most)
+fits_lab order fits (inr (inr (inr (inl (inl none))))) = omega (arith, fits.3, none)
+fits_lab order fits (inr (inr (inr (inl (inr more))))) = omega (arith, fits.4, more)
+fits_lab order fits (inr (inr (inr (inr (inl (inl none)))))) = omega (arith, fits.1.0, none)
+fits_lab order fits (inr (inr (inr (inr (inl (inr more)))))) = omega (arith, fits.1.1, more)
+fits_lab order fits (inr (inr (inr (inr (inr other))))) = other refl

@@ -1,0 +1,102 @@
+-- How a command ends: what its status, or its fault, says of what was read, what it has written, and what is to be saved.
+use Rattle.std.specs.Prelude.{◌≡◌, ◌≢◌, ◌⊎◌, ℕ, ◌+◌, ◌-◌, ◌*◌, ◌^◌, ◌≤◌, min, Bool, true, false, List, [], ◌∷◌, codes, length, Option, Some, None, Result, Ok, Err}
+use Rattle.crashlab.specs.declared.variant.Variant.{Variant}
+use Rattle.crashlab.specs.declared.variant.Variant.TheVariants.{Right}
+use Rattle.crashlab.specs.Hunts.{IsFound}
+use Rattle.cli.specs.declared.explain.topic.Topic.{Topic}
+use Rattle.cli.specs.declared.explain.topic.TheConstants.{TOPICS}
+use Rattle.cli.specs.Told.{list_of, TellsTopic}
+use Rattle.one_lock.specs.declared.lab.spec.Spec.{Spec}
+use Rattle.schedule.specs.Schedules.{Scheduled, spelling}
+use Rattle.schedule.specs.Words.{line_of, parts_of}
+use Rattle.schedule.specs.Tapes.{Tape, Writes, Reading}
+use Rattle.schedule.specs.Reports.{verdict_line}
+use Rattle.schedule.specs.Trials.{trace_answer}
+use Rattle.schedule.specs.Wholes.{WasRead}
+use Rattle.schedule.specs.declared.replays.replay_fault.ReplayFault.{ReplayFault}
+use Rattle.schedule.specs.declared.replays.verdict.Verdict.{Verdict}
+use Rattle.crashlab.specs.Shrunk.{Shrinks}
+use Rattle.cli.specs.declared.arguments.order.Command.{Command}
+use Rattle.cli.specs.declared.arguments.order.Command.TheVariants.{Replay, Run, Hunt, Explore, Judge, Draw, Shrink, Explain}
+use Rattle.cli.specs.declared.arguments.order.HuntOrder.{HuntOrder}
+use Rattle.cli.specs.declared.arguments.order.RunOrder.{RunOrder}
+use Rattle.cli.specs.Sizes.{HuntFits, RunFits}
+use Rattle.commands.specs.declared.schedules.ending.Ending.{Ending}
+use Rattle.commands.specs.declared.schedules.fault.Fault.{Fault}
+use Rattle.commands.specs.declared.schedules.fault.Fault.TheVariants.{BadSize, Write}
+use Rattle.commands.specs.Draws.{DrawEnds}
+use Rattle.commands.specs.Endings.{IsBroken, TellsReads}
+use Rattle.commands.specs.Replays.{ReplayEnds}
+use Rattle.commands.specs.Shrinks.{ShrinkEnds}
+use Rattle.commands.specs.Statuses.{outcome, outcome_told, status_ended}
+use Rattle.commands.specs.Explores.{ExploreEnds}
+
+-- what is printed of a trace: the line of its verdict, or nothing after a fault
+abbrev pub line_told : Result Verdict ReplayFault → List ℕ
+line_told (Ok verdict) = verdict_line verdict
+line_told (Err fault) = []
+
+-- a trace was read to its end: the outcome is that of the answer to its text, whose line was written
+pub record TellsTrace (old new : Reading) (before now : Tape) (end : Result Ending Fault) : Type 0 where
+  pub text : List ℕ
+  pub read : WasRead old new text
+  pub outcome_is : outcome end ≡ outcome_told (trace_answer (parts_of text))
+  pub line : Writes before now (line_told (trace_answer (parts_of text)))
+
+abbrev pub JudgeEnds : Reading → Reading → Tape → Tape → Result Ending Fault → Type 0
+JudgeEnds old new before now end = (IsBroken end ⊎ TellsTrace old new before now end) × TellsReads old new end
+
+-- the schedule that was found is written, or the least one that it is made
+abbrev pub TellsFound : Bool → Variant → Scheduled → Tape → Tape → Type 0
+TellsFound false variant found before now = Writes before now (spelling found)
+TellsFound true variant found before now = (least : Scheduled) × Shrinks variant found (Some least) × Writes before now (spelling least)
+
+-- a schedule of at most as many moves as asked for finds a wrong variant out, and was written
+pub record TellsFind (order : HuntOrder) (before now : Tape) : Type 0 where
+  pub wrong : order.variant ≢ Right
+  pub schedule : Scheduled
+  pub few : length schedule.lines ≤ order.steps
+  pub found : IsFound order.variant schedule
+  pub text : TellsFound order.shrink order.variant schedule before now
+
+abbrev pub HuntEnds : HuntOrder → Tape → Tape → Result Ending Fault → Type 0
+HuntEnds order before now end =
+    (outcome end ≡ Ok 0) × Writes before now (line_of (codes "nothing" ∷ codes "found" ∷ []))
+    ⊎ (outcome end ≡ Ok 1) × TellsFind order before now
+    ⊎ (outcome end ≡ Err BadSize) × (HuntFits order → ⊥)
+    ⊎ IsBroken end
+
+-- the lab that a run is made in: room for each message, and numbers enough
+abbrev pub lab_for : RunOrder → Spec
+lab_for order =
+    record {
+      procs = order.procs;
+      messages = order.messages;
+      limit = 2 ^ 62;
+      cap = min (order.procs * order.messages) (2 ^ 64 - 1);
+      width = order.width;
+    }
+
+-- 2 tells sizes out of their ranges
+abbrev pub RunEnds : RunOrder → Result Ending Fault → Type 0
+RunEnds order end = status_ended end ≡ 2 → RunFits order → ⊥
+
+-- the meaning of a topic was written, or the names of all
+abbrev pub Explains : Option Topic → Tape → Tape → Type 0
+Explains (Some topic) before now = TellsTopic topic before now
+Explains None before now = Writes before now (list_of TOPICS)
+
+-- only a failed write keeps it from being told
+abbrev pub ExplainEnds : Option Topic → Tape → Tape → Result Ending Fault → Type 0
+ExplainEnds topic before now end = (outcome end ≡ Ok 0) × Explains topic before now ⊎ (outcome end ≡ Err Write) × (now.failures ≡ min (before.failures + 1) (2 ^ 64 - 1))
+
+-- by the command, and the text of the image that is given; by how far its input was read and what it has written, before and now
+abbrev pub CommandEnds : Command → Option (List ℕ) → Reading → Reading → Tape → Tape → Result Ending Fault → Type 0
+CommandEnds (Replay order) image old new before now end = ReplayEnds order image old new before now end
+CommandEnds (Run order) image old new before now end = RunEnds order end
+CommandEnds (Hunt order) image old new before now end = HuntEnds order before now end
+CommandEnds (Explore order) image old new before now end = ExploreEnds order before now end
+CommandEnds (Judge file) image old new before now end = JudgeEnds old new before now end
+CommandEnds (Draw order) image old new before now end = DrawEnds order image old new before now end × TellsReads old new end
+CommandEnds (Shrink order) image old new before now end = ShrinkEnds order old new before now end × TellsReads old new end
+CommandEnds (Explain topic) image old new before now end = (new ≡ old) × ExplainEnds topic before now end

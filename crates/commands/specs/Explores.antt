@@ -1,0 +1,96 @@
+-- How a search of all schedules ends.
+use Rattle.std.specs.Prelude.{◌≡◌, ◌≢◌, ◌⊎◌, ℕ, zero, suc, ◌≤◌, Bool, true, false, List, [], ◌∷◌, ◌++◌, codes, length, map, take, replicate, None, Result, Ok, Err, IsErrAnd}
+use Rattle.std.specs.Fmt.{decimal}
+use Rattle.redomail.specs.declared.layout.Layout.{Layout}
+use Rattle.rmeworld.specs.declared.call.Call.{Call}
+use Rattle.rmeworld.specs.declared.call.Call.TheVariants as call
+use Rattle.rmeworld.specs.WorldState.{new_refusal}
+use Rattle.schedule.specs.Tapes.{Tape, Writes}
+use Rattle.schedule.specs.Schedules.{Scheduled, spelling}
+use Rattle.schedule.specs.Wholes.{Silent}
+use Rattle.explorer.specs.Paths.{HasMoreStates, IsNumberOfStates}
+use Rattle.schedule.specs.Words.{line_of}
+use Rattle.crashlab.specs.declared.variant.Variant.TheVariants.{Right}
+use Rattle.lock_explorer.specs.declared.space.moves.Move.{Move}
+use Rattle.lock_explorer.specs.SceneWords.{scene_words}
+use Rattle.lock_explorer.specs.Spaces.{first_scene, line_by, rules}
+use Rattle.lock_explorer.specs.Finding.{IsFoundIn, IsLeast, NoneOfAtMost, NoneIsFound}
+use Rattle.commands.specs.declared.schedules.ending.Ending.{Ending}
+use Rattle.commands.specs.declared.schedules.fault.Fault.{Fault}
+use Rattle.commands.specs.declared.schedules.fault.Fault.TheVariants.{BadSize, TooManyStates}
+use Rattle.cli.specs.declared.arguments.order.ExploreOrder.{ExploreOrder}
+use Rattle.commands.specs.Endings.{FailsToWrite}
+use Rattle.commands.specs.Statuses.{outcome}
+
+-- these, where they are asked for
+abbrev pub asked : Bool → List Call → List Call
+asked true calls = calls
+asked false calls = []
+
+-- an append for each number up to n, with the number as each word of its value
+abbrev pub appends : ℕ → ℕ → List Call
+appends width zero = []
+appends width (suc n) = appends width n ++ call.Append (suc n) (take width (replicate 8 (suc n))) ∷ []
+
+-- the calls that are started
+abbrev pub calls_of : ExploreOrder → List Call
+calls_of order =
+    asked order.calls.lock (call.Lock ∷ [])
+    ++ (asked order.calls.unlock (call.Unlock ∷ [])
+    ++ (asked order.calls.recover (call.Recover ∷ [])
+    ++ (asked order.calls.consistent (call.Consistent ∷ [])
+    ++ (asked order.calls.withdraw (call.Withdraw ∷ [])
+    ++ (asked order.calls.append (appends order.width order.cap)
+    ++ asked order.calls.close (call.Close ∷ []))))))
+
+abbrev pub layout_of : ExploreOrder → Layout
+layout_of order = record { procs = order.procs; cap = order.cap; width = order.width }
+
+-- the moves as a schedule
+abbrev pub schedule_of : ExploreOrder → List Move → Scheduled
+schedule_of order path = record { procs = order.procs; limit = order.limit; cap = order.cap; width = order.width; lines = map line_by path }
+
+-- a schedule of fewest moves that finds a wrong variant out was written
+pub record TellsLeast (order : ExploreOrder) (before now : Tape) : Type 0 where
+  pub wrong : order.variant ≢ Right
+  pub path : List Move
+  pub found : IsFoundIn order.variant (layout_of order) order.limit order.crashes (calls_of order) path
+  pub least : IsLeast order.variant (layout_of order) order.limit order.crashes (calls_of order) path
+  pub few : length path ≤ order.moves
+  pub text : Writes before now (spelling (schedule_of order path))
+
+abbrev pub within_line : ℕ → List ℕ
+within_line moves = line_of (codes "nothing" ∷ codes "found" ∷ codes "within" ∷ decimal moves ∷ codes "moves" ∷ [])
+
+abbrev pub all_line : ℕ → List ℕ
+all_line states = line_of (codes "nothing" ∷ codes "found:" ∷ codes "all" ∷ decimal states ∷ codes "states" ∷ [])
+
+-- no schedule of at most as many moves as asked for finds it out, and this was told
+pub record TellsNoneWithin (order : ExploreOrder) (before now : Tape) : Type 0 where
+  pub none : NoneOfAtMost order.variant (layout_of order) order.limit order.crashes (calls_of order) order.moves
+  pub text : Writes before now (within_line order.moves)
+
+-- no schedule of any length finds it out, and this was told, with the number of states
+pub record TellsNone (order : ExploreOrder) (before now : Tape) : Type 0 where
+  pub none : NoneIsFound order.variant (layout_of order) order.limit order.crashes (calls_of order)
+  pub states : ℕ
+  pub number : IsNumberOfStates (rules scene_words) (first_scene order.variant (layout_of order) order.limit order.crashes (calls_of order)) states
+  pub text : Writes before now (all_line states)
+
+-- no world has these sizes, or no value as many words
+abbrev pub IsNoSize : ExploreOrder → Type 0
+IsNoSize order = (new_refusal (layout_of order) order.limit ≡ None → ⊥) ⊎ ((1 ≤ order.width) × (order.width ≤ 8) → ⊥)
+
+-- there are more states than may be kept, and nothing was written
+pub record HasTooMany (order : ExploreOrder) (before now : Tape) : Type 0 where
+  pub more : HasMoreStates (rules scene_words) (first_scene order.variant (layout_of order) order.limit order.crashes (calls_of order)) order.states
+  pub silent : Silent before now
+
+abbrev pub ExploreEnds : ExploreOrder → Tape → Tape → Result Ending Fault → Type 0
+ExploreEnds order before now end =
+    (outcome end ≡ Ok 1) × TellsLeast order before now
+    ⊎ (outcome end ≡ Ok 0) × TellsNoneWithin order before now
+    ⊎ (outcome end ≡ Ok 0) × TellsNone order before now
+    ⊎ (outcome end ≡ Err BadSize) × IsNoSize order
+    ⊎ (outcome end ≡ Err TooManyStates) × HasTooMany order before now
+    ⊎ IsErrAnd end (FailsToWrite before now)

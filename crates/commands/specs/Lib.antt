@@ -1,0 +1,15 @@
+pub mod Shown
+pub mod Draws
+pub mod Endings
+pub mod Lines
+pub mod Replays
+pub mod Settings
+pub mod Shrinks
+pub mod Statuses
+pub mod Tellings
+pub mod Commands
+pub mod Explores
+pub mod Faults
+pub mod Gates
+pub mod Programs
+pub mod Tallies

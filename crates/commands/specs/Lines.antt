@@ -1,0 +1,30 @@
+-- The one line of a fault.
+use Rattle.std.specs.Prelude.{◌≡◌, ℕ, ◌+◌, ◌-◌, ◌^◌, ◌⊎◌, min, List, [], ◌∷◌, ◌++◌, codes}
+use Rattle.std.specs.Fmt.{decimal}
+use Rattle.commands.specs.declared.schedules.fault.Fault.{Fault}
+use Rattle.commands.specs.declared.schedules.fault.Fault.TheVariants.{Text, Refused, Image, BadVariant, BadSize, Read, Write, OutOfMemory, Member, TooManyStates}
+use Rattle.schedule.specs.Words.{line_of}
+use Rattle.schedule.specs.Tapes.{Begins, Tape, Writes}
+
+-- what is told of a line of the input
+abbrev pub words_of_place : ℕ → List ℕ → ℕ → List (List ℕ)
+words_of_place line cause number = codes "line" ∷ (decimal line ++ codes ":") ∷ cause ∷ decimal number ∷ []
+
+abbrev pub words_of_fault : Fault → List (List ℕ)
+words_of_fault (Text line number) = words_of_place line (codes "fault") number
+words_of_fault (Refused line number) = words_of_place line (codes "refused") number
+words_of_fault (Image rule) = codes "image:" ∷ codes "rule" ∷ decimal rule ∷ []
+words_of_fault BadVariant = codes "bad" ∷ codes "variant" ∷ []
+words_of_fault BadSize = codes "bad" ∷ codes "size" ∷ []
+words_of_fault Read = codes "read" ∷ codes "failed" ∷ []
+words_of_fault Write = codes "write" ∷ codes "failed" ∷ []
+words_of_fault OutOfMemory = codes "out" ∷ codes "of" ∷ codes "memory" ∷ []
+words_of_fault TooManyStates = codes "too" ∷ codes "many" ∷ codes "states" ∷ []
+words_of_fault (Member p) = codes "member" ∷ decimal p ∷ codes "failed" ∷ []
+
+abbrev pub fault_line : Fault → List ℕ
+fault_line fault = line_of (codes "rmelab:" ∷ words_of_fault fault)
+
+-- the line was written, or the device has failed behind a beginning of it
+abbrev pub IsTold : Tape → Tape → List ℕ → Type 0
+IsTold before now line = Writes before now line ⊎ (Begins before.taken now.taken line × (now.failures ≡ min (before.failures + 1) (2 ^ 64 - 1)))

@@ -1,0 +1,70 @@
+-- How a replay ends.
+use Rattle.std.specs.Prelude.{◌≡◌, ◌≢◌, ℕ, Bool, false, List, Option, None, IfSome, Vec, Result, Ok, IfOk}
+use Rattle.std.specs.declared.alloc.Global.{Global}
+use Rattle.crashlab.specs.declared.variant.Variant.TheVariants.{Right}
+use Rattle.rmeworld.specs.declared.image.Image.{Image}
+use Rattle.rmeworld.specs.ImageText.{image_line}
+use Rattle.rmeworld.specs.Replayed.{image_of}
+use Rattle.rmecore.specs.declared.refusal.Refusal.{Refusal}
+use Rattle.judge.specs.Table.{State}
+use Rattle.schedule.specs.declared.replays.replay_fault.ReplayFault.{ReplayFault}
+use Rattle.schedule.specs.declared.replays.verdict.Verdict.{Verdict}
+use Rattle.schedule.specs.Tapes.{Tape, Reading}
+use Rattle.schedule.specs.Schedules.{Scheduled, schedule_at}
+use Rattle.schedule.specs.Runs.{Part, deeds_of}
+use Rattle.schedule.specs.Verdicts.{verdict_on}
+use Rattle.schedule.specs.Wholes.{WasRead, ReplaysSource, world_run}
+use Rattle.cli.specs.declared.arguments.order.ReplayOrder.{ReplayOrder}
+use Rattle.commands.specs.declared.schedules.ending.Ending.{Ending}
+use Rattle.commands.specs.declared.schedules.fault.Fault.{Fault}
+use Rattle.commands.specs.Endings.{IsEnded, TellsReads}
+use Rattle.commands.specs.Statuses.{outcome, outcome_told, status_after, status_ended}
+use Rattle.commands.specs.Tellings.{Replayed, TellsRead}
+
+-- just the report of a schedule on the right lock is asked for
+abbrev pub IsPlainReplay : ReplayOrder → Option (List ℕ) → Type 0
+IsPlainReplay order image = (image ≡ None) × (order.variant ≡ Right) × (order.json ≡ false) × (order.each ≡ false) × (order.save ≡ None)
+
+-- something is asked for beside, and no JSON
+abbrev pub IsTold : ReplayOrder → Option (List ℕ) → Type 0
+IsTold order image = (order.json ≡ false) × (IsPlainReplay order image → ⊥)
+
+-- the report of the schedule that was read was written, or why not is told
+abbrev pub TellsReplay : Reading → Reading → Tape → Tape → Result Ending Fault → Type 0
+TellsReplay old new before now end =
+    (answer : Result Verdict ReplayFault) × ReplaysSource old new before now answer × (outcome end ≡ outcome_told answer)
+
+-- the right lock is asked for, from its beginning
+abbrev pub IsNew : ReplayOrder → Option (List ℕ) → Type 0
+IsNew order image = (image ≡ None) × (order.variant ≡ Right)
+
+-- these bytes are the image that the run of a schedule on a new world leaves
+abbrev pub IsLast : Scheduled → List ℕ → Type 0
+IsLast schedule bytes = bytes ≡ image_line (image_of (world_run schedule).left)
+
+-- what is to be saved, if anything, is the last image of the schedule that was read
+pub record SavesLast (old new : Reading) (save : Option (Vec ℕ Global)) : Type 0 where
+  pub text : List ℕ
+  pub read : WasRead old new text
+  pub schedule : Scheduled
+  pub spelled : schedule_at text ≡ Ok schedule
+  pub last : IfSome save (λ image. IsLast schedule image.items)
+
+-- a schedule was played to its verdict, from a state of the judge table on
+pub record IsPlayed {S : Type 0} (start : State) (run : Part S (ℕ × Refusal)) (left : S) (before now : ℕ) (verdict : Verdict) : Type 0 where
+  pub verdict_is : verdict ≡ verdict_on start (deeds_of run.told)
+  pub left_is : left ≡ run.left
+  pub whole : now ≡ before
+
+-- and the command is ended: what is to be saved is the image of the machine as the run leaves it
+pub record IsReplayed {S : Type 0} (start : State) (run : Part S (ℕ × Refusal)) (picture_of : S → Image) (saves : Bool) (before now : ℕ) (ending : Ending) : Type 0 where
+  pub status_is : ending.status ≡ status_after (verdict_on start (deeds_of run.told))
+  pub last : IfSome ending.save (λ text. text.items ≡ image_line (picture_of run.left))
+  pub ended : IsEnded saves before now ending
+
+-- whatever is asked for beside, nothing finds the right lock out, and no failed read is taken for the end of the text
+abbrev pub ReplayEnds : ReplayOrder → Option (List ℕ) → Reading → Reading → Tape → Tape → Result Ending Fault → Type 0
+ReplayEnds order image old new before now end =
+    (status_ended end ≡ 1 → order.variant ≢ Right) × (IsPlainReplay order image → TellsReplay old new before now end)
+    × (IsNew order image → IfOk end (λ ending. SavesLast old new ending.save))
+    × (IsTold order image → TellsRead order.variant (Replayed order.each) image old new before now end) × TellsReads old new end

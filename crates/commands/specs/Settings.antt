@@ -1,0 +1,63 @@
+-- Why a schedule is not played: its text, its header, or the image that it begins with.
+use Rattle.std.specs.Prelude.{◌≡◌, ◌⊎◌, ◌≤◌, ℕ, Bool, List, length, Option, Some, None, Err}
+use Rattle.rmecore.specs.declared.refusal.Refusal.{Refusal}
+use Rattle.rmecore.specs.Refused.{number_of}
+use Rattle.rmecore.specs.Simulated.{cause}
+use Rattle.rmeworld.specs.declared.image.Image.{Image}
+use Rattle.rmeworld.specs.ImageText.{Spells, version_of}
+use Rattle.rmeworld.specs.ImageWiden.{IsUnwidened, IsWider}
+use Rattle.rmeworld.specs.ImageText.{IsUnread as IsNoImage}
+use Rattle.rmeworld.specs.WorldState.{new_refusal}
+use Rattle.schedule.specs.declared.lines.fault.LineFault.{LineFault}
+use Rattle.schedule.specs.Numbers.{number_of as number_of_line}
+use Rattle.schedule.specs.Schedules.{Scheduled, schedule_at}
+use Rattle.commands.specs.declared.schedules.fault.Fault.{Fault}
+use Rattle.commands.specs.declared.schedules.fault.Fault.TheVariants.{Text, Refused}
+use Rattle.commands.specs.Statuses.{fault_of_header, fault_of_image}
+use Rattle.schedule.specs.Wholes.{WasRead, layout_of}
+use Rattle.schedule.specs.Tapes.{Reading}
+
+-- the text that was read is no schedule
+unfoldable pub IsWrongText : Reading → Reading → Fault → Type 0
+IsWrongText old new fault =
+    (text : List ℕ) × WasRead old new text × (line : ℕ) × (why : LineFault) × (schedule_at text ≡ Err (line, why)) × (fault ≡ Text line (number_of_line why))
+
+-- the image that a text spells. A text spells no two images
+abbrev pub IsImageOf : List ℕ → Image → Type 0
+IsImageOf text image = (wide : Bool) × Spells text wide image × (image.version ≡ version_of wide)
+
+-- the image of the text that is given, or none where none is
+abbrev pub IsPicture : Option (List ℕ) → Option Image → Type 0
+IsPicture None None = Unit {0}
+IsPicture (Some text) (Some image) = IsImageOf text image
+IsPicture _ _ = ⊥
+
+-- the text that is given is no image
+abbrev pub IsWrongImage : Option (List ℕ) → Fault → Type 0
+IsWrongImage None fault = ⊥
+IsWrongImage (Some text) fault = (refusal : Refusal) × IsNoImage text refusal × (fault ≡ fault_of_image refusal)
+
+-- no world has the header's sizes, or there was no memory for it
+abbrev pub IsUnmade : Scheduled → Fault → Type 0
+IsUnmade schedule fault =
+    (refusal : Refusal) × (new_refusal (layout_of schedule) schedule.limit ≡ cause refusal) × (fault ≡ fault_of_header (number_of refusal))
+
+-- the schedule's header names the image's sizes, and its width or a greater one
+abbrev pub CanFit : Image → Scheduled → Type 0
+CanFit image schedule =
+    (length image.lock ≡ schedule.procs) × (image.limit ≡ schedule.limit) × (image.cap ≡ schedule.cap) × (image.width ≤ schedule.width)
+
+-- the image has the sizes that the schedule's header names
+abbrev pub IsFitting : Image → Scheduled → Type 0
+IsFitting image schedule =
+    (length image.lock ≡ schedule.procs) × (image.limit ≡ schedule.limit) × (image.cap ≡ schedule.cap) × (image.width ≡ schedule.width)
+
+-- the image itself where its values have this many words, or else with values of so many
+abbrev pub IsMadeFit : ℕ → Image → Image → Type 0
+IsMadeFit width image fitted = ((image.width ≡ width) × (fitted ≡ image)) ⊎ IsWider width image fitted
+
+-- the header names other sizes than the image's, or the image can't be widened
+abbrev pub IsMisfit : Image → Scheduled → Fault → Type 0
+IsMisfit image schedule fault =
+    ((CanFit image schedule → ⊥) × (fault ≡ Refused 1 9))
+    ⊎ ((refusal : Refusal) × IsUnwidened schedule.width image refusal × (fault ≡ fault_of_header (number_of refusal)))

@@ -1,0 +1,64 @@
+-- How making a schedule least ends.
+use Rattle.std.specs.Prelude.{◌≡◌, ◌⊎◌, ℕ, List, Option, Some, None, Result, Ok, Err}
+use Rattle.crashlab.specs.declared.variant.Variant.{Variant}
+use Rattle.schedule.specs.declared.replays.replay_fault.ReplayFault.TheVariants as faults_of_replay
+use Rattle.schedule.specs.declared.replays.verdict.Verdict.TheVariants.{Fine}
+use Rattle.schedule.specs.Tapes.{Tape, Writes, Reading}
+use Rattle.schedule.specs.Reports.{verdict_line}
+use Rattle.schedule.specs.Schedules.{Scheduled, schedule_at, spelling}
+use Rattle.schedule.specs.Wholes.{Silent, WasRead}
+use Rattle.crashlab.specs.Shrunk.{IsWhy, Shrinks}
+use Rattle.commands.specs.declared.schedules.ending.Ending.{Ending}
+use Rattle.commands.specs.declared.schedules.fault.Fault.{Fault}
+use Rattle.commands.specs.declared.schedules.fault.Fault.TheVariants.{Refused}
+use Rattle.cli.specs.declared.arguments.order.ShrinkOrder.{ShrinkOrder}
+use Rattle.commands.specs.Settings.{IsWrongText}
+use Rattle.commands.specs.Statuses.{outcome, status_ended}
+
+-- what is written of the schedule that it was made, or that nothing was wrong with it
+abbrev pub shrunk_text : Option Scheduled → List ℕ
+shrunk_text (Some least) = spelling least
+shrunk_text None = verdict_line Fine
+
+abbrev pub shrunk_status : Option Scheduled → ℕ
+shrunk_status (Some least) = 1
+shrunk_status None = 0
+
+-- it was written what shrinking answers
+pub record TellsShrunk (variant : Variant) (schedule : Scheduled) (before now : Tape) (end : Result Ending Fault) : Type 0 where
+  pub answer : Option Scheduled
+  pub shrinks : Shrinks variant schedule answer
+  pub written : Writes before now (shrunk_text answer)
+  pub status : outcome end ≡ Ok (shrunk_status answer)
+
+-- the line that the variant's world refuses is told, and nothing is written
+pub record TellsRefused (variant : Variant) (schedule : Scheduled) (before now : Tape) (end : Result Ending Fault) : Type 0 where
+  pub line : ℕ
+  pub number : ℕ
+  pub why : IsWhy variant schedule (faults_of_replay.Refused line number)
+  pub told : end ≡ Err (Refused line number)
+  pub silent : Silent before now
+
+-- or a device or memory has failed
+abbrev pub ShrinksSchedule : Variant → Scheduled → Tape → Tape → Result Ending Fault → Type 0
+ShrinksSchedule variant schedule before now end =
+    TellsShrunk variant schedule before now end ⊎ (TellsRefused variant schedule before now end ⊎ (status_ended end ≡ 3))
+
+-- the schedule that was read is made least
+pub record ShrinksText (variant : Variant) (old new : Reading) (before now : Tape) (end : Result Ending Fault) : Type 0 where
+  pub text : List ℕ
+  pub read : WasRead old new text
+  pub schedule : Scheduled
+  pub spelled : schedule_at text ≡ Ok schedule
+  pub shrunk : ShrinksSchedule variant schedule before now end
+
+-- the text is no schedule, and nothing is written
+pub record TellsText (old new : Reading) (before now : Tape) (end : Result Ending Fault) : Type 0 where
+  pub fault : Fault
+  pub wrong : IsWrongText old new fault
+  pub told : end ≡ Err fault
+  pub silent : Silent before now
+
+abbrev pub ShrinkEnds : ShrinkOrder → Reading → Reading → Tape → Tape → Result Ending Fault → Type 0
+ShrinkEnds order old new before now end =
+    ShrinksText order.variant old new before now end ⊎ (TellsText old new before now end ⊎ (status_ended end ≡ 3))

@@ -1,0 +1,187 @@
+//! The commands, over a reader and two writers.
+
+ghost use Rattle.std.specs.Prelude.{◌≡◌, Result, IfErr, IfOk, OnOk, is_some, option_copied, true, false};
+ghost use Rattle.crashlab.specs.Hunts.{IsFound};
+ghost use Rattle.commands.specs.Commands.{CommandEnds, ExplainEnds, HuntEnds, JudgeEnds, TellsFound};
+ghost use Rattle.commands.specs.Endings.{IsEnded};
+ghost use Rattle.cli.specs.FilesNamed.{save_of};
+ghost use Rattle.commands.specs.Programs.{Closes};
+ghost use Rattle.commands.specs.Statuses.{status_of};
+
+use crate::exploring::explore_order;
+use crate::running::run_order;
+use crashlab::hunting::hunt_watched;
+use crashlab::{HuntFault, Variant};
+use cli::{Topic, tell_all_names, tell_topic};
+use cli::arguments::order::{Command, HuntOrder};
+use crate::progress::meter::Meter;
+use crate::progress::screen::Screen;
+use crate::progress::work::Work;
+use schedule::texts::device::write_all;
+use schedule::{Schedule, Sink, Source};
+use crate::schedules::drawn::draw_order;
+use crate::schedules::ending::{Ending, status_after_verdict};
+use crate::schedules::fault::Fault;
+use crate::schedules::line::told;
+use crate::schedules::replaying::replay_order;
+use crate::schedules::shrunk::{shrink_order, write_lines};
+use crashlab::shrink_found;
+use std::alloc::Global;
+use std::sync::Wait;
+use std::thread::Threads;
+use schedule::{judge_trace, put_verdict};
+
+/// The verdict line of a trace.
+fn judge_order<R: Source, W: Sink>(alloc: Global, r: &mut R, w: &mut W) -> Result<Ending, Fault>
+    ensures ends { JudgeEnds (R.reading r.old) (R.reading r.new) (W.tape w.old) (W.tape w.new) result }
+    ensures ended { IfOk result (IsEnded false (W.tape w.old).failures (W.tape w.new).failures) }
+{
+    let verdict = judge_trace(alloc, r)?;
+    let mut line = Vec::new(alloc);
+    put_verdict(&mut line, verdict)?;
+    if write_all(w, &line).is_err() {
+        return Err(Fault::Write);
+    }
+    Ok(Ending {
+        status: status_after_verdict(verdict),
+        save: None,
+    })
+}
+
+/// Makes the schedule that a hunt has found least, and writes it.
+fn write_least<W: Sink>(
+    alloc: Global,
+    variant: Variant,
+    found: &Schedule,
+    w: &mut W,
+) -> Result<(), Fault>
+    requires { IsFound variant found.now }
+    ensures written { OnOk result (TellsFound true variant found.now (W.tape w.old) (W.tape w.new)) }
+    ensures failed { IfErr result (λ fault. status_of fault ≡ 3) }
+{
+    let least = shrink_found(alloc, variant, found)?;
+    write_lines(alloc, &least, w)
+}
+
+/// Writes the schedule that a hunt has found, or the least one that it is made.
+fn write_found<W: Sink>(
+    alloc: Global,
+    order: &HuntOrder,
+    found: &Schedule,
+    w: &mut W,
+) -> Result<(), Fault>
+    requires { IsFound order.now.variant found.now }
+    ensures written { OnOk result (TellsFound order.now.shrink order.now.variant found.now (W.tape w.old) (W.tape w.new)) }
+    ensures failed { IfErr result (λ fault. status_of fault ≡ 3) }
+{
+    if order.shrink {
+        write_least(alloc, order.variant, found, w)
+    } else {
+        write_lines(alloc, found, w)
+    }
+}
+
+/// The schedule that a hunt finds, or that it finds none. How the hunt comes on is shown on the screen.
+pub fn hunt_order<S: Screen, W: Sink>(
+    alloc: Global,
+    order: &HuntOrder,
+    screen: &mut S,
+    w: &mut W,
+) -> Result<Ending, Fault>
+    ensures ends { HuntEnds order.now (W.tape w.old) (W.tape w.new) result }
+    ensures ended { IfOk result (IsEnded false (W.tape w.old).failures (W.tape w.new).failures) }
+{
+    let mut meter = Meter::new(screen, Work::Hunt);
+    let found = hunt_watched(
+        alloc,
+        order.variant,
+        order.seed,
+        order.rounds,
+        order.steps,
+        &mut meter,
+    );
+    meter.end();
+    match found {
+        Ok(Some(schedule)) => {
+            write_found(alloc, order, &schedule, w)?;
+            Ok(Ending {
+                status: 1,
+                save: None,
+            })
+        }
+        Ok(None) if write_all(w, b"nothing found\n").is_err() => Err(Fault::Write),
+        Ok(None) => Ok(Ending {
+            status: 0,
+            save: None,
+        }),
+        Err(HuntFault::BadRounds | HuntFault::BadSteps) => Err(Fault::BadSize),
+        Err(HuntFault::OutOfMemory) => Err(Fault::OutOfMemory),
+    }
+}
+
+/// What a topic means, or the names of all topics.
+fn explain_order<W: Sink>(topic: Option<Topic>, w: &mut W) -> Result<Ending, Fault>
+    ensures ends { ExplainEnds topic (W.tape w.old) (W.tape w.new) result }
+    ensures ended { IfOk result (IsEnded false (W.tape w.old).failures (W.tape w.new).failures) }
+{
+    let told = match topic {
+        Some(topic) => tell_topic(topic, w),
+        None => tell_all_names(w),
+    };
+    match told {
+        Ok(()) => Ok(Ending {
+            status: 0,
+            save: None,
+        }),
+        Err(_) => Err(Fault::Write),
+    }
+}
+
+/// Does what a command says, or says why not: it reads the schedule or the trace from `r`, and writes what it prints to
+/// `w`. The image is the text of the file that `--image` names. How a search or a hunt comes on is shown on the screen.
+pub fn ended<T: Threads + Wait + Sync, S: Screen, R: Source, W: Sink>(
+    rt: &T,
+    alloc: Global,
+    command: &Command,
+    image: Option<&[u8]>,
+    screen: &mut S,
+    r: &mut R,
+    w: &mut W,
+) -> Result<Ending, Fault>
+    ensures ends { CommandEnds command.now (option_copied image.entry) (R.reading r.old) (R.reading r.new) (W.tape w.old) (W.tape w.new) result }
+    ensures ended { IfOk result (IsEnded (is_some (save_of command.now)) (W.tape w.old).failures (W.tape w.new).failures) }
+{
+    match command {
+        Command::Replay(order) => replay_order(alloc, order, image, r, w),
+        Command::Judge(_) => judge_order(alloc, r, w),
+        Command::Draw(order) => draw_order(alloc, order, image, r, w),
+        Command::Shrink(order) => shrink_order(alloc, order, r, w),
+        Command::Hunt(order) => hunt_order(alloc, order, screen, w),
+        Command::Explore(order) => explore_order(alloc, order, screen, w),
+        Command::Run(order) => run_order(rt, alloc, order, w),
+        Command::Explain(topic) => explain_order(*topic, w),
+    }
+}
+
+/// Does what a command says over a reader, a writer for what is printed, and one for the one line of a fault.
+pub fn command<T: Threads + Wait + Sync, S: Screen, R: Source, W: Sink, E: Sink>(
+    rt: &T,
+    alloc: Global,
+    command: &Command,
+    image: Option<&[u8]>,
+    screen: &mut S,
+    r: &mut R,
+    w: &mut W,
+    e: &mut E,
+) -> Ending
+    ensures ends { (end : Result Ending Fault) × CommandEnds command.now (option_copied image.entry) (R.reading r.old) (R.reading r.new) (W.tape w.old) (W.tape w.new) end × Closes (E.tape e.old) (E.tape e.new) end result.status }
+    ensures unsaved { is_some (save_of command.now) ≡ false → is_some result.save ≡ false }
+{
+    match ended(rt, alloc, command, image, screen, r, w) {
+        Ok(ending) => ending,
+        Err(fault) => Ending {
+            status: told(fault, e),
+            save: None,
+        },
+    }
+}

@@ -1,0 +1,201 @@
+//! The command `explore`.
+
+ghost use Rattle.std.specs.Prelude.{◌≡◌, ◌++◌, ◌⊎◌, ◌∷◌, [], false, codes, length, ◌≤◌, take, replicate, IfErr, IfOk, IfSome, IsSome, OnOk, ◌↔◌};
+ghost use Rattle.std.specs.Fmt.{decimal};
+ghost use Rattle.commands.specs.Endings.{FailsToWrite, IsEnded};
+ghost use Rattle.schedule.specs.Tapes.{Writes};
+ghost use Rattle.commands.specs.Explores.{appends as appends_of, asked, all_line, calls_of as calls_asked, ExploreEnds, schedule_of as schedule_by, within_line};
+ghost use Rattle.lock_explorer.specs.Spaces.{line_by};
+
+use schedule::{Count, Line};
+use lock_explorer::{Bounds, ExploreFault, Found, Move, shortest_schedule};
+use cli::arguments::order::ExploreOrder;
+use crate::progress::meter::Meter;
+use crate::progress::screen::Screen;
+use crate::progress::work::Work;
+use redomail::Layout;
+use rmecore::Body;
+use rmeworld::Call;
+use schedule::texts::device::write_all;
+use schedule::{Schedule, Sink};
+use crate::schedules::ending::Ending;
+use crate::schedules::fault::Fault;
+use crate::schedules::line::line_around;
+use crate::schedules::shrunk::write_lines;
+use std::alloc::{AllocError, Global};
+
+/// Lists a call, where it is asked for.
+fn put_call(calls: &mut Vec<Call>, is_asked: bool, call: Call) -> Result<(), AllocError>
+    ensures { OnOk result (calls.new.items ≡ calls.old.items ++ asked is_asked (call ∷ [])) }
+{
+    if is_asked {
+        calls.push(call)?;
+    }
+    Ok(())
+}
+
+/// The append with this number, whose value has so many words, each of them the number.
+fn append_of(seq: u64, width: u64) -> Option<Call>
+    ensures same { IfSome result (λ call. call ≡ Call.Append seq (take width (replicate 8 seq))) }
+    ensures wide { IsSome result ↔ ((1 ≤ width) × (width ≤ 8)) }
+{
+    if width > 8 {
+        return None;
+    }
+    let words = [seq; 8];
+    match Body::new(&words[..width as usize]) {
+        Ok(value) => Some(Call::Append { seq, value }),
+        Err(_) => None,
+    }
+}
+
+/// Lists the appends of each number from 1 to the capacity.
+fn put_appends(calls: &mut Vec<Call>, order: &ExploreOrder) -> Result<(), Fault>
+    ensures listed { OnOk result (calls.new.items ≡ calls.old.items ++ appends_of order.now.width order.now.cap) }
+    ensures failed { IfErr result (λ fault. fault ≡ Fault.OutOfMemory) }
+{
+    for seq in 0..order.cap {
+        let Some(call) = append_of(seq + 1, order.width) else {
+            return Err(Fault::OutOfMemory);
+        };
+        calls.push(call)?;
+    }
+    Ok(())
+}
+
+/// The calls that are started, always in this order.
+fn calls_of(alloc: Global, order: &ExploreOrder) -> Result<Vec<Call>, Fault>
+    ensures listed { IfOk result (λ calls. calls.items ≡ calls_asked order.now) }
+    ensures failed { IfErr result (λ fault. fault ≡ Fault.OutOfMemory) }
+{
+    let asked = &order.calls;
+    let mut calls = Vec::new(alloc);
+    put_call(&mut calls, asked.lock, Call::Lock)?;
+    put_call(&mut calls, asked.unlock, Call::Unlock)?;
+    put_call(&mut calls, asked.recover, Call::Recover)?;
+    put_call(&mut calls, asked.consistent, Call::Consistent)?;
+    put_call(&mut calls, asked.withdraw, Call::Withdraw)?;
+    if asked.append {
+        put_appends(&mut calls, order)?;
+    }
+    put_call(&mut calls, asked.close, Call::Close)?;
+    Ok(calls)
+}
+
+/// A move as a line of a schedule.
+fn line_of_move(made: &Move) -> Line
+    ensures { result ≡ line_by made.now }
+{
+    match *made {
+        Move::Start(p, call) => Line::Start(p, call),
+        Move::Step(p) => Line::Step(p, Count::ONE),
+        Move::Crash(p) => Line::Crash(p),
+    }
+}
+
+/// The moves as a schedule.
+fn schedule_of(alloc: Global, order: &ExploreOrder, path: &[Move]) -> Result<Schedule, Fault>
+    ensures schedule { IfOk result (λ schedule. schedule ≡ schedule_by order.now path.now) }
+    ensures failed { IfErr result (λ fault. fault ≡ Fault.OutOfMemory) }
+{
+    let Ok(mut schedule) = Schedule::new(alloc, order.procs, order.limit, order.cap, order.width)
+    else {
+        return Err(Fault::OutOfMemory);
+    };
+    for made in path {
+        if schedule.push(line_of_move(made)).is_err() {
+            return Err(Fault::OutOfMemory);
+        }
+    }
+    Ok(schedule)
+}
+
+/// Tells that nothing was found, and how far was looked.
+fn tell_none<W: Sink>(before: &str, number: u64, after: &str, w: &mut W) -> Result<Ending, Fault>
+    requires { (length before.now ≤ 21) × (length after.now ≤ 20) }
+    ensures told { OnOk result (Writes (W.tape w.old) (W.tape w.new) (before.now ++ decimal number ++ after.now)) }
+    ensures status { IfOk result (λ ending. ending.status ≡ 0) }
+    ensures ended { IfOk result (IsEnded false (W.tape w.old).failures (W.tape w.new).failures) }
+    ensures failed { IfErr result (FailsToWrite (W.tape w.old) (W.tape w.new)) }
+{
+    let line = line_around(before, number, after);
+    if write_all(w, line.as_bytes()).is_err() {
+        return Err(Fault::Write);
+    }
+    Ok(Ending {
+        status: 0,
+        save: None,
+    })
+}
+
+/// Tells that no schedule of at most so many moves is found.
+fn tell_within<W: Sink>(moves: u64, w: &mut W) -> Result<Ending, Fault>
+    ensures told { OnOk result (Writes (W.tape w.old) (W.tape w.new) (within_line moves)) }
+    ensures status { IfOk result (λ ending. ending.status ≡ 0) }
+    ensures ended { IfOk result (IsEnded false (W.tape w.old).failures (W.tape w.new).failures) }
+    ensures failed { IfErr result (FailsToWrite (W.tape w.old) (W.tape w.new)) }
+{
+    tell_none("nothing found within ", moves, " moves\n", w)
+}
+
+/// Tells that none is found among so many states, which are all.
+fn tell_all<W: Sink>(states: u64, w: &mut W) -> Result<Ending, Fault>
+    ensures told { OnOk result (Writes (W.tape w.old) (W.tape w.new) (all_line states)) }
+    ensures status { IfOk result (λ ending. ending.status ≡ 0) }
+    ensures ended { IfOk result (IsEnded false (W.tape w.old).failures (W.tape w.new).failures) }
+    ensures failed { IfErr result (FailsToWrite (W.tape w.old) (W.tape w.new)) }
+{
+    tell_none("nothing found: all ", states, " states\n", w)
+}
+
+/// The schedule of fewest moves that is found, or that there is none. How the search comes on is shown on the screen.
+pub fn explore_order<S: Screen, W: Sink>(
+    alloc: Global,
+    order: &ExploreOrder,
+    screen: &mut S,
+    w: &mut W,
+) -> Result<Ending, Fault>
+    ensures ends { ExploreEnds order.now (W.tape w.old) (W.tape w.new) result }
+    ensures ended { IfOk result (IsEnded false (W.tape w.old).failures (W.tape w.new).failures) }
+{
+    if order.width == 0 || order.width > 8 {
+        return Err(Fault::BadSize);
+    }
+    let layout = Layout {
+        procs: order.procs,
+        cap: order.cap,
+        width: order.width,
+    };
+    let bounds = Bounds {
+        crashes: order.crashes,
+        moves: order.moves,
+        states: order.states,
+    };
+    let calls = calls_of(alloc, order)?;
+    let mut meter = Meter::new(screen, Work::Search);
+    let found = shortest_schedule(
+        alloc,
+        order.variant,
+        layout,
+        order.limit,
+        &calls,
+        &bounds,
+        &mut meter,
+    );
+    meter.end();
+    match found {
+        Ok(Found::Path(path)) => {
+            let schedule = schedule_of(alloc, order, &path)?;
+            write_lines(alloc, &schedule, w)?;
+            Ok(Ending {
+                status: 1,
+                save: None,
+            })
+        }
+        Ok(Found::NoneWithin) => tell_within(order.moves, w),
+        Ok(Found::Nowhere(states)) => tell_all(states, w),
+        Err(ExploreFault::Refused(_)) => Err(Fault::BadSize),
+        Err(ExploreFault::TooManyStates) => Err(Fault::TooManyStates),
+        Err(ExploreFault::OutOfMemory) => Err(Fault::OutOfMemory),
+    }
+}

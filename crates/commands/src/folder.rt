@@ -1,0 +1,36 @@
+//! The files that a command names.
+
+ghost use Rattle.std.specs.Prelude.{◌≡◌, ◌++◌, ◌∷◌, [], false, IfOk};
+ghost use Rattle.commands.specs.Programs.{Used};
+
+use schedule::Source;
+
+/// Why a file was not opened or written.
+#[derive(Clone, Copy, Debug, PartialEq, Eq)]
+pub enum FileFault {
+    /// There is none, or its device failed.
+    Failed,
+    OutOfMemory,
+}
+
+/// A folder of files by their names.
+pub trait Folder {
+    /// A file that is open to be read.
+    type Opened: Source + Drop;
+
+    /// what it was asked for
+    ghost used: { Self → Used };
+
+    /// Opens a file, of which nothing is read yet.
+    fn open(&mut self, name: &String) -> Result<Self::Opened, FileFault>
+        ensures opened { (used self.new).opened ≡ (used self.old).opened ++ name.now ∷ [] }
+        ensures saved { (used self.new).saved ≡ (used self.old).saved }
+        ensures texts { (used self.new).texts ≡ (used self.old).texts }
+        ensures unread { IfOk result (λ file. Self.Opened.reading file ≡ record { given = []; ended = false; failures = 0 }) };
+
+    /// Writes a whole file, in place of the one of this name.
+    fn save(&mut self, name: &String, text: &Vec<u8>) -> Result<(), FileFault>
+        ensures opened { (used self.new).opened ≡ (used self.old).opened }
+        ensures saved { (used self.new).saved ≡ (used self.old).saved ++ name.now ∷ [] }
+        ensures texts { (used self.new).texts ≡ (used self.old).texts ++ text.now ∷ [] };
+}

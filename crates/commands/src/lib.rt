@@ -1,0 +1,17 @@
+//! The commands of `rmelab`, and the whole program over words, a folder of files, a reader and two writers.
+#![tactic(auto)]
+
+pub mod command;
+pub mod disk;
+pub mod exploring;
+pub mod folder;
+pub mod program;
+pub mod progress;
+pub mod running;
+pub mod schedules;
+pub mod tally;
+
+pub use progress::meter::Meter;
+pub use progress::screen::{NoScreen, Screen, Terminal};
+pub use progress::work::Work;
+pub use schedules::ending::Ending;

@@ -1,0 +1,306 @@
+//! The whole program, over its words, a folder of files, its input and its two outputs.
+
+ghost use Rattle.std.specs.Prelude.{◌≡◌, ◌⊎◌, ◌++◌, ◌∷◌, [], true, None, is_some, option_to_list, IfErr, IfOk, OnOk};
+ghost use Rattle.commands.specs.Endings.{IsEnded};
+ghost use Rattle.schedule.specs.Tapes.{Writes};
+ghost use Rattle.cli.specs.FilesNamed.{image_of, input_of, save_of};
+ghost use Rattle.commands.specs.Lines.{IsTold};
+ghost use Rattle.commands.specs.declared.schedules.fault.Fault.TheVariants.{Write as WriteFault};
+ghost use Rattle.commands.specs.Programs.{Answers, Closes, Does, EndsOnFile, EndsOnInput, Helps, IsProgram, Obeys, opens_all, OpensSome, SavesAll, Scolds};
+ghost use Rattle.cli.specs.Sizes.{IsSized};
+ghost use Rattle.commands.specs.Faults.{fault_of_opening, fault_of_saving};
+ghost use Rattle.commands.specs.Statuses.{status_of};
+
+use crate::command::ended;
+use crate::folder::{FileFault, Folder};
+use cli::arguments::order::Command;
+use cli::arguments::words::{WordsFault, read_words};
+use crate::progress::screen::Screen;
+use schedule::texts::device::write_all;
+use schedule::{Failed, FromReader, Sink, Source, ToWriter};
+use crate::schedules::ending::Ending;
+use crate::schedules::fault::Fault;
+use crate::schedules::line::told;
+use std::alloc::Global;
+use std::io::{BufWriter, Read, Write};
+use std::process::ExitCode;
+use std::sync::Wait;
+use std::thread::Threads;
+use schedule::replays::pieces::read_all;
+
+/// The fault of a file that was not opened.
+fn unopened(fault: FileFault) -> Fault
+    ensures told { result ≡ fault_of_opening fault }
+    ensures status { status_of result ≡ 3 }
+{
+    match fault {
+        FileFault::Failed => Fault::Read,
+        FileFault::OutOfMemory => Fault::OutOfMemory,
+    }
+}
+
+/// The fault of a file that was not written.
+fn unsaved(fault: FileFault) -> Fault
+    ensures told { result ≡ fault_of_saving fault }
+    ensures status { status_of result ≡ 3 }
+{
+    match fault {
+        FileFault::Failed => Fault::Write,
+        FileFault::OutOfMemory => Fault::OutOfMemory,
+    }
+}
+
+/// All bytes of a file.
+fn file_text<F: Folder>(alloc: Global, folder: &mut F, name: &String) -> Result<Vec<u8>, Fault>
+    ensures opened { (F.used folder.new).opened ≡ (F.used folder.old).opened ++ name.now ∷ [] }
+    ensures saved { (F.used folder.new).saved ≡ (F.used folder.old).saved }
+    ensures texts { (F.used folder.new).texts ≡ (F.used folder.old).texts }
+    ensures failed { IfErr result (λ fault. status_of fault ≡ 3) }
+{
+    let mut file = folder.open(name).map_err(unopened)?;
+    Ok(read_all(alloc, &mut file)?)
+}
+
+/// The text of the image that the order names, if it names one.
+fn image_text<F: Folder>(
+    alloc: Global,
+    order: &Command,
+    folder: &mut F,
+) -> Result<Option<Vec<u8>>, Fault>
+    ensures opened { (F.used folder.new).opened ≡ (F.used folder.old).opened ++ option_to_list (image_of order.now) }
+    ensures saved { (F.used folder.new).saved ≡ (F.used folder.old).saved }
+    ensures texts { (F.used folder.new).texts ≡ (F.used folder.old).texts }
+    ensures named { IfOk result (λ text. is_some text ≡ is_some (image_of order.now)) }
+    ensures failed { IfErr result (λ fault. status_of fault ≡ 3) }
+{
+    match order.image_file() {
+        Some(name) => Ok(Some(file_text(alloc, folder, name)?)),
+        None => Ok(None),
+    }
+}
+
+/// Does what the order says over the file of this name.
+fn ended_on_file<T: Threads + Wait + Sync, F: Folder, S: Screen, W: Sink>(
+    rt: &T,
+    alloc: Global,
+    order: &Command,
+    image: Option<&[u8]>,
+    folder: &mut F,
+    name: &String,
+    screen: &mut S,
+    out: &mut W,
+) -> Result<Ending, Fault>
+    requires { is_some image ≡ is_some (image_of order.now) }
+    ensures opened { (F.used folder.new).opened ≡ (F.used folder.old).opened ++ name.now ∷ [] }
+    ensures saved { (F.used folder.new).saved ≡ (F.used folder.old).saved }
+    ensures texts { (F.used folder.new).texts ≡ (F.used folder.old).texts }
+    ensures ends { EndsOnFile order.now (W.tape out.old) (W.tape out.new) result }
+    ensures ended { IfOk result (IsEnded (is_some (save_of order.now)) (W.tape out.old).failures (W.tape out.new).failures) }
+{
+    let mut file = folder.open(name).map_err(unopened)?;
+    ended(rt, alloc, order, image, screen, &mut file, out)
+}
+
+/// Does what the order says: the image is read first; the input is read where no file is named.
+fn ordered<T: Threads + Wait + Sync, F: Folder, S: Screen, R: Source, W: Sink>(
+    rt: &T,
+    alloc: Global,
+    order: &Command,
+    folder: &mut F,
+    screen: &mut S,
+    input: &mut R,
+    out: &mut W,
+) -> Result<Ending, Fault>
+    ensures all { OnOk result ((F.used folder.new).opened ≡ opens_all order.now (F.used folder.old).opened) }
+    ensures opened { OpensSome order.now (F.used folder.old).opened (F.used folder.new).opened }
+    ensures saved { (F.used folder.new).saved ≡ (F.used folder.old).saved }
+    ensures texts { (F.used folder.new).texts ≡ (F.used folder.old).texts }
+    ensures ended { IfOk result (IsEnded (is_some (save_of order.now)) (W.tape out.old).failures (W.tape out.new).failures) }
+    ensures apart { is_some (input_of order.now) ≡ true → R.reading input.new ≡ R.reading input.old }
+    ensures on_input { input_of order.now ≡ None → EndsOnInput order.now (R.reading input.old) (R.reading input.new) (W.tape out.old) (W.tape out.new) result }
+    ensures on_file { is_some (input_of order.now) ≡ true → EndsOnFile order.now (W.tape out.old) (W.tape out.new) result }
+{
+    let image = image_text(alloc, order, folder)?;
+    match order.input_file() {
+        Some(name) => ended_on_file(
+            rt,
+            alloc,
+            order,
+            image.as_deref(),
+            folder,
+            name,
+            screen,
+            out,
+        ),
+        None => ended(rt, alloc, order, image.as_deref(), screen, input, out),
+    }
+}
+
+/// Saves the image, where the order names a file for it.
+fn save<F: Folder>(folder: &mut F, order: &Command, ending: &Ending) -> Result<(), Fault>
+    requires { is_some ending.now.save ≡ is_some (save_of order.now) }
+    ensures opened { (F.used folder.new).opened ≡ (F.used folder.old).opened }
+    ensures saved { SavesAll order.now (F.used folder.old) (F.used folder.new) ending.now.save }
+    ensures failed { IfErr result (λ fault. status_of fault ≡ 3) }
+{
+    match (order.save_file(), &ending.save) {
+        (Some(name), Some(text)) => folder.save(name, text).map_err(unsaved),
+        _ => Ok(()),
+    }
+}
+
+/// Hands on what is printed.
+#[tactic(auto, using(crate::proofs::Tapes::same_tape))]
+fn handed_on<W: Sink>(out: &mut W) -> Result<(), Fault>
+    ensures same { OnOk result (W.tape out.new ≡ W.tape out.old) }
+    ensures failed { IfErr result (λ fault. fault ≡ WriteFault) }
+{
+    if out.flush().is_err() {
+        return Err(Fault::Write);
+    }
+    Ok(())
+}
+
+/// Does what the order says, hands on what is printed, and then saves the image. Where the output can't be handed on, that
+/// is the fault.
+fn carried_out<T: Threads + Wait + Sync, F: Folder, S: Screen, R: Source, W: Sink>(
+    rt: &T,
+    alloc: Global,
+    order: &Command,
+    folder: &mut F,
+    screen: &mut S,
+    input: &mut R,
+    out: &mut W,
+) -> Result<Ending, Fault>
+    ensures { Does order.now (F.used folder.old) (F.used folder.new) (R.reading input.old) (R.reading input.new) (W.tape out.old) (W.tape out.new) result }
+{
+    let ended = ordered(rt, alloc, order, folder, screen, input, out);
+    handed_on(out)?;
+    let ending = ended?;
+    save(folder, order, &ending)?;
+    Ok(ending)
+}
+
+/// The exit status of this end. The one line of a fault goes to `err`.
+pub fn closed<E: Sink>(end: Result<Ending, Fault>, err: &mut E) -> u8
+    ensures { Closes (E.tape err.old) (E.tape err.new) end result }
+{
+    match end {
+        Ok(ending) => ending.status,
+        Err(fault) => told(fault, err),
+    }
+}
+
+/// Does what the order says, and answers the exit status. The one line of a fault goes to `err`; how a search or a hunt comes
+/// on is shown on the screen.
+pub fn obey<T: Threads + Wait + Sync, F: Folder, S: Screen, R: Source, W: Sink, E: Sink>(
+    rt: &T,
+    alloc: Global,
+    order: &Command,
+    folder: &mut F,
+    screen: &mut S,
+    input: &mut R,
+    out: &mut W,
+    err: &mut E,
+) -> u8
+    ensures { Obeys order.now (F.used folder.old) (F.used folder.new) (R.reading input.old) (R.reading input.new) (W.tape out.old) (W.tape out.new) (E.tape err.old) (E.tape err.new) result }
+{
+    let end = carried_out(rt, alloc, order, folder, screen, input, out);
+    closed(end, err)
+}
+
+/// Writes a text, and hands it on.
+fn printed<W: Sink>(text: &str, out: &mut W) -> Result<(), Failed>
+    ensures { OnOk result (Writes (W.tape out.old) (W.tape out.new) text.now) }
+{
+    write_all(out, text.as_bytes())?;
+    out.flush()
+}
+
+/// Prints the help that is asked for.
+fn helped<W: Sink, E: Sink>(text: &str, out: &mut W, err: &mut E) -> u8
+    ensures { Helps text.now (W.tape out.old) (W.tape out.new) (E.tape err.old) (E.tape err.new) result }
+{
+    match printed(text, out) {
+        Ok(()) => 0,
+        Err(_) => told(Fault::Write, err),
+    }
+}
+
+/// Tells what is wrong with the words.
+fn scolded<E: Sink>(text: &str, err: &mut E) -> u8
+    ensures { Scolds text.now (E.tape err.old) (E.tape err.new) result }
+{
+    let _ = write_all(err, text.as_bytes());
+    2
+}
+
+/// What `clap` says of words that are no text.
+const UNREADABLE: &str =
+    "error: invalid UTF-8 was detected in one or more arguments\n\nFor more information, try '--help'.\n";
+
+/// Answers words that are no command.
+fn answered<W: Sink, E: Sink>(fault: &WordsFault, out: &mut W, err: &mut E) -> u8
+    ensures { Answers fault.now (W.tape out.old) (W.tape out.new) (E.tape err.old) (E.tape err.new) result }
+{
+    match fault {
+        WordsFault::Help { text } => helped(text.as_str(), out, err),
+        WordsFault::Refused { text } => scolded(text.as_str(), err),
+        WordsFault::Unreadable => scolded(UNREADABLE, err),
+        WordsFault::BadVariant => told(Fault::BadVariant, err),
+        WordsFault::BadSize => told(Fault::BadSize, err),
+        WordsFault::OutOfMemory => told(Fault::OutOfMemory, err),
+    }
+}
+
+/// The order that the words say, where they can be read.
+fn order_of(alloc: Global, words: Result<Vec<String>, WordsFault>) -> Result<Command, WordsFault>
+    ensures { IfOk result IsSized }
+{
+    let words = words?;
+    read_words(alloc, &words)
+}
+
+/// Does what the words say, and answers the exit status.
+pub fn program<T: Threads + Wait + Sync, F: Folder, S: Screen, R: Source, W: Sink, E: Sink>(
+    rt: &T,
+    alloc: Global,
+    words: Result<Vec<String>, WordsFault>,
+    folder: &mut F,
+    screen: &mut S,
+    input: &mut R,
+    out: &mut W,
+    err: &mut E,
+) -> u8
+    ensures { IsProgram (F.used folder.old) (F.used folder.new) (R.reading input.old) (R.reading input.new) (W.tape out.old) (W.tape out.new) (E.tape err.old) (E.tape err.new) result }
+{
+    match order_of(alloc, words) {
+        Ok(order) => obey(rt, alloc, &order, folder, screen, input, out, err),
+        Err(fault) => answered(&fault, out, err),
+    }
+}
+
+/// The whole program, over the devices of a process. The status is the one that the process ends with.
+pub fn run_program<T: Threads + Wait + Sync, F: Folder, S: Screen>(
+    rt: &T,
+    alloc: Global,
+    words: Result<Vec<String>, WordsFault>,
+    folder: &mut F,
+    screen: &mut S,
+    input: impl Read + Drop,
+    output: impl Write + Drop,
+    errors: impl Write + Drop,
+) -> ExitCode {
+    let mut input = FromReader::new(input);
+    let mut err = ToWriter::new(errors);
+    let status = match BufWriter::new(alloc, output) {
+        Ok(buffer) => {
+            let mut out = ToWriter::new(buffer);
+            program(
+                rt, alloc, words, folder, screen, &mut input, &mut out, &mut err,
+            )
+        }
+        Err(_) => told(Fault::OutOfMemory, &mut err),
+    };
+    ExitCode::from(status)
+}

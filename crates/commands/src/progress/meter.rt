@@ -1,0 +1,83 @@
+//! Who shows how a search or a hunt comes on.
+
+ghost use Rattle.std.specs.Prelude.{◌≡◌, ◌*◌, ◌/◌, ◌^◌, ◌-◌, min, max};
+
+use crate::progress::line::line_of;
+use crate::progress::screen::Screen;
+use crate::progress::work::Work;
+use explorer::Watch;
+
+/// It asks the clock at one of so many times that it is told.
+const SELDOM: u64 = 64;
+
+/// The milliseconds between one line and the next.
+const PAUSE: u64 = 1_000;
+
+/// Shows a line a second, the first of them after a second.
+#[derive(Drop)]
+pub struct Meter<'a, S> {
+    screen: &'a mut S,
+    work: Work,
+    /// The milliseconds at which the work began, where anything is shown.
+    began: Option<u64>,
+    /// Those at which the last line was shown, or the work began.
+    last: u64,
+    told: u64,
+    is_written: bool,
+}
+
+impl<'a, S: Screen> Meter<'a, S> {
+    /// The work begins.
+    pub fn new(screen: &'a mut S, work: Work) -> Meter<'a, S> {
+        let began = screen.millis();
+        Meter {
+            screen,
+            work,
+            began,
+            last: began.unwrap_or(0),
+            told: 0,
+            is_written: false,
+        }
+    }
+
+    /// The work is done, and no line stays.
+    pub fn end(self) {
+        if self.is_written {
+            self.screen.show("\r\x1b[K");
+        }
+    }
+
+    /// Shows the line, where a second has gone by since the last.
+    fn show(&mut self, began: u64, far: u64, done: u64) {
+        let Some(now) = self.screen.millis() else {
+            return;
+        };
+        if now.saturating_sub(self.last) < PAUSE {
+            return;
+        }
+        let speed = per_second(done, now.saturating_sub(began));
+        let line = line_of(self.work, far, done, speed);
+        self.screen.show(line.as_str());
+        self.last = now;
+        self.is_written = true;
+    }
+}
+
+impl<'a, S: Screen> Watch for Meter<'a, S> {
+    fn see(&mut self, far: u64, done: u64) {
+        let Some(began) = self.began else {
+            return;
+        };
+        self.told = self.told.wrapping_add(1);
+        if self.told % SELDOM == 0 {
+            self.show(began, far, done);
+        }
+    }
+}
+
+/// How many come to a second, where so many take so many milliseconds.
+fn per_second(done: u64, millis: u64) -> u64
+    ensures { result ≡ min (done * 1000) (2 ^ 64 - 1) / max millis 1 }
+{
+    done.saturating_mul(1_000) / millis.max(1)
+}

@@ -1,0 +1,142 @@
+//! The command `run`.
+
+ghost use Rattle.std.specs.Prelude.{◌≡◌, ◌⊎◌, ◌↔◌, All, false, IfErr, IfOk, OnOk, vec_len};
+ghost use Rattle.commands.specs.Endings.{IsEnded};
+ghost use Rattle.commands.specs.Commands.{lab_for, RunEnds};
+ghost use Rattle.commands.specs.Faults.{fault_of_lab};
+ghost use Rattle.commands.specs.Gates.{gates_for};
+ghost use Rattle.cli.specs.Sizes.{RunFits};
+ghost use Rattle.commands.specs.Statuses.{status_of};
+ghost use Rattle.commands.specs.Tallies.{IsFine};
+
+use crate::tally::{Tally, tallied};
+use crashlab::Seeded;
+use indexmap::IndexMap;
+use cli::arguments::order::RunOrder;
+use robust::{LabFault, Spec, run_lab};
+use schedule::Sink;
+use schedule::texts::device::write_all;
+use crate::schedules::ending::Ending;
+use crate::schedules::fault::Fault;
+use std::alloc::{AllocError, Global};
+use std::sync::Wait;
+use std::thread::Threads;
+
+/// The greatest limit that a lock can have.
+const MOST: u64 = 1 << 62;
+
+/// The sizes of the lab that a run is made in: room for each message, and numbers enough.
+fn spec_of(order: &RunOrder) -> Spec
+    ensures { result ≡ lab_for order.now }
+{
+    Spec {
+        procs: order.procs,
+        messages: order.messages,
+        limit: MOST,
+        cap: order.procs.saturating_mul(order.messages),
+        width: order.width,
+    }
+}
+
+/// The crashes of each sender.
+#[tactic(auto, using(crate::proofs::Gates::gates_more))]
+pub fn gates_of(alloc: Global, order: &RunOrder) -> Result<Vec<Seeded>, AllocError>
+    ensures each { IfOk result (λ gates. gates.items ≡ gates_for order.now) }
+    ensures count { IfOk result (λ gates. vec_len gates ≡ order.now.procs) }
+{
+    let mut gates = Vec::new(alloc);
+    for p in 0..order.procs {
+        gates.push(Seeded::new(order.seed.wrapping_add(p), order.crash))?;
+    }
+    Ok(gates)
+}
+
+/// One line for each sender, and one for all of them.
+pub fn lines_of(alloc: Global, tallies: &IndexMap<u64, Tally>) -> Result<String, AllocError> {
+    let mut text = String::new(alloc);
+    let mut total = 0u64;
+    for (sender, tally) in tallies {
+        let order = if tally.ordered { "yes" } else { "no" };
+        let line = format!(in alloc;
+            "sender {sender} messages {} twice {} order {order}\n",
+            tally.messages, tally.twice
+        )?;
+        text.push_str(&line)?;
+        total = total.saturating_add(tally.messages);
+    }
+    let line = format!(in alloc; "total {total}\n")?;
+    text.push_str(&line)?;
+    Ok(text)
+}
+
+/// 0 where each message stands once and in its order, else 1.
+pub fn status_of_tallies(tallies: &IndexMap<u64, Tally>) -> u8
+    ensures either { (result ≡ 0) ⊎ (result ≡ 1) }
+    ensures fine { (result ≡ 0) ↔ All (λ e. IsFine e.1) tallies.now.entries }
+{
+    for (_, tally) in tallies {
+        if !tally.is_fine() {
+            return 1;
+        }
+    }
+    0
+}
+
+/// The fault of a lab that came to no end.
+fn unrun(fault: LabFault) -> Fault
+    ensures { result ≡ fault_of_lab fault }
+{
+    match fault {
+        LabFault::BadSpec => Fault::BadSize,
+        LabFault::OutOfMemory => Fault::OutOfMemory,
+        LabFault::Member { p, .. } | LabFault::Reply { p, .. } => Fault::Member { p },
+    }
+}
+
+/// The senders send all they have, each on a thread of its own, and what stands in the mailbox is counted.
+#[tactic(auto, using(crate::proofs::Runs::fits_lab))]
+fn counted<T: Threads + Wait + Sync>(
+    rt: &T,
+    alloc: Global,
+    order: &RunOrder,
+) -> Result<IndexMap<u64, Tally>, Fault>
+    ensures { IfErr result (λ fault. status_of fault ≡ 2 → RunFits order.now → ⊥) }
+{
+    let gates = gates_of(alloc, order)?;
+    let result = run_lab(rt, alloc, spec_of(order), gates).map_err(unrun)?;
+    Ok(tallied(alloc, order.procs, &result.messages)?)
+}
+
+/// Writes the lines of the tallies.
+fn write_lines<W: Sink>(
+    alloc: Global,
+    tallies: &IndexMap<u64, Tally>,
+    w: &mut W,
+) -> Result<(), Fault>
+    ensures failed { IfErr result (λ fault. status_of fault ≡ 3) }
+    ensures whole { OnOk result ((W.tape w.new).failures ≡ (W.tape w.old).failures) }
+{
+    let text = lines_of(alloc, tallies)?;
+    if write_all(w, text.as_bytes()).is_err() {
+        return Err(Fault::Write);
+    }
+    Ok(())
+}
+
+/// Runs `run`: what came through is counted and told.
+pub fn run_order<T: Threads + Wait + Sync, W: Sink>(
+    rt: &T,
+    alloc: Global,
+    order: &RunOrder,
+    w: &mut W,
+) -> Result<Ending, Fault>
+    ensures ends { RunEnds order.now result }
+    ensures ended { IfOk result (IsEnded false (W.tape w.old).failures (W.tape w.new).failures) }
+{
+    let tallies = counted(rt, alloc, order)?;
+    write_lines(alloc, &tallies, w)?;
+    Ok(Ending {
+        status: status_of_tallies(&tallies),
+        save: None,
+    })
+}

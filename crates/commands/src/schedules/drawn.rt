@@ -1,0 +1,211 @@
+//! The command `draw`.
+
+ghost use Rattle.std.specs.Prelude.{◌≡◌, IfOk, IfSome, option_copied, false};
+ghost use Rattle.diagram.specs.Drawings.{sheet_of, spelled};
+ghost use Rattle.judge.specs.Stands.{Keeps};
+ghost use Rattle.judge.specs.Starts.{IsStart, state_of};
+ghost use Rattle.judge.specs.Table.{State};
+ghost use Rattle.rmeworld.specs.ImageRules.{IsLawfulImage};
+ghost use Rattle.rmeworld.specs.ImageStart.{IsStartOf};
+ghost use Rattle.rmeworld.specs.Replayed.{image_of, world_behaviour};
+ghost use Rattle.rmeworld.specs.WorldState.{image_world as world_of_image};
+ghost use Rattle.commands.specs.Endings.{IsEnded, TellsReads};
+ghost use Rattle.commands.specs.Draws.{DrawEnds};
+ghost use Rattle.commands.specs.Statuses.{status_after};
+ghost use Rattle.commands.specs.Tellings.{Drawn, ending_of as ending_for, IsWritten, Tells, TellsImage, TellsNew, TellsSchedule, TellsVariant};
+ghost use Rattle.schedule.specs.Runs.{deeds_of, run_on};
+ghost use Rattle.schedule.specs.Verdicts.{verdict_on};
+
+use crate::schedules::ending::{Ending, status_after_verdict};
+use crate::schedules::fault::Fault;
+use crate::schedules::setting::{
+    fitting, image_read, image_world, new_judge, new_world, schedule_read, start_at, started_judge,
+    variant_world,
+};
+use crashlab::Variant;
+use diagram::{Drawing, End, Phase, Style, draw, write_drawing};
+use judge::{Judge, Start};
+use cli::arguments::order::DrawOrder;
+use rmeworld::{Image, Machine};
+use schedule::{Schedule, Sink, Source};
+use std::alloc::Global;
+use schedule::replays::laws::worlds_are_never_found_out;
+
+/// How the command ends where all was drawn.
+fn ending_of(end: End) -> Result<Ending, Fault>
+    ensures { result ≡ ending_for end }
+{
+    match end {
+        End::Judged(verdict) => Ok(Ending {
+            status: status_after_verdict(verdict),
+            save: None,
+        }),
+        End::Refused { line, number, .. } => Err(Fault::Refused { line, number }),
+    }
+}
+
+/// Writes a drawing, and says how the command ends.
+fn write_drawn<W: Sink>(
+    alloc: Global,
+    drawing: &Drawing,
+    style: Style,
+    w: &mut W,
+) -> Result<Ending, Fault>
+    ensures written { IsWritten (W.tape w.old) (W.tape w.new) (spelled (sheet_of style drawing.now.head drawing.now.rows.items drawing.now.end) drawing.now.first drawing.now.rows.items drawing.now.end) drawing.now.end result }
+    ensures ended { IfOk result (IsEnded false (W.tape w.old).failures (W.tape w.new).failures) }
+{
+    write_drawing(alloc, drawing, style, w)?;
+    ending_of(drawing.end)
+}
+
+/// Plays the schedule on a machine, and draws its run.
+fn draw_machine<M: Machine, W: Sink>(
+    alloc: Global,
+    machine: &mut M,
+    judge: &mut Judge,
+    schedule: &Schedule,
+    first: Phase,
+    style: Style,
+    w: &mut W,
+) -> Result<Ending, Fault>
+    ensures draws { (start : State) → Keeps judge.old start → Tells (Drawn style) M.behaviour M.behaviour.image_of start machine.old first schedule.now (W.tape w.old) (W.tape w.new) result }
+    ensures status { (start : State) → Keeps judge.old start → IfOk result (λ ending. ending.status ≡ status_after (verdict_on start (deeds_of (run_on M.behaviour 2 machine.old schedule.now.lines).told))) }
+    ensures ended { IfOk result (IsEnded false (W.tape w.old).failures (W.tape w.new).failures) }
+{
+    let drawing = draw(alloc, machine, judge, schedule, first)?;
+    write_drawn(alloc, &drawing, style, w)
+}
+
+/// The run of the schedule on a new world of the right lock.
+fn draw_new<W: Sink>(
+    alloc: Global,
+    schedule: &Schedule,
+    style: Style,
+    w: &mut W,
+) -> Result<Ending, Fault>
+    ensures draws { TellsNew (Drawn style) schedule.now (W.tape w.old) (W.tape w.new) result }
+    ensures fine { IfOk result (λ ending. ending.status ≡ 0) }
+    ensures ended { IfOk result (IsEnded false (W.tape w.old).failures (W.tape w.new).failures) }
+{
+    worlds_are_never_found_out();
+    let mut world = new_world(alloc, schedule)?;
+    let mut judge = new_judge(alloc, schedule)?;
+    draw_machine(
+        alloc,
+        &mut world,
+        &mut judge,
+        schedule,
+        Phase::Rest,
+        style,
+        w,
+    )
+}
+
+/// The run of the schedule on a new world of a variant of the lock.
+fn draw_variant<W: Sink>(
+    alloc: Global,
+    variant: Variant,
+    schedule: &Schedule,
+    style: Style,
+    w: &mut W,
+) -> Result<Ending, Fault>
+    ensures draws { TellsVariant variant (Drawn style) schedule.now (W.tape w.old) (W.tape w.new) result }
+    ensures ended { IfOk result (IsEnded false (W.tape w.old).failures (W.tape w.new).failures) }
+{
+    let mut world = variant_world(alloc, variant, schedule)?;
+    let mut judge = new_judge(alloc, schedule)?;
+    draw_machine(
+        alloc,
+        &mut world,
+        &mut judge,
+        schedule,
+        Phase::Rest,
+        style,
+        w,
+    )
+}
+
+/// The run of the schedule on the world of an image, before a judge that begins where the image stands.
+fn draw_started<W: Sink>(
+    alloc: Global,
+    image: &Image,
+    start: &Start,
+    schedule: &Schedule,
+    style: Style,
+    w: &mut W,
+) -> Result<Ending, Fault>
+    requires lawful { IsLawfulImage image.now }
+    requires begins { IsStartOf image.now start.now }
+    requires judged { IsStart start.now }
+    ensures draws { Tells (Drawn style) world_behaviour image_of (state_of start.now) (world_of_image image.now) Phase.Dead schedule.now (W.tape w.old) (W.tape w.new) result }
+    ensures fine { IfOk result (λ ending. ending.status ≡ 0) }
+    ensures ended { IfOk result (IsEnded false (W.tape w.old).failures (W.tape w.new).failures) }
+{
+    worlds_are_never_found_out();
+    let mut world = image_world(alloc, image)?;
+    let mut judge = started_judge(alloc, start)?;
+    draw_machine(
+        alloc,
+        &mut world,
+        &mut judge,
+        schedule,
+        Phase::Dead,
+        style,
+        w,
+    )
+}
+
+/// The run of the schedule on a world that goes on from an image.
+fn draw_image<W: Sink>(
+    alloc: Global,
+    image: Image,
+    schedule: &Schedule,
+    style: Style,
+    w: &mut W,
+) -> Result<Ending, Fault>
+    requires { IsLawfulImage image }
+    ensures draws { TellsImage image (Drawn style) schedule.now (W.tape w.old) (W.tape w.new) result }
+    ensures fine { IfOk result (λ ending. ending.status ≡ 0) }
+    ensures ended { IfOk result (IsEnded false (W.tape w.old).failures (W.tape w.new).failures) }
+{
+    let image = fitting(alloc, image, schedule)?;
+    let start = start_at(alloc, &image)?;
+    draw_started(alloc, &image, &start, schedule, style, w)
+}
+
+/// The run of the schedule on the machine that is asked for.
+fn draw_schedule<W: Sink>(
+    alloc: Global,
+    order: &DrawOrder,
+    image: Option<Image>,
+    schedule: &Schedule,
+    w: &mut W,
+) -> Result<Ending, Fault>
+    requires { IfSome image IsLawfulImage }
+    ensures draws { TellsSchedule order.now.variant image (Drawn order.now.style) schedule.now (W.tape w.old) (W.tape w.new) result }
+    ensures fine { order.now.variant ≡ Variant.Right → IfOk result (λ ending. ending.status ≡ 0) }
+    ensures ended { IfOk result (IsEnded false (W.tape w.old).failures (W.tape w.new).failures) }
+{
+    match (image, order.variant) {
+        (Some(image), _) => draw_image(alloc, image, schedule, order.style, w),
+        (None, Variant::Right) => draw_new(alloc, schedule, order.style, w),
+        (None, variant) => draw_variant(alloc, variant, schedule, order.style, w),
+    }
+}
+
+/// Runs `draw`: the image is read first, then the schedule; then its run is drawn, and judged.
+pub fn draw_order<R: Source, W: Sink>(
+    alloc: Global,
+    order: &DrawOrder,
+    image: Option<&[u8]>,
+    r: &mut R,
+    w: &mut W,
+) -> Result<Ending, Fault>
+    ensures ends { DrawEnds order.now (option_copied image.entry) (R.reading r.old) (R.reading r.new) (W.tape w.old) (W.tape w.new) result }
+    ensures reads { TellsReads (R.reading r.old) (R.reading r.new) result }
+    ensures ended { IfOk result (IsEnded false (W.tape w.old).failures (W.tape w.new).failures) }
+{
+    let image = image_read(alloc, image)?;
+    let schedule = schedule_read(alloc, r)?;
+    draw_schedule(alloc, order, image, &schedule, w)
+}

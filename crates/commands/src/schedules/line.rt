@@ -1,0 +1,83 @@
+//! The one line of a fault, in memory of its own: it is told where there is no other.
+
+ghost use Rattle.std.specs.Prelude.{◌≡◌, ◌+◌, ◌≤◌, ◌++◌, ◌∷◌, [], codes, length};
+ghost use Rattle.std.specs.Fmt.{decimal};
+ghost use Rattle.commands.specs.Lines.{fault_line, IsTold};
+ghost use Rattle.commands.specs.Statuses.{status_of};
+
+use crate::schedules::fault::Fault;
+use arrayvec::ArrayString;
+use itoa::Buffer;
+use schedule::Sink;
+use schedule::texts::device::write_all;
+
+/// Puts a text and then a number at the end of a line.
+fn put(line: &mut ArrayString<128>, text: &str, number: u64)
+    requires { length line.old.bytes + length text.now + 20 ≤ 128 }
+    ensures bytes { line.new.bytes ≡ line.old.bytes ++ text.now ++ decimal number }
+    ensures few { length line.new.bytes ≤ length line.old.bytes + length text.now + 20 }
+{
+    line.push_str(text);
+    line.push_str(Buffer::new().format(number));
+}
+
+/// What is told of a line of the input.
+fn line_of_place(at: u64, cause: &str, number: u64) -> ArrayString<128>
+    requires { length cause.now ≤ 20 }
+    ensures { result.bytes ≡ codes "rmelab: line " ++ decimal at ++ cause.now ++ decimal number ++ 10 ∷ [] }
+{
+    let mut line = ArrayString::new();
+    put(&mut line, "rmelab: line ", at);
+    put(&mut line, cause, number);
+    line.push_str("\n");
+    line
+}
+
+/// A line of a text, a number and a text.
+pub fn line_around(before: &str, number: u64, after: &str) -> ArrayString<128>
+    requires { (length before.now ≤ 21) × (length after.now ≤ 20) }
+    ensures { result.bytes ≡ before.now ++ decimal number ++ after.now }
+{
+    let mut line = ArrayString::new();
+    put(&mut line, before, number);
+    line.push_str(after);
+    line
+}
+
+fn line_of_text(text: &str) -> ArrayString<128>
+    requires { length text.now ≤ 40 }
+    ensures { result.bytes ≡ text.now }
+{
+    let mut line = ArrayString::new();
+    line.push_str(text);
+    line
+}
+
+/// The one line of a fault.
+pub fn line_of(fault: Fault) -> ArrayString<128>
+    ensures { result.bytes ≡ fault_line fault }
+{
+    match fault {
+        Fault::Text { line, number } => line_of_place(line, ": fault ", number),
+        Fault::Refused { line, number } => line_of_place(line, ": refused ", number),
+        Fault::Image { rule } => line_around("rmelab: image: rule ", rule, "\n"),
+        Fault::Member { p } => line_around("rmelab: member ", p, " failed\n"),
+        Fault::BadVariant => line_of_text("rmelab: bad variant\n"),
+        Fault::BadSize => line_of_text("rmelab: bad size\n"),
+        Fault::Read => line_of_text("rmelab: read failed\n"),
+        Fault::Write => line_of_text("rmelab: write failed\n"),
+        Fault::OutOfMemory => line_of_text("rmelab: out of memory\n"),
+        Fault::TooManyStates => line_of_text("rmelab: too many states\n"),
+    }
+}
+
+/// Writes the one line of a fault, and answers its exit status. It wants no memory. A line that can't be written is lost.
+pub fn told<E: Sink>(fault: Fault, e: &mut E) -> u8
+    ensures status { result ≡ status_of fault }
+    ensures least { 2 ≤ result }
+    ensures line { IsTold (E.tape e.old) (E.tape e.new) (fault_line fault) }
+{
+    let line = line_of(fault);
+    let _ = write_all(e, line.as_bytes());
+    fault.status()
+}

@@ -1,0 +1,303 @@
+//! The command `replay`.
+
+ghost use Rattle.std.specs.Prelude.{◌≡◌, ◌≤◌, IfErr, IfOk, IfSome, None, Result, is_some, option_copied, false};
+ghost use Rattle.judge.specs.Stands.{Keeps};
+ghost use Rattle.judge.specs.Starts.{IsStart, state_of};
+ghost use Rattle.judge.specs.Table.{State};
+ghost use Rattle.rmeworld.specs.ImageRules.{IsLawfulImage};
+ghost use Rattle.rmeworld.specs.ImageStart.{IsStartOf};
+ghost use Rattle.rmeworld.specs.ImageText.{image_line};
+ghost use Rattle.rmeworld.specs.Replayed.{image_of, world_behaviour};
+ghost use Rattle.rmeworld.specs.WorldState.{image_world as world_of_image};
+ghost use Rattle.schedule.specs.Runs.{run_on};
+ghost use Rattle.commands.specs.Endings.{IsEnded, TellsReads};
+ghost use Rattle.commands.specs.Replays.{IsLast, IsPlayed, IsReplayed, ReplayEnds, TellsReplay};
+ghost use Rattle.commands.specs.Statuses.{answer_told, fault_on_page};
+ghost use Rattle.commands.specs.Tellings.{AnswersRun, Replayed, Tells, TellsImage, TellsNew, TellsSchedule, TellsVariant};
+
+use crate::schedules::ending::{Ending, status_after_verdict};
+use crate::schedules::fault::Fault;
+use crate::schedules::json::json_report;
+use crate::schedules::setting::{
+    fitting, image_read, image_world, new_judge, new_world, schedule_read, start_at, started_judge,
+    variant_world,
+};
+use crashlab::Variant;
+use diagram::{Phase, follow};
+use rmeworld::write_image;
+use judge::{Judge, Start};
+use cli::arguments::order::ReplayOrder;
+use rmeworld::{Image, Machine};
+use schedule::texts::device::write_all;
+use schedule::{Page, Schedule, Sink, Source};
+use std::alloc::Global;
+use schedule::replays::laws::worlds_are_never_found_out;
+use schedule::{ReplayFault, Verdict, replay, replay_on};
+
+/// The fault of a replay to a page in memory: where the page takes no more, memory is wanted.
+fn on_page(fault: ReplayFault) -> Fault
+    ensures { result ≡ fault_on_page fault }
+{
+    match fault {
+        ReplayFault::Write => Fault::OutOfMemory,
+        other => Fault::from(other),
+    }
+}
+
+/// Plays the schedule, and writes its report, or tells each step.
+fn report<M: Machine, W: Sink>(
+    alloc: Global,
+    machine: &mut M,
+    judge: &mut Judge,
+    schedule: &Schedule,
+    first: Phase,
+    each: bool,
+    w: &mut W,
+) -> Result<Verdict, ReplayFault>
+    ensures played { (start : State) → Keeps judge.old start → IfOk result (IsPlayed start (run_on M.behaviour 2 machine.old schedule.now.lines) machine.new (W.tape w.old).failures (W.tape w.new).failures) }
+    ensures told { (start : State) → Keeps judge.old start → AnswersRun each M.behaviour M.behaviour.image_of start machine.old first schedule.now (W.tape w.old) (W.tape w.new) result }
+{
+    if each {
+        return follow(alloc, machine, judge, schedule, first, w);
+    }
+    replay_on(alloc, machine, judge, schedule, w)
+}
+
+/// Plays the schedule to a page in memory, and writes its lines as one JSON object.
+fn play_object<M: Machine, W: Sink>(
+    alloc: Global,
+    machine: &mut M,
+    judge: &mut Judge,
+    schedule: &Schedule,
+    first: Phase,
+    each: bool,
+    w: &mut W,
+) -> Result<Verdict, Fault>
+    ensures { (start : State) → Keeps judge.old start → IfOk result (IsPlayed start (run_on M.behaviour 2 machine.old schedule.now.lines) machine.new (W.tape w.old).failures (W.tape w.new).failures) }
+{
+    let mut page = Page::new(alloc);
+    let verdict = report(alloc, machine, judge, schedule, first, each, &mut page).map_err(on_page)?;
+    let object = json_report(alloc, page.as_slice())?;
+    match write_all(w, &object) {
+        Ok(()) => Ok(verdict),
+        Err(_) => Err(Fault::Write),
+    }
+}
+
+/// Plays the schedule, to the writer or, as JSON, to a page first.
+fn play<M: Machine, W: Sink>(
+    alloc: Global,
+    machine: &mut M,
+    judge: &mut Judge,
+    schedule: &Schedule,
+    first: Phase,
+    order: &ReplayOrder,
+    w: &mut W,
+) -> Result<Verdict, Fault>
+    ensures played { (start : State) → Keeps judge.old start → IfOk result (IsPlayed start (run_on M.behaviour 2 machine.old schedule.now.lines) machine.new (W.tape w.old).failures (W.tape w.new).failures) }
+    ensures told { order.now.json ≡ false → (start : State) → Keeps judge.old start → (answer : Result Verdict ReplayFault) × AnswersRun order.now.each M.behaviour M.behaviour.image_of start machine.old first schedule.now (W.tape w.old) (W.tape w.new) answer × (result ≡ answer_told answer) }
+{
+    if order.json {
+        return play_object(alloc, machine, judge, schedule, first, order.each, w);
+    }
+    match report(alloc, machine, judge, schedule, first, order.each, w) {
+        Ok(verdict) => Ok(verdict),
+        Err(fault) => Err(Fault::from(fault)),
+    }
+}
+
+/// The last image as text, where it is to be saved.
+fn saved<M: Machine>(alloc: Global, machine: &M, save: bool) -> Result<Option<Vec<u8>>, Fault>
+    ensures asked { IfOk result (λ text. is_some text ≡ save) }
+    ensures memory { IfErr result (λ fault. fault ≡ Fault.OutOfMemory) }
+    ensures last { IfOk result (λ text. IfSome text (λ image. image.items ≡ image_line (M.behaviour.image_of machine.now))) }
+{
+    if !save {
+        return Ok(None);
+    }
+    let Ok(image) = machine.image() else {
+        return Err(Fault::OutOfMemory);
+    };
+    match write_image(alloc, &image) {
+        Ok(text) => Ok(Some(text)),
+        Err(_) => Err(Fault::OutOfMemory),
+    }
+}
+
+/// Plays the schedule on a machine, and says how the command ends.
+fn replay_machine<M: Machine, W: Sink>(
+    alloc: Global,
+    machine: &mut M,
+    judge: &mut Judge,
+    schedule: &Schedule,
+    first: Phase,
+    order: &ReplayOrder,
+    w: &mut W,
+) -> Result<Ending, Fault>
+    ensures replayed { (start : State) → Keeps judge.old start → IfOk result (IsReplayed start (run_on M.behaviour 2 machine.old schedule.now.lines) M.behaviour.image_of (is_some order.now.save) (W.tape w.old).failures (W.tape w.new).failures) }
+    ensures told { order.now.json ≡ false → (start : State) → Keeps judge.old start → Tells (Replayed order.now.each) M.behaviour M.behaviour.image_of start machine.old first schedule.now (W.tape w.old) (W.tape w.new) result }
+{
+    let verdict = play(alloc, machine, judge, schedule, first, order, w)?;
+    let save = saved(alloc, machine, order.save.is_some())?;
+    Ok(Ending {
+        status: status_after_verdict(verdict),
+        save,
+    })
+}
+
+/// The schedule on a new world of the right lock.
+fn replay_new<W: Sink>(
+    alloc: Global,
+    schedule: &Schedule,
+    order: &ReplayOrder,
+    w: &mut W,
+) -> Result<Ending, Fault>
+    ensures fine { IfOk result (λ ending. ending.status ≡ 0) }
+    ensures last { IfOk result (λ ending. IfSome ending.save (λ image. IsLast schedule.now image.items)) }
+    ensures told { order.now.json ≡ false → TellsNew (Replayed order.now.each) schedule.now (W.tape w.old) (W.tape w.new) result }
+    ensures ended { IfOk result (IsEnded (is_some order.now.save) (W.tape w.old).failures (W.tape w.new).failures) }
+{
+    worlds_are_never_found_out();
+    let mut world = new_world(alloc, schedule)?;
+    let mut judge = new_judge(alloc, schedule)?;
+    replay_machine(
+        alloc,
+        &mut world,
+        &mut judge,
+        schedule,
+        Phase::Rest,
+        order,
+        w,
+    )
+}
+
+/// The schedule on a world that goes on from an image.
+fn replay_image<W: Sink>(
+    alloc: Global,
+    image: Image,
+    schedule: &Schedule,
+    order: &ReplayOrder,
+    w: &mut W,
+) -> Result<Ending, Fault>
+    requires { IsLawfulImage image }
+    ensures fine { IfOk result (λ ending. ending.status ≡ 0) }
+    ensures told { order.now.json ≡ false → TellsImage image (Replayed order.now.each) schedule.now (W.tape w.old) (W.tape w.new) result }
+    ensures ended { IfOk result (IsEnded (is_some order.now.save) (W.tape w.old).failures (W.tape w.new).failures) }
+{
+    let image = fitting(alloc, image, schedule)?;
+    let start = start_at(alloc, &image)?;
+    replay_started(alloc, &image, &start, schedule, order, w)
+}
+
+/// The schedule on the world of an image, before a judge that begins where the image stands.
+fn replay_started<W: Sink>(
+    alloc: Global,
+    image: &Image,
+    start: &Start,
+    schedule: &Schedule,
+    order: &ReplayOrder,
+    w: &mut W,
+) -> Result<Ending, Fault>
+    requires lawful { IsLawfulImage image.now }
+    requires begins { IsStartOf image.now start.now }
+    requires judged { IsStart start.now }
+    ensures fine { IfOk result (λ ending. ending.status ≡ 0) }
+    ensures told { order.now.json ≡ false → Tells (Replayed order.now.each) world_behaviour image_of (state_of start.now) (world_of_image image.now) Phase.Dead schedule.now (W.tape w.old) (W.tape w.new) result }
+    ensures ended { IfOk result (IsEnded (is_some order.now.save) (W.tape w.old).failures (W.tape w.new).failures) }
+{
+    worlds_are_never_found_out();
+    let mut world = image_world(alloc, image)?;
+    let mut judge = started_judge(alloc, start)?;
+    replay_machine(
+        alloc,
+        &mut world,
+        &mut judge,
+        schedule,
+        Phase::Dead,
+        order,
+        w,
+    )
+}
+
+/// The schedule on a new world of a variant of the lock.
+fn replay_variant<W: Sink>(
+    alloc: Global,
+    schedule: &Schedule,
+    order: &ReplayOrder,
+    w: &mut W,
+) -> Result<Ending, Fault>
+    ensures told { order.now.json ≡ false → TellsVariant order.now.variant (Replayed order.now.each) schedule.now (W.tape w.old) (W.tape w.new) result }
+    ensures ended { IfOk result (IsEnded (is_some order.now.save) (W.tape w.old).failures (W.tape w.new).failures) }
+{
+    let mut world = variant_world(alloc, order.variant, schedule)?;
+    let mut judge = new_judge(alloc, schedule)?;
+    replay_machine(
+        alloc,
+        &mut world,
+        &mut judge,
+        schedule,
+        Phase::Rest,
+        order,
+        w,
+    )
+}
+
+/// The schedule on the machine that is asked for.
+fn replay_schedule<W: Sink>(
+    alloc: Global,
+    order: &ReplayOrder,
+    image: Option<Image>,
+    schedule: &Schedule,
+    w: &mut W,
+) -> Result<Ending, Fault>
+    requires { IfSome image IsLawfulImage }
+    ensures fine { order.now.variant ≡ Variant.Right → IfOk result (λ ending. ending.status ≡ 0) }
+    ensures last { order.now.variant ≡ Variant.Right → is_some image ≡ false → IfOk result (λ ending. IfSome ending.save (λ image. IsLast schedule.now image.items)) }
+    ensures told { order.now.json ≡ false → TellsSchedule order.now.variant image (Replayed order.now.each) schedule.now (W.tape w.old) (W.tape w.new) result }
+    ensures ended { IfOk result (IsEnded (is_some order.now.save) (W.tape w.old).failures (W.tape w.new).failures) }
+{
+    match (image, order.variant) {
+        (Some(image), _) => replay_image(alloc, image, schedule, order, w),
+        (None, Variant::Right) => replay_new(alloc, schedule, order, w),
+        (None, _) => replay_variant(alloc, schedule, order, w),
+    }
+}
+
+/// Replays on a new world of the right lock, to the writer.
+#[tactic(auto, using(crate::proofs::Replays::replayed_whole))]
+fn replay_plain<R: Source, W: Sink>(alloc: Global, r: &mut R, w: &mut W) -> Result<Ending, Fault>
+    ensures tells { TellsReplay (R.reading r.old) (R.reading r.new) (W.tape w.old) (W.tape w.new) result }
+    ensures reads { TellsReads (R.reading r.old) (R.reading r.new) result }
+    ensures fine { IfOk result (λ ending. (ending.status ≡ 0) × (ending.save ≡ None)) }
+    ensures ended { IfOk result (IsEnded false (W.tape w.old).failures (W.tape w.new).failures) }
+{
+    let verdict = replay(alloc, r, w)?;
+    Ok(Ending {
+        status: status_after_verdict(verdict),
+        save: None,
+    })
+}
+
+/// Runs `replay`: the image is read first, then the schedule; then it is played to its verdict.
+pub fn replay_order<R: Source, W: Sink>(
+    alloc: Global,
+    order: &ReplayOrder,
+    image: Option<&[u8]>,
+    r: &mut R,
+    w: &mut W,
+) -> Result<Ending, Fault>
+    ensures ends { ReplayEnds order.now (option_copied image.entry) (R.reading r.old) (R.reading r.new) (W.tape w.old) (W.tape w.new) result }
+    ensures ended { IfOk result (IsEnded (is_some order.now.save) (W.tape w.old).failures (W.tape w.new).failures) }
+{
+    let plain = order.variant == Variant::Right
+        && !order.json
+        && !order.each
+        && order.save.is_none();
+    if image.is_none() && plain {
+        return replay_plain(alloc, r, w);
+    }
+    let image = image_read(alloc, image)?;
+    let schedule = schedule_read(alloc, r)?;
+    let ending = replay_schedule(alloc, order, image, &schedule, w)?;
+    Ok(ending)
+}

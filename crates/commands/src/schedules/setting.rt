@@ -1,0 +1,195 @@
+//! What a schedule is played on, and the judge that hears it.
+
+ghost use Rattle.std.specs.Prelude.{◌≡◌, ◌⊎◌, ◌≤◌, ℕ, List, [], Ok, Err, None, IfErr, IfOk, IfSome, OnOk, is_some, option_copied, true};
+ghost use Rattle.judge.specs.Stands.{StandsAfter};
+ghost use Rattle.judge.specs.Starts.{IsStart, state_of};
+ghost use Rattle.judge.specs.Table.{empty};
+ghost use Rattle.rmecore.specs.Refused.{number_of};
+ghost use Rattle.rmeworld.specs.ImageRules.{IsLawfulImage};
+ghost use Rattle.rmeworld.specs.ImageStart.{IsStartOf};
+ghost use Rattle.rmeworld.specs.ImageWiden.{IsWider};
+ghost use Rattle.rmeworld.specs.WorldState.{image_world as world_of_image, new_refusal, new_world as world_of_sizes};
+ghost use Rattle.crashlab.specs.VariantWorlds.{new_world as world_of_variant};
+ghost use Rattle.schedule.specs.Schedules.{schedule_at};
+ghost use Rattle.commands.specs.Settings.{CanFit, IsFitting, IsMadeFit, IsMisfit, IsPicture, IsUnmade, IsWrongText, IsWrongImage};
+ghost use Rattle.commands.specs.Statuses.{fault_of_header, fault_of_image, status_of};
+ghost use Rattle.schedule.specs.Wholes.{WasRead, layout_of};
+
+use crate::schedules::fault::Fault;
+use crashlab::{Variant, VariantWorld};
+use rmeworld::{read_image, start_of, widen};
+use judge::{Judge, Start};
+use rmecore::Refusal;
+use rmeworld::{Image, World};
+use schedule::texts::head::Head;
+use schedule::{Schedule, Source, read_schedule};
+use std::alloc::Global;
+use schedule::replays::pieces::read_all;
+
+/// What the first line of a schedule is refused with, where the world or the image can't be had.
+fn refused_header(refusal: Refusal) -> Fault
+    ensures { result ≡ fault_of_header (number_of refusal) }
+{
+    match refusal.number() {
+        Some(number) => Fault::Refused { line: 1, number },
+        None => Fault::OutOfMemory,
+    }
+}
+
+/// The rule that an image breaks, or want of memory.
+fn refused_image(refusal: Refusal) -> Fault
+    ensures told { result ≡ fault_of_image refusal }
+    ensures rule { (result ≡ Fault.OutOfMemory) ⊎ ((rule : ℕ) × (result ≡ Fault.Image rule)) }
+{
+    match refusal {
+        Refusal::BadImage { rule } => Fault::Image { rule },
+        _ => Fault::OutOfMemory,
+    }
+}
+
+/// The image that this text spells, where there is one.
+pub fn image_read(alloc: Global, text: Option<&[u8]>) -> Result<Option<Image>, Fault>
+    ensures lawful { IfOk result (λ image. IfSome image IsLawfulImage) }
+    ensures given { IfOk result (λ image. is_some image ≡ is_some text.entry) }
+    ensures pictured { IfOk result (IsPicture (option_copied text.entry)) }
+    ensures unread { IfErr result (IsWrongImage (option_copied text.entry)) }
+    ensures wrong { IfErr result (λ fault. (fault ≡ Fault.OutOfMemory) ⊎ ((is_some text.entry ≡ true) × ((rule : ℕ) × (fault ≡ Fault.Image rule)))) }
+{
+    match text {
+        Some(text) => match read_image(alloc, text) {
+            Ok(image) => Ok(Some(image)),
+            Err(refusal) => Err(refused_image(refusal)),
+        },
+        None => Ok(None),
+    }
+}
+
+/// The schedule that the reader gives.
+#[tactic(auto, unfolding(crate::specs::Settings::IsWrongText))]
+pub fn schedule_read<R: Source>(alloc: Global, r: &mut R) -> Result<Schedule, Fault>
+    ensures read { IfOk result (λ schedule. (text : List ℕ) × WasRead (R.reading r.old) (R.reading r.new) text × (schedule_at text ≡ Ok schedule)) }
+    ensures unread { IfErr result (λ fault. ((R.reading r.new).failures ≡ (R.reading r.old).failures) ⊎ (fault ≡ Fault.Read)) }
+    ensures wrong { IfErr result (λ fault. (status_of fault ≡ 3) ⊎ IsWrongText (R.reading r.old) (R.reading r.new) fault) }
+    ensures status { IfErr result (λ fault. 2 ≤ status_of fault) }
+{
+    let text = read_all(alloc, r)?;
+    Ok(read_schedule(alloc, &text)?)
+}
+
+/// The image with values as wide as the schedule says.
+fn widened(alloc: Global, image: &Image, schedule: &Schedule) -> Result<Image, Fault>
+    ensures wider { IfOk result (IsWider schedule.now.width image.now) }
+    ensures lawful { IfOk result IsLawfulImage }
+    ensures unfit { IfErr result (IsMisfit image.now schedule.now) }
+{
+    match widen(alloc, image, schedule.head().width) {
+        Ok(image) => Ok(image),
+        Err(refusal) => Err(refused_header(refusal)),
+    }
+}
+
+/// The image, as wide as the schedule says. The header has to name the image's other sizes.
+pub fn fitting(alloc: Global, image: Image, schedule: &Schedule) -> Result<Image, Fault>
+    requires lawful { IsLawfulImage image }
+    ensures lawful { IfOk result IsLawfulImage }
+    ensures fits { IfOk result (λ fitted. IsFitting fitted schedule.now) }
+    ensures made { IfOk result (IsMadeFit schedule.now.width image) }
+    ensures misfit { (CanFit image schedule.now → ⊥) → result ≡ Err (Fault.Refused 1 9) }
+    ensures unfit { IfErr result (IsMisfit image schedule.now) }
+{
+    let head = schedule.head();
+    let same = image.lock.as_slice().len() as u64 == head.procs
+        && image.limit == head.limit
+        && image.cap == head.cap;
+    if !same || image.width > head.width {
+        return Err(Fault::Refused { line: 1, number: 9 });
+    }
+    if image.width == head.width {
+        return Ok(image);
+    }
+    widened(alloc, &image, schedule)
+}
+
+/// A new world of the right lock, with the schedule's sizes.
+pub fn new_world(alloc: Global, schedule: &Schedule) -> Result<World, Fault>
+    ensures made { IfOk result (λ world. world ≡ world_of_sizes (layout_of schedule.now) schedule.now.limit) }
+    ensures accepted { OnOk result (new_refusal (layout_of schedule.now) schedule.now.limit ≡ None) }
+    ensures unmade { IfErr result (IsUnmade schedule.now) }
+{
+    let head = schedule.head();
+    match World::new(alloc, head.procs, head.limit, head.cap, head.width) {
+        Ok(world) => Ok(world),
+        Err(refusal) => Err(refused_header(refusal)),
+    }
+}
+
+/// A new world of a variant of the lock, with the schedule's sizes.
+pub fn variant_world(
+    alloc: Global,
+    variant: Variant,
+    schedule: &Schedule,
+) -> Result<VariantWorld, Fault>
+    ensures made { IfOk result (λ world. world ≡ world_of_variant variant (layout_of schedule.now) schedule.now.limit) }
+    ensures accepted { OnOk result (new_refusal (layout_of schedule.now) schedule.now.limit ≡ None) }
+    ensures unmade { IfErr result (IsUnmade schedule.now) }
+{
+    let Head {
+        procs,
+        limit,
+        cap,
+        width,
+    } = schedule.head();
+    match VariantWorld::new(alloc, variant, procs, limit, cap, width) {
+        Ok(world) => Ok(world),
+        Err(refusal) => Err(refused_header(refusal)),
+    }
+}
+
+/// A judge of a new lock with the schedule's sizes. Sizes that a world has are a judge's too.
+pub fn new_judge(alloc: Global, schedule: &Schedule) -> Result<Judge, Fault>
+    ensures made { IfOk result (λ judge. StandsAfter (empty schedule.now.procs schedule.now.cap) [] judge) }
+    ensures memory { IfErr result (λ fault. fault ≡ Fault.OutOfMemory) }
+{
+    let head = schedule.head();
+    match Judge::new(alloc, head.procs, head.cap) {
+        Ok(judge) => Ok(judge),
+        Err(_) => Err(Fault::OutOfMemory),
+    }
+}
+
+/// The world of a lawful image, every process crashed.
+pub fn image_world(alloc: Global, image: &Image) -> Result<World, Fault>
+    requires { IsLawfulImage image.now }
+    ensures made { IfOk result (λ world. world ≡ world_of_image image.now) }
+    ensures memory { IfErr result (λ fault. fault ≡ Fault.OutOfMemory) }
+{
+    match World::from_image(alloc, image) {
+        Ok(world) => Ok(world),
+        Err(_) => Err(Fault::OutOfMemory),
+    }
+}
+
+/// Where a judge has to start from before the world of a lawful image.
+pub fn start_at(alloc: Global, image: &Image) -> Result<Start, Fault>
+    requires { IsLawfulImage image.now }
+    ensures begins { IfOk result (IsStartOf image.now) }
+    ensures judged { IfOk result IsStart }
+    ensures memory { IfErr result (λ fault. fault ≡ Fault.OutOfMemory) }
+{
+    match start_of(alloc, image) {
+        Ok(start) => Ok(start),
+        Err(_) => Err(Fault::OutOfMemory),
+    }
+}
+
+/// A judge from this start on.
+pub fn started_judge(alloc: Global, start: &Start) -> Result<Judge, Fault>
+    requires { IsStart start.now }
+    ensures made { IfOk result (λ judge. StandsAfter (state_of start.now) [] judge) }
+    ensures memory { IfErr result (λ fault. fault ≡ Fault.OutOfMemory) }
+{
+    match Judge::from_start(alloc, start) {
+        Ok(judge) => Ok(judge),
+        Err(_) => Err(Fault::OutOfMemory),
+    }
+}

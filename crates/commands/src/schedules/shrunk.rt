@@ -1,0 +1,89 @@
+//! The command `shrink`.
+
+ghost use Rattle.std.specs.Prelude.{◌≡◌, IfErr, IfOk, OnOk, false};
+ghost use Rattle.schedule.specs.Tapes.{Writes};
+ghost use Rattle.schedule.specs.Reports.{verdict_line};
+ghost use Rattle.schedule.specs.Schedules.{spelling};
+ghost use Rattle.commands.specs.Endings.{FailsToWrite, IsEnded, TellsReads};
+ghost use Rattle.commands.specs.Shrinks.{ShrinkEnds, ShrinksSchedule};
+ghost use Rattle.commands.specs.Statuses.{status_of};
+
+use crate::schedules::ending::Ending;
+use crate::schedules::fault::Fault;
+use crate::schedules::setting::schedule_read;
+use crashlab::Variant;
+use cli::arguments::order::ShrinkOrder;
+use schedule::texts::device::write_all;
+use schedule::{Schedule, Sink, Source, write_schedule};
+use crashlab::shrink;
+use std::alloc::Global;
+use schedule::{Verdict, put_verdict};
+
+/// Writes a schedule as its text.
+pub fn write_lines<W: Sink>(alloc: Global, schedule: &Schedule, w: &mut W) -> Result<(), Fault>
+    ensures written { OnOk result (Writes (W.tape w.old) (W.tape w.new) (spelling schedule.now)) }
+    ensures failed { IfErr result (λ fault. status_of fault ≡ 3) }
+    ensures unwritten { IfErr result (FailsToWrite (W.tape w.old) (W.tape w.new)) }
+{
+    let text = write_schedule(alloc, schedule)?;
+    if write_all(w, &text).is_err() {
+        return Err(Fault::Write);
+    }
+    Ok(())
+}
+
+/// Writes the line of a fine verdict.
+fn write_fine<W: Sink>(alloc: Global, w: &mut W) -> Result<(), Fault>
+    ensures written { OnOk result (Writes (W.tape w.old) (W.tape w.new) (verdict_line Verdict.Fine)) }
+    ensures failed { IfErr result (λ fault. status_of fault ≡ 3) }
+{
+    let mut line = Vec::new(alloc);
+    put_verdict(&mut line, Verdict::Fine)?;
+    if write_all(w, &line).is_err() {
+        return Err(Fault::Write);
+    }
+    Ok(())
+}
+
+/// Makes the schedule least, or says that its verdict is fine.
+fn shrink_schedule<W: Sink>(
+    alloc: Global,
+    variant: Variant,
+    schedule: &Schedule,
+    w: &mut W,
+) -> Result<Ending, Fault>
+    ensures shrinks { ShrinksSchedule variant schedule.now (W.tape w.old) (W.tape w.new) result }
+    ensures ended { IfOk result (IsEnded false (W.tape w.old).failures (W.tape w.new).failures) }
+{
+    match shrink(alloc, variant, schedule)? {
+        Some(least) => {
+            write_lines(alloc, &least, w)?;
+            Ok(Ending {
+                status: 1,
+                save: None,
+            })
+        }
+        None => {
+            write_fine(alloc, w)?;
+            Ok(Ending {
+                status: 0,
+                save: None,
+            })
+        }
+    }
+}
+
+/// Runs `shrink`: the schedule is read, played on the variant, and made least where its verdict is against.
+pub fn shrink_order<R: Source, W: Sink>(
+    alloc: Global,
+    order: &ShrinkOrder,
+    r: &mut R,
+    w: &mut W,
+) -> Result<Ending, Fault>
+    ensures ends { ShrinkEnds order.now (R.reading r.old) (R.reading r.new) (W.tape w.old) (W.tape w.new) result }
+    ensures reads { TellsReads (R.reading r.old) (R.reading r.new) result }
+    ensures ended { IfOk result (IsEnded false (W.tape w.old).failures (W.tape w.new).failures) }
+{
+    let schedule = schedule_read(alloc, r)?;
+    shrink_schedule(alloc, order.variant, &schedule, w)
+}

@@ -1,0 +1,74 @@
+//! A large change of a schedule, line by line.
+
+use schedule::{Count, Line};
+
+/// Which lines go, and which come in their place. A range of lines ends before `to`.
+#[derive(Clone, Copy, Debug)]
+pub enum Change {
+    /// Lines go.
+    LeaveOut {
+        from: usize,
+        to: usize,
+    },
+    /// The lines of one process go.
+    Silence {
+        process: u64,
+        from: usize,
+        to: usize,
+    },
+    /// The count of a line is lowered by so many.
+    Lower {
+        at: usize,
+        by: u64,
+    },
+    /// Two lines of steps become one, in the place of the first or of the second.
+    Gather {
+        first: usize,
+        second: usize,
+        at: usize,
+        line: Line,
+    },
+}
+
+/// Whose line it is.
+pub fn process_of(line: &Line) -> u64 {
+    match *line {
+        Line::Start(p, _) | Line::Step(p, _) | Line::Crash(p) => p,
+    }
+}
+
+/// Two lines of steps of one process as one.
+pub fn both(first: &Line, second: &Line) -> Option<Line> {
+    match (first, second) {
+        (Line::Step(p, m), Line::Step(q, n)) if p == q => {
+            Some(Line::Step(*p, Count::new(m.get() + n.get())?))
+        }
+        _ => None,
+    }
+}
+
+/// The line with its count lowered by so many; a count that would be none, and a line without one, stay.
+fn lower(line: &Line, by: u64) -> Line {
+    let Line::Step(p, count) = *line else {
+        return *line;
+    };
+    match Count::new(count.get().saturating_sub(by)) {
+        Some(less) => Line::Step(p, less),
+        None => *line,
+    }
+}
+
+impl Change {
+    /// What stands in the place of line number `index`.
+    pub fn made(&self, index: usize, line: &Line) -> Option<Line> {
+        match *self {
+            Change::LeaveOut { from, to } if from <= index && index < to => None,
+            Change::Silence { process, from, to }
+                if from <= index && index < to && process_of(line) == process => None,
+            Change::Lower { at, by } if index == at => Some(lower(line, by)),
+            Change::Gather { at, line, .. } if index == at => Some(line),
+            Change::Gather { first, second, .. } if index == first || index == second => None,
+            _ => Some(*line),
+        }
+    }
+}

@@ -1,0 +1,67 @@
+//! What a schedule comes to on a variant.
+
+ghost use Rattle.std.specs.Prelude.{◌≡◌, ◌↔◌, IfOk, IsTrue};
+ghost use Rattle.rmecore.specs.Refused.{number_of};
+ghost use Rattle.schedule.specs.Wholes.{header_fault};
+ghost use Rattle.crashlab.specs.Shrunk.{Answers, GoesWrong};
+
+use crate::variant::Variant;
+use crate::variant_world::VariantWorld;
+use judge::Judge;
+use rmecore::Refusal;
+use schedule::{OutOfMemory, Page, Schedule};
+use std::alloc::Global;
+use schedule::replays::verdict::fault_number;
+use schedule::{ReplayFault, Verdict, replay_on};
+
+/// A verdict that is to be kept: on which variant, and against which number.
+#[derive(Clone, Copy)]
+pub struct Wanted {
+    pub alloc: Global,
+    pub variant: Variant,
+    pub number: u64,
+}
+
+/// What is answered where no world has the schedule's sizes.
+fn at_header(refusal: Refusal) -> ReplayFault
+    ensures { result ≡ header_fault (number_of refusal) }
+{
+    match refusal.number() {
+        Some(number) => ReplayFault::Refused { line: 1, number },
+        None => ReplayFault::OutOfMemory,
+    }
+}
+
+/// Plays a schedule on a new world of the variant, before a new judge.
+pub fn played(alloc: Global, variant: Variant, schedule: &Schedule) -> Result<Verdict, ReplayFault>
+    ensures { Answers variant schedule.now result }
+{
+    let head = schedule.head();
+    let mut world = match VariantWorld::new(
+        alloc, variant, head.procs, head.limit, head.cap, head.width,
+    ) {
+        Ok(world) => world,
+        Err(refusal) => return Err(at_header(refusal)),
+    };
+    let Ok(mut judge) = Judge::new(alloc, head.procs, head.cap) else {
+        return Err(ReplayFault::OutOfMemory);
+    };
+    // A page takes no more where there is no memory.
+    let mut page = Page::new(alloc);
+    match replay_on(alloc, &mut world, &mut judge, schedule, &mut page) {
+        Ok(verdict) => Ok(verdict),
+        Err(ReplayFault::Refused { line, number }) => Err(ReplayFault::Refused { line, number }),
+        Err(_) => Err(ReplayFault::OutOfMemory),
+    }
+}
+
+/// Whether a schedule has the verdict that is to be kept.
+pub fn goes_wrong(wanted: &Wanted, schedule: &Schedule) -> Result<bool, OutOfMemory>
+    ensures { IfOk result (λ wrong. IsTrue wrong ↔ GoesWrong wanted.now.variant wanted.now.number schedule.now) }
+{
+    match played(wanted.alloc, wanted.variant, schedule) {
+        Ok(Verdict::Against { fault, .. }) => Ok(fault_number(fault) == wanted.number),
+        Ok(Verdict::Fine) | Err(ReplayFault::Refused { .. }) => Ok(false),
+        Err(_) => Err(OutOfMemory),
+    }
+}

@@ -1,0 +1,58 @@
+//! Schedules with the sizes of another.
+
+ghost use Rattle.std.specs.Prelude.{◌≡◌, ◌<◌, ◌++◌, [], IfOk, OnOk, length};
+ghost use Rattle.crashlab.specs.Shrunk.{with_lines, replaced};
+
+use schedule::Line;
+use schedule::{OutOfMemory, Schedule};
+use std::alloc::Global;
+
+/// Puts lines behind those that are there.
+fn put_lines(schedule: &mut Schedule, lines: &[Line]) -> Result<(), OutOfMemory>
+    ensures { OnOk result (schedule.new ≡ with_lines schedule.old (schedule.old.lines ++ lines.now)) }
+{
+    for line in lines {
+        if schedule.push(*line).is_err() {
+            return Err(OutOfMemory);
+        }
+    }
+    Ok(())
+}
+
+/// A schedule of the same sizes without lines.
+pub fn emptied(alloc: Global, schedule: &Schedule) -> Result<Schedule, OutOfMemory>
+    ensures { IfOk result (λ empty. empty ≡ with_lines schedule.now []) }
+{
+    let head = schedule.head();
+    match Schedule::new(alloc, head.procs, head.limit, head.cap, head.width) {
+        Ok(empty) => Ok(empty),
+        Err(_) => Err(OutOfMemory),
+    }
+}
+
+/// The same schedule once more.
+pub fn copied(alloc: Global, schedule: &Schedule) -> Result<Schedule, OutOfMemory>
+    ensures { IfOk result (λ copy. copy ≡ schedule.now) }
+{
+    let mut copy = emptied(alloc, schedule)?;
+    put_lines(&mut copy, schedule.lines())?;
+    Ok(copy)
+}
+
+/// The schedule with other lines in the place of one.
+pub fn with_replaced(
+    alloc: Global,
+    schedule: &Schedule,
+    at: usize,
+    new: &[Line],
+) -> Result<Schedule, OutOfMemory>
+    requires { at < length schedule.now.lines }
+    ensures { IfOk result (λ changed. changed ≡ replaced at new.now schedule.now) }
+{
+    let lines = schedule.lines();
+    let mut changed = emptied(alloc, schedule)?;
+    put_lines(&mut changed, &lines[..at])?;
+    put_lines(&mut changed, new)?;
+    put_lines(&mut changed, &lines[at + 1..])?;
+    Ok(changed)
+}

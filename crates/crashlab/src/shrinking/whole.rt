@@ -1,0 +1,79 @@
+//! A schedule that goes wrong, made least.
+
+ghost use Rattle.std.specs.Prelude.{IfOk, MatchResult, Some};
+ghost use Rattle.crashlab.specs.Hunts.{IsFound};
+ghost use Rattle.crashlab.specs.Shrunk.{GoesWrong, IsNoLonger, IsShrunk, IsWhy, Shrinks};
+
+use crate::shrinking::far::shorten;
+use crate::shrinking::least::least;
+use crate::shrinking::played::{Wanted, goes_wrong, played};
+use crate::shrinking::replaced::copied;
+use crate::shrinking::size::is_no_longer;
+use crate::variant::Variant;
+use schedule::{OutOfMemory, Schedule};
+use std::alloc::Global;
+use schedule::replays::verdict::fault_number;
+use schedule::{ReplayFault, Verdict};
+
+/// What large changes make of a schedule that goes wrong; or the schedule itself.
+fn shortened(wanted: &Wanted, schedule: &Schedule) -> Result<Schedule, OutOfMemory>
+    requires { GoesWrong wanted.now.variant wanted.now.number schedule.now }
+    ensures { IfOk result (λ short. IsNoLonger schedule.now short × GoesWrong wanted.now.variant wanted.now.number short) }
+{
+    let short = shorten(wanted, schedule)?;
+    if is_no_longer(&short, schedule) && goes_wrong(wanted, &short)? {
+        return Ok(short);
+    }
+    copied(wanted.alloc, schedule)
+}
+
+/// A schedule that goes wrong, made least.
+fn shrink_wrong(wanted: &Wanted, schedule: &Schedule) -> Result<Schedule, OutOfMemory>
+    requires { GoesWrong wanted.now.variant wanted.now.number schedule.now }
+    ensures { IfOk result (IsShrunk wanted.now.variant wanted.now.number schedule.now) }
+{
+    let short = shortened(wanted, schedule)?;
+    least(wanted, short)
+}
+
+/// The schedule made least, where its verdict on the variant is against some number: no line of it can be left out, and no
+/// count of steps be lowered by one, without losing a verdict against that number. None where the verdict is fine.
+pub fn shrink(
+    alloc: Global,
+    variant: Variant,
+    schedule: &Schedule,
+) -> Result<Option<Schedule>, ReplayFault>
+    ensures { MatchResult result (Shrinks variant schedule.now) (IsWhy variant schedule.now) }
+{
+    let fault = match played(alloc, variant, schedule)? {
+        Verdict::Fine => return Ok(None),
+        Verdict::Against { fault, .. } => fault,
+    };
+    let wanted = Wanted {
+        alloc,
+        variant,
+        number: fault_number(fault),
+    };
+    match shrink_wrong(&wanted, schedule) {
+        Ok(least) => Ok(Some(least)),
+        Err(OutOfMemory) => Err(ReplayFault::OutOfMemory),
+    }
+}
+
+/// The same of a schedule that a hunt has found, which always goes wrong.
+pub fn shrink_found(
+    alloc: Global,
+    variant: Variant,
+    found: &Schedule,
+) -> Result<Schedule, OutOfMemory>
+    requires { IsFound variant found.now }
+    ensures { IfOk result (λ least. Shrinks variant found.now (Some least)) }
+{
+    found.can_be_spelled();
+    match shrink(alloc, variant, found) {
+        Ok(Some(least)) => Ok(least),
+        Ok(None) => unreachable!(),
+        // What is found is not refused.
+        Err(_) => Err(OutOfMemory),
+    }
+}

@@ -1,0 +1,27 @@
+//! The worked rows of schedules, reports and traces, of wrong variants and of hunts. Tests alone:
+//! each names public functions of `lines`, `schedule`, `trials`, `crashlab` or `shrinking`.
+
+#[cfg(test)]
+mod cuts;
+#[cfg(test)]
+mod devices;
+#[cfg(test)]
+mod everything;
+#[cfg(test)]
+mod hunts;
+#[cfg(test)]
+mod kit;
+#[cfg(test)]
+mod lock;
+#[cfg(test)]
+mod mailbox;
+#[cfg(test)]
+mod refusals;
+#[cfg(test)]
+mod shrinks;
+#[cfg(test)]
+mod texts;
+#[cfg(test)]
+mod traces;
+#[cfg(test)]
+mod variants;

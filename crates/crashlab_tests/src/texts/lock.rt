@@ -1,0 +1,380 @@
+//! The worked rows of the lock: schedules and their reports.
+
+use crate::texts::kit::replays;
+use std::test::Fail;
+
+#[test]
+fn smallest(rt: HostRuntime) -> Result<(), Fail> {
+    replays(
+        &rt,
+        b"rme 1 procs 1 limit 10 cap 1
+lock 0
+step 0 8
+",
+        b"begin 0
+ready 0
+enter 0
+answer 0 clean
+words 0 0 1 1
+mail 0 closed 0 ruined 0
+verdict fine
+",
+    )?;
+    Ok(())
+}
+
+#[test]
+fn first_steps(rt: HostRuntime) -> Result<(), Fail> {
+    replays(
+        &rt,
+        b"rme 1 procs 1 limit 1 cap 1
+lock 0
+step 0
+step 0 3
+",
+        b"begin 0
+words 0 1 0 0
+mail 0 closed 0 ruined 0
+verdict fine
+",
+    )?;
+    Ok(())
+}
+
+#[test]
+fn tie(rt: HostRuntime) -> Result<(), Fail> {
+    replays(
+        &rt,
+        b"rme 1 procs 2 limit 10 cap 1
+lock 0
+lock 1
+step 0 5
+step 1 5
+step 0 2
+step 1 2
+step 1 3
+step 0 4
+",
+        b"begin 0
+begin 1
+ready 0
+ready 1
+enter 0
+answer 0 clean
+words 0 0 1 1
+words 1 0 1 0
+mail 0 closed 0 ruined 0
+verdict fine
+",
+    )?;
+    Ok(())
+}
+
+#[test]
+fn dead_in_the_doorway(rt: HostRuntime) -> Result<(), Fail> {
+    replays(
+        &rt,
+        b"rme 1 procs 2 limit 10 cap 1
+lock 1
+step 1 5
+crash 1
+lock 0
+step 0 8
+lock 1
+step 1 6
+step 0 4
+",
+        b"begin 1
+crash 1
+begin 0
+ready 0
+ready 1
+enter 0
+answer 0 clean
+words 0 0 1 1
+words 1 0 2 0
+mail 0 closed 0 ruined 0
+verdict fine
+",
+    )?;
+    Ok(())
+}
+
+#[test]
+fn between_two_words(rt: HostRuntime) -> Result<(), Fail> {
+    replays(
+        &rt,
+        b"rme 1 procs 2 limit 10 cap 1
+lock 0
+step 0 6
+crash 0
+lock 1
+step 1 8
+lock 0
+step 0 8
+step 1 4
+",
+        b"begin 0
+ready 0
+crash 0
+begin 1
+ready 1
+enter 0
+answer 0 clean
+words 0 0 1 1
+words 1 0 2 0
+mail 0 closed 0 ruined 0
+verdict fine
+",
+    )?;
+    Ok(())
+}
+
+#[test]
+fn re_entry(rt: HostRuntime) -> Result<(), Fail> {
+    replays(
+        &rt,
+        b"rme 1 procs 2 limit 10 cap 1
+lock 0
+step 0 11
+lock 1
+step 1 7
+crash 0
+step 1 3
+lock 0
+step 0 4
+",
+        b"begin 0
+ready 0
+enter 0
+answer 0 clean
+begin 1
+ready 1
+crash 0
+reenter 0
+answer 0 owner-died
+words 0 0 1 1
+words 1 0 2 0
+mail 0 closed 0 ruined 0
+verdict fine
+",
+    )?;
+    Ok(())
+}
+
+#[test]
+fn half_an_exit(rt: HostRuntime) -> Result<(), Fail> {
+    replays(
+        &rt,
+        b"rme 1 procs 2 limit 10 cap 1
+lock 0
+step 0 11
+lock 1
+step 1 8
+unlock 0
+step 0
+crash 0
+step 1 3
+recover 0
+step 0 4
+",
+        b"begin 0
+ready 0
+enter 0
+answer 0 clean
+begin 1
+ready 1
+leave 0
+crash 0
+enter 1
+answer 1 clean
+answer 0 found left
+words 0 0 0 0
+words 1 0 2 1
+mail 0 closed 0 ruined 0
+verdict fine
+",
+    )?;
+    Ok(())
+}
+
+const RUINED: &[u8] = b"rme 1 procs 2 limit 10 cap 1
+lock 0
+step 0 11
+crash 0
+lock 0
+step 0 4
+unlock 0
+step 0 3
+lock 1
+step 1 13
+lock 0
+step 0 13
+";
+
+#[test]
+fn ruined(rt: HostRuntime) -> Result<(), Fail> {
+    replays(
+        &rt,
+        RUINED,
+        b"begin 0
+ready 0
+enter 0
+answer 0 clean
+crash 0
+reenter 0
+answer 0 owner-died
+ruin 0
+leave 0
+answer 0 unlocked
+begin 1
+ready 1
+enter 1
+leave 1
+answer 1 not-recoverable
+begin 0
+ready 0
+enter 0
+leave 0
+answer 0 not-recoverable
+words 0 0 0 0
+words 1 0 0 0
+mail 0 closed 0 ruined 1
+verdict fine
+",
+    )?;
+    Ok(())
+}
+
+#[test]
+fn number_limit(rt: HostRuntime) -> Result<(), Fail> {
+    replays(
+        &rt,
+        b"rme 1 procs 2 limit 1 cap 1
+lock 0
+step 0 11
+lock 1
+step 1 6
+unlock 0
+step 0 2
+lock 1
+step 1 11
+",
+        b"begin 0
+ready 0
+enter 0
+answer 0 clean
+begin 1
+quit 1
+answer 1 numbers-spent
+leave 0
+answer 0 unlocked
+begin 1
+ready 1
+enter 1
+answer 1 clean
+words 0 0 0 0
+words 1 0 1 1
+mail 0 closed 0 ruined 0
+verdict fine
+",
+    )?;
+    Ok(())
+}
+
+#[test]
+fn withdraw_waiting(rt: HostRuntime) -> Result<(), Fail> {
+    replays(
+        &rt,
+        b"rme 1 procs 2 limit 10 cap 1
+lock 0
+step 0 7
+lock 1
+step 1 9
+withdraw 0
+step 0
+step 1 3
+",
+        b"begin 0
+ready 0
+begin 1
+ready 1
+quit 0
+answer 0 withdrawn
+enter 1
+answer 1 clean
+words 0 0 0 0
+words 1 0 2 1
+mail 0 closed 0 ruined 0
+verdict fine
+",
+    )?;
+    Ok(())
+}
+
+#[test]
+fn withdraw_and_return(rt: HostRuntime) -> Result<(), Fail> {
+    replays(
+        &rt,
+        b"rme 1 procs 2 limit 10 cap 1
+lock 0
+step 0 11
+lock 1
+step 1 9
+withdraw 1
+step 1
+lock 1
+step 1 9
+unlock 0
+step 0 2
+step 1 3
+",
+        b"begin 0
+ready 0
+enter 0
+answer 0 clean
+begin 1
+ready 1
+quit 1
+answer 1 withdrawn
+begin 1
+ready 1
+leave 0
+answer 0 unlocked
+enter 1
+answer 1 clean
+words 0 0 0 0
+words 1 0 2 1
+mail 0 closed 0 ruined 0
+verdict fine
+",
+    )?;
+    Ok(())
+}
+
+#[test]
+fn wrong_variant(rt: HostRuntime) -> Result<(), Fail> {
+    replays(
+        &rt,
+        b"rme 1 procs 2 limit 10 cap 1
+lock 0
+lock 1
+step 0 5
+step 1 6
+step 1 4
+step 0 6
+",
+        b"begin 0
+begin 1
+ready 1
+ready 0
+enter 0
+answer 0 clean
+words 0 0 1 1
+words 1 0 1 0
+mail 0 closed 0 ruined 0
+verdict fine
+",
+    )?;
+    Ok(())
+}

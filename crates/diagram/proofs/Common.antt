@@ -1,0 +1,40 @@
+-- The names that two or more proof files of this crate cite, passed on from one place. Declares nothing.
+pub use Rattle.std.proofs.Math.ListN.{replicate, length-set}
+pub use Rattle.std.proofs.lemmas.List.{append-nil, take_more, take_more_set, take_all, drop_more, length-drop, nil_from_length}
+pub use Rattle.std.proofs.lemmas.List.Concat.{flat_map-cons, flat_map-append}
+pub use Rattle.std.proofs.lemmas.Result.{err_from_is_err_and}
+pub use Rattle.std.specs.Prelude.{codes}
+pub use Rattle.rmecore.specs.declared.happened.Happened.{Happened}
+pub use Rattle.rmecore.specs.declared.refusal.Refusal.{Refusal}
+pub use Rattle.redomail.specs.declared.deed.Deed.{Deed}
+pub use Rattle.judge.specs.Table.{State}
+pub use Rattle.rmeworld.specs.declared.image.Image.{Image}
+pub use Rattle.schedule.specs.declared.lines.line.Line.{Line}
+pub use Rattle.schedule.specs.declared.lines.line.Line.TheVariants.{Start, Step, Crash}
+pub use Rattle.schedule.specs.declared.replays.replay_fault.ReplayFault.{ReplayFault}
+pub use Rattle.schedule.specs.declared.replays.verdict.Verdict.{Verdict}
+pub use Rattle.schedule.specs.Hearings.{Bench, Hears, opened, bench}
+pub use Rattle.schedule.specs.Tapes.{WritesFront, Tape, Writes, Begins}
+pub use Rattle.schedule.specs.Plays.{halted}
+pub use Rattle.schedule.specs.Runs.{Part, deeds_of, did, told_of, Told, unless, Did}
+pub use Rattle.rmeworld.specs.Behaviours.{Behaviour}
+unfoldable pub use Rattle.schedule.specs.Runs.{steps, line_on, run_on}
+pub use Rattle.schedule.specs.Verdicts.{verdict_on}
+pub use Rattle.schedule.proofs.Heard.{hears_both, hears_none}
+pub use Rattle.schedule.proofs.Playing.{begins_further, begins_wider, begins_nothing, deeds_append, deeds_told, start_part, step_part, crash_part, is_refused}
+pub use Rattle.diagram.specs.declared.act.Act.{Act}
+pub use Rattle.diagram.specs.declared.act.Row.{Row}
+pub use Rattle.diagram.specs.declared.drawing.End.{End}
+pub use Rattle.diagram.specs.declared.drawing.End.TheVariants.{Judged, Refused}
+pub use Rattle.diagram.specs.declared.phase.Phase.{Phase}
+pub use Rattle.diagram.specs.declared.phase.Phase.TheVariants.{Rest, Doorway, Waiting, Section, Dead}
+pub use Rattle.diagram.specs.declared.stop.Stop.{Stop}
+pub use Rattle.diagram.specs.Columns.{spaces, columns, head, heads, bars}
+pub use Rattle.diagram.specs.Drawings.{Spells, row_spelled, rows_spelled, top_in, end_in}
+pub use Rattle.diagram.specs.Events.{Event, Took, told_in, Fell, told_by}
+unfoldable pub use Rattle.diagram.specs.Events.{steps_of, events_of, events_on}
+pub use Rattle.diagram.specs.Followed.{Ending, Follows, IsAllFollowed, row_of, row_told, phases_with, phases_behind, rows_told, followed, Tells}
+pub use Rattle.diagram.specs.Pictures.{around, key, class_of, lifeline_tops}
+unfoldable pub use Rattle.diagram.specs.Pictures.{keys, key_name, measured, line_looks, text_looks, step_mark, lifeline}
+pub use Rattle.diagram.specs.Rows.{events_in, PlaysOn, EndsAs, IsEndOf, IsJudged, events_shown, quiet, deed_of, stopped, Adds, Plays}
+pub use Rattle.diagram.specs.Sheets.{PenState, layout_of, pen_with}

@@ -1,0 +1,46 @@
+use Rattle.std.proofs.Common.{◌≡◌, List, Err, refl, ap, subst, ◌∙◌, ℕ}
+use Rattle.diagram.proofs.Common.{replicate, err_from_is_err_and, Writes, run_on, begins_nothing, Phase, Spells, Event, events_on, followed, events_in, layout_of}
+use Rattle.schedule.specs.declared.texts.head.Head.{Head}
+use Rattle.schedule.specs.Schedules.{head_of}
+use Rattle.diagram.proofs.Ended.{steps_end, steps_fail}
+use Rattle.diagram.proofs.following.follow.Goals as goal
+
+pub returns-in_default-clause-follows : goal.returns-in_default-clause-follows
+returns-in_default-clause-follows g c start keeps =
+    (λ text all. begins_nothing (g.W.Sink.tape c.args.w.now).taken text, refl)
+
+pub returns-in_err-write_steps-clause-follows : goal.returns-in_err-write_steps-clause-follows
+returns-in_err-write_steps-clause-follows g c start keeps =
+    let b = g.M.Machine.behaviour in
+    let schedule = c.args.schedule.now in
+    let drawing = c.in-Ok.drawing in
+    let told = c.in-Ok.ensures in
+    let steps : followed (layout_of drawing.head) (replicate drawing.head.procs drawing.first) (events_in drawing.rows.items)
+    ≡ followed (layout_of (head_of schedule)) (replicate schedule.procs c.args.first) (events_on b c.args.machine.now schedule.lines) =
+    ap (λ (head : Head). followed (layout_of head) (replicate head.procs drawing.first) (events_in drawing.rows.items)) told.sizes.0
+    ∙ ap (λ (first : Phase). followed (layout_of (head_of schedule)) (replicate schedule.procs first) (events_in drawing.rows.items)) told.sizes.1
+    ∙ ap (λ (events : List Event). followed (layout_of (head_of schedule)) (replicate schedule.procs c.args.first) events) told.events in
+    let t = g.W.Sink.tape c.args.w.now in
+    let u = g.W.Sink.tape c.write_steps.new.w in
+    let fault = c.in_err-write_steps.field-0.0 in
+    let p = err_from_is_err_and c.from_residual.result c.from_residual.ensures.1 in
+    rw (p.1, p.2)
+    (steps_fail t u start g.M.Machine.behaviour.image_of (run_on b 2 c.args.machine.now schedule.lines) _ fault
+    (subst (λ (text : List ℕ). Spells {A = Unit {0}} t u text (Err fault)) steps c.in_err-write_steps.ensures))
+
+pub returns-clause-follows : goal.returns-clause-follows
+returns-clause-follows g c start keeps =
+    let b = g.M.Machine.behaviour in
+    let schedule = c.args.schedule.now in
+    let drawing = c.in-Ok.drawing in
+    let told = c.in-Ok.ensures in
+    let steps : followed (layout_of drawing.head) (replicate drawing.head.procs drawing.first) (events_in drawing.rows.items)
+    ≡ followed (layout_of (head_of schedule)) (replicate schedule.procs c.args.first) (events_on b c.args.machine.now schedule.lines) =
+    ap (λ (head : Head). followed (layout_of head) (replicate head.procs drawing.first) (events_in drawing.rows.items)) told.sizes.0
+    ∙ ap (λ (first : Phase). followed (layout_of (head_of schedule)) (replicate schedule.procs first) (events_in drawing.rows.items)) told.sizes.1
+    ∙ ap (λ (events : List Event). followed (layout_of (head_of schedule)) (replicate schedule.procs c.args.first) events) told.events in
+    let t = g.W.Sink.tape c.args.w.now in
+    let u = g.W.Sink.tape c.write_steps.new.w in
+    let v = g.W.Sink.tape c.write_end.new.w in
+    steps_end t u v start g.M.Machine.behaviour.image_of (run_on b 2 c.args.machine.now schedule.lines) c.draw.new.machine _ drawing.end c.write_end.result
+    (subst (λ (text : List ℕ). Writes t u text) steps c.in_ok-write_steps.ensures) c.write_end.ensures (told.end start keeps) told.left

@@ -1,0 +1,19 @@
+use Rattle.std.proofs.Common.{refl, subst, Err}
+use Rattle.diagram.proofs.Common.{err_from_is_err_and, Image, begins_nothing, Judged, Ending}
+use Rattle.diagram.proofs.Ended.{not_closed}
+use Rattle.diagram.proofs.following.write_end.Goals as goal
+
+pub returns-in_default : goal.returns-in_default
+returns-in_default g c =
+    rw c.in-Judged.is (λ end is. begins_nothing (g.W.Sink.tape c.args.w.now).taken end, refl)
+
+pub returns-in_err-close-in-Judged : goal.returns-in_err-close-in-Judged
+returns-in_err-close-in-Judged g c =
+    let t = g.W.Sink.tape c.args.w.now in
+    let u = g.W.Sink.tape c.close.new.w in
+    let p = err_from_is_err_and c.from_residual.result c.from_residual.ensures.1 in
+    let fault = c.in_err-close-in-Judged.field-0.0 in
+    let verdict = c.in-Judged.verdict in
+    rw (p.1, p.2) (rw c.in-Judged.is
+    (subst (λ (image : Image). Ending t u image (Judged verdict) (Err fault)) c.in-Ok.ensures.ok
+    (not_closed t u c.in-Ok.image verdict fault c.in_err-close-in-Judged.ensures)))

@@ -1,0 +1,120 @@
+-- A run told step by step: behind each step or crash stands in which phase its process is and what it has read or written,
+-- and then what it tells; at the end what a report ends with.
+use Rattle.std.specs.Prelude.{◌≡◌, ℕ, ◌+◌, ◌-◌, ◌^◌, min, List, [], ◌∷◌, ◌++◌, map, codes, Option, Some, None, Result, Ok, Err, OnOk, get_or}
+use Rattle.rmecore.specs.declared.refusal.Refusal.{Refusal}
+use Rattle.rmecore.specs.Refused.{number_of}
+use Rattle.judge.specs.Table.{State}
+use Rattle.redomail.specs.declared.deed.Deed.{Deed}
+use Rattle.redomail.specs.declared.layout.Layout.{Layout}
+use Rattle.rmeworld.specs.declared.answer.Answer.{Answer}
+use Rattle.rmeworld.specs.declared.image.Image.{Image}
+use Rattle.rmeworld.specs.declared.stepped.Stepped.{Stepped}
+use Rattle.schedule.specs.declared.replays.replay_fault.ReplayFault.{ReplayFault}
+use Rattle.schedule.specs.declared.replays.replay_fault.ReplayFault.TheVariants.{Refused, Write, OutOfMemory}
+use Rattle.schedule.specs.declared.replays.verdict.Verdict.{Verdict}
+use Rattle.schedule.specs.Tapes.{Tape, Writes, Begins}
+use Rattle.schedule.specs.Reports.{IsEnd}
+use Rattle.schedule.specs.Runs.{Part, deeds_of}
+use Rattle.schedule.specs.Verdicts.{verdict_on}
+use Rattle.diagram.specs.declared.act.Act.{Act}
+use Rattle.diagram.specs.declared.act.Act.TheVariants as acts
+use Rattle.diagram.specs.declared.act.Row.{Row}
+use Rattle.diagram.specs.declared.drawing.End.{End}
+use Rattle.diagram.specs.declared.drawing.End.TheVariants.{Judged}
+use Rattle.diagram.specs.declared.drawing.End.TheVariants as ends
+use Rattle.diagram.specs.declared.phase.Phase.{Phase}
+use Rattle.diagram.specs.declared.phase.Phase.TheVariants.{Rest}
+use Rattle.diagram.specs.Drawings.{Spells}
+use Rattle.diagram.specs.Events.{Event, Took, Fell}
+use Rattle.diagram.specs.Phases.{phase_shown, with_phase}
+use Rattle.diagram.specs.Pictures.{around, class_of, told_by}
+use Rattle.diagram.specs.Signs.{sign}
+
+-- ---- one event
+
+abbrev pub act_of_step : Option Deed → Option Answer → Stepped → Act
+act_of_step None None step = acts.Quiet step.happened 1
+act_of_step deed answer step = acts.Telling step
+
+-- an event as a row of its own
+abbrev pub row_of : Event → Row
+row_of (Took p step) = record { p = p; act = act_of_step step.deed step.answer step }
+row_of (Fell p deed) = record { p = p; act = acts.Fell deed }
+
+-- what a row reads or writes. A crash does neither
+abbrev pub access_of : Layout → ℕ → Act → List ℕ
+access_of l p (acts.Fell deed) = []
+access_of l p act = 32 ∷ sign l p act
+
+-- where the process of a row stands
+unfoldable pub place_line : Layout → List Phase → Row → List ℕ
+place_line l phases row =
+    around (codes "at ") row.p (codes " ") ++ class_of (get_or phases row.p Rest) ++ access_of l row.p row.act ++ 10 ∷ []
+
+-- a row behind which the processes are in these phases
+unfoldable pub row_told : Layout → List Phase → Row → List ℕ
+row_told l phases row = place_line l phases row ++ told_by row.p row.act
+
+-- ---- a run
+
+abbrev pub phases_with : List Phase → Row → List Phase
+phases_with phases row = with_phase phases row.p (phase_shown row.act)
+
+-- the phases of the processes behind rows
+abbrev pub phases_behind : List Phase → List Row → List Phase
+phases_behind phases [] = phases
+phases_behind phases (row ∷ rows) = phases_behind (phases_with phases row) rows
+
+-- rows, one after the other
+abbrev pub rows_told : Layout → List Phase → List Row → List ℕ
+rows_told l phases [] = []
+rows_told l phases (row ∷ rows) = row_told l (phases_with phases row) row ++ rows_told l (phases_with phases row) rows
+
+-- the steps and crashes of a run
+abbrev pub followed : Layout → List Phase → List Event → List ℕ
+followed l phases events = rows_told l phases (map row_of events)
+
+-- rows are told, and their processes stand behind them; or a beginning, and why not the rest
+abbrev pub Tells : {A : Type 0} → Tape → Tape → Layout → List Phase → List Phase → List Row → Result A ReplayFault → Type 0
+Tells before now l phases behind rows result = Spells before now (rows_told l phases rows) result × OnOk result (behind ≡ phases_behind phases rows)
+
+-- ---- the whole
+
+-- what is written behind the steps of a run that has ended so, on a machine with this image
+abbrev pub Ending : Tape → Tape → Image → End → Result Verdict ReplayFault → Type 0
+Ending before now image (Judged verdict) (Ok said) = (said ≡ verdict) × ((end : List ℕ) × IsEnd image verdict end × Writes before now end)
+Ending before now image (Judged verdict) (Err Write) =
+    ((end : List ℕ) → IsEnd image verdict end → Begins before.taken now.taken end) × (now.failures ≡ min (before.failures + 1) (2 ^ 64 - 1))
+Ending before now image (Judged verdict) (Err OutOfMemory) =
+    ((end : List ℕ) → IsEnd image verdict end → Begins before.taken now.taken end) × (now.failures ≡ before.failures)
+Ending before now image (ends.Refused line number verdict) (Err (Refused at why)) = (at ≡ line) × (why ≡ number) × Writes before now []
+Ending before now image (ends.Refused line number verdict) (Err Write) =
+    (now.taken ≡ before.taken) × (now.failures ≡ min (before.failures + 1) (2 ^ 64 - 1))
+Ending before now image end result = ⊥
+
+-- all that is written of a run: its steps and the end of its report, or only its steps up to the line that is refused
+abbrev pub IsAllFollowed : {S : Type 0} → State → (S → Image) → Part S (ℕ × Refusal) → Option (ℕ × Refusal) → List ℕ → List ℕ → Type 0
+IsAllFollowed start image_of run None steps text =
+    (end : List ℕ) × IsEnd (image_of run.left) (verdict_on start (deeds_of run.told)) end × (text ≡ steps ++ end)
+IsAllFollowed start image_of run (Some refusal) steps text = text ≡ steps
+
+-- all was written, and the verdict is the one of the run
+pub record IsFollowed {S : Type 0} (before now : Tape) (start : State) (image_of : S → Image) (run : Part S (ℕ × Refusal)) (steps : List ℕ) (verdict : Verdict) : Type 0 where
+  pub accepted : run.refused ≡ None
+  pub verdict_is : verdict ≡ verdict_on start (deeds_of run.told)
+  pub text : List ℕ
+  pub all : IsAllFollowed start image_of run None steps text
+  pub writes : Writes before now text
+
+-- or why there is no verdict, as a replay says it; where a device or memory fails, a beginning was written
+abbrev pub Follows : {S : Type 0} → Tape → Tape → State → (S → Image) → Part S (ℕ × Refusal) → List ℕ → Result Verdict ReplayFault → Type 0
+Follows before now start image_of run steps (Ok verdict) = IsFollowed before now start image_of run steps verdict
+Follows before now start image_of run steps (Err (Refused line number)) =
+    Writes before now steps × ((refusal : Refusal) × (run.refused ≡ Some (line, refusal)) × (number_of refusal ≡ Some number))
+Follows before now start image_of run steps (Err Write) =
+    ((text : List ℕ) → IsAllFollowed start image_of run run.refused steps text → Begins before.taken now.taken text)
+    × (now.failures ≡ min (before.failures + 1) (2 ^ 64 - 1))
+Follows before now start image_of run steps (Err OutOfMemory) =
+    ((text : List ℕ) → IsAllFollowed start image_of run run.refused steps text → Begins before.taken now.taken text)
+    × (now.failures ≡ before.failures)
+Follows before now start image_of run steps (Err fault) = ⊥

@@ -1,0 +1,48 @@
+-- What a row is drawn with: the sizes of the whole, and what the rows before it have left.
+use Rattle.std.specs.Prelude.{ℕ, ◌==◌, Bool, List, Option, is_some, if◌then◌else◌, ◌&&◌}
+use Rattle.redomail.specs.declared.deed.Deed.{Deed}
+use Rattle.redomail.specs.declared.layout.Layout.{Layout}
+use Rattle.rmecore.specs.Simulated.{one_more}
+use Rattle.schedule.specs.declared.texts.head.Head.{Head}
+use Rattle.schedule.specs.declared.replays.verdict.Verdict.{Verdict}
+use Rattle.schedule.specs.declared.replays.verdict.Verdict.TheVariants.{Fine, Against}
+use Rattle.diagram.specs.declared.act.Row.{Row}
+use Rattle.diagram.specs.declared.drawing.End.{End}
+use Rattle.diagram.specs.declared.drawing.End.TheVariants.{Judged, Refused}
+use Rattle.diagram.specs.declared.phase.Phase.{Phase}
+use Rattle.diagram.specs.Phases.{phase_shown, with_phase}
+use Rattle.diagram.specs.Rows.{deed_of}
+
+abbrev pub layout_of : Head → Layout
+layout_of head = record { procs = head.procs; cap = head.cap; width = head.width }
+
+abbrev pub deed_against : Verdict → ℕ
+deed_against Fine = 0
+deed_against (Against at fault) = at
+
+-- the number of the deed that the verdict is against, 0 if there is none
+abbrev pub against : End → ℕ
+against (Judged verdict) = deed_against verdict
+against (Refused line number verdict) = deed_against verdict
+
+-- the phases of the processes, how many deeds there were, and how many rows, with the row that is drawn; both are held at
+-- the greatest u64
+pub record PenState : Type 0 where
+  pub phases : List Phase
+  pub deeds : ℕ
+  pub rows : ℕ
+
+abbrev pub deeds_with : Option Deed → ℕ → ℕ
+deeds_with deed n = if is_some deed then one_more n else n
+
+abbrev pub pen_with : PenState → Row → PenState
+pen_with pen row =
+    record {
+      phases = with_phase pen.phases row.p (phase_shown row.act);
+      deeds = deeds_with (deed_of row.act) pen.deeds;
+      rows = one_more pen.rows;
+    }
+
+-- the row is the deed of this number
+abbrev pub is_deed : ℕ → PenState → Row → Bool
+is_deed at pen row = is_some (deed_of row.act) && pen.deeds == at

@@ -1,0 +1,154 @@
+//! The lines of a schedule, played on a machine, as the rows of a drawing.
+
+ghost use Rattle.std.specs.Prelude.{◌≡◌, ◌≤◌, ◌<◌, ◌-◌, ◌^◌, ◌∷◌, ◌++◌, [], None, IfSome, IsTrue, IsFalse};
+ghost use Rattle.diagram.specs.declared.act.Act.TheVariants.{Quiet as ActQuiet};
+ghost use Rattle.diagram.specs.Events.{Took, Fell, steps_of, events_of, events_on};
+ghost use Rattle.diagram.specs.Rows.{events_in, quiet, Adds, Plays, PlaysOn, Notes};
+ghost use Rattle.schedule.specs.declared.lines.line.Line.TheVariants.{Crash as LineCrash};
+ghost use Rattle.schedule.specs.Runs.{steps, line_on, run_on};
+
+use crate::act::{Act, Row};
+use crate::blocked::is_blocked_again;
+use crate::stop::Stop;
+use schedule::Line;
+use rmecore::Happened;
+use rmeworld::{Machine, Stepped};
+
+/// How often the row was taken, if it is this blocked step and can be counted once more.
+fn times_of(row: &Row, p: u64, happened: &Happened) -> Option<u64>
+    ensures { IfSome result (λ n. (row.now ≡ record { p = p; act = ActQuiet happened.now n }) × (n < 2 ^ 64 - 1)) }
+{
+    let Act::Quiet(before, times) = row.act else {
+        return None;
+    };
+    if row.p == p && is_blocked_again(&before, happened) && times < u64::MAX {
+        return Some(times);
+    }
+    None
+}
+
+/// Counts the step once more where it is the last row, if it is.
+fn again(rows: &mut Vec<Row>, p: u64, happened: &Happened) -> bool
+    ensures counted { IsTrue result → events_in rows.new.items ≡ events_in rows.old.items ++ Took p (quiet happened.now) ∷ [] }
+    ensures other { IsFalse result → rows.new.items ≡ rows.old.items }
+{
+    let count = rows.len();
+    if count == 0 {
+        return false;
+    }
+    let Some(times) = times_of(&rows[count - 1], p, happened) else {
+        return false;
+    };
+    rows[count - 1] = Row {
+        p,
+        act: Act::Quiet(*happened, times + 1),
+    };
+    true
+}
+
+/// One more row.
+fn note_act(rows: &mut Vec<Row>, p: u64, act: Act) -> Result<(), Stop>
+    ensures { Adds rows.old.items rows.new.items (record { p = p; act = act }) result }
+{
+    // Rattle's borrow checker has to see what an act holds.
+    let act = match act {
+        Act::Quiet(happened, times) => Act::Quiet(happened, times),
+        Act::Telling(stepped) => Act::Telling(stepped),
+        Act::Fell(deed) => Act::Fell(deed),
+    };
+    rows.push(Row { p, act })?;
+    Ok(())
+}
+
+/// One more step that tells nothing.
+fn note_quiet(rows: &mut Vec<Row>, p: u64, happened: &Happened) -> Result<(), Stop>
+    ensures { Notes rows.old.items rows.new.items (Took p (quiet happened.now)) result }
+{
+    if again(rows, p, happened) {
+        return Ok(());
+    }
+    note_act(rows, p, Act::Quiet(*happened, 1))
+}
+
+/// One more step.
+fn note(rows: &mut Vec<Row>, p: u64, stepped: &Stepped) -> Result<(), Stop>
+    ensures { Notes rows.old.items rows.new.items (Took p stepped.now) result }
+{
+    match (stepped.deed, stepped.answer) {
+        (None, None) => note_quiet(rows, p, &stepped.happened),
+        _ => note_act(rows, p, Act::Telling(*stepped)),
+    }
+}
+
+/// At most n more steps of p, until its call is answered.
+fn more_steps<M: Machine>(machine: &mut M, rows: &mut Vec<Row>, p: u64, n: u64) -> Result<(), Stop>
+    ensures { let b = M.behaviour in Plays rows.old.items rows.new.items (steps_of b p n machine.old) None (steps b p n machine.old).1 machine.new result }
+{
+    for _ in 0..n {
+        let stepped = match machine.advance(p) {
+            Ok(stepped) => stepped,
+            Err(refusal) => match refusal.number() {
+                Some(_) => return Ok(()),
+                None => return Err(Stop::OutOfMemory),
+            },
+        };
+        note(rows, p, &stepped)?;
+        if stepped.answer.is_some() {
+            return Ok(());
+        }
+    }
+    Ok(())
+}
+
+/// One step of p, and then more until n are taken or its call is answered.
+fn take_steps<M: Machine>(machine: &mut M, rows: &mut Vec<Row>, p: u64, n: u64) -> Result<(), Stop>
+    requires { 1 ≤ n }
+    ensures { let b = M.behaviour in Plays rows.old.items rows.new.items (steps_of b p n machine.old) (M.behaviour.advance_refusal machine.old p) (steps b p n machine.old).1 machine.new result }
+{
+    let stepped = machine.advance(p)?;
+    note(rows, p, &stepped)?;
+    if stepped.answer.is_some() {
+        return Ok(());
+    }
+    more_steps(machine, rows, p, n - 1)
+}
+
+/// A crash of p.
+fn take_crash<M: Machine>(machine: &mut M, rows: &mut Vec<Row>, p: u64) -> Result<(), Stop>
+    ensures { let b = M.behaviour in Plays rows.old.items rows.new.items (events_of b machine.old (LineCrash p)) (M.behaviour.crash_refusal machine.old p) (M.behaviour.crashed machine.old p) machine.new result }
+{
+    let deed = machine.crash(p)?;
+    note_act(rows, p, Act::Fell(deed))
+}
+
+/// One line.
+fn take_line<M: Machine>(machine: &mut M, rows: &mut Vec<Row>, line: &Line) -> Result<(), Stop>
+    ensures { let b = M.behaviour in Plays rows.old.items rows.new.items (events_of b machine.old line.now) (line_on b machine.old line.now).refused (line_on b machine.old line.now).left machine.new result }
+{
+    match *line {
+        Line::Start(p, call) => {
+            machine.start(p, call)?;
+            Ok(())
+        }
+        Line::Step(p, count) => take_steps(machine, rows, p, count.get()),
+        Line::Crash(p) => take_crash(machine, rows, p),
+    }
+}
+
+/// The lines of a schedule, of which the first has number 2. Where they stop, at which line and why.
+pub fn take_lines<M: Machine>(
+    machine: &mut M,
+    rows: &mut Vec<Row>,
+    lines: &[Line],
+) -> Result<(), (u64, Stop)>
+    ensures { let b = M.behaviour in PlaysOn rows.old.items rows.new.items (events_on b machine.old lines.now) (run_on b 2 machine.old lines.now) machine.new result }
+{
+    let mut number = 2;
+    for line in lines {
+        if let Err(stop) = take_line(machine, rows, line) {
+            return Err((number, stop));
+        }
+        number += 1;
+    }
+    Ok(())
+}

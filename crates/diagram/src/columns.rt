@@ -1,0 +1,93 @@
+//! The drawing as text: a column for each process, a row for each step or crash.
+
+ghost use Rattle.std.specs.Prelude.{◌≡◌, ◌++◌, OnOk};
+ghost use Rattle.diagram.specs.Columns.{end_line, end_text, lead as lead_in, row_text, telling, top_text};
+
+use crate::act::Row;
+use crate::bars::{put_bars, put_columns, put_heads};
+use crate::drawing::End;
+use crate::paging::{put_around, put_text};
+use crate::phase::Phase;
+use schedule::lines::answer::{put_answer, put_deed};
+use redomail::{Deed, Layout};
+use rmeworld::Answer;
+use std::alloc::AllocError;
+use schedule::put_verdict;
+
+fn lead(marked: bool) -> &'static [u8]
+    ensures { result.now ≡ lead_in marked }
+{
+    if marked { b" >>> " } else { b" " }
+}
+
+/// Writes what a row tells, as lines of the report.
+fn put_telling(
+    out: &mut Vec<u8>,
+    phases: &[Phase],
+    marked: bool,
+    p: u64,
+    deed: &Option<Deed>,
+    answer: Option<Answer>,
+) -> Result<(), AllocError>
+    ensures { OnOk result (out.new.items ≡ out.old.items ++ telling phases.now marked p deed.now answer) }
+{
+    let Some(deed) = deed else {
+        let Some(answer) = answer else {
+            return put_text(out, b"\n");
+        };
+        put_text(out, b" ")?;
+        return put_answer(out, p, answer);
+    };
+    put_text(out, lead(marked))?;
+    put_deed(out, deed)?;
+    let Some(answer) = answer else {
+        return Ok(());
+    };
+    put_bars(out, phases)?;
+    put_text(out, b"| ")?;
+    put_answer(out, p, answer)
+}
+
+/// Writes a row, with what it tells at the right.
+pub fn put_row(
+    out: &mut Vec<u8>,
+    layout: &Layout,
+    phases: &[Phase],
+    marked: bool,
+    row: &Row,
+) -> Result<(), AllocError>
+    ensures { OnOk result (out.new.items ≡ out.old.items ++ row_text layout.now phases.now marked row.now) }
+{
+    put_columns(out, layout, row, phases)?;
+    put_text(out, b"|")?;
+    put_telling(out, phases, marked, row.p, &row.deed(), row.answer())
+}
+
+/// Writes the numbers of the processes over their columns.
+pub fn put_top(out: &mut Vec<u8>, phases: &[Phase]) -> Result<(), AllocError>
+    ensures { OnOk result (out.new.items ≡ out.old.items ++ top_text phases.now) }
+{
+    put_heads(out, phases)?;
+    put_text(out, b"|\n")
+}
+
+/// Writes the verdict, or the line that was refused.
+pub fn put_last(out: &mut Vec<u8>, end: &End) -> Result<(), AllocError>
+    ensures { OnOk result (out.new.items ≡ out.old.items ++ end_line end.now) }
+{
+    match *end {
+        End::Judged(verdict) => put_verdict(out, verdict),
+        End::Refused { line, number, .. } => {
+            put_around(out, b"line ", line, b" refused ")?;
+            put_around(out, b"", number, b"\n")
+        }
+    }
+}
+
+/// Writes how the run ends, and what the bars mean.
+pub fn put_end(out: &mut Vec<u8>, end: &End) -> Result<(), AllocError>
+    ensures { OnOk result (out.new.items ≡ out.old.items ++ end_text end.now) }
+{
+    put_last(out, end)?;
+    put_text(out, b". rest  : doorway  | waiting  # section  x crash\n")
+}

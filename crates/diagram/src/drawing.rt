@@ -1,0 +1,91 @@
+//! The drawing of a schedule's run.
+
+ghost use Rattle.std.specs.Prelude.{◌≡◌, IfOk};
+ghost use Rattle.judge.specs.Stands.{Keeps};
+ghost use Rattle.judge.specs.Table.{State};
+ghost use Rattle.schedule.specs.Runs.{run_on};
+ghost use Rattle.schedule.specs.Schedules.{head_of};
+ghost use Rattle.diagram.specs.Events.{events_on, told_in};
+ghost use Rattle.diagram.specs.Rows.{events_in, EndsAs, IsEndOf, IsJudged};
+
+use crate::act::Row;
+use crate::collecting::take_lines;
+use crate::court::verdict_on;
+use crate::phase::Phase;
+use crate::stop::Stop;
+use judge::Judge;
+use rmeworld::Machine;
+use schedule::texts::head::Head;
+use schedule::{OutOfMemory, Schedule};
+use std::alloc::Global;
+use schedule::Verdict;
+
+/// How a run ends that is drawn.
+#[derive(Clone, Copy, Debug, PartialEq, Eq)]
+pub enum End {
+    /// All lines were played; what the judge says of the deeds.
+    Judged(Verdict),
+    /// The machine refused this line with this number; what the judge says of the deeds before it.
+    Refused {
+        line: u64,
+        number: u64,
+        verdict: Verdict,
+    },
+}
+
+/// A schedule's run in rows.
+#[derive(Debug, Drop)]
+pub struct Drawing {
+    /// The sizes.
+    pub head: Head,
+    /// The phase in which each process begins.
+    pub first: Phase,
+    pub rows: Vec<Row>,
+    pub end: End,
+}
+
+/// How a run ends whose lines were played so, with this verdict.
+fn end_of(played: Result<(), (u64, Stop)>, verdict: Verdict) -> Result<End, OutOfMemory>
+    ensures { IfOk result (λ end. IsEndOf played verdict end) }
+{
+    match played {
+        Ok(()) => Ok(End::Judged(verdict)),
+        Err((line, Stop::Refused(number))) => Ok(End::Refused {
+            line,
+            number,
+            verdict,
+        }),
+        Err((_, Stop::OutOfMemory)) => Err(OutOfMemory),
+    }
+}
+
+/// Plays the lines of a schedule on a machine, before a judge, and keeps what is to be drawn: the rows take memory, a
+/// repetition takes none. `first` is the phase of the machine's processes: at rest in a new world, dead in that of an image.
+pub fn draw<M: Machine>(
+    alloc: Global,
+    machine: &mut M,
+    judge: &mut Judge,
+    schedule: &Schedule,
+    first: Phase,
+) -> Result<Drawing, OutOfMemory>
+    // The rows show just the run of the schedule on the machine: its steps and crashes.
+    ensures events { IfOk result (λ drawing. events_in drawing.rows.items ≡ events_on M.behaviour machine.old schedule.now.lines) }
+    // They tell just what a replay reports.
+    ensures told { IfOk result (λ drawing. told_in (events_in drawing.rows.items) ≡ (run_on M.behaviour 2 machine.old schedule.now.lines).told) }
+    // And end as it ends.
+    ensures end { (start : State) → Keeps judge.old start → IfOk result (λ drawing. EndsAs start (run_on M.behaviour 2 machine.old schedule.now.lines) drawing.end) }
+    // The machine is left as the run leaves it.
+    ensures left { IfOk result (λ drawing. IsJudged drawing.end → machine.new ≡ (run_on M.behaviour 2 machine.old schedule.now.lines).left) }
+    ensures sizes { IfOk result (λ drawing. (drawing.head ≡ head_of schedule.now) × (drawing.first ≡ first)) }
+{
+    let mut rows = Vec::new(alloc);
+    let played = take_lines(machine, &mut rows, schedule.lines());
+    let verdict = verdict_on(judge, &rows);
+    let end = end_of(played, verdict)?;
+    Ok(Drawing {
+        head: schedule.head(),
+        first,
+        rows,
+        end,
+    })
+}

@@ -1,0 +1,224 @@
+//! A run told step by step.
+
+ghost use Rattle.std.specs.Prelude.{◌≡◌, ◌++◌, OnOk, get_or, map};
+ghost use Rattle.std.proofs.Math.ListN.{replicate};
+ghost use Rattle.judge.specs.Stands.{Keeps};
+ghost use Rattle.judge.specs.Table.{State};
+ghost use Rattle.schedule.specs.Runs.{run_on};
+ghost use Rattle.schedule.specs.Schedules.{head_of};
+ghost use Rattle.diagram.specs.Drawings.{Spells};
+ghost use Rattle.diagram.specs.Events.{Took, events_on};
+ghost use Rattle.diagram.specs.Followed.{access_of, Ending, followed, Follows, place_line, row_of as row_for, row_told, Tells};
+ghost use Rattle.diagram.specs.Rows.{events_in, events_shown};
+ghost use Rattle.diagram.specs.Sheets.{layout_of as layout_in};
+
+use crate::act::{Act, Row};
+use crate::drawing::{Drawing, End, draw};
+use crate::lifelines::class_of;
+use crate::paging::{put_around, put_text};
+use crate::pen::Pen;
+use crate::phase::Phase;
+use crate::picture::put_told;
+use crate::sheet::layout_of;
+use crate::signs::put_sign;
+use judge::Judge;
+use redomail::Layout;
+use rmeworld::{Machine, Stepped};
+use schedule::texts::device::write_all;
+use schedule::{Schedule, Sink};
+use std::alloc::{AllocError, Global};
+use schedule::replays::replaying::close;
+use schedule::{ReplayFault, Verdict};
+
+/// A step as a row of its own.
+fn row_of(p: u64, step: &Stepped) -> Row
+    ensures { result ≡ row_for (Took p step.now) }
+{
+    match (step.deed, step.answer) {
+        (None, None) => Row {
+            p,
+            act: Act::Quiet(step.happened, 1),
+        },
+        _ => Row {
+            p,
+            act: Act::Telling(*step),
+        },
+    }
+}
+
+/// The phase of a process.
+fn phase_of(phases: &[Phase], p: u64) -> Phase
+    ensures { result ≡ get_or phases.now p Phase.Rest }
+{
+    phases.get(p as usize).copied().unwrap_or(Phase::Rest)
+}
+
+/// Writes what a row reads or writes.
+fn put_access(out: &mut Vec<u8>, layout: &Layout, row: &Row) -> Result<(), AllocError>
+    ensures { OnOk result (out.new.items ≡ out.old.items ++ access_of layout.now row.now.p row.now.act) }
+{
+    match row.act {
+        Act::Fell(_) => Ok(()),
+        Act::Quiet(..) | Act::Telling(_) => {
+            put_text(out, b" ")?;
+            put_sign(out, layout, row)
+        }
+    }
+}
+
+/// Writes where the process of a row stands.
+#[tactic(auto, unfolding(crate::specs::Followed::place_line))]
+fn put_place(
+    out: &mut Vec<u8>,
+    layout: &Layout,
+    phases: &[Phase],
+    row: &Row,
+) -> Result<(), AllocError>
+    ensures { OnOk result (out.new.items ≡ out.old.items ++ place_line layout.now phases.now row.now) }
+{
+    put_around(out, b"at ", row.p, b" ")?;
+    put_text(out, class_of(phase_of(phases, row.p)))?;
+    put_access(out, layout, row)?;
+    put_text(out, b"\n")
+}
+
+/// Writes a row, and what it tells.
+#[tactic(auto, unfolding(crate::specs::Followed::row_told))]
+fn put_row(
+    out: &mut Vec<u8>,
+    layout: &Layout,
+    phases: &[Phase],
+    row: &Row,
+) -> Result<(), AllocError>
+    ensures { OnOk result (out.new.items ≡ out.old.items ++ row_told layout.now phases.now row.now) }
+{
+    put_place(out, layout, phases, row)?;
+    put_told(out, row)
+}
+
+/// Writes a row, where the pen has taken it.
+fn write_row<W: Sink>(
+    page: &mut Vec<u8>,
+    layout: &Layout,
+    pen: &Pen,
+    row: &Row,
+    w: &mut W,
+) -> Result<(), ReplayFault>
+    ensures { Spells (W.tape w.old) (W.tape w.new) (row_told layout.now pen.now.phases row.now) result }
+{
+    page.clear();
+    put_row(page, layout, pen.phases(), row)?;
+    write_all(w, page)?;
+    Ok(())
+}
+
+/// Writes a row as often as it was taken.
+fn write_times<W: Sink>(
+    page: &mut Vec<u8>,
+    layout: &Layout,
+    pen: &mut Pen,
+    row: &Row,
+    times: u64,
+    w: &mut W,
+) -> Result<(), ReplayFault>
+    ensures { Tells (W.tape w.old) (W.tape w.new) layout.now pen.old.phases pen.new.phases (replicate times row.now) result }
+{
+    for _ in 0..times {
+        pen.take(row);
+        write_row(page, layout, pen, row, w)?;
+    }
+    Ok(())
+}
+
+/// Writes what a row shows.
+fn write_shown<W: Sink>(
+    page: &mut Vec<u8>,
+    layout: &Layout,
+    pen: &mut Pen,
+    row: &Row,
+    w: &mut W,
+) -> Result<(), ReplayFault>
+    ensures { Tells (W.tape w.old) (W.tape w.new) layout.now pen.old.phases pen.new.phases (map row_for (events_shown row.now.p row.now.act)) result }
+{
+    let p = row.p;
+    match &row.act {
+        Act::Quiet(happened, times) => {
+            let act = Act::Quiet(*happened, 1);
+            write_times(page, layout, pen, &Row { p, act }, *times, w)
+        }
+        Act::Telling(stepped) => write_times(page, layout, pen, &row_of(p, stepped), 1, w),
+        Act::Fell(_) => write_times(page, layout, pen, row, 1, w),
+    }
+}
+
+/// Writes what rows show.
+fn write_rows<W: Sink>(
+    page: &mut Vec<u8>,
+    layout: &Layout,
+    pen: &mut Pen,
+    rows: &[Row],
+    w: &mut W,
+) -> Result<(), ReplayFault>
+    ensures { Spells (W.tape w.old) (W.tape w.new) (followed layout.now pen.old.phases (events_in rows.now)) result }
+{
+    for row in rows {
+        write_shown(page, layout, pen, row, w)?;
+    }
+    Ok(())
+}
+
+/// Writes the steps and crashes of a run, from a drawing of it.
+fn write_steps<W: Sink>(alloc: Global, drawing: &Drawing, w: &mut W) -> Result<(), ReplayFault>
+    ensures { Spells (W.tape w.old) (W.tape w.new) (followed (layout_in drawing.now.head) (replicate drawing.now.head.procs drawing.now.first) (events_in drawing.now.rows.items)) result }
+{
+    let mut page = Vec::new(alloc);
+    let mut pen = Pen::new(alloc, drawing.head.procs, drawing.first)?;
+    let layout = layout_of(drawing.head);
+    write_rows(&mut page, &layout, &mut pen, drawing.rows.as_slice(), w)
+}
+
+/// Writes the end of the report of a machine, behind the steps that led there; of a run that was refused there is none.
+fn write_end<M: Machine, W: Sink>(
+    alloc: Global,
+    machine: &M,
+    end: &End,
+    w: &mut W,
+) -> Result<Verdict, ReplayFault>
+    ensures { Ending (W.tape w.old) (W.tape w.new) (M.behaviour.image_of machine.now) end.now result }
+{
+    match *end {
+        End::Judged(verdict) => {
+            let Ok(image) = machine.image() else {
+                return Err(ReplayFault::OutOfMemory);
+            };
+            close(alloc, &image, verdict, w)?;
+            Ok(verdict)
+        }
+        End::Refused { line, number, .. } => {
+            w.flush()?;
+            Err(ReplayFault::Refused { line, number })
+        }
+    }
+}
+
+/// Plays the lines of a schedule on a machine, before a judge, as `draw` does, and writes its run step by step.
+pub fn follow<M: Machine, W: Sink>(
+    alloc: Global,
+    machine: &mut M,
+    judge: &mut Judge,
+    schedule: &Schedule,
+    first: Phase,
+    w: &mut W,
+) -> Result<Verdict, ReplayFault>
+    // Just this run is told, and its verdict answered; or why not.
+    ensures follows { (start : State) → Keeps judge.old start → Follows (W.tape w.old) (W.tape w.new) start M.behaviour.image_of (run_on M.behaviour 2 machine.old schedule.now.lines)
+        (followed (layout_in (head_of schedule.now)) (replicate schedule.now.procs first) (events_on M.behaviour machine.old schedule.now.lines)) result }
+    // After a verdict the machine is left as the run leaves it.
+    ensures left { OnOk result (machine.new ≡ (run_on M.behaviour 2 machine.old schedule.now.lines).left) }
+{
+    let Ok(drawing) = draw(alloc, machine, judge, schedule, first) else {
+        return Err(ReplayFault::OutOfMemory);
+    };
+    write_steps(alloc, &drawing, w)?;
+    write_end(alloc, machine, &drawing.end, w)
+}

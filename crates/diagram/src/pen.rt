@@ -1,0 +1,76 @@
+//! What the rows before have left.
+
+ghost use Rattle.std.specs.Prelude.{◌≡◌, ◌≤◌, IfOk};
+ghost use Rattle.std.proofs.Math.ListN.{replicate};
+ghost use Rattle.diagram.specs.Sheets.{is_deed as is_deed_in, pen_with};
+
+use crate::act::Row;
+use crate::phase::{Phase, phase_shown};
+use std::alloc::{AllocError, Global};
+use std::marker::Model;
+
+/// The phases of the processes, how many deeds there were, and how many rows.
+#[derive(Drop)]
+pub struct Pen {
+    phases: Vec<Phase>,
+    deeds: u64,
+    rows: u64,
+}
+
+impl Model for Pen {
+    ghost use Rattle.diagram.specs.Sheets.{PenState};
+
+    ghost Value = { PenState };
+
+    ghost view = { λ p. record { phases = p.phases.items; deeds = p.deeds; rows = p.rows } };
+}
+
+impl Pen {
+    /// Before the first row, with so many processes in the same phase.
+    pub fn new(alloc: Global, procs: u64, first: Phase) -> Result<Pen, AllocError>
+        ensures { IfOk result (λ pen. pen ≡ record { phases = replicate procs first; deeds = 0; rows = 0 }) }
+    {
+        let phases = vec![in alloc; first; procs as usize]?;
+        Ok(Pen {
+            phases,
+            deeds: 0,
+            rows: 0,
+        })
+    }
+
+    /// The phases.
+    pub fn phases(&self) -> &[Phase]
+        ensures { result.now ≡ self.now.phases }
+    {
+        self.phases.as_slice()
+    }
+
+    /// How many rows it has taken.
+    pub fn rows(&self) -> u64
+        ensures { result ≡ self.now.rows }
+    {
+        self.rows
+    }
+
+    /// Whether the row, the last that it has taken, is the deed of this number.
+    pub fn is_deed(&self, at: u64, row: &Row) -> bool
+        ensures { result ≡ is_deed_in at self.now row.now }
+    {
+        row.deed().is_some() && self.deeds == at
+    }
+
+    /// Takes a row.
+    pub fn take(&mut self, row: &Row)
+        ensures { self.new ≡ pen_with self.old row.now }
+    {
+        if let Some(phase) = phase_shown(row) {
+            if let Some(place) = self.phases.get_mut(row.p as usize) {
+                *place = phase;
+            }
+        }
+        if row.deed().is_some() {
+            self.deeds = self.deeds.saturating_add(1);
+        }
+        self.rows = self.rows.saturating_add(1);
+    }
+}

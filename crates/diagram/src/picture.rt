@@ -1,0 +1,201 @@
+//! The rows of the picture.
+
+ghost use Rattle.std.specs.Prelude.{◌≡◌, ◌≤◌, ◌++◌, OnOk};
+ghost use Rattle.diagram.specs.Pictures.{flag, join, joint, left_of, margin, mark, remarks, remarks_at, right_of, row_picture, row_title, step_mark, told_by};
+
+use crate::act::{Act, Row};
+use crate::lifelines::{far_from, put_group, put_group_end, put_lifeline_if, x_of};
+use crate::paging::{put_around, put_text};
+use crate::phase::phase_shown;
+use crate::signs::put_sign;
+use schedule::lines::answer::{put_answer, put_deed};
+use redomail::{Deed, Layout};
+use rmeworld::Answer;
+use std::alloc::AllocError;
+
+/// Writes what a row tells.
+pub fn put_told(out: &mut Vec<u8>, row: &Row) -> Result<(), AllocError>
+    ensures { OnOk result (out.new.items ≡ out.old.items ++ told_by row.now.p row.now.act) }
+{
+    if let Some(deed) = row.deed() {
+        put_deed(out, &deed)?;
+    }
+    if let Some(answer) = row.answer() {
+        put_answer(out, row.p, answer)?;
+    }
+    Ok(())
+}
+
+/// Writes what a row says where a reader points at it.
+#[tactic(auto, unfolding(crate::specs::Pictures::row_title))]
+fn put_title(out: &mut Vec<u8>, layout: &Layout, row: &Row) -> Result<(), AllocError>
+    ensures { OnOk result (out.new.items ≡ out.old.items ++ row_title layout.now row.now) }
+{
+    put_around(out, b"<title>process ", row.p, b" ")?;
+    put_sign(out, layout, row)?;
+    put_text(out, b"\n")?;
+    put_told(out, row)?;
+    put_text(out, b"</title>")
+}
+
+/// Writes the dot of a step, with its access.
+#[tactic(auto, unfolding(crate::specs::Pictures::step_mark))]
+fn put_step(out: &mut Vec<u8>, layout: &Layout, row: &Row) -> Result<(), AllocError>
+    ensures { OnOk result (out.new.items ≡ out.old.items ++ step_mark layout.now row.now.p row.now.act) }
+{
+    put_around(
+        out,
+        b"<circle r='3'/><text x='10' y='4'><tspan class='p'>",
+        row.p,
+        b"</tspan> ",
+    )?;
+    put_sign(out, layout, row)?;
+    put_text(out, b"</text>")
+}
+
+/// Writes the dot of a step, or the cross of a crash.
+fn put_mark(out: &mut Vec<u8>, layout: &Layout, row: &Row) -> Result<(), AllocError>
+    ensures { OnOk result (out.new.items ≡ out.old.items ++ mark layout.now row.now.p row.now.act) }
+{
+    match row.act {
+        Act::Fell(_) => { put_text(out, b"<path class='crash' d='M-6 -6l12 12m0 -12l-12 12'/>") }
+        Act::Quiet(..) | Act::Telling(_) => put_step(out, layout, row),
+    }
+}
+
+/// Writes the line from a deed to the mailbox.
+#[tactic(auto, unfolding(crate::specs::Pictures::joint))]
+fn put_line(out: &mut Vec<u8>, far: u64) -> Result<(), AllocError>
+    ensures { OnOk result (out.new.items ≡ out.old.items ++ joint far) }
+{
+    put_around(
+        out,
+        b"<path class='join' d='M0 7H",
+        far,
+        b"'/><circle r='4' cy='7' cx='",
+    )?;
+    put_around(out, b"", far, b"'/>")
+}
+
+/// Joins a deed of the mailbox to its lifeline.
+fn put_join(out: &mut Vec<u8>, deed: &Option<Deed>, far: u64) -> Result<(), AllocError>
+    ensures { OnOk result (out.new.items ≡ out.old.items ++ join deed.now far) }
+{
+    match deed {
+        None | Some(Deed::Outer(_)) => Ok(()),
+        Some(Deed::Commit { .. }) | Some(Deed::Show { .. }) => put_line(out, far),
+        Some(Deed::Close { .. }) | Some(Deed::Ruin { .. }) => put_line(out, far),
+    }
+}
+
+/// Writes what a step tells, in one line.
+fn put_remarks(
+    out: &mut Vec<u8>,
+    p: u64,
+    deed: &Option<Deed>,
+    answer: Option<Answer>,
+) -> Result<(), AllocError>
+    ensures { OnOk result (out.new.items ≡ out.old.items ++ remarks p deed.now answer) }
+{
+    let Some(deed) = deed else {
+        let Some(answer) = answer else {
+            return Ok(());
+        };
+        return put_answer(out, p, answer);
+    };
+    put_deed(out, deed)?;
+    let Some(answer) = answer else {
+        return Ok(());
+    };
+    put_text(out, b" / ")?;
+    put_answer(out, p, answer)
+}
+
+/// Writes it at the right.
+#[tactic(auto, unfolding(crate::specs::Pictures::remarks_at))]
+fn put_remarks_at(
+    out: &mut Vec<u8>,
+    far: u64,
+    p: u64,
+    deed: &Option<Deed>,
+    answer: Option<Answer>,
+) -> Result<(), AllocError>
+    requires { far ≤ 12348 }
+    ensures { OnOk result (out.new.items ≡ out.old.items ++ remarks_at far p deed.now answer) }
+{
+    put_around(out, b"<text y='4' x='", far + 16, b"'>")?;
+    put_remarks(out, p, deed, answer)?;
+    put_text(out, b"</text>")
+}
+
+/// Writes what a row tells, if it tells anything.
+fn put_margin(
+    out: &mut Vec<u8>,
+    far: u64,
+    p: u64,
+    deed: &Option<Deed>,
+    answer: Option<Answer>,
+) -> Result<(), AllocError>
+    requires { far ≤ 12348 }
+    ensures { OnOk result (out.new.items ≡ out.old.items ++ margin far p deed.now answer) }
+{
+    if deed.is_none() && answer.is_none() {
+        return Ok(());
+    }
+    put_remarks_at(out, far, p, deed, answer)
+}
+
+/// Writes a frame round the deed that the verdict is against.
+fn put_flag(out: &mut Vec<u8>, marked: bool, far: u64) -> Result<(), AllocError>
+    requires { far ≤ 12348 }
+    ensures { OnOk result (out.new.items ≡ out.old.items ++ flag marked far) }
+{
+    if !marked {
+        return Ok(());
+    }
+    put_around(
+        out,
+        b"<circle class='against' r='8'/><rect class='against' y='-9' height='17' width='270' x='",
+        far + 10,
+        b"'><title>the verdict is against this deed</title></rect>",
+    )
+}
+
+/// Writes what stands at the right of a row.
+#[tactic(auto, unfolding(crate::specs::Pictures::right_of))]
+fn put_right(out: &mut Vec<u8>, row: &Row, far: u64, marked: bool) -> Result<(), AllocError>
+    requires { far ≤ 12348 }
+    ensures { OnOk result (out.new.items ≡ out.old.items ++ right_of row.now far marked) }
+{
+    put_join(out, &row.deed(), far)?;
+    put_margin(out, far, row.p, &row.deed(), row.answer())?;
+    put_flag(out, marked, far)
+}
+
+/// Writes what stands at the lifeline of a row's process.
+#[tactic(auto, unfolding(crate::specs::Pictures::left_of))]
+fn put_left(out: &mut Vec<u8>, layout: &Layout, row: &Row, below: u64) -> Result<(), AllocError>
+    ensures { OnOk result (out.new.items ≡ out.old.items ++ left_of layout.now row.now below) }
+{
+    put_title(out, layout, row)?;
+    put_lifeline_if(out, phase_shown(row), below)?;
+    put_mark(out, layout, row)
+}
+
+/// Writes a row at this place, with so much room below it.
+pub fn put_row(
+    out: &mut Vec<u8>,
+    layout: &Layout,
+    y: u64,
+    below: u64,
+    marked: bool,
+    row: &Row,
+) -> Result<(), AllocError>
+    ensures { OnOk result (out.new.items ≡ out.old.items ++ row_picture layout.now y below marked row.now) }
+{
+    let far = far_from(layout.procs, row.p);
+    put_group(out, x_of(row.p), y)?;
+    put_left(out, layout, row, below)?;
+    put_right(out, row, far, marked)?;
+    put_group_end(out)
+}

@@ -1,0 +1,37 @@
+//! Why the lines of a schedule are not played to their end.
+
+ghost use Rattle.std.specs.Prelude.{◌≡◌};
+ghost use Rattle.diagram.specs.declared.stop.Stop.TheVariants.{OutOfMemory as StopOutOfMemory};
+ghost use Rattle.rmecore.specs.Refused.{number_of};
+ghost use Rattle.diagram.specs.Rows.{stopped};
+
+use rmecore::Refusal;
+use std::alloc::AllocFailed;
+
+/// Why the lines of a schedule are not played to their end.
+#[derive(Clone, Copy, Debug, PartialEq, Eq)]
+pub enum Stop {
+    /// The machine refuses; the number is that of the refusal.
+    Refused(u64),
+    /// There was no memory.
+    OutOfMemory,
+}
+
+impl From<Refusal> for Stop {
+    ghost from_gives = { λ refusal e. e ≡ stopped (number_of refusal) };
+
+    fn from(refusal: Refusal) -> Stop {
+        match refusal.number() {
+            Some(number) => Stop::Refused(number),
+            None => Stop::OutOfMemory,
+        }
+    }
+}
+
+impl<T: Drop> From<AllocFailed<T>> for Stop {
+    ghost from_gives = { λ _ e. e ≡ StopOutOfMemory };
+
+    fn from(_e: AllocFailed<T>) -> Stop {
+        Stop::OutOfMemory
+    }
+}

@@ -1,7 +1,0 @@
-use Rattle.std.proofs.Common.{◌≡◌, ◌++◌, drop}
-use Rattle.drawing.proofs.Common.{columns}
-use Rattle.drawing.proofs.bars.put_columns.Given as goal
-
-abbrev pub invariant-loop-phase : goal.invariant-loop-phase
-invariant-loop-phase l =
-    (l.out.items ++ columns l.layout l.row l.q (drop l.phase-index l.phases) ≡ l.fn.out.items ++ columns l.layout l.row 0 l.phases) × (l.q ≡ l.phase-index)

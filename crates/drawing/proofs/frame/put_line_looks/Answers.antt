@@ -1,8 +1,0 @@
-use Rattle.drawing.proofs.Common.{line_looks}
-use Rattle.drawing.proofs.Joined.{joined}
-use Rattle.drawing.proofs.frame.put_line_looks.Goals as goal
-
-pub returns : goal.returns
-unfolding line_looks
-returns c =
-    joined c.put_text-2.result _ _ _ _ _ c.in_ok-put_text.ensures c.put_text-2.ensures

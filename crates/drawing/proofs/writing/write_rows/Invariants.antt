@@ -1,8 +1,0 @@
-use Rattle.std.proofs.Common.{◌≡◌, drop}
-use Rattle.drawing.proofs.Common.{WritesFront, rows_spelled}
-use Rattle.drawing.proofs.writing.write_rows.Given as goal
-
-abbrev pub invariant-loop-row : goal.invariant-loop-row
-invariant-loop-row g l =
-    WritesFront (g.W.Sink.tape l.fn.w).taken (g.W.Sink.tape l.w).taken (rows_spelled l.sheet l.fn.pen l.rows) (rows_spelled l.sheet l.pen (drop l.row-index l.rows))
-    × ((g.W.Sink.tape l.w).failures ≡ (g.W.Sink.tape l.fn.w).failures)

@@ -1,0 +1,41 @@
+-- What holds of each member's own entries holds of its process's entries in the one run that gathering finds.
+use Rattle.std.proofs.Common.{◌≡◌, ℕ, ◌==◌, true, List, [], ◌∷◌, ◌++◌, All, sym, subst, inl, inr, eqb-true}
+use Rattle.execution.proofs.Common.{cases_eq, cases_Bool, All-nil, All-cons, All-head, All-tail, All-weaker, TakenStep, has_member, IsGlance, IsWhole, IsTold, own_of, Seated, own}
+use Rattle.execution.specs.Rule.{Begins}
+
+pub all_both : {X : Type 0} (P Q : X → Type 0) (xs : List X) → All P xs → All Q xs → All (λ (x : X). P x × Q x) xs
+all_both P Q [] h g = All-nil _
+all_both P Q (x ∷ xs) h g = All-cons (λ x. P x × Q x) x xs (All-head P x xs h, All-head Q x xs g) (all_both P Q xs (All-tail P x xs h) (All-tail Q x xs g))
+
+-- a member of each process
+pub member_at : (P : Seated → Type 0) (p : ℕ) (xs : List Seated) → has_member p xs ≡ true → All P xs → (x : Seated) × (x.pass.by ≡ p) × P x
+member_at P p [] h all = absurd (cc)
+member_at P p (x ∷ xs) h all =
+    elim (cases_Bool (x.pass.by == p)) [ inl is ↦ (x, eqb-true x.pass.by p is, All-head P x xs all) | inr is ↦ member_at P p xs (rw is at h) (All-tail P x xs all) ]
+
+module _ (Q : ℕ → List TakenStep → Type 0) (more : (p : ℕ) (es glances : List TakenStep) → All IsGlance glances → Q p es → Q p (es ++ glances)) (first : Seated) (others : List Seated) (count : ℕ) (run : List TakenStep) (told : IsTold first others count run) where
+  abbrev pub Keeps : Seated → Type 0
+  Keeps x = Q x.pass.by (own_of x.pass)
+
+  abbrev pub Holds : Seated → Type 0
+  Holds x = Q x.pass.by (own x.pass.by run) × Begins x.pass.seen run
+
+  first_holds : Keeps first → Holds first
+  first_holds h = (subst (Q first.pass.by) (sym told.own_is) (more first.pass.by (own_of first.pass) told.glances told.are_glances h), told.begins)
+
+  other_holds : Holds first → (x : Seated) → IsWhole first run x × Keeps x → Holds x
+  other_holds of_first x h =
+      elim (cases_eq x.pass.by first.pass.by) [
+        | inl same ↦ (subst (λ (p : ℕ). Q p (own p run)) (sym same) of_first.0, h.0.begins)
+        | inr other ↦ (subst (Q x.pass.by) (sym (h.0.own_is other)) h.1, h.0.begins)
+      ]
+
+  pub all_hold : All Keeps (first ∷ others) → All Holds (first ∷ others)
+  all_hold h =
+      let one = first_holds (All-head Keeps first others h) in
+      All-cons Holds first others one (All-weaker (λ (x : Seated). IsWhole first run x × Keeps x) Holds (other_holds one) others (all_both (IsWhole first run) Keeps others told.whole (All-tail Keeps first others h)))
+
+  pub each_holds : All Keeps (first ∷ others) → (p : ℕ) → has_member p (first ∷ others) ≡ true → Q p (own p run)
+  each_holds h p there =
+      let m = member_at Holds p (first ∷ others) there (all_hold h) in
+      subst (λ (q : ℕ). Q q (own q run)) m.1 m.2.0

@@ -1,0 +1,88 @@
+-- How a member's call fails.
+use Rattle.std.specs.Prelude.{◌≡◌, ℕ, ◌+◌, ◌≤◌, ◌⊎◌, List, [], ◌∷◌, length, Option, Some, None, if◌then◌else◌}
+use Rattle.rmecore.specs.declared.refusal.Refusal.{Refusal}
+use Rattle.rmecore.specs.declared.refusal.Refusal.TheVariants.{AlreadyIn as IsIn, BadIndex as NoSuchWord}
+use Rattle.rmeworld.specs.declared.call.Call.{Call}
+use Rattle.rmeworld.specs.declared.call.Call.TheVariants.{Consistent, Lock}
+use Rattle.rmeworld.specs.declared.answer.Answer.{Answer}
+use Rattle.rmeworld.specs.declared.answer.Answer.TheVariants.{Clean, OwnerDied, NumbersSpent as SpentAnswer, NotRecoverable as RuinedAnswer}
+use Rattle.rmeworld.specs.Refused.{start_refusal, is_idle}
+use Rattle.execution.specs.declared.entry.TakenStep.{TakenStep}
+use Rattle.execution.specs.declared.lock_fault.LockFault.{LockFault}
+use Rattle.execution.specs.declared.lock_fault.LockFault.TheVariants.{Crashed, NotYet, NumbersSpent, NotRecoverable, AlreadyIn, NotOwner, NotInconsistent, BadIndex}
+use Rattle.execution.specs.declared.entry_kind.Entry.{Entry as Entering}
+use Rattle.execution.specs.declared.entry_kind.Entry.TheVariants as entering
+use Rattle.execution.specs.Pass.{spot_now}
+use Rattle.execution.specs.Running.{Seated, began, fell}
+use Rattle.execution.specs.Calls.{ServedAll, Served, CrashesIn, Crashes, Fell, Calm}
+
+-- the fault that a refused start is
+abbrev pub fault_for : Call → Refusal → LockFault
+fault_for Consistent refusal = NotInconsistent
+fault_for call IsIn = AlreadyIn
+fault_for call NoSuchWord = BadIndex
+fault_for call refusal = NotOwner
+
+-- why the member can't start the call now
+abbrev pub refusal_now : Seated → Call → Option Refusal
+refusal_now x call = start_refusal x.pass.setup.layout (spot_now x.pass) call
+
+-- refused: no step was taken, no plan asked, and nothing has changed
+abbrev pub Refused : Seated → Call → Seated → (asked asked_now fallen fallen_now : ℕ) → LockFault → Type 0
+Refused x call y asked asked_now fallen fallen_now e = ((refusal : Refusal) × (refusal_now x call ≡ Some refusal) × (e ≡ fault_for call refusal)) × (y ≡ x) × (asked_now ≡ asked) × (fallen_now ≡ fallen)
+
+-- cut off by a crash, at the asking that fell
+abbrev pub Cut : Seated → Call → Seated → (asked asked_now fallen fallen_now : ℕ) → LockFault → Type 0
+Cut x call y asked asked_now fallen fallen_now e = (e ≡ Crashed) × (refusal_now x call ≡ None) × ((mine : List TakenStep) × Crashes (began x call) call y mine × Fell (length mine + 1) asked asked_now fallen fallen_now)
+
+abbrev pub Fails : Seated → Call → Seated → (asked asked_now fallen fallen_now : ℕ) → LockFault → Type 0
+Fails x call y asked asked_now fallen fallen_now e = Refused x call y asked asked_now fallen fallen_now e ⊎ Cut x call y asked asked_now fallen fallen_now e
+
+-- a call that sets out from anywhere outside the section: where a lock still waits, its process has crashed
+abbrev pub ready : Seated → Seated
+ready x = if is_idle (spot_now x.pass) then x else fell x
+
+-- a crash while calls are under way
+abbrev pub CutBy : Seated → (List Call → Type 0) → Seated → (asked asked_now fallen fallen_now : ℕ) → Type 0
+CutBy x Begun y asked asked_now fallen fallen_now = (mine : List TakenStep) × CrashesIn x Begun y mine × Fell (length mine + 1) asked asked_now fallen fallen_now
+
+-- a crash while a call is under way
+abbrev pub CutIn : Seated → Call → Seated → (asked asked_now fallen fallen_now : ℕ) → Type 0
+CutIn x call y asked asked_now fallen fallen_now = (mine : List TakenStep) × Crashes x call y mine × Fell (length mine + 1) asked asked_now fallen fallen_now
+
+-- calls with their answers, and so many askings beside those of their steps
+abbrev pub AnsweredBy : ℕ → Seated → List Call → List Answer → ℕ → Seated → (asked asked_now fallen fallen_now : ℕ) → Type 0
+AnsweredBy more x order answers blocked y asked asked_now fallen fallen_now = (mine : List TakenStep) × ServedAll x order answers blocked y mine × Calm (length mine + more) asked asked_now fallen fallen_now
+
+-- an answer of a call that was blocked some times
+abbrev pub AnsweredIn : Seated → Call → List Answer → ℕ → Seated → (asked asked_now fallen fallen_now : ℕ) → Type 0
+AnsweredIn x call answers blocked y asked asked_now fallen fallen_now = (mine : List TakenStep) × Served x call answers blocked y mine × Calm (length mine + 1) asked asked_now fallen fallen_now
+
+-- how a lock ends that may be blocked so often, from right after its start, with so many askings beside those of its steps: with
+-- an answer after no more blocked readings, or with none after one more
+abbrev pub LockBy : ℕ → Seated → ℕ → Option Answer → Seated → (asked asked_now fallen fallen_now : ℕ) → Type 0
+LockBy more x turns (Some a) y asked asked_now fallen fallen_now = (blocked : ℕ) × (blocked ≤ turns) × AnsweredBy more x (Lock ∷ []) (a ∷ []) blocked y asked asked_now fallen fallen_now
+LockBy more x turns None y asked asked_now fallen fallen_now = AnsweredBy more x (Lock ∷ []) [] (turns + 1) y asked asked_now fallen fallen_now
+
+-- the same, up to the asking before the answer
+abbrev pub LockEnds : Seated → ℕ → Option Answer → Seated → (asked asked_now fallen fallen_now : ℕ) → Type 0
+LockEnds x turns o y asked asked_now fallen fallen_now = LockBy 1 x turns o y asked asked_now fallen fallen_now
+
+-- a recovery that fails: refused in the section, or cut off
+abbrev pub FailsOut : Seated → Call → Seated → (asked asked_now fallen fallen_now : ℕ) → LockFault → Type 0
+FailsOut x call y asked asked_now fallen fallen_now e =
+    (e ≡ AlreadyIn) × (refusal_now x call ≡ Some IsIn) × (y ≡ x) × (asked_now ≡ asked) × (fallen_now ≡ fallen)
+    ⊎ (e ≡ Crashed) × (refusal_now (ready x) call ≡ None) × CutIn (began (ready x) call) call y asked asked_now fallen fallen_now
+
+abbrev pub answer_of : Entering → Answer
+answer_of entering.Clean = Clean
+answer_of entering.OwnerDied = OwnerDied
+
+-- a lock that fails: refused in the section, cut off, still waiting, out of numbers, or ruined
+abbrev pub LockFails : Seated → ℕ → Seated → (asked asked_now fallen fallen_now : ℕ) → LockFault → Type 0
+LockFails x turns y asked asked_now fallen fallen_now e =
+    FailsOut x Lock y asked asked_now fallen fallen_now e
+    ⊎ (refusal_now (ready x) Lock ≡ None)
+    × ((e ≡ NotYet) × LockEnds (began (ready x) Lock) turns None y asked asked_now fallen fallen_now
+    ⊎ (e ≡ NumbersSpent) × LockEnds (began (ready x) Lock) turns (Some SpentAnswer) y asked asked_now fallen fallen_now
+    ⊎ (e ≡ NotRecoverable) × LockEnds (began (ready x) Lock) turns (Some RuinedAnswer) y asked asked_now fallen fallen_now)

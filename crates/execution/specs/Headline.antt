@@ -1,0 +1,70 @@
+-- What the lock theorem says of a run: its deeds are legal and have the plain properties, the words at its end are lawful,
+-- and an append that was answered Stored or Already is shown.
+use Rattle.std.specs.Prelude.{◌≡◌, ℕ, false, ◌⊎◌, List, [], ◌∷◌, ◌++◌, Some}
+use Rattle.rmecore.specs.Lawful.{IsLawful}
+use Rattle.rmecore.specs.Paid.{is_glance}
+use Rattle.redomail.specs.Layout.{IsLayout}
+use Rattle.redomail.specs.Mailbox.{IsAmong}
+use Rattle.redomail.specs.Script.{Script}
+use Rattle.redomail.specs.declared.deed.Deed.{Deed}
+use Rattle.redomail.specs.declared.message.Message.{Message}
+use Rattle.redomail.specs.declared.reply.Reply.{Reply}
+use Rattle.redomail.specs.declared.reply.Reply.TheVariants.{Stored, Already}
+use Rattle.redomail.specs.declared.task.Task.TheVariants as task
+use Rattle.judge.specs.Halves.{all_after}
+use Rattle.judge.specs.Legal.{IsLegal}
+use Rattle.judge.specs.Plain.{IsPlain}
+use Rattle.judge.specs.Table.{State, empty}
+use Rattle.rmeworld.specs.declared.answer.Answer.TheVariants.{Mail}
+use Rattle.rmeworld.specs.declared.why.Why.TheVariants.{Working}
+use Rattle.rmeworld.specs.Answered.{answer_at}
+use Rattle.rmeworld.specs.Law.{Sits}
+use Rattle.rmeworld.specs.Spot.{Spot, Doing}
+use Rattle.rmeworld.specs.World.{at_first, deeds}
+use Rattle.execution.specs.declared.setup.Setup.{Setup}
+use Rattle.execution.specs.declared.entry.TakenStep.{TakenStep}
+use Rattle.execution.specs.Runs.{IsRun, spelled, end_of, spot_of}
+use Rattle.execution.specs.Calls.{spot_before}
+
+-- the deeds of a run
+abbrev pub deeds_of : Setup → List TakenStep → List Deed
+deeds_of s es = deeds s.layout s.limit at_first (spelled es)
+
+-- the abstract lock and the mailbox list after them
+abbrev pub judged_by : Setup → List TakenStep → State
+judged_by s es = all_after (empty s.layout.procs s.layout.cap) (deeds_of s es)
+
+-- the messages that a run has shown
+abbrev pub shown_by : Setup → List TakenStep → List Message
+shown_by s es = (judged_by s es).mail.shown
+
+-- where the process of the entry e stands right before its step, after these entries
+abbrev pub spot_at : Setup → List TakenStep → TakenStep → Spot
+spot_at s es e = spot_before s (spot_of s e.by es) e
+
+-- the step of e ends an append with this number, with this reply
+pub record EndsAppend (s : Setup) (es : List TakenStep) (e : TakenStep) (seq : ℕ) (reply : Reply) : Type 0 where
+  pub value : List ℕ
+  pub left : Script Reply
+  pub step : is_glance e.step.kind ≡ false
+  pub append : (spot_at s es e).errand ≡ Doing (Working (task.Append seq value)) left
+  pub answer : answer_at (spot_at s es e) e.step.kind e.value ≡ Some (Mail reply)
+
+-- an append that is answered Stored or Already has its number among its sender's messages shown, then and there
+abbrev pub AnsweredIsShown : Setup → List TakenStep → Type 0
+AnsweredIsShown s es =
+    (front : List TakenStep) (e : TakenStep) (back : List TakenStep) (seq : ℕ) (reply : Reply) → es ≡ (front ++ e ∷ []) ++ back → EndsAppend s front e seq reply
+    → (reply ≡ Stored) ⊎ (reply ≡ Already) → IsAmong e.by seq (shown_by s (front ++ e ∷ []))
+
+-- No two inside, one that crashed inside is the next to enter, first come first served, each sender's messages once and in
+-- order (`plain`); the judge's whole table allows the deeds one after another (`legal`); the lock words and the data words
+-- at the end are such as outlive a crash of everything.
+pub record IsSoundRun (s : Setup) (es : List TakenStep) : Type 0 where
+  pub legal : IsLegal s.layout.procs s.layout.cap (deeds_of s es)
+  pub plain : IsPlain (deeds_of s es)
+  pub lock_words : IsLawful s.layout.procs s.limit (end_of s es).words
+  pub data_words : Sits s.layout (end_of s es).cells (judged_by s es)
+  pub answered : AnsweredIsShown s es
+
+abbrev pub EveryRunIsSound : Type 0
+EveryRunIsSound = (s : Setup) (es : List TakenStep) → IsLayout s.layout → IsRun s es → IsSoundRun s es

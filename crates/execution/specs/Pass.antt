@@ -1,0 +1,114 @@
+-- What a contract sees of a member's seat: its pass, and what its next step has to carry.
+use Rattle.std.specs.Prelude.{◌≡◌, ℕ, ◌-◌, ◌<◌, ◌≤◌, ◌^◌, Bool, false, List, [], ◌∷◌, ◌++◌, Option, None}
+use Rattle.atomic_table.specs.Seated.{TableId}
+use Rattle.rmecore.specs.declared.kind.Kind.{Kind}
+use Rattle.rmecore.specs.declared.kind.Kind.TheVariants.{Glance}
+use Rattle.rmecore.specs.declared.word.Word.{Word}
+use Rattle.rmeworld.specs.declared.call.Call.{Call}
+use Rattle.rmeworld.specs.Spot.{Spot, next_spot}
+use Rattle.rmeworld.specs.Stand.{IsSize}
+use Rattle.execution.specs.declared.setup.Setup.{Setup}
+use Rattle.execution.specs.declared.entry.Step.{Step}
+use Rattle.execution.specs.declared.entry.TakenStep.{TakenStep}
+use Rattle.execution.specs.declared.entry.View.{View}
+use Rattle.execution.specs.declared.entry.Known.{Known}
+use Rattle.execution.specs.Runs.{own, IsRun, before, taken, gone, spot_of, Goes, word_count}
+use Rattle.execution.specs.Rule.{count_from}
+
+-- which table, its sizes, which process; whether it has crashed since its last step, and which call it has started since;
+-- and a beginning of the run
+pub record Pass : Type 0 where
+  pub table : TableId
+  pub setup : Setup
+  pub by : ℕ
+  pub fallen : Bool
+  pub start : Option Call
+  pub seen : List TakenStep
+
+abbrev pub view_of : Pass → View
+view_of x = record { setup = x.setup; answers = x.by ∷ []; seen = x.seen }
+
+-- a seat of one process, into which no other was joined
+abbrev pub alone : Setup → ℕ → List TakenStep → Known
+alone s p seen = record { view = record { setup = s; answers = p ∷ []; seen = seen }; told = [] }
+
+-- the seat that answers for the processes from p on, before any step
+abbrev pub rest_known : Setup → ℕ → Known
+rest_known s p = record { view = record { setup = s; answers = count_from p (s.layout.procs - p); seen = [] }; told = [] }
+
+-- a member before any step
+abbrev pub fresh : TableId → Setup → ℕ → Pass
+fresh t s p = record { table = t; setup = s; by = p; fallen = false; start = None; seen = [] }
+
+-- the caller's own entries
+abbrev pub own_of : Pass → List TakenStep
+own_of x = own x.by x.seen
+
+-- what the next step carries
+abbrev pub owed : Pass → Kind → Word → Step
+owed x kind word = record { crashed = x.fallen; start = x.start; kind = kind; word = word }
+
+abbrev pub next_entry : Pass → Kind → Word → ℕ → TakenStep
+next_entry x kind word value = record { by = x.by; step = owed x kind word; value = value }
+
+-- a glance carries nothing: the next other step does
+abbrev pub glanced : Word → Step
+glanced word = record { crashed = false; start = None; kind = Glance; word = word }
+
+abbrev pub glance_entry : Pass → Word → ℕ → TakenStep
+glance_entry x word value = record { by = x.by; step = glanced word; value = value }
+
+-- the spot of the process once its crash and its start, if there are, have come
+abbrev pub spot_now : Pass → Spot
+spot_now x = gone x.setup (spot_of x.setup x.by x.seen) (before x.fallen x.start x.by)
+
+-- the spot after a step of the process
+abbrev pub moved_spot : Pass → Kind → Word → ℕ → Option Spot
+moved_spot x kind word value = next_spot x.setup.layout x.setup.limit (spot_now x) (taken x.by kind word value)
+
+-- what holds of each member's pass
+pub record IsPass (x : Pass) : Type 0 where
+  pub size : IsSize x.setup.layout
+  pub limited : (1 ≤ x.setup.limit) × (x.setup.limit ≤ 2 ^ 62)
+  pub words : x.table.words ≡ word_count x.setup
+  pub below : x.by < x.setup.layout.procs
+  pub run : IsRun x.setup x.seen
+  pub goes : Goes x.setup (spot_of x.setup x.by x.seen) (before x.fallen x.start x.by)
+
+-- es ends with the last of xs
+abbrev pub EndsWith : List TakenStep → List TakenStep → Type 0
+EndsWith xs es = (front : List TakenStep) (e : TakenStep) → xs ≡ front ++ e ∷ [] → (start : List TakenStep) × (es ≡ start ++ e ∷ [])
+
+-- one step: the run so far begins with all that was seen and ends with the step, and of this process it has no other step more
+pub record Adds (x : Pass) (e : TakenStep) (y : Pass) : Type 0 where
+  pub table : y.table ≡ x.table
+  pub setup : y.setup ≡ x.setup
+  pub by : y.by ≡ x.by
+  pub between : List TakenStep
+  pub seen : y.seen ≡ (x.seen ++ between) ++ e ∷ []
+  pub apart : own x.by between ≡ []
+  pub run : IsRun y.setup y.seen
+
+-- a step, which carried the crash and the start that were owed
+pub record Advances (x : Pass) (kind : Kind) (word : Word) (value : ℕ) (y : Pass) : Type 0 where
+  pub adds : Adds x (next_entry x kind word value) y
+  pub fallen : y.fallen ≡ false
+  pub start : y.start ≡ None
+
+-- a glance, which carries nothing
+pub record Looks (x : Pass) (word : Word) (value : ℕ) (y : Pass) : Type 0 where
+  pub adds : Adds x (glance_entry x word value) y
+  pub fallen : y.fallen ≡ x.fallen
+  pub start : y.start ≡ x.start
+
+-- several steps: the run so far begins with all that was seen and ends with the last of them, and of this process it has just
+-- these more
+pub record Calls (x : Pass) (mine : List TakenStep) (y : Pass) : Type 0 where
+  pub table : y.table ≡ x.table
+  pub setup : y.setup ≡ x.setup
+  pub by : y.by ≡ x.by
+  pub since : List TakenStep
+  pub seen : y.seen ≡ x.seen ++ since
+  pub mine_are : own x.by since ≡ mine
+  pub last : EndsWith mine y.seen
+  pub run : IsRun y.setup y.seen

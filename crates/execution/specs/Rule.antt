@@ -1,0 +1,124 @@
+-- The rule of the table: there is one run, whose words are the table's, and each view is a beginning of it.
+use Rattle.std.specs.Prelude.{◌≡◌, ℕ, zero, suc, ◌<◌, true, false, if◌then◌else◌, ltb, List, [], ◌∷◌, ◌++◌, length, slice_index, All, None}
+use mathlib.Core.Option.{some}
+use lib.ListN.{get_elem?}
+use Rattle.atomic_table.specs.Table.{State}
+use Rattle.rmecore.specs.World.{is_store}
+use Rattle.rmecore.specs.declared.kind.Kind.TheVariants.{Glance}
+use Rattle.rmecore.specs.declared.word.Word.TheVariants.{Choosing as ChoosingOf}
+use Rattle.execution.specs.declared.setup.Setup.{Setup}
+use Rattle.execution.specs.declared.entry.Step.{Step}
+use Rattle.execution.specs.declared.entry.TakenStep.{TakenStep}
+use Rattle.execution.specs.declared.entry.View.{View}
+use Rattle.execution.specs.declared.entry.Known.{Known}
+use Rattle.execution.specs.Runs.{own, has, spot_of, happenings, IsRun, end_of, Goes, index, InTable, IsBeyond, Shows}
+
+abbrev pub no_step : Step
+no_step = record { crashed = false; start = None; kind = Glance; word = ChoosingOf 0 }
+
+-- the numbers from k on, n of them
+abbrev pub count_from : ℕ → ℕ → List ℕ
+count_from k zero = []
+count_from k (suc n) = k ∷ count_from (suc k) n
+
+abbrev pub opening_known : Setup → Known
+opening_known s = record { view = record { setup = s; answers = count_from 0 s.layout.procs; seen = [] }; told = [] }
+
+abbrev pub first_of : List ℕ → List ℕ
+first_of [] = []
+first_of (p ∷ ps) = p ∷ []
+
+abbrev pub rest_of : List ℕ → List ℕ
+rest_of [] = []
+rest_of (p ∷ ps) = ps
+
+abbrev pub first_alone : Known → Known
+first_alone k = record { view = record { setup = k.view.setup; answers = first_of k.view.answers; seen = k.view.seen }; told = [] }
+
+abbrev pub without_first : Known → Known
+without_first k = record { view = record { setup = k.view.setup; answers = rest_of k.view.answers; seen = k.view.seen }; told = [] }
+
+-- the longer of two beginnings of one run
+abbrev pub longer : List TakenStep → List TakenStep → List TakenStep
+longer xs ys = if ltb (length xs) (length ys) then ys else xs
+
+abbrev pub joined_view : View → View → View
+joined_view v w = record { setup = v.setup; answers = v.answers ++ w.answers; seen = longer v.seen w.seen }
+
+-- both passes stay told until the next step says that they are beginnings of one run
+abbrev pub joined : Known → Known → Known
+joined k l = record { view = joined_view k.view l.view; told = (k.view ∷ k.told) ++ (l.view ∷ l.told) }
+
+abbrev pub spent_known : Known
+spent_known = record { view = record { setup = record { layout = record { procs = 0; cap = 0; width = 0 }; limit = 0 }; answers = []; seen = [] }; told = [] }
+
+-- es begins with xs
+abbrev pub Begins : List TakenStep → List TakenStep → Type 0
+Begins xs es = (rest : List TakenStep) × (es ≡ xs ++ rest)
+
+-- what the rule says of a process and the seat i that answers for it
+pub record IsAnswered (s : Setup) (log : List TakenStep) (owner : ℕ → ℕ) (i : ℕ) (v : View) (p : ℕ) : Type 0 where
+  pub setup : v.setup ≡ s
+  pub within : p < s.layout.procs
+  pub seat : owner p ≡ i
+  pub own_is : own p log ≡ own p v.seen
+
+abbrev pub Fits : Setup → List TakenStep → (ℕ → ℕ) → ℕ → View → Type 0
+Fits s log owner i v = Begins v.seen log × ((p : ℕ) → has p v.answers ≡ true → IsAnswered s log owner i v p)
+
+abbrev pub AllFit : Setup → List TakenStep → (ℕ → ℕ) → ℕ → Known → Type 0
+AllFit s log owner i k = Fits s log owner i k.view × All (Fits s log owner i) k.told
+
+-- some seat answers for p
+abbrev pub IsMember : List Known → (ℕ → ℕ) → ℕ → Type 0
+IsMember views owner p = (k : Known) × (get_elem? views (owner p) ≡ some k) × (has p k.view.answers ≡ true)
+
+-- the pass o is a beginning of the run so far, and has all entries of its processes
+pub record IsIn (log : List TakenStep) (o : View) : Type 0 where
+  pub begins : Begins o.seen log
+  pub own_are : (p : ℕ) → has p o.answers ≡ true → own p log ≡ own p o.seen
+
+-- one run, whose words are these; each pass is a beginning of it, with all entries of its processes; each process has a seat
+pub record IsKept (s : Setup) (log : List TakenStep) (owner : ℕ → ℕ) (words : List ℕ) (views : List Known) : Type 0 where
+  pub run : IsRun s log
+  pub shows : Shows s (end_of s log) words
+  pub fits : (i : ℕ) (k : Known) → get_elem? views i ≡ some k → AllFit s log owner i k
+  pub members : (p : ℕ) → p < s.layout.procs → IsMember views owner p
+
+abbrev pub Kept : Setup → State (Unit {0}) Known → Type 0
+Kept s state = (log : List TakenStep) × (owner : ℕ → ℕ) × IsKept s log owner state.words state.views
+
+-- the process that steps with a seat
+abbrev pub stepper : View → ℕ
+stepper v = slice_index v.answers 0
+
+abbrev pub entry_of : View → Step → ℕ → TakenStep
+entry_of v step value = record { by = stepper v; step = step; value = value }
+
+-- what a step tells: the run so far begins with all that was seen, and ends with this step. In between no process of this
+-- seat stepped. The passes that were joined into it are beginnings of that run too
+pub record Did (step : Step) (k : Known) (found : ℕ) (l : Known) : Type 0 where
+  pub setup : l.view.setup ≡ k.view.setup
+  pub answers : l.view.answers ≡ k.view.answers
+  pub none_told : l.told ≡ []
+  pub between : List TakenStep
+  pub seen : l.view.seen ≡ (k.view.seen ++ between) ++ entry_of k.view step found ∷ []
+  pub apart : (p : ℕ) → has p k.view.answers ≡ true → own p between ≡ []
+  pub run : IsRun l.view.setup l.view.seen
+  pub told : All (IsIn (k.view.seen ++ between)) k.told
+
+-- the process may take this step with this value, by its own entries alone
+abbrev pub May : Step → View → ℕ → Type 0
+May step v value = (has (stepper v) v.answers ≡ true) × Goes v.setup (spot_of v.setup (stepper v) v.seen) (happenings (entry_of v step value))
+
+-- the process may read this word, whatever it finds, and may write this value there
+abbrev pub MayLoad : Step → ℕ → View → Type 0
+MayLoad step word v = (word ≡ index v.setup step.word) × InTable v.setup step.word × (is_store step.kind ≡ false) × ((found : ℕ) → found < 18446744073709551616 → May step v found)
+
+abbrev pub MayStore : Step → ℕ → View → ℕ → Type 0
+MayStore step word v new = (word ≡ index v.setup step.word) × InTable v.setup step.word × (is_store step.kind ≡ true) × May step v new
+
+-- a step at a data word that there is not. No word changes, and a load of it reads 0. In no run is there such a step, which
+-- is the lock theorem's to say and not the rule's
+abbrev pub MayPass : Step → View → ℕ → Type 0
+MayPass step v value = IsBeyond v.setup step.word × (is_store step.kind ≡ false → value ≡ 0) × May step v value

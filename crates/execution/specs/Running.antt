@@ -1,0 +1,57 @@
+-- A member at work: its pass, the steps of its call, and what one step of its machine is.
+use Rattle.std.specs.Prelude.{◌≡◌, ℕ, zero, suc, true, Option, Some, None, IsSome}
+use Rattle.rmecore.specs.Simulated.{one_more}
+use Rattle.rmecore.specs.Machine.{kind_of, word_of, carried}
+use Rattle.rmecore.specs.declared.access.Access.{Access}
+use Rattle.rmeworld.specs.declared.call.Call.{Call}
+use Rattle.rmeworld.specs.declared.outcome.Outcome.{Outcome}
+use Rattle.rmeworld.specs.Answered.{answer_at}
+use Rattle.rmeworld.specs.Stand.{Stand, spot_of as standing_at, access_by, progress_by}
+use Rattle.execution.specs.Pass.{Pass, spot_now, moved_spot, Advances}
+
+-- what contracts see of a member: its pass, and the own steps of its last call
+pub record Seated : Type 0 where
+  pub pass : Pass
+  pub steps : ℕ
+
+-- the machine stands where the pass says
+pub record IsRunBy (x : Pass) (s : Stand) : Type 0 where
+  pub layout : s.layout ≡ x.setup.layout
+  pub limit : s.limit ≡ x.setup.limit
+  pub index : s.index ≡ x.by
+  pub spot : standing_at s ≡ spot_now x
+
+-- k more, held at the greatest u64
+abbrev pub many_more : ℕ → ℕ → ℕ
+many_more zero count = count
+many_more (suc k) count = one_more (many_more k count)
+
+-- the step that comes next
+abbrev pub next_of : Pass → Option Access
+next_of x = access_by x.setup.limit x.by (spot_now x).lock (spot_now x).errand
+
+-- what a step is for others and for its call
+abbrev pub outcome_of : Pass → Access → ℕ → Outcome
+outcome_of x a v = record { progress = progress_by x.by (spot_now x) a v; answer = answer_at (spot_now x) (kind_of a) (carried a v) }
+
+-- one step of the machine, as one load or store
+pub record TakesStep (x : Seated) (outcome : Outcome) (y : Seated) : Type 0 where
+  pub access : Access
+  pub value : ℕ
+  pub next : next_of x.pass ≡ Some access
+  pub may : IsSome (moved_spot x.pass (kind_of access) (word_of access) (carried access value))
+  pub advances : Advances x.pass (kind_of access) (word_of access) (carried access value) y.pass
+  pub told : outcome ≡ outcome_of x.pass access value
+  pub steps : y.steps ≡ one_more x.steps
+
+-- after a crash
+abbrev pub fell : Seated → Seated
+fell x = record x { pass = record x.pass { fallen = true; start = None } }
+
+-- after the start of a call behind another one, whose steps go on being counted
+abbrev pub behind : Seated → Call → Seated
+behind x call = record x { pass = record x.pass { start = Some call } }
+
+-- after the start of a call
+abbrev pub began : Seated → Call → Seated
+began x call = record { pass = record x.pass { start = Some call }; steps = 0 }

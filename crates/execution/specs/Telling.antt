@@ -1,0 +1,15 @@
+-- What the reply of an append tells of the mailbox.
+use Rattle.std.specs.Prelude.{◌≡◌, ℕ, List, ◌++◌}
+use Rattle.redomail.specs.declared.reply.Reply.{Reply}
+use Rattle.rmeworld.specs.Sent.{ReplyTells}
+use Rattle.execution.specs.declared.entry.TakenStep.{TakenStep}
+use Rattle.execution.specs.Headline.{judged_by}
+use Rattle.execution.specs.Running.{Seated}
+
+-- What the reply tells held at one point of the call: the run up to there begins with all that the caller had seen, and what
+-- the caller has seen behind the call begins with it.
+pub record ToldIn (x : Seated) (seq : ℕ) (reply : Reply) (y : Seated) : Type 0 where
+  pub since : List TakenStep
+  pub later : List TakenStep
+  pub seen : y.pass.seen ≡ (x.pass.seen ++ since) ++ later
+  pub tells : ReplyTells x.pass.setup.layout x.pass.by seq reply (judged_by x.pass.setup (x.pass.seen ++ since)).mail

@@ -1,0 +1,116 @@
+-- Which call a process is about, from its spot alone, and which answers the call can have.
+use Rattle.std.specs.Prelude.{◌≡◌, ℕ, Bool, true, false, ◌≢◌}
+use Rattle.rmecore.specs.Place.{Place, Rest, Reread, Opening, Door, Shutting, Wait, Inside, Leaving, Withdrawing, Unmarking}
+use Rattle.rmecore.specs.declared.core_call.CoreCall.TheVariants as core
+use Rattle.redomail.specs.declared.reply.Reply.{Reply}
+use Rattle.redomail.specs.declared.reply.Reply.TheVariants.{Stored, Already, OutOfOrder, Full, Closed, Mended, Ruined, Word}
+use Rattle.redomail.specs.Script.{Script, Get as Asks, Put as Writes, Done}
+use Rattle.rmeworld.specs.declared.call.Call.{Call}
+use Rattle.rmeworld.specs.declared.call.Call.TheVariants.{Lock, Unlock, Consistent, Recover, Append, Close, Get, Put, Withdraw}
+use Rattle.rmeworld.specs.declared.answer.Answer.{Answer}
+use Rattle.rmeworld.specs.declared.answer.Answer.TheVariants.{Clean, OwnerDied, NumbersSpent, NotRecoverable, Unlocked, Found, Mail, Withdrawn}
+use Rattle.rmeworld.specs.declared.why.Why.{Why}
+use Rattle.rmeworld.specs.declared.why.Why.TheVariants.{Checking, Ruining, Mending, Working}
+use Rattle.rmeworld.specs.Refused.{is_idle}
+use Rattle.rmeworld.specs.Spot.{Errand, Free, Doing, Spot}
+use Rattle.execution.specs.Lasting.{Lasts}
+
+-- a place of the lock's part of a call. A lock that was turned away is on its way out
+abbrev pub under_place : Call → Bool → Place → Bool
+under_place Lock false (Reread core.Lock seen) = true
+under_place Lock false Opening = true
+under_place Lock false (Door unread m) = true
+under_place Lock false (Shutting core.Lock k) = true
+under_place Lock false (Wait k unpassed looked) = true
+under_place Lock false (Unmarking core.Lock) = true
+under_place Lock true Leaving = true
+under_place Lock true (Unmarking core.Unlock) = true
+under_place Recover false (Reread core.Recover seen) = true
+under_place Recover false (Shutting core.Recover k) = true
+under_place Recover false (Unmarking core.Recover) = true
+under_place Unlock false Leaving = true
+under_place Unlock false (Unmarking core.Unlock) = true
+under_place Withdraw false Withdrawing = true
+under_place _ _ _ = false
+
+-- each reply of a script
+abbrev pub Replies : (Reply → Type 0) → Script Reply → Type 0
+Replies P (Done reply) = P reply
+Replies P (Asks i rest) = (x : ℕ) → Replies P (rest x)
+Replies P (Writes i v rest) = Replies P rest
+
+abbrev pub Mends : Reply → Type 0
+Mends (Mended repaired) = Unit {0}
+Mends (Ruined ruined) = Unit {0}
+Mends _ = ⊥
+
+abbrev pub IsWord : Reply → Type 0
+IsWord (Word v) = Unit {0}
+IsWord _ = ⊥
+
+-- the replies of an append with this number. The first one is never out of order
+abbrev pub Appends : ℕ → Reply → Type 0
+Appends seq Stored = Unit {0}
+Appends seq Already = Unit {0}
+Appends seq OutOfOrder = seq ≢ 1
+Appends seq Full = Unit {0}
+Appends seq Closed = Unit {0}
+Appends seq _ = ⊥
+
+-- a script of a call
+abbrev pub UnderScript : Call → Bool → Why → Script Reply → Type 0
+UnderScript Lock c Checking left = Unit {0}
+UnderScript Unlock c Ruining left = c ≡ false
+UnderScript Consistent c Mending left = Replies Mends left
+UnderScript (Append seq value) c (Working task) left = Replies (Appends seq) left
+UnderScript Close c (Working task) left = Unit {0}
+UnderScript (Get i) c (Working task) left = Replies IsWord left
+UnderScript (Put i v) c (Working task) left = Unit {0}
+UnderScript _ _ _ _ = ⊥
+
+abbrev pub UnderBy : Call → Place → Bool → Errand → Type 0
+UnderBy call s c Free = under_place call c s ≡ true
+UnderBy call s c (Doing why left) = UnderScript call c why left
+
+-- the call is under way at this spot
+abbrev pub IsUnder : Call → Spot → Type 0
+IsUnder call spot = UnderBy call spot.lock spot.barred spot.errand
+
+-- the answers that a call can have
+abbrev pub Fits : Call → Answer → Type 0
+Fits Lock Clean = Unit {0}
+Fits Lock OwnerDied = Unit {0}
+Fits Lock NumbersSpent = Unit {0}
+Fits Lock NotRecoverable = Unit {0}
+Fits Recover (Found found) = Unit {0}
+Fits Unlock Unlocked = Unit {0}
+Fits Withdraw Withdrawn = Unit {0}
+Fits Consistent NotRecoverable = Unit {0}
+Fits Consistent (Mail (Mended repaired)) = Unit {0}
+Fits (Append seq value) (Mail reply) = Appends seq reply
+Fits Close (Mail reply) = Unit {0}
+Fits (Get i) (Mail (Word v)) = Unit {0}
+Fits (Put i v) (Mail reply) = Unit {0}
+Fits _ _ = ⊥
+
+-- a holder with no call under way
+abbrev pub IsHolder : Spot → Type 0
+IsHolder t = (t.lock ≡ Inside) × (t.errand ≡ Free)
+
+-- the spot that the answer of a call leaves: a holder is inside, and after a lock or a mending it has nothing to mend but where
+-- the owner died; after an unlock, or a lock that was turned away, the process is at rest
+abbrev pub Leaves : Call → Answer → Spot → Type 0
+Leaves Lock Clean t = IsHolder t × (t.mended ≡ true)
+Leaves Lock OwnerDied t = IsHolder t × (t.mended ≡ false)
+Leaves Lock NumbersSpent t = t.lock ≡ Rest
+Leaves Lock NotRecoverable t = t.lock ≡ Rest
+Leaves Unlock Unlocked t = t.lock ≡ Rest
+Leaves Consistent NotRecoverable t = IsHolder t
+Leaves Consistent (Mail reply) t = IsHolder t × (t.mended ≡ true)
+Leaves (Append seq value) (Mail reply) t = IsHolder t
+Leaves Close (Mail reply) t = IsHolder t
+Leaves _ _ t = Unit {0}
+
+-- under way, busy, and with few steps left
+abbrev pub Begun : Call → ℕ → Spot → Type 0
+Begun call n t = IsUnder call t × (is_idle t ≡ false) × Lasts n 256 t

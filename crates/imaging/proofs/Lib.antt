@@ -1,9 +1,0 @@
-pub mod Common
-pub mod ImageForms
-pub mod ImageJudged
-pub mod ImageStarts
-pub mod ImageTexts
-pub mod LineFeeds
-pub mod ImageSpelt
-pub mod ImageWidens
-pub mod WideWords

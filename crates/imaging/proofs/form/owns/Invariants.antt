@@ -1,6 +1,0 @@
-use Rattle.std.proofs.Common.{◌≡◌, map, take}
-use Rattle.imaging.proofs.Common.{view, own_data}
-use Rattle.imaging.proofs.form.owns.Given as goal
-
-abbrev pub invariant-loop-item : goal.invariant-loop-item
-invariant-loop-item l = map view (take l.item-index l.item-items) ≡ map own_data l.owns.items

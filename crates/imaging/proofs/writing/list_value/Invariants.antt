@@ -1,6 +1,0 @@
-use Rattle.std.proofs.Common.{◌≡◌, map, take}
-use Rattle.imaging.proofs.Common.{view, whole_data}
-use Rattle.imaging.proofs.writing.list_value.Given as goal
-
-abbrev pub invariant-loop-number : goal.invariant-loop-number
-invariant-loop-number l = map view l.items.items ≡ map whole_data (take l.number-index l.numbers)

@@ -1,6 +1,0 @@
-use Rattle.std.proofs.Common.{◌≡◌, map, take}
-use Rattle.imaging.proofs.Common.{view, own_data}
-use Rattle.imaging.proofs.writing.lock_value.Given as goal
-
-abbrev pub invariant-loop-own : goal.invariant-loop-own
-invariant-loop-own l = map view l.items.items ≡ map own_data (take l.own-index l.lock)

@@ -1,3 +1,0 @@
-pub mod ImageText
-pub mod ImageWiden
-pub mod WideWords

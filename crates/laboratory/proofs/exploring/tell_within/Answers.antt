@@ -1,5 +1,0 @@
-use Rattle.std.proofs.Common.{append_assoc}
-use Rattle.laboratory.proofs.exploring.tell_within.Goals as goal
-
-pub returns-clause-told : goal.returns-clause-told
-returns-clause-told g c = simp append_assoc c.tell_none.ensures.told

@@ -1,4 +1,0 @@
-pub mod Spaces
-pub mod Numbered
-pub mod FoundBy
-pub mod SceneWords

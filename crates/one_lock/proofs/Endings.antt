@@ -1,0 +1,142 @@
+-- How workers ended, by those that were looked at so far.
+use Rattle.std.proofs.Common.{◌≡◌, ◌≢◌, ℕ, ◌+◌, ◌<◌, ◌≤◌, inl, inr, true, List, map, length, take, get_or, slice_get, All, Contains, Option, Some, None, option_map, refl, sym, ap, ◌∙◌, subst, arith}
+use Rattle.one_lock.proofs.LabCommon.{true≢false, cases_lt, get_or-map, length-map, take_all, All-more, All-contains, All-get_or, Contains-get_or, Layout, Crashed, OutOfMemory, NotRecoverable, NotYet}
+use Rattle.one_lock.proofs.LabCommon.{AlreadyIn, NotOwner, NotInconsistent, BadIndex, BadWidth, Setup, AllSent, Fault, Refused, LabFault, BadSpec, Member, Spec, HaveAllSent, WantedMemory, fault_by}
+use Rattle.one_lock.proofs.LabCommon.{IsOfLeast, IsReplyTo, WasSent, WereSent, MayEnd, MayEndLab, setup_of, words_sent, Seat, Goes, of_wait, new_seats, place_of}
+use Rattle.std.proofs.lemmas.Option.{slice_get-get_or, slice_get_within, slice_get-map, get_or_from_slice_get}
+use Rattle.one_lock.specs.declared.lab.ending.Ending.{Ending}
+use Rattle.one_lock.specs.declared.lab.lab_fault.LabFault.TheVariants.{OutOfMemory as WantsMemory, Reply}
+use Rattle.execution.specs.declared.lock_fault.LockFault.TheVariants.{NumbersSpent}
+use Rattle.redomail.specs.declared.reply.Reply.{Reply as ReplyOf}
+use Rattle.rmeworld.specs.declared.answer.Answer.TheVariants.{NumbersSpent as SpentAnswer}
+use Rattle.rmeworld.specs.declared.call.Call.TheVariants.{Lock, Append}
+use Rattle.execution.specs.declared.lock_fault.LockFault.{LockFault}
+use Rattle.one_lock.specs.Answers.{IsAnswered, IsReply, EndsAtLock}
+use Rattle.one_lock.proofs.Places.{number_at}
+use Rattle.one_lock.proofs.Seats.{new_count}
+
+-- the ending of the worker at a place
+ends : {D : Type 0} (f : D → Ending) (ds : List D) (p : ℕ) (d : D) → p < length ds → get_or (map f ds) p (f d) ≡ f (get_or ds p d)
+ends f ds p d within = get_or-map f ds p d (f d) within
+
+inside : {D : Type 0} (f : D → Ending) (ds : List D) (p : ℕ) → p < length ds → p < length (map f ds)
+inside f ds p within = subst (λ (n : ℕ). p < n) (sym (length-map ds f)) within
+
+-- what is known of those before a place and of the one there
+pub all_more : {D : Type 0} (P : Ending → Type 0) (f : D → Ending) (ds : List D) (p : ℕ) (d : D) → p < length ds → All P (take p (map f ds)) → P (f (get_or ds p d)) → All P (take (p + 1) (map f ds))
+all_more P f ds p d within before here = All-more P (map f ds) p (f d) (inside f ds p within) before (subst P (sym (ends f ds p d within)) here)
+
+pub all_of : {D : Type 0} (P : Ending → Type 0) (f : D → Ending) (ds : List D) (p : ℕ) → length ds ≤ p → All P (take p (map f ds)) → All P (map f ds)
+all_of P f ds p past before = subst (λ (es : List Ending). All P es) (take_all p (map f ds) (subst (λ (n : ℕ). n ≤ p) (sym (length-map ds f)) past)) before
+
+-- the least worker that ended early
+pub is_of_least : {D : Type 0} (f : D → Ending) (ds : List D) (p : ℕ) (d : D) (fault : LabFault) → p < length ds → HaveAllSent (take p (map f ds)) → fault_by p (f (get_or ds p d)) ≡ Some fault → IsOfLeast (map f ds) fault
+is_of_least f ds p d fault within before told =
+    record {
+      p = p;
+      ending = f (get_or ds p d);
+      at = slice_get-get_or (map f ds) p (f d) (inside f ds p within) ∙ ap (λ (e : Ending). Some e) (ends f ds p d within);
+      before = before;
+      told = told;
+    }
+
+-- a worker that wanted memory, and none
+pub one_wanted : {D : Type 0} (f : D → Ending) (ds : List D) (p : ℕ) (d : D) → p < length ds → d ≡ get_or ds p d → f d ≡ Fault OutOfMemory → WantedMemory (map f ds)
+one_wanted f ds p d within is wanted = subst (Contains (map f ds)) (ends f ds p d within ∙ ap f (sym is) ∙ wanted) (Contains-get_or (map f ds) p (f d) (inside f ds p within))
+
+pub none_wanted : (es : List Ending) → All (λ e. e ≢ Fault OutOfMemory) es → WantedMemory es → ⊥
+none_wanted es none one = All-contains (λ (e : Ending). e ≢ Fault OutOfMemory) es (Fault OutOfMemory) none one refl
+
+-- each worker has ended as one with its number may
+abbrev pub EachMay : Option Setup → Spec → List Ending → Type 0
+EachMay named s es = (p : ℕ) (e : Ending) → slice_get es p ≡ Some e → MayEnd named s p e
+
+-- what is mapped to this
+mapped_from : {D : Type 0} (f : D → Ending) (o : Option D) (e : Ending) → option_map f o ≡ Some e → (d : D) × (o ≡ Some d) × (f d ≡ e)
+mapped_from f None e is = absurd (let none : Option Ending = None in let same : none ≡ Some e = is in cc)
+mapped_from f (Some d) e is = (d, refl, (let same : Some (f d) ≡ Some e = is in cc))
+
+-- workers that were handed back, told by where the members of a new arena stand
+pub each_may : {D : Type 0} (named : Option Setup) (s : Spec) (f : D → Ending) (g : D → Seat) (l : Layout) (n : ℕ) (ds looked : List D) → looked ≡ ds → All (λ d. MayEnd named s (g d).process (f d)) ds → map (λ d. place_of (g d)) ds ≡ map place_of (new_seats l n) → EachMay named s (map f looked)
+each_may {D = D} named s f g l n ds looked is may places p e at =
+    let P : D → Type 0 = λ d. MayEnd named s (g d).process (f d) in
+    let place : D → ℕ × Layout = λ d. place_of (g d) in
+    let here : slice_get (map f ds) p ≡ Some e = subst (λ (xs : List D). slice_get (map f xs) p ≡ Some e) is at in
+    let one = mapped_from f (slice_get ds p) e (sym (slice_get-map f ds p) ∙ here) in
+    let d = one.0 in
+    let within : p < length ds = slice_get_within ds p d one.1 in
+    let count : length ds ≡ n = sym (length-map ds place) ∙ ap length places ∙ length-map (new_seats l n) place_of ∙ new_count l n in
+    let got : get_or ds p d ≡ d = get_or_from_slice_get ds p d d one.1 in
+    let stands : place_of (g d) ≡ (p, l) = sym (ap place got) ∙ sym (get_or-map place ds p d (place d) within) ∙ ap (λ (xs : List (ℕ × Layout)). get_or xs p (place d)) places ∙ number_at l n p (place d) (subst (λ (k : ℕ). p < k) count within) in
+    let it : P d = subst P got (All-get_or P ds p d within may) in
+    subst (MayEnd named s p) one.2 (subst (λ (k : ℕ). MayEnd named s k (f d)) (ap (λ (x : ℕ × Layout). x.0) stands) it)
+
+-- the workers of a lab that were handed back so have ended as they may
+pub lab_ended : {D : Type 0} (named : Option Setup) (s : Spec) (f : D → Ending) (g : D → Seat) (ds looked : List D) → named ≡ Some (setup_of s) → looked ≡ ds → All (λ d. MayEnd named s (g d).process (f d)) ds → map (λ d. place_of (g d)) ds ≡ map place_of (new_seats (setup_of s).layout s.procs)
+    → (length (map f looked) ≡ s.procs) × EachMay (Some (setup_of s)) s (map f looked)
+lab_ended named s f g ds looked is same may places =
+    let l = (setup_of s).layout in
+    let count : length ds ≡ s.procs = sym (length-map ds (λ d. place_of (g d))) ∙ ap length places ∙ length-map (new_seats l s.procs) place_of ∙ new_count l s.procs in
+    (length-map looked f ∙ ap length same ∙ count, subst (λ (z : Option Setup). EachMay z s (map f looked)) is (each_may named s f g l s.procs ds looked same may places))
+
+-- how a call may end a worker that a crash does not end
+pub ended_by : (named : Option Setup) (m new : Seat) (to : ℕ) (e : LockFault) → Goes m new → of_wait e ≡ true → (e ≡ Crashed → ⊥) → EndsAtLock named m None to e → (s : Spec) → MayEnd named s new.process (Fault e)
+ended_by named m new to NumbersSpent goes wait crash spent s =
+    inl (refl, record { standing = m.standing; from = m.steps; to = to; answered = subst (λ (p : ℕ). IsAnswered named p m.standing Lock None m.steps to (Some SpentAnswer)) (sym goes.0) spent })
+ended_by named m new to NotRecoverable goes wait crash told s = inr (inl refl)
+ended_by named m new to OutOfMemory goes wait crash told s = inr (inr refl)
+ended_by named m new to Crashed goes wait crash told s = absurd (crash refl)
+ended_by named m new to NotYet goes wait crash told s = absurd (true≢false (sym wait))
+ended_by named m new to AlreadyIn goes wait crash told s = absurd (true≢false (sym wait))
+ended_by named m new to NotOwner goes wait crash told s = absurd (true≢false (sym wait))
+ended_by named m new to NotInconsistent goes wait crash told s = absurd (true≢false (sym wait))
+ended_by named m new to BadIndex goes wait crash told s = absurd (true≢false (sym wait))
+ended_by named m new to BadWidth goes wait crash told s = absurd (true≢false (sym wait))
+
+-- what is told of worker p where one has ended so, for which memory was not wanted
+told_early : (s : Spec) (p : ℕ) (e : Ending) (fault : LabFault) → p < s.procs → MayEnd (Some (setup_of s)) s p e → (e ≡ Fault OutOfMemory → ⊥) → fault_by p e ≡ Some fault → MayEndLab s fault
+told_early s p AllSent fault below may unwanted told = absurd (let none : Option LabFault = None in let e : none ≡ Some fault = told in cc)
+told_early s p (Fault why) fault below (inl spent) unwanted told =
+    let e : Member p why ≡ fault = cc in
+    subst (MayEndLab s) e (below, inl spent)
+told_early s p (Fault why) fault below (inr (inl ruined)) unwanted told =
+    let e : Member p why ≡ fault = cc in
+    subst (MayEndLab s) e (below, inr ruined)
+told_early s p (Fault why) fault below (inr (inr wants)) unwanted told = absurd (unwanted (ap Fault wants))
+told_early s p (Refused reply) fault below may unwanted told =
+    let e : Reply p reply ≡ fault = cc in
+    subst (MayEndLab s) e (below, may)
+
+of_least : (es : List Ending) (s : Spec) (fault : LabFault) → length es ≡ s.procs → EachMay (Some (setup_of s)) s es → (WantedMemory es → ⊥) → IsOfLeast es fault → MayEndLab s fault
+of_least es s fault count may none least =
+    let within = slice_get_within es least.p least.ending least.at in
+    let is : get_or es least.p least.ending ≡ least.ending = get_or_from_slice_get es least.p least.ending least.ending least.at in
+    told_early s least.p least.ending fault (subst (λ (k : ℕ). least.p < k) count within) (may least.p least.ending least.at)
+    (λ wants. none (subst (Contains es) (is ∙ wants) (Contains-get_or es least.p least.ending within))) least.told
+
+-- what the workers of a lab may have told early
+pub may_end_lab : (es : List Ending) (s : Spec) (fault : LabFault) → length es ≡ s.procs → EachMay (Some (setup_of s)) s es → (WantedMemory es → fault ≡ WantsMemory) → fault ≢ BadSpec → (fault ≢ WantsMemory → IsOfLeast es fault) → MayEndLab s fault
+may_end_lab es s BadSpec count may wanted sized least = absurd (sized refl)
+may_end_lab es s WantsMemory count may wanted sized least = tt
+may_end_lab es s (Member p why) count may wanted sized least = of_least es s (Member p why) count may (λ wants. let e : Member p why ≡ WantsMemory = wanted wants in cc) (least (λ e. cc))
+may_end_lab es s (Reply p reply) count may wanted sized least = of_least es s (Reply p reply) count may (λ wants. let e : Reply p reply ≡ WantsMemory = wanted wants in cc) (least (λ e. cc))
+
+-- the reply to the message of a member that is worker q's
+pub replied_to : (named : Option Setup) (width p q seq : ℕ) (value : List ℕ) (reply : ReplyOf) → p ≡ q → value ≡ words_sent q seq width → IsReply named p (Append seq value) reply → IsReplyTo named width q seq reply
+replied_to named width p q seq value reply same is answered = subst (λ (words : List ℕ). IsReply named q (Append seq words) reply) is (subst (λ (x : ℕ). IsReply named x (Append seq value) reply) same answered)
+
+-- all messages with numbers below this one were sent, and the one with this number
+pub sent_more : (named : Option Setup) (width p k : ℕ) → ((seq : ℕ) → 1 ≤ seq → seq < k → WasSent named width p seq) → WasSent named width p k → (seq : ℕ) → 1 ≤ seq → seq < k + 1 → WasSent named width p seq
+sent_more named width p k before here seq some below =
+    elim (cases_lt seq k) [
+      | inl less ↦ before seq some less
+      | inr most ↦ (let is : k ≡ seq = omega (arith, most, below) in subst (WasSent named width p) is here)
+    ]
+
+-- where each worker has sent all
+pub all_sent : (named : Option Setup) (s : Spec) (es : List Ending) → length es ≡ s.procs → EachMay named s es → HaveAllSent es → (p : ℕ) → p < s.procs → WereSent named s.width p s.messages
+all_sent named s es count may sent p below =
+    let within : p < length es = subst (λ (k : ℕ). p < k) (sym count) below in
+    let is : get_or es p AllSent ≡ AllSent = All-get_or (λ (e : Ending). e ≡ AllSent) es p AllSent within sent in
+    let ends : MayEnd named s p (get_or es p AllSent) = may p (get_or es p AllSent) (slice_get-get_or es p AllSent within) in
+    subst (MayEnd named s p) is ends

@@ -1,0 +1,76 @@
+-- How the workers of a laboratory ended, by process from 0 on, and which fault is told of it.
+use Rattle.std.specs.Prelude.{◌≡◌, ◌≢◌, ◌<◌, ◌≤◌, ◌⊎◌, ℕ, List, All, Contains, take, slice_get, Option, Some, None}
+use Rattle.one_lock.specs.declared.lab.lab_fault.LabFault.{LabFault}
+use Rattle.one_lock.specs.declared.lab.lab_fault.LabFault.TheVariants.{BadSpec, OutOfMemory as WantsMemory, Member, Reply}
+use Rattle.one_lock.specs.declared.lab.ending.Ending.{Ending}
+use Rattle.one_lock.specs.declared.lab.ending.Ending.TheVariants.{AllSent, Fault, Refused}
+use Rattle.redomail.specs.declared.reply.Reply.{Reply as ReplyOf}
+use Rattle.redomail.specs.declared.reply.Reply.TheVariants.{Stored, Already}
+use Rattle.rmeworld.specs.declared.call.Call.TheVariants.{Lock, Append}
+use Rattle.rmeworld.specs.declared.answer.Answer.TheVariants.{NumbersSpent as SpentAnswer}
+use Rattle.execution.specs.declared.lock_fault.LockFault.TheVariants.{NumbersSpent, NotRecoverable, OutOfMemory}
+use Rattle.execution.specs.declared.setup.Setup.{Setup}
+use Rattle.one_lock.specs.declared.lab.spec.Spec.{Spec}
+use Rattle.one_lock.specs.declared.member_state.MemberState.{MemberState}
+use Rattle.one_lock.specs.Answers.{IsAnswered, IsReply}
+use Rattle.one_lock.specs.Endings.{fault_by}
+use Rattle.one_lock.specs.Lab.{setup_of, words_sent}
+
+-- each worker has sent all its messages
+abbrev pub HaveAllSent : List Ending → Type 0
+HaveAllSent endings = All (λ ending. ending ≡ AllSent) endings
+
+-- a worker ended for want of memory
+abbrev pub WantedMemory : List Ending → Type 0
+WantedMemory endings = Contains endings (Fault OutOfMemory)
+
+-- This is told of worker p, the least one that ended early: those before it have sent all.
+pub record IsOfLeast (endings : List Ending) (fault : LabFault) : Type 0 where
+  pub p : ℕ
+  pub ending : Ending
+  pub at : slice_get endings p ≡ Some ending
+  pub before : HaveAllSent (take p endings)
+  pub told : fault_by p ending ≡ Some fault
+
+-- A lock of p, with no end of turns, was answered that no number is left: its last step read the limit in its doorway, in a
+-- world with the sizes that are named.
+pub record WasSpent (named : Option Setup) (p : ℕ) : Type 0 where
+  pub standing : MemberState
+  pub from : ℕ
+  pub to : ℕ
+  pub answered : IsAnswered named p standing Lock None from to (Some SpentAnswer)
+
+-- The append of worker p's message with this number was answered so, in a world with the sizes that are named.
+abbrev pub IsReplyTo : Option Setup → ℕ → ℕ → ℕ → ReplyOf → Type 0
+IsReplyTo named width p seq reply = IsReply named p (Append seq (words_sent p seq width)) reply
+
+-- worker p's message with this number was answered so that it is shown
+pub record WasSent (named : Option Setup) (width p seq : ℕ) : Type 0 where
+  pub reply : ReplyOf
+  pub answered : IsReplyTo named width p seq reply
+  pub shows : (reply ≡ Stored) ⊎ (reply ≡ Already)
+
+-- a message of worker p was answered by this reply, which doesn't show it
+pub record WasRefused (named : Option Setup) (width p : ℕ) (reply : ReplyOf) : Type 0 where
+  pub seq : ℕ
+  pub answered : IsReplyTo named width p seq reply
+  pub not_stored : reply ≢ Stored
+  pub not_there : reply ≢ Already
+
+-- each message of worker p with a number from 1 to k was sent
+abbrev pub WereSent : Option Setup → ℕ → ℕ → ℕ → Type 0
+WereSent named width p k = (seq : ℕ) → 1 ≤ seq → seq ≤ k → WasSent named width p seq
+
+-- How worker p may end: all its messages were sent; or a lock of it was answered that no number is left; or it is told that the
+-- lock is ruined, or wants memory; or one of its messages was answered by a reply that doesn't show it.
+abbrev pub MayEnd : Option Setup → Spec → ℕ → Ending → Type 0
+MayEnd named s p AllSent = WereSent named s.width p s.messages
+MayEnd named s p (Fault why) = ((why ≡ NumbersSpent) × WasSpent named p) ⊎ (why ≡ NotRecoverable) ⊎ (why ≡ OutOfMemory)
+MayEnd named s p (Refused reply) = WasRefused named s.width p reply
+
+-- what may end a lab with these sizes early
+abbrev pub MayEndLab : Spec → LabFault → Type 0
+MayEndLab s BadSpec = ⊥
+MayEndLab s WantsMemory = Unit {0}
+MayEndLab s (Member p why) = (p < s.procs) × (((why ≡ NumbersSpent) × WasSpent (Some (setup_of s)) p) ⊎ (why ≡ NotRecoverable))
+MayEndLab s (Reply p reply) = (p < s.procs) × WasRefused (Some (setup_of s)) s.width p reply

@@ -1,9 +1,0 @@
-//! The words of command lines, and the help that they ask for. Tests alone: each names public functions of `orders`.
-#![tactic(auto)]
-
-#[cfg(test)]
-mod helps;
-#[cfg(test)]
-mod kit;
-#[cfg(test)]
-mod words;

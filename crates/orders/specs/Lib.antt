@@ -1,2 +1,0 @@
-pub mod FilesNamed
-pub mod Sizes

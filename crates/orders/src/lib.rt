@@ -1,9 +1,0 @@
-//! What `rmelab` can be asked to do: the orders, and the words of a command line that spell them.
-#![tactic(auto)]
-
-mod argument;
-pub mod order;
-mod parser;
-pub mod words;
-
-pub use order::Command;

@@ -1,5 +1,0 @@
-use Rattle.plain_rows.proofs.gathers.not_all.Given as goal
-
--- the ledger of the blank that was just made
-abbrev pub ghosts-misses_some : goal.ghosts-misses_some
-ghosts-misses_some g a = record { name = a.blank.name; parts = a.blank.parts }

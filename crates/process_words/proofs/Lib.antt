@@ -1,3 +1,0 @@
-pub mod PlaceBack
-pub mod JobBack
-pub mod StandTells

@@ -1,3 +1,0 @@
-pub mod PlaceWords
-pub mod JobWords
-pub mod StandWords

@@ -1,0 +1,8 @@
+//! The words of command lines, and the help that they ask for. Tests alone: each names public functions of `orders`.
+
+#[cfg(test)]
+mod helps;
+#[cfg(test)]
+mod kit;
+#[cfg(test)]
+mod words;

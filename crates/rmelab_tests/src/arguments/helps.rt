@@ -1,0 +1,272 @@
+//! What `clap` prints: the help of the program and of each command, and what is wrong with words.
+
+use crate::arguments::kit::words_of;
+use cli::arguments::words::{WordsFault, read_words};
+use std::test::Fail;
+
+const HELP: &str = "A laboratory of recoverable first-come first-served locks
+
+Usage: rmelab <COMMAND>
+
+Commands:
+  replay   Runs a schedule of steps and crashes, and prints its report
+  run      Runs senders on threads, with drawn crashes, and counts what came through
+  hunt     Draws schedules until a variant of the lock goes wrong
+  explore  Tries all schedules up to a bound, for the shortest that goes wrong
+  judge    Judges a trace of deeds, and prints the verdict
+  draw     Draws the run of a schedule as a space-time diagram
+  shrink   Makes a schedule that goes wrong on a variant of the lock least
+  explain  Says what a number or a word of reports and faults means
+  help     Print this message or the help of the given subcommand(s)
+
+Options:
+  -h, --help     Print help
+  -V, --version  Print version
+
+Exit status: 0 fine, 1 a verdict against, a schedule found, or a message twice or out of order, 2 a fault of the input, 3 a fault of a device, of memory or of a member, or too many states in `explore`.
+";
+
+const REPLAY: &str = "Runs a schedule of steps and crashes, and prints its report
+
+Usage: rmelab replay [OPTIONS] [FILE]
+
+Arguments:
+  [FILE]  The schedule; without it, standard input is read
+
+Options:
+      --json          Print one JSON object of the report's lines
+      --each          Tell each step, with its word and where its process stands
+      --variant <V>   right, no-look, no-ties, renumber, exit-on-crash, count-up or last-skipped
+      --image <FILE>  Begin with the words of this image, every process crashed
+      --save <FILE>   Write the last image to this file
+  -h, --help          Print help
+
+In: a schedule, as `rme 1 procs 2 limit 10 cap 1`, then lines such as `lock 0`, `step 0 5`, `crash 0`, each ended by a line feed.
+Out: its report: the deeds and answers of each step, the last words, the mailbox and the verdict.
+Exit status: 0 where the verdict is fine, 1 where it is against, 2 after a fault of the words, the schedule or the image, 3 after one of a device or of memory.
+
+Example: rmelab replay examples/tie.rme
+";
+
+const RUN: &str = "Runs senders on threads, with drawn crashes, and counts what came through
+
+Usage: rmelab run [OPTIONS] --procs <N> --messages <M> --crash <C> --seed <S>
+
+Options:
+      --procs <N>     1 to 16 senders
+      --messages <M>  1 to 4096 messages of each
+      --crash <C>     0 to 50 crashes in 1000 askings
+      --seed <S>      The seed of the crashes
+      --width <W>     1 to 8 words a message; 1 without it
+  -h, --help          Print help
+
+In: nothing. Each sender sends its messages through one running lock, on a thread of its own, and sends a message again after each crash.
+Out: what stands in the mailbox of each sender, as `sender 0 messages 50 twice 0 order yes`, and the total.
+Exit status: 0 where each message stands once and in its order, 1 where not, 2 after a fault of the words, 3 after one of a device, of memory or of a sender.
+
+Example: rmelab run --procs 4 --messages 50 --crash 20 --seed 7
+";
+
+const HUNT: &str = "Draws schedules until a variant of the lock goes wrong
+
+Usage: rmelab hunt [OPTIONS] --variant <V> --seed <S> --rounds <R> --steps <K>
+
+Options:
+      --variant <V>  right, no-look, no-ties, renumber, exit-on-crash, count-up or last-skipped
+      --seed <S>     The seed of the moves
+      --rounds <R>   1 to 10000 rounds
+      --steps <K>    1 to 10000 moves a round
+      --shrink       Make the schedule found least, as `shrink` does
+  -h, --help         Print help
+
+In: nothing.
+Out: the schedule found, which `rmelab replay --variant V` replays to its fault, or `nothing found`.
+Shown: on standard error, where that is a terminal, the rounds, the moves and the moves a second, once a second while it works.
+Exit status: 0 where nothing was found, 1 where a schedule was, 2 after a fault of the words, 3 after one of a device or of memory.
+
+Example: rmelab hunt --variant no-look --seed 1 --rounds 10000 --steps 1000
+";
+
+const EXPLORE: &str = "Tries all schedules up to a bound, for the shortest that goes wrong
+
+Usage: rmelab explore [OPTIONS] --variant <V> --procs <N>
+
+Options:
+      --variant <V>   right, no-look, no-ties, renumber, exit-on-crash, count-up or last-skipped
+      --procs <N>     1 to 64 processes
+      --calls <LIST>  lock, unlock, recover, consistent, withdraw, append and close, with commas; lock,unlock without it
+      --crashes <C>   At most C crashes; 0 without it
+      --moves <K>     At most K moves; no bound without it
+      --states <S>    At most S states; 10000000 without it
+      --limit <L>     Numbers up to L; 4 without it
+      --cap <M>       Room for M messages; 1 without it
+      --width <W>     1 to 8 words a message; 1 without it
+  -h, --help          Print help
+
+In: nothing. All schedules are tried whose moves are the start of a call of --calls, one step, or a crash, of which there are at most --crashes: the shorter before the longer. Two worlds are one where their words, their processes, the judge and the crashes left are.
+Out: the schedule of fewest moves that goes wrong, which `rmelab replay --variant V` replays to its fault; `nothing found within K moves`; or, where all was tried, `nothing found: all N states`. Nothing is said of a greater size, limit or number of crashes.
+Shown: on standard error, where that is a terminal, the states, how many moves deep and the states a second, once a second while it works.
+Exit status: 0 where nothing was found, 1 where a schedule was, 2 after a fault of the words, 3 after one of a device or of memory, or where there are more states than --states.
+
+Example: rmelab explore --variant no-look --procs 2
+";
+
+const JUDGE: &str = "Judges a trace of deeds, and prints the verdict
+
+Usage: rmelab judge [FILE]
+
+Arguments:
+  [FILE]  The trace; without it, standard input is read
+
+Options:
+  -h, --help  Print help
+
+In: a trace, as `trace 1 procs 2 cap 1`, then deeds such as `begin 0`, `ready 0`, `enter 0`.
+Out: the verdict line.
+Exit status: 0 where the verdict is fine, 1 where it is against, 2 after a fault of the words or the trace, 3 after one of a device or of memory.
+
+Example: rmelab judge examples/overtaken.trace
+";
+
+const DRAW: &str = "Draws the run of a schedule as a space-time diagram
+
+Usage: rmelab draw [OPTIONS] [FILE]
+
+Arguments:
+  [FILE]  The schedule; without it, standard input is read
+
+Options:
+      --variant <V>   right, no-look, no-ties, renumber, exit-on-crash, count-up or last-skipped
+      --image <FILE>  Begin with the words of this image, every process crashed
+      --svg           Write a picture, as SVG
+  -h, --help          Print help
+
+In: a schedule, as `rme 1 procs 2 limit 10 cap 1`, then lines such as `lock 0`, `step 0 5`, `crash 0`, each ended by a line feed.
+Out: its run, time downward: a column for each process, a row for each step or crash, and what it tells at the right; with --svg a picture of this.
+Exit status: 0 where the verdict is fine, 1 where it is against, 2 after a fault of the words, the schedule or the image, 3 after one of a device or of memory.
+
+Example: rmelab draw examples/tie.rme
+";
+
+const SHRINK: &str = "Makes a schedule that goes wrong on a variant of the lock least
+
+Usage: rmelab shrink --variant <V> [FILE]
+
+Arguments:
+  [FILE]  The schedule; without it, standard input is read
+
+Options:
+      --variant <V>  right, no-look, no-ties, renumber, exit-on-crash, count-up or last-skipped
+  -h, --help         Print help
+
+In: a schedule, as `rme 1 procs 2 limit 10 cap 1`, then lines such as `lock 0`, `step 0 5`, `crash 0`, each ended by a line feed.
+Out: where its verdict on the variant is against, a least schedule with a verdict against the same number: no line can be left out and no count of steps lowered by one. Else the verdict line.
+Exit status: 0 where the verdict is fine, 1 where it is against, 2 after a fault of the words or the schedule, 3 after one of a device or of memory.
+
+Example: rmelab shrink --variant no-look examples/two-in-the-doorway.rme
+";
+
+const EXPLAIN: &str = "Says what a number or a word of reports and faults means
+
+Usage: rmelab explain [WORDS]...
+
+Arguments:
+  [WORDS]...  The name, as `fault 5`, `refused 12`, `rule 7`, `against 4`, `answer clean` or `step look`
+
+Options:
+  -h, --help  Print help
+
+In: nothing.
+Out: what the words name, in two sentences, and the page that defines it; without words the names of all that is explained, one a line.
+Exit status: 0 where the words are a name, 2 where they are none, 3 after a fault of a device or of memory.
+
+Example: rmelab explain fault 5
+";
+
+const SEEDLESS_RUN: &str = "error: the following required arguments were not provided:
+  --seed <S>
+
+Usage: rmelab run --procs <N> --messages <M> --crash <C> --seed <S>
+
+For more information, try '--help'.
+";
+
+const SEEDLESS_HUNT: &str = "error: the following required arguments were not provided:
+  --seed <S>
+
+Usage: rmelab hunt --variant <V> --seed <S> --rounds <R> --steps <K>
+
+For more information, try '--help'.
+";
+
+const NO_COMMAND: &str = "error: 'rmelab' requires a subcommand but one was not provided
+  [subcommands: replay, run, hunt, explore, judge, draw, shrink, explain, help]
+
+Usage: rmelab <COMMAND>
+
+For more information, try '--help'.
+";
+
+const NO_NUMBER: &str = "error: invalid value 'x' for '--rounds <R>': invalid digit found in string
+
+For more information, try '--help'.
+";
+
+const TWO_FILES: &str = "error: unexpected argument 'b' found
+
+Usage: rmelab replay [OPTIONS] [FILE]
+
+For more information, try '--help'.
+";
+
+const HELPS: [(&str, &str); 11] = [
+    ("rmelab --help", HELP),
+    ("rmelab replay --help", REPLAY),
+    ("rmelab run --help", RUN),
+    ("rmelab hunt --help", HUNT),
+    ("rmelab explore --help", EXPLORE),
+    ("rmelab judge --help", JUDGE),
+    ("rmelab draw --help", DRAW),
+    ("rmelab shrink --help", SHRINK),
+    ("rmelab explain --help", EXPLAIN),
+    ("rmelab help", HELP),
+    ("rmelab help judge", JUDGE),
+];
+
+#[test]
+fn helps(rt: HostRuntime) -> Result<(), Fail> {
+    for (line, help) in HELPS {
+        let words = words_of(rt.alloc(), line)?;
+        let Err(WordsFault::Help { text }) = read_words(rt.alloc(), &words) else {
+            panic!(&rt; "no help: {line}");
+        };
+        assert_eq!(rt; text.as_str(), help);
+    }
+    Ok(())
+}
+
+const WRONG: [(&str, &str); 5] = [
+    ("rmelab run --procs 1 --messages 1 --crash 0", SEEDLESS_RUN),
+    (
+        "rmelab hunt --variant right --rounds 1 --steps 1",
+        SEEDLESS_HUNT,
+    ),
+    ("rmelab replay a b", TWO_FILES),
+    ("rmelab", NO_COMMAND),
+    (
+        "rmelab hunt --variant right --seed 1 --rounds x --steps 1",
+        NO_NUMBER,
+    ),
+];
+
+#[test]
+fn wrong_words(rt: HostRuntime) -> Result<(), Fail> {
+    for (line, told) in WRONG {
+        let words = words_of(rt.alloc(), line)?;
+        let Err(WordsFault::Refused { text }) = read_words(rt.alloc(), &words) else {
+            panic!(&rt; "not refused: {line}");
+        };
+        assert_eq!(rt; text.as_str(), told);
+    }
+    Ok(())
+}

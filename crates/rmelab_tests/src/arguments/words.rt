@@ -1,0 +1,64 @@
+//! The words of the command line that are a command.
+
+use crate::arguments::kit::words_of;
+use crashlab::Variant;
+use cli::arguments::order::{Command, HuntOrder, ReplayOrder, RunOrder};
+use cli::arguments::words::read_words;
+use std::test::Fail;
+
+#[test]
+fn a_replay_of_standard_input(rt: HostRuntime) -> Result<(), Fail> {
+    let words = words_of(rt.alloc(), "rmelab replay")?;
+    let Ok(Command::Replay(order)) = read_words(rt.alloc(), &words) else {
+        panic!(&rt; "no replay");
+    };
+    let plain = ReplayOrder {
+        json: false,
+        each: false,
+        variant: Variant::Right,
+        image: None,
+        save: None,
+        file: None,
+    };
+    assert_eq!(rt; order, plain);
+    Ok(())
+}
+
+#[test]
+fn a_hunt(rt: HostRuntime) -> Result<(), Fail> {
+    let line = "rmelab hunt --variant last-skipped --seed 1 --rounds 10000 --steps 10000";
+    let words = words_of(rt.alloc(), line)?;
+    let Ok(Command::Hunt(order)) = read_words(rt.alloc(), &words) else {
+        panic!(&rt; "no hunt");
+    };
+    let longest = HuntOrder {
+        variant: Variant::LastSkipped,
+        seed: 1,
+        rounds: 10_000,
+        steps: 10_000,
+        shrink: false,
+    };
+    assert_eq!(rt; order, longest);
+    Ok(())
+}
+
+#[test]
+fn runs(rt: HostRuntime) -> Result<(), Fail> {
+    let narrow = "rmelab run --procs 16 --messages 4096 --crash 50 --seed 7";
+    let wide = "rmelab run --procs 16 --messages 4096 --crash 50 --seed 7 --width 8";
+    for (line, width) in [(narrow, 1), (wide, 8)] {
+        let words = words_of(rt.alloc(), line)?;
+        let Ok(Command::Run(order)) = read_words(rt.alloc(), &words) else {
+            panic!(&rt; "no run: {line}");
+        };
+        let greatest = RunOrder {
+            procs: 16,
+            messages: 4096,
+            crash: 50,
+            seed: 7,
+            width,
+        };
+        assert_eq!(rt; order, greatest);
+    }
+    Ok(())
+}

@@ -1,0 +1,13 @@
+//! Drawings, explanations and senders, and words that are refused, as whole invocations of the program; and each request for
+//! memory refused in turn. Tests alone: each names public functions of `laboratory` and of the crates below it.
+
+#[cfg(test)]
+mod drawings;
+#[cfg(test)]
+mod explains;
+#[cfg(test)]
+mod invocations;
+#[cfg(test)]
+mod memory;
+#[cfg(test)]
+mod senders;

@@ -1,0 +1,198 @@
+//! What `explain` prints: the names of all that is explained, one thing of each kind, and words that are no name.
+
+use crate::support::fake::Failing;
+use crate::support::invocation::all_come_to;
+use crate::support::row::invoked;
+use std::test::Fail;
+
+const NAMES: &str = "fault 1
+fault 2
+fault 3
+fault 4
+fault 5
+fault 6
+refused 1
+refused 2
+refused 3
+refused 4
+refused 5
+refused 6
+refused 7
+refused 8
+refused 9
+refused 10
+refused 11
+refused 12
+refused 13
+refused 14
+refused 15
+out of memory
+rule 1
+rule 2
+rule 3
+rule 4
+rule 5
+rule 6
+rule 7
+rule 8
+rule 9
+against 1
+against 2
+against 3
+against 4
+against 5
+against 6
+against 7
+answer clean
+answer owner-died
+answer numbers-spent
+answer not-recoverable
+answer unlocked
+answer withdrawn
+answer found idle
+answer found left
+answer found doorway
+answer found waiting
+answer found inside
+answer stored
+answer already
+answer out-of-order
+answer full
+answer closed
+answer closed-now
+answer already-closed
+answer mended
+answer nothing-to-mend
+answer word
+answer put
+answer ruined
+answer not-ruined
+step open
+step peek
+step take
+step shut
+step look
+step weigh
+step mark
+step drop
+step reread
+step get
+step put
+step glance
+";
+
+pub const NO_NEWLINE: &str =
+    "fault 5: The last line is not ended by a line feed. Each line of a schedule or a trace ends with one, the last one too.
+See docs/texts.md, Faults of the text.
+";
+
+const UNMENDED: &str =
+    "refused 12: The process came back after a crash inside, and has not mended what it found. First `consistent P` has to be answered.
+See docs/surface.md, Rules for all calls.
+";
+
+const NO_MEMORY: &str =
+    "out of memory: A request for memory was refused. It counts only where no other cause holds, and the call may be made again.
+See docs/surface.md, Rules for all calls.
+";
+
+const HEADS: &str =
+    "rule 7: The words ruined, closed and armed are at most 1, and count is at most the capacity. Closed and armed are not both 1.
+See docs/texts.md, Image.
+";
+
+const OVERTAKEN: &str =
+    "against 4: `by Q of P`: process Q entered, though P was ready before Q began, and P has neither entered since nor given up its place. First come, first served is broken.
+See docs/judge.md, The judge table.
+";
+
+const FOUND_LEFT: &str =
+    "answer found left: `recover` read the words 0,0,1: the process had crashed on its way out. It has made its exit whole, and is at rest.
+See docs/model.md, Restart table.
+";
+
+const ALREADY: &str =
+    "answer already: The sender's message with this number is there. Nothing was written, so an append that a crash cut off can be made again.
+See docs/mailbox.md, Tasks.
+";
+
+const CLEAN: &str = "answer clean: The process is inside, by the line. Nothing is left to be mended.
+See docs/model.md, Calls as rows of steps.
+";
+
+const LOOK: &str =
+    "step look: Loads choosing of another process, to pass it. Where it is 1 the step is blocked, and the next one reads the same word.
+See docs/model.md, Step.
+";
+
+#[test]
+fn explanations(rt: HostRuntime) -> Result<(), Fail> {
+    let rows = [
+        invoked("rmelab explain", "", NAMES),
+        invoked("rmelab explain fault 5", "", NO_NEWLINE),
+        invoked("rmelab explain refused 12", "", UNMENDED),
+        invoked("rmelab explain out of memory", "", NO_MEMORY),
+        invoked("rmelab explain rule 7", "", HEADS),
+        invoked("rmelab explain against 4", "", OVERTAKEN),
+        invoked("rmelab explain answer clean", "", CLEAN),
+        invoked("rmelab explain answer found left", "", FOUND_LEFT),
+        invoked("rmelab explain answer already", "", ALREADY),
+        invoked("rmelab explain step look", "", LOOK),
+    ];
+    all_come_to(&rt, rt.alloc(), &rows)
+}
+
+pub const NO_NAME: &str = "error: 'fault 7' names nothing that is explained
+
+For more information, try 'rmelab explain'.
+";
+
+const EMPTY_NAME: &str = "error: '' names nothing that is explained
+
+For more information, try 'rmelab explain'.
+";
+
+const NO_WORD: &str = "error: 'answer found' names nothing that is explained
+
+For more information, try 'rmelab explain'.
+";
+
+const NO_OPTION: &str = "error: unexpected argument '--all' found
+
+  tip: to pass '--all' as a value, use '-- --all'
+
+Usage: rmelab explain [WORDS]...
+
+For more information, try '--help'.
+";
+
+#[test]
+fn words_that_are_no_name(rt: HostRuntime) -> Result<(), Fail> {
+    let rows = [
+        invoked("rmelab explain fault 7", "", "").ends(2, NO_NAME),
+        invoked("rmelab explain ", "", "").ends(2, EMPTY_NAME),
+        invoked("rmelab explain answer found", "", "").ends(2, NO_WORD),
+        invoked("rmelab explain --all", "", "").ends(2, NO_OPTION),
+    ];
+    all_come_to(&rt, rt.alloc(), &rows)
+}
+
+#[test]
+fn explanations_where_devices_fail(rt: HostRuntime) -> Result<(), Fail> {
+    let unwritten = "rmelab: write failed\n";
+    let rows = [
+        invoked("rmelab explain", "", "")
+            .where_fails(Failing::Write)
+            .ends(3, unwritten),
+        invoked("rmelab explain fault 5", "", "")
+            .where_fails(Failing::Write)
+            .ends(3, unwritten),
+        invoked("rmelab explain fault 5", "", NO_NEWLINE)
+            .where_fails(Failing::Flush)
+            .ends(3, unwritten),
+        invoked("rmelab explain fault 7", "", "")
+            .where_fails(Failing::Told)
+            .ends(2, ""),
+    ];
+    all_come_to(&rt, rt.alloc(), &rows)
+}

@@ -1,0 +1,17 @@
+//! Each request for memory refused in turn, of a drawing and of explanations.
+
+use crate::commands::drawings::{DRAWN, SMALLEST};
+use crate::commands::explains::{NO_NAME, NO_NEWLINE};
+use crate::support::wanting::all_want_memory;
+use crate::support::row::invoked;
+use std::test::Fail;
+
+#[test]
+fn want_of_memory(rt: HostRuntime) -> Result<(), Fail> {
+    let rows = [
+        invoked("rmelab draw", SMALLEST, DRAWN),
+        invoked("rmelab explain fault 5", "", NO_NEWLINE),
+        invoked("rmelab explain fault 7", "", "").ends(2, NO_NAME),
+    ];
+    all_want_memory(&rt, rt.alloc(), &rows)
+}

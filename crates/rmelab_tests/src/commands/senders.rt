@@ -1,0 +1,73 @@
+//! Senders on threads.
+
+use crashlab::{CrashPlan, Seeded};
+use commands::running::{gates_of, lines_of, status_of_tallies};
+use commands::tally::tallied;
+use cli::arguments::order::RunOrder;
+use crate::support::invocation::prints;
+use redomail::Message;
+use rmecore::Body;
+use std::test::Fail;
+
+const FOUR: &str = "sender 0 messages 50 twice 0 order yes
+sender 1 messages 50 twice 0 order yes
+sender 2 messages 50 twice 0 order yes
+sender 3 messages 50 twice 0 order yes
+total 200
+";
+
+#[test]
+fn four_senders(rt: HostRuntime) -> Result<(), Fail> {
+    let line = "rmelab run --procs 4 --messages 50 --crash 20 --seed 7";
+    prints(&rt, rt.alloc(), line, "", FOUR, "", 0)
+}
+
+#[test]
+fn four_senders_of_wide_messages(rt: HostRuntime) -> Result<(), Fail> {
+    let line = "rmelab run --procs 4 --messages 50 --crash 20 --seed 7 --width 8";
+    prints(&rt, rt.alloc(), line, "", FOUR, "", 0)
+}
+
+/// The crashes of sender p are drawn from the seed and p.
+#[test]
+fn each_sender_has_the_next_seed(rt: HostRuntime) -> Result<(), Fail> {
+    let order = RunOrder {
+        procs: 3,
+        messages: 1,
+        crash: 500,
+        seed: 7,
+        width: 1,
+    };
+    let mut gates = gates_of(rt.alloc(), &order)?;
+    assert_eq!(rt; gates.len(), 3);
+    let mut seed = 7u64;
+    for gate in gates.iter_mut() {
+        let mut own = Seeded::new(seed, 500);
+        for _ in 0..64 {
+            assert_eq!(rt; gate.falls(), own.falls());
+        }
+        seed = seed.wrapping_add(1);
+    }
+    Ok(())
+}
+
+const BROKEN: &str = "sender 0 messages 3 twice 1 order no
+sender 1 messages 2 twice 1 order yes
+total 5
+";
+
+/// No lock lets such a mailbox come to be: the tallies alone are tried.
+#[test]
+fn a_message_twice_and_one_out_of_order(rt: HostRuntime) -> Result<(), Fail> {
+    let value = Body::new(&[7])?;
+    let messages = [(0, 2), (1, 1), (0, 1), (1, 1), (0, 2)].map(|(sender, seq)| Message {
+        sender,
+        seq,
+        value,
+    });
+    let tallies = tallied(rt.alloc(), 2, &messages)?;
+    let text = lines_of(rt.alloc(), &tallies)?;
+    assert_eq!(rt; text.as_str(), BROKEN);
+    assert_eq!(rt; status_of_tallies(&tallies), 1);
+    Ok(())
+}

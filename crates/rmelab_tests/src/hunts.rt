@@ -1,0 +1,13 @@
+//! Hunts, searches and least schedules, as whole invocations of the program; and each request for memory refused in turn.
+//! Tests alone: each names public functions of `laboratory` and of the crates below it.
+
+#[cfg(test)]
+mod explores;
+#[cfg(test)]
+mod hunts;
+#[cfg(test)]
+mod memory;
+#[cfg(test)]
+mod shrinks;
+#[cfg(test)]
+mod watched;

@@ -1,0 +1,142 @@
+//! Searches of all schedules up to a bound. The schedules and the numbers are those of the plain search in bench/explore.
+
+use crate::support::fake::Failing;
+use crate::support::invocation::{all_come_to, ran};
+use crate::support::row::invoked;
+use std::process::ExitCode;
+use std::test::Fail;
+
+/// Both read the numbers in the doorway and find none; 1 comes in, and 0, which doesn't ask whether 1 chooses, too.
+pub const SHORTEST: &str =
+    "rme 1 procs 2 limit 1 cap 1\nlock 0\nstep 0\nstep 0\nstep 0\nstep 0\nstep 0\nlock 1\nstep 1\nstep 1\nstep 1\nstep 1\nstep 1\nstep 1\nstep 1\nstep 1\nstep 0\nstep 0\nstep 0\nstep 0\nstep 1\n";
+
+pub const GONE_OUT: &str =
+    "rme 1 procs 1 limit 1 cap 1\nlock 0\nstep 0\nstep 0\nstep 0\nstep 0\nstep 0\nstep 0\nstep 0\ncrash 0\nlock 0\nstep 0\nstep 0\nstep 0\nstep 0\nstep 0\nstep 0\n";
+
+const NO_PROCS: &str = "error: the following required arguments were not provided:
+  --procs <N>
+
+Usage: rmelab explore --variant <V> --procs <N>
+
+For more information, try '--help'.
+";
+
+#[test]
+fn explores(rt: HostRuntime) -> Result<(), Fail> {
+    let rows = [
+        invoked(
+            "rmelab explore --variant no-look --procs 2 --limit 1",
+            "",
+            SHORTEST,
+        )
+        .ends(1, ""),
+        invoked(
+            "rmelab explore --variant no-look --procs 2 --limit 1 --moves 20 --calls unlock,lock",
+            "",
+            SHORTEST,
+        )
+        .ends(1, ""),
+        invoked(
+            "rmelab explore --variant exit-on-crash --procs 1 --limit 1 --crashes 1",
+            "",
+            GONE_OUT,
+        )
+        .ends(1, ""),
+        invoked(
+            "rmelab explore --variant no-look --procs 2 --limit 1 --moves 19",
+            "",
+            "nothing found within 19 moves\n",
+        ),
+        invoked(
+            "rmelab explore --variant right --procs 2",
+            "",
+            "nothing found: all 925 states\n",
+        ),
+        invoked(
+            "rmelab explore --variant right --procs 2 --crashes 1 --limit 1",
+            "",
+            "nothing found: all 2109 states\n",
+        ),
+    ];
+    all_come_to(&rt, rt.alloc(), &rows)
+}
+
+#[test]
+fn explores_refused(rt: HostRuntime) -> Result<(), Fail> {
+    let bad_size = "rmelab: bad size\n";
+    let rows = [
+        invoked(
+            "rmelab explore --variant right --procs 2 --limit 1 --states 258",
+            "",
+            "",
+        )
+        .ends(3, "rmelab: too many states\n"),
+        invoked("rmelab explore --variant right --procs 65", "", "").ends(2, bad_size),
+        invoked("rmelab explore --variant right --procs 1 --limit 0", "", "").ends(2, bad_size),
+        invoked("rmelab explore --variant right --procs 1 --width 9", "", "").ends(2, bad_size),
+        invoked(
+            "rmelab explore --variant right --procs 1 --calls lock,run",
+            "",
+            "",
+        )
+        .ends(2, bad_size),
+        invoked("rmelab explore --variant wrong --procs 1", "", "").ends(
+            2,
+            "rmelab: bad variant\n",
+        ),
+        invoked("rmelab explore --variant right", "", "").ends(2, NO_PROCS),
+    ];
+    all_come_to(&rt, rt.alloc(), &rows)
+}
+
+#[test]
+fn explores_to_a_writer_that_fails(rt: HostRuntime) -> Result<(), Fail> {
+    let found = "rmelab explore --variant exit-on-crash --procs 1 --limit 1 --crashes 1";
+    let within = "rmelab explore --variant right --procs 1 --limit 1 --moves 3";
+    let all = "rmelab explore --variant right --procs 2 --limit 1";
+    let failed = "rmelab: write failed\n";
+    let rows = [
+        invoked(found, "", "")
+            .where_fails(Failing::Write)
+            .ends(3, failed),
+        invoked(found, "", GONE_OUT)
+            .where_fails(Failing::Flush)
+            .ends(3, failed),
+        invoked(within, "", "")
+            .where_fails(Failing::Write)
+            .ends(3, failed),
+        invoked(all, "", "")
+            .where_fails(Failing::Write)
+            .ends(3, failed),
+        invoked(
+            "rmelab explore --variant right --procs 2 --limit 1 --states 258",
+            "",
+            "",
+        )
+        .where_fails(Failing::Told)
+        .ends(3, ""),
+    ];
+    all_come_to(&rt, rt.alloc(), &rows)
+}
+
+/// What is found replays to its fault.
+#[test]
+fn explored_schedules_replay(rt: HostRuntime) -> Result<(), Fail> {
+    let replayed = ran(
+        &rt,
+        rt.alloc(),
+        "rmelab replay --variant no-look",
+        "",
+        SHORTEST,
+    )?;
+    assert!(rt; replayed.code == ExitCode::from(1));
+    let replayed = ran(
+        &rt,
+        rt.alloc(),
+        "rmelab replay --variant exit-on-crash",
+        "",
+        GONE_OUT,
+    )?;
+    assert!(rt; replayed.code == ExitCode::from(1));
+    Ok(())
+}

@@ -1,0 +1,27 @@
+//! Each request for memory refused in turn, of searches and of schedules that are made least.
+
+use crate::hunts::explores::GONE_OUT;
+use crate::hunts::shrinks::{LEAST, SMALLEST, TWO_INSIDE};
+use crate::support::wanting::all_want_memory;
+use crate::support::row::invoked;
+use std::test::Fail;
+
+#[test]
+fn want_of_memory(rt: HostRuntime) -> Result<(), Fail> {
+    let rows = [
+        invoked("rmelab shrink --variant right", SMALLEST, "verdict fine\n"),
+        invoked("rmelab shrink --variant no-look", TWO_INSIDE, LEAST).ends(1, ""),
+        invoked(
+            "rmelab explore --variant exit-on-crash --procs 1 --limit 1 --crashes 1",
+            "",
+            GONE_OUT,
+        )
+        .ends(1, ""),
+        invoked(
+            "rmelab explore --variant right --procs 1 --limit 1 --moves 3",
+            "",
+            "nothing found within 3 moves\n",
+        ),
+    ];
+    all_want_memory(&rt, rt.alloc(), &rows)
+}

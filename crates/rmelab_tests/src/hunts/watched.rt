@@ -1,0 +1,79 @@
+//! How a search or a hunt comes on, told and shown.
+
+use crate::hunts::explores::SHORTEST;
+use crashlab::Variant;
+use crashlab::hunting::hunt_watched;
+use explorer::Watch;
+use crate::support::fake::Failing;
+use crate::support::invocation::all_come_to;
+use crate::support::row::invoked;
+use std::test::Fail;
+
+/// Keeps what it is told. What it has no memory for is lost.
+#[derive(Drop)]
+struct Told {
+    all: Vec<(u64, u64)>,
+}
+
+impl Watch for Told {
+    fn see(&mut self, far: u64, done: u64) {
+        let _ = self.all.push((far, done));
+    }
+}
+
+#[test]
+fn each_round_is_told_once(rt: HostRuntime) -> Result<(), Fail> {
+    let mut told = Told {
+        all: Vec::new(rt.alloc()),
+    };
+    let found = hunt_watched(rt.alloc(), Variant::Right, 1, 4, 10, &mut told)?;
+    assert!(rt; found.is_none());
+    let rounds = vec![in rt.alloc(); (0, 0), (1, 10), (2, 20), (3, 30)]?;
+    assert_eq!(rt; told.all, rounds);
+    Ok(())
+}
+
+const HUNT: &str = "rmelab hunt --variant right --seed 1 --rounds 1300 --steps 10";
+
+const SEARCH: &str = "rmelab explore --variant right --procs 2";
+
+/// Before the 640th and the 1280th round.
+const HUNT_SHOWN: &str =
+    "\r639 rounds, 6390 moves, 6390 moves a second\x1b[K\r1279 rounds, 12790 moves, 6395 moves a second\x1b[K\r\x1b[K";
+
+/// Where the 640th state is tried.
+const SEARCH_SHOWN: &str = "\r657 states, 48 moves deep, 657 states a second\x1b[K\r\x1b[K";
+
+/// The clock is read when the work begins, and then at each 64th state or round: each tenth reading after the first is
+/// another second later. What is found in so many states is what the plain search in bench/explore has found.
+#[test]
+fn shown_on_a_terminal(rt: HostRuntime) -> Result<(), Fail> {
+    let rows = [
+        invoked(HUNT, "", "nothing found\n").shows(HUNT_SHOWN),
+        invoked(SEARCH, "", "nothing found: all 925 states\n").shows(SEARCH_SHOWN),
+        invoked(SEARCH, "", "nothing found: all 925 states\n")
+            .shows("")
+            .where_fails(Failing::Shown),
+        invoked(HUNT, "", "nothing found\n")
+            .shows("")
+            .where_fails(Failing::Shown),
+        invoked(
+            "rmelab explore --variant no-look --procs 2 --limit 1",
+            "",
+            SHORTEST,
+        )
+        .shows("")
+        .ends(1, ""),
+    ];
+    all_come_to(&rt, rt.alloc(), &rows)
+}
+
+/// Where standard error is no terminal, nothing is shown.
+#[test]
+fn shown_on_no_terminal(rt: HostRuntime) -> Result<(), Fail> {
+    let rows = [
+        invoked(HUNT, "", "nothing found\n"),
+        invoked(SEARCH, "", "nothing found: all 925 states\n"),
+    ];
+    all_come_to(&rt, rt.alloc(), &rows)
+}

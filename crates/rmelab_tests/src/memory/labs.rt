@@ -1,0 +1,61 @@
+//! Each request for memory refused in turn, of a lab over the running lock.
+
+use crash_plans::Never;
+use robust::{LabFault, LabResult, Spec, run_lab};
+use memory_limit::{PIECES, Scarce};
+use std::alloc::{AllocError, Global};
+use std::sync::Wait;
+use std::test::Fail;
+use std::thread::Threads;
+
+const TWO: Spec = Spec {
+    procs: 2,
+    messages: 1,
+    limit: 10,
+    cap: 2,
+    width: 1,
+};
+
+/// The gates of a lab, one for each worker, as many times as there are pieces, and once more.
+fn gates(alloc: Global) -> Result<Vec<Vec<Never>>, AllocError> {
+    let mut all = Vec::with_capacity(alloc, PIECES + 1)?;
+    for _ in 0..PIECES + 1 {
+        let mut two = Vec::with_capacity(alloc, 2)?;
+        two.push(Never::new())?;
+        two.push(Never::new())?;
+        all.push(two)?;
+    }
+    Ok(all)
+}
+
+fn lab<R: Threads + Wait + Sync>(
+    rt: &R,
+    alloc: Global,
+    gates: &mut Vec<Vec<Never>>,
+) -> Result<LabResult, LabFault> {
+    run_lab(rt, alloc, TWO, gates.pop().unwrap_or(Vec::new(alloc)))
+}
+
+/// A thread needs more than the reserve, so the last run has all memory again.
+#[test]
+fn a_lab(rt: HostRuntime) -> Result<(), Fail> {
+    let alloc = rt.alloc();
+    let mut gates = gates(alloc)?;
+    let mut scarce = Scarce::new(alloc)?;
+    let mut refused = 0u64;
+    for _ in 0..PIECES {
+        match lab(&rt, alloc, &mut gates) {
+            Ok(left) => assert_eq!(rt; left.messages.len(), 2),
+            Err(fault) => {
+                assert_eq!(rt; fault, LabFault::OutOfMemory);
+                refused = refused.saturating_add(1);
+            }
+        }
+        scarce.give_back();
+    }
+    scarce.end();
+    assert!(rt; 0 < refused);
+    let left = lab(&rt, alloc, &mut gates)?;
+    assert_eq!(rt; left.messages.len(), 2);
+    Ok(())
+}

@@ -1,0 +1,46 @@
+//! Judging a trace holds one line of it: a long trace meets as many refusals of memory as a short one.
+
+use memory_limit::{PIECES, Scarce};
+use schedule::Text;
+use std::alloc::{AllocError, Global};
+use std::test::Fail;
+use schedule::{ReplayFault, Verdict, judge_trace};
+
+const IN_ORDER: &[u8] = b"trace 1 procs 2 cap 1
+begin 0
+ready 0
+begin 1
+ready 1
+enter 0
+";
+
+/// How many requests for memory are refused, one after the other, until the trace is found fine; none if it never is.
+fn refusals(alloc: Global, text: &[u8]) -> Result<Option<u64>, AllocError> {
+    let mut scarce = Scarce::new(alloc)?;
+    let mut refused = 0u64;
+    for _ in 0..PIECES {
+        match judge_trace(alloc, &mut Text::new(text, 512)) {
+            Ok(Verdict::Fine) => return Ok(Some(refused)),
+            Err(ReplayFault::OutOfMemory) => {}
+            _ => break,
+        }
+        refused = refused.saturating_add(1);
+        scarce.give_back();
+    }
+    Ok(None)
+}
+
+#[test]
+fn a_long_trace(rt: HostRuntime) -> Result<(), Fail> {
+    let alloc = rt.alloc();
+    let mut long = Vec::new(alloc);
+    long.extend_from_slice(IN_ORDER)?;
+    for _ in 0..10_000 {
+        long.extend_from_slice(b"crash 0\n")?;
+    }
+    let few = refusals(alloc, IN_ORDER)?;
+    let many = refusals(alloc, &long)?;
+    assert!(rt; few.is_some() && few != Some(0));
+    assert_eq!(rt; many, few);
+    Ok(())
+}

@@ -1,0 +1,18 @@
+//! Each request for memory refused in turn, of replays and of a trace.
+
+use crate::replays::reports::{IN_ORDER, OBJECT, REPORT, SMALLEST};
+use crate::replays::stepwise::TOLD;
+use crate::support::wanting::all_want_memory;
+use crate::support::row::invoked;
+use std::test::Fail;
+
+#[test]
+fn want_of_memory(rt: HostRuntime) -> Result<(), Fail> {
+    let rows = [
+        invoked("rmelab replay", SMALLEST, REPORT),
+        invoked("rmelab replay --json --save a.json", SMALLEST, OBJECT),
+        invoked("rmelab replay --each", SMALLEST, TOLD),
+        invoked("rmelab judge", IN_ORDER, "verdict fine\n"),
+    ];
+    all_want_memory(&rt, rt.alloc(), &rows)
+}

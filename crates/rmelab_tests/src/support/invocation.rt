@@ -1,0 +1,155 @@
+//! Runs the program as rows say, over a folder in memory and devices that may fail, and compares all that comes of it.
+
+use crate::support::devices::{Feed, Paper, Ticking};
+use crate::support::fake::{Failing, Fake};
+use crate::support::row::{Row, invoked};
+use commands::program::run_program;
+use cli::arguments::words::WordsFault;
+use commands::Terminal;
+use std::alloc::{AllocError, Global};
+use std::process::ExitCode;
+use std::sync::Wait;
+use std::test::Fail;
+use std::thread::Threads;
+
+/// The words of a command line.
+pub fn words_of(alloc: Global, line: &str) -> Result<Vec<String>, AllocError> {
+    let mut words = Vec::new(alloc);
+    for word in line.split(' ') {
+        words.push(String::from_str(alloc, word)?)?;
+    }
+    Ok(words)
+}
+
+/// What an invocation has written to its two outputs and to a file, what it has shown, and the exit status.
+#[derive(Drop)]
+pub struct Printed {
+    pub out: Vec<u8>,
+    pub err: Vec<u8>,
+    pub shown: Vec<u8>,
+    pub name: String,
+    pub save: Vec<u8>,
+    pub code: ExitCode,
+}
+
+/// Runs the program on these words, else as the row says.
+pub fn printed_by(
+    rt: &(impl Threads + Wait + Sync),
+    alloc: Global,
+    words: Result<Vec<String>, WordsFault>,
+    row: &Row<'_>,
+) -> Printed {
+    let mut folder = Fake::new(alloc, row.files, row.failing);
+    let input = Feed::new(row.input, row.failing == Failing::Read);
+    let mut out = Vec::new(alloc);
+    let mut err = Vec::new(alloc);
+    let output = Paper {
+        text: &mut out,
+        fails: row.failing == Failing::Write,
+        flush_fails: row.failing == Failing::Flush,
+    };
+    let errors = Paper {
+        text: &mut err,
+        fails: row.failing == Failing::Told,
+        flush_fails: false,
+    };
+    let clock = Ticking::new();
+    let mut shown = Vec::new(alloc);
+    let lines = Paper {
+        text: &mut shown,
+        fails: row.failing == Failing::Shown,
+        flush_fails: false,
+    };
+    let mut screen = Terminal::new(&clock, lines, row.is_terminal);
+    let code = run_program(
+        rt,
+        alloc,
+        words,
+        &mut folder,
+        &mut screen,
+        input,
+        output,
+        errors,
+    );
+    drop(screen);
+    let Fake { name, text, .. } = folder;
+    Printed {
+        out,
+        err,
+        shown,
+        name,
+        save: text,
+        code,
+    }
+}
+
+/// It has written this there, or the test has failed.
+fn wrote(line: &str, place: &str, found: &[u8], wanted: &str) -> Result<(), Fail> {
+    if found == wanted.as_bytes() {
+        return Ok(());
+    }
+    let found = str::from_utf8(found).unwrap_or("no text");
+    Err(Fail::new(format_args!("{line}: {place}: {found}")))
+}
+
+/// Runs the program on these words, else as the row says, and compares all that comes of it.
+pub fn comes_to(
+    rt: &(impl Threads + Wait + Sync),
+    alloc: Global,
+    words: Result<Vec<String>, WordsFault>,
+    row: &Row<'_>,
+) -> Result<(), Fail> {
+    let line = row.line;
+    let found = printed_by(rt, alloc, words, row);
+    wrote(line, "standard output", &found.out, row.printed)?;
+    wrote(line, "standard error", &found.err, row.told)?;
+    wrote(line, "the terminal", &found.shown, row.shown)?;
+    wrote(
+        line,
+        "the saved file's name",
+        found.name.as_bytes(),
+        row.saved.0,
+    )?;
+    wrote(line, "the saved file", &found.save, row.saved.1)?;
+    if found.code != ExitCode::from(row.status) {
+        return Err(Fail::new(format_args!("{line}: {:?}", found.code)));
+    }
+    Ok(())
+}
+
+/// Runs the program as each of the rows says.
+pub fn all_come_to(
+    rt: &(impl Threads + Wait + Sync),
+    alloc: Global,
+    rows: &[Row<'_>],
+) -> Result<(), Fail> {
+    for row in rows {
+        comes_to(rt, alloc, Ok(words_of(alloc, row.line)?), row)?;
+    }
+    Ok(())
+}
+
+/// Runs the program, and compares what it prints and its status.
+pub fn prints<'a>(
+    rt: &(impl Threads + Wait + Sync),
+    alloc: Global,
+    line: &'a str,
+    input: &'a str,
+    out: &'a str,
+    err: &'a str,
+    status: u8,
+) -> Result<(), Fail> {
+    all_come_to(rt, alloc, &[invoked(line, input, out).ends(status, err)])
+}
+
+/// Runs the program with these words over this input, in a folder where `a.json` is this image.
+pub fn ran<'a>(
+    rt: &(impl Threads + Wait + Sync),
+    alloc: Global,
+    line: &'a str,
+    image: &'a str,
+    input: &'a str,
+) -> Result<Printed, AllocError> {
+    let row = invoked(line, input, "").beside(("a.json", image));
+    Ok(printed_by(rt, alloc, Ok(words_of(alloc, line)?), &row))
+}

@@ -1,0 +1,80 @@
+//! A row: an invocation, and what has to come of it.
+
+use crate::support::fake::Failing;
+
+/// An invocation, and what comes of it.
+#[derive(Clone, Copy)]
+pub struct Row<'a> {
+    pub(crate) line: &'a str,
+    pub(crate) input: &'a str,
+    pub(crate) files: [(&'a str, &'a str); 2],
+    pub(crate) failing: Failing,
+    pub(crate) is_terminal: bool,
+    pub(crate) shown: &'a str,
+    pub(crate) printed: &'a str,
+    pub(crate) told: &'a str,
+    pub(crate) saved: (&'a str, &'a str),
+    pub(crate) status: u8,
+}
+
+/// These words over this standard input print this.
+pub fn invoked<'a>(line: &'a str, input: &'a str, printed: &'a str) -> Row<'a> {
+    Row {
+        line,
+        input,
+        files: [("", ""); 2],
+        failing: Failing::Nothing,
+        is_terminal: false,
+        shown: "",
+        printed,
+        told: "",
+        saved: ("", ""),
+        status: 0,
+    }
+}
+
+impl<'a> Row<'a> {
+    /// In a folder of these files.
+    pub fn among(self, first: (&'a str, &'a str), second: (&'a str, &'a str)) -> Row<'a> {
+        Row {
+            files: [first, second],
+            ..self
+        }
+    }
+
+    /// In a folder of this file.
+    pub fn beside(self, first: (&'a str, &'a str)) -> Row<'a> {
+        self.among(first, ("", ""))
+    }
+
+    /// While this fails.
+    pub fn where_fails(self, failing: Failing) -> Row<'a> {
+        Row { failing, ..self }
+    }
+
+    /// Standard error is a terminal, on which this is shown.
+    pub fn shows(self, shown: &'a str) -> Row<'a> {
+        Row {
+            is_terminal: true,
+            shown,
+            ..self
+        }
+    }
+
+    /// The file of this name is written.
+    pub fn saves(self, name: &'a str, text: &'a str) -> Row<'a> {
+        Row {
+            saved: (name, text),
+            ..self
+        }
+    }
+
+    /// It ends with this status, and this on standard error.
+    pub fn ends(self, status: u8, told: &'a str) -> Row<'a> {
+        Row {
+            status,
+            told,
+            ..self
+        }
+    }
+}

@@ -1,0 +1,91 @@
+-- Lists in JSON, read back.
+use Rattle.std.proofs.Common.{◌≡◌, Bool, true, false, codes, ℕ, zero, suc, ◌<◌, List, [], ◌∷◌, length, get_or, map, Option, Some, None, refl, sym, ap, ◌∙◌, arith}
+use Rattle.rmeworld.proofs.ImageCommon.{false≢true, length-map, array, object, Items, no_items, item, Members, no_members, member, view, items_of, items_view, members_view, Image, whole_data, width_member}
+use Rattle.rmeworld.proofs.ImageCommon.{image_data}
+use Rattle.serde_json.specs.Data.{Data}
+use Rattle.serde_json.specs.Events.{members_len}
+use Rattle.serde_json.specs.Find.{as_array}
+use Rattle.serde_json.specs.declared.value.Value.{Value}
+use Rattle.serde_json.proofs.Views.{Entry, members_len-members_view}
+
+abbrev datas : Items → List Data
+datas no_items = []
+datas (item d ds) = d ∷ datas ds
+
+datas-items_of : (ds : List Data) → datas (items_of ds) ≡ ds
+datas-items_of [] = refl
+datas-items_of (d ∷ ds) = ap (λ es. d ∷ es) (datas-items_of ds)
+
+abbrev datas_or : Option Items → List Data
+datas_or None = []
+datas_or (Some ds) = datas ds
+
+-- the items of a list are these
+pub items_are : (vs : List Value) (ds : List Data) (d : Data) → Some (items_view vs) ≡ as_array d → d ≡ array (items_of ds) → map view vs ≡ ds
+items_are vs ds d e is = sym (datas-items_of (map view vs)) ∙ ap datas_or (e ∙ ap as_array is) ∙ datas-items_of ds
+
+head_or : Data → List Data → Data
+head_or e [] = e
+head_or e (d ∷ ds) = d
+
+rest_of : List Data → List Data
+rest_of [] = []
+rest_of (d ∷ ds) = ds
+
+-- each item is such a one
+pub item_is : {A : Type 0} (f : A → Data) (vs : List Value) (xs : List A) (i : ℕ) (v : Value) → map view vs ≡ map f xs → i < length vs → v ≡ get_or vs i v → (x : A) × (view v ≡ f x)
+unfolding head_or rest_of
+item_is f [] xs i v e h is = absurd (omega arith)
+item_is f (w ∷ vs) [] i v e h is = absurd (omega (arith, ap length e))
+item_is f (w ∷ vs) (x ∷ xs) zero v e h is = (x, ap view is ∙ ap (head_or (view w)) e)
+item_is f (w ∷ vs) (x ∷ xs) (suc i) v e h is = item_is f vs xs i v (ap rest_of e) (omega arith) is
+
+-- an array with an item that is no such one
+pub not_all : {A : Type 0} (f : A → Data) (w : Value) (all vs : List Value) (i : ℕ) (v : Value) → Some (items_view all) ≡ as_array (view w) → vs ≡ all → i < length vs → v ≡ get_or vs i v
+    → ((x : A) → view v ≡ f x → ⊥) → (xs : List A) → view w ≡ array (items_of (map f xs)) → ⊥
+not_all f w all vs i v e same h is not xs spelled =
+    let found = item_is f vs xs i v (ap (map view) same ∙ items_are all (map f xs) (view w) e spelled) h is in
+    not found.0 found.1
+
+-- an array of another length
+pub not_many : {A : Type 0} (f : A → Data) (w : Value) (all : List Value) (xs : List A) → Some (items_view all) ≡ as_array (view w) → view w ≡ array (items_of (map f xs)) → length all ≡ length xs
+not_many f w all xs e spelled =
+    let same = items_are all (map f xs) (view w) e spelled in
+    omega (arith, ap length same, length-map all view, length-map xs f)
+
+-- something stands where the width could, and isn't a width
+pub no_width : (es : List Entry) → (length es ≡ 0 → false ≡ true) → ((n : ℕ) (ms : Members) → members_view es ≡ member (codes "width") (whole_data n) ms → ⊥) → (wide : Bool) (w : ℕ)
+    → members_view es ≡ width_member wide w → ⊥
+no_width es some not true w e = not w no_members e
+no_width es some not false w e =
+    let len = ap members_len e in
+    absurd (false≢true (some (omega (arith, len, members_len-members_view es))))
+
+-- something stands after the width
+pub more_than_width : (es rest : List Entry) (n : ℕ) → members_view es ≡ member (codes "width") (whole_data n) (members_view rest) → (length rest ≡ 0 → false ≡ true) → (wide : Bool) (w : ℕ)
+    → members_view es ≡ width_member wide w → ⊥
+more_than_width es rest n first some true w e =
+    let one = ap members_len e in
+    let all = ap members_len first in
+    absurd (false≢true (some (omega (arith, one, all, members_len-members_view rest))))
+more_than_width es rest n first some false w e =
+    let none = ap members_len e in
+    let all = ap members_len first in
+    absurd (omega (arith, none, all, members_len-members_view rest))
+
+abbrev pub rest_of_members : Members → Members
+rest_of_members no_members = no_members
+rest_of_members (member k d ms) = ms
+
+abbrev pub members_or : Data → Members
+members_or (object ms) = ms
+members_or d = no_members
+
+-- what is left of an image's members behind the first four
+pub behind_four : (m0 m1 m2 m3 m4 : Members) (a b c d : Data) (wide : Bool) (i : Image) → object m0 ≡ image_data wide i → m0 ≡ member (codes "cap") a m1 → m1 ≡ member (codes "data") b m2
+    → m2 ≡ member (codes "limit") c m3 → m3 ≡ member (codes "lock") d m4 → m4 ≡ member (codes "version") (whole_data i.version) (width_member wide i.width)
+behind_four m0 m1 m2 m3 m4 a b c d wide i e e1 e2 e3 e4 =
+    let behind1 = ap rest_of_members (sym e1 ∙ ap members_or e) in
+    let behind2 = ap rest_of_members (sym e2 ∙ behind1) in
+    let behind3 = ap rest_of_members (sym e3 ∙ behind2) in
+    ap rest_of_members (sym e4 ∙ behind3)

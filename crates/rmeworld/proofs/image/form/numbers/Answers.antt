@@ -1,0 +1,13 @@
+use Rattle.std.proofs.Common.{inr, arith}
+use Rattle.rmeworld.proofs.ImageCommon.{err_from_is_err_and, whole_data}
+use Rattle.rmeworld.proofs.ImageForms.{not_all}
+use Rattle.rmeworld.proofs.image.form.numbers.Goals as goal
+
+pub returns-in_err-whole-clause-err : goal.returns-in_err-whole-clause-err
+returns-in_err-whole-clause-err c =
+    let p = err_from_is_err_and c.from_residual-in_err-whole.result c.from_residual-in_err-whole.ensures.1 in
+    rw (p.1, p.2) (inr (
+      c.in_err-whole.ensures.err.0,
+      not_all whole_data c.args.value.now c.in-Some.items.now.items c.deref-item-items.result.now c.loop-item.item-index c.item-item.result
+          c.in-Some.ensures c.deref-item-items.ensures.value (omega arith) c.item-item.is c.in_err-whole.ensures.err.1,
+    ))

@@ -1,0 +1,175 @@
+//! The JSON form of an image.
+
+ghost use Rattle.std.specs.Prelude.{◌≡◌, ℕ, IfOk, IfErr, ◌⊎◌, Bool, false, List, is_some, unwrap_or};
+ghost use Rattle.rmecore.specs.declared.own.Own.{Own as OwnOf};
+ghost use Rattle.rmecore.specs.declared.refusal.Refusal.TheVariants.{BadImage, OutOfMemory};
+ghost use Rattle.rmeworld.specs.ImageText.{whole_data, list_data, own_data, lock_data, width_member, image_data};
+ghost use Rattle.rmeworld.specs.declared.image.Image.{Image as ImageOf};
+ghost use Rattle.serde_json.specs.Data.{Data, Members, member};
+ghost use Rattle.serde_json.specs.View.{view, members_view};
+
+use rmecore::{Own, Refusal};
+use crate::cells::Cells;
+use crate::image::Image;
+use crate::owns::Owns;
+use serde_json::{Map, Value};
+use std::alloc::Global;
+
+// What isn't an image's JSON.
+const MISSHAPEN: Refusal = Refusal::BadImage { rule: 1 };
+
+// Takes the first member of an object, if it has this name.
+fn take(members: &mut Map<String, Value>, name: &str) -> Result<Value, Refusal>
+    ensures ok { IfOk result (λ v. members_view members.old.entries ≡ member name.now (view v) (members_view members.new.entries)) }
+    ensures err { IfErr result (λ e. (e ≡ BadImage 1) × ((d : Data) (ms : Members) → members_view members.old.entries ≡ member name.now d ms → ⊥)) }
+{
+    match members.pop_first() {
+        Some((key, value)) if key.as_str() == name => Ok(value),
+        _ => Err(MISSHAPEN),
+    }
+}
+
+// A whole number.
+fn whole(value: &Value) -> Result<u64, Refusal>
+    ensures ok { IfOk result (λ n. view value.now ≡ whole_data n) }
+    ensures err { IfErr result (λ e. (e ≡ BadImage 1) × ((n : ℕ) → view value.now ≡ whole_data n → ⊥)) }
+{
+    match value.as_u64() {
+        Some(number) => Ok(number),
+        None => Err(MISSHAPEN),
+    }
+}
+
+// A list of whole numbers.
+fn numbers(alloc: Global, value: &Value) -> Result<Vec<u64>, Refusal>
+    ensures ok { IfOk result (λ ns. view value.now ≡ list_data ns.items) }
+    ensures err { IfErr result (λ e. (e ≡ OutOfMemory) ⊎ ((e ≡ BadImage 1) × ((ns : List ℕ) → view value.now ≡ list_data ns → ⊥))) }
+{
+    let Some(items) = value.as_array() else {
+        return Err(MISSHAPEN);
+    };
+    let mut numbers = Vec::with_capacity(alloc, items.len())?;
+    for item in items {
+        numbers.push(whole(item)?)?;
+    }
+    Ok(numbers)
+}
+
+// The lock words of a process: a list of three.
+fn own(value: &Value) -> Result<Own, Refusal>
+    ensures ok { IfOk result (λ x. view value.now ≡ own_data x) }
+    ensures err { IfErr result (λ e. (e ≡ BadImage 1) × ((x : OwnOf) → view value.now ≡ own_data x → ⊥)) }
+{
+    let Some(items) = value.as_array() else {
+        return Err(MISSHAPEN);
+    };
+    let [choosing, number, inside] = items.as_slice() else {
+        return Err(MISSHAPEN);
+    };
+    Ok(Own {
+        choosing: whole(choosing)?,
+        number: whole(number)?,
+        inside: whole(inside)?,
+    })
+}
+
+// A list of lock words.
+fn owns(alloc: Global, value: &Value) -> Result<Vec<Own>, Refusal>
+    ensures ok { IfOk result (λ xs. view value.now ≡ lock_data xs.items) }
+    ensures err { IfErr result (λ e. (e ≡ OutOfMemory) ⊎ ((e ≡ BadImage 1) × ((xs : List OwnOf) → view value.now ≡ lock_data xs → ⊥))) }
+{
+    let Some(items) = value.as_array() else {
+        return Err(MISSHAPEN);
+    };
+    let mut owns = Vec::with_capacity(alloc, items.len())?;
+    for item in items {
+        owns.push(own(item)?)?;
+    }
+    Ok(owns)
+}
+
+// Takes a whole number that is the first member of an object.
+fn take_whole(members: &mut Map<String, Value>, name: &str) -> Result<u64, Refusal>
+    ensures ok { IfOk result (λ n. members_view members.old.entries ≡ member name.now (whole_data n) (members_view members.new.entries)) }
+    ensures err { IfErr result (λ e. (e ≡ BadImage 1) × ((n : ℕ) (ms : Members) → members_view members.old.entries ≡ member name.now (whole_data n) ms → ⊥)) }
+{
+    let value = take(members, name)?;
+    whole(&value)
+}
+
+// Takes a list of whole numbers that is the first member of an object.
+fn take_numbers(
+    alloc: Global,
+    members: &mut Map<String, Value>,
+    name: &str,
+) -> Result<Vec<u64>, Refusal>
+    ensures ok { IfOk result (λ ns. members_view members.old.entries ≡ member name.now (list_data ns.items) (members_view members.new.entries)) }
+    ensures err { IfErr result (λ e. (e ≡ OutOfMemory) ⊎ ((e ≡ BadImage 1) × ((ns : List ℕ) (ms : Members) → members_view members.old.entries ≡ member name.now (list_data ns) ms → ⊥))) }
+{
+    let value = take(members, name)?;
+    numbers(alloc, &value)
+}
+
+// Takes a list of lock words that is the first member of an object.
+fn take_owns(
+    alloc: Global,
+    members: &mut Map<String, Value>,
+    name: &str,
+) -> Result<Vec<Own>, Refusal>
+    ensures ok { IfOk result (λ xs. members_view members.old.entries ≡ member name.now (lock_data xs.items) (members_view members.new.entries)) }
+    ensures err { IfErr result (λ e. (e ≡ OutOfMemory) ⊎ ((e ≡ BadImage 1) × ((xs : List OwnOf) (ms : Members) → members_view members.old.entries ≡ member name.now (lock_data xs) ms → ⊥))) }
+{
+    let value = take(members, name)?;
+    owns(alloc, &value)
+}
+
+// The last member, the width, if it is there.
+fn last_width(members: &mut Map<String, Value>) -> Result<Option<u64>, Refusal>
+    ensures ok { IfOk result (λ o. members_view members.old.entries ≡ width_member (is_some o) (unwrap_or o 1)) }
+    ensures err { IfErr result (λ e. (e ≡ BadImage 1) × ((wide : Bool) (w : ℕ) → members_view members.old.entries ≡ width_member wide w → ⊥)) }
+{
+    if members.is_empty() {
+        return Ok(None);
+    }
+    let width = take_whole(members, "width")?;
+    if !members.is_empty() {
+        return Err(MISSHAPEN);
+    }
+    Ok(Some(width))
+}
+
+/// An image as a text spells it, and whether the text names its width.
+#[derive(Drop)]
+pub(crate) struct Spelled {
+    pub(crate) image: Image,
+    pub(crate) wide: bool,
+}
+
+/// The image that a JSON value spells.
+pub(crate) fn image_in(alloc: Global, value: Value) -> Result<Spelled, Refusal>
+    ensures ok { IfOk result (λ s. view value ≡ image_data s.wide s.image) }
+    ensures narrow { IfOk result (λ s. s.wide ≡ false → s.image.width ≡ 1) }
+    ensures err { IfErr result (λ e. (e ≡ OutOfMemory) ⊎ ((e ≡ BadImage 1) × ((wide : Bool) (i : ImageOf) → view value ≡ image_data wide i → ⊥))) }
+{
+    let Value::Object(mut members) = value else {
+        return Err(MISSHAPEN);
+    };
+    let cap = take_whole(&mut members, "cap")?;
+    let cells = take_numbers(alloc, &mut members, "data")?;
+    let limit = take_whole(&mut members, "limit")?;
+    let lock = take_owns(alloc, &mut members, "lock")?;
+    let version = take_whole(&mut members, "version")?;
+    let width = last_width(&mut members)?;
+    let image = Image {
+        cap,
+        cells: Cells::new(cells),
+        limit,
+        lock: Owns::new(lock),
+        version,
+        width: width.unwrap_or(1),
+    };
+    Ok(Spelled {
+        image,
+        wide: width.is_some(),
+    })
+}

@@ -1,0 +1,42 @@
+//! Laws of images.
+
+ghost use Rattle.std.specs.Prelude.{◌≡◌, ℕ, List, Bool, IfOk, IfErr};
+ghost use Rattle.judge.specs.Starts.{IsStart};
+ghost use Rattle.judge.specs.declared.start.Start.{Start};
+ghost use Rattle.rmecore.specs.declared.refusal.Refusal.TheVariants.{OutOfMemory};
+ghost use Rattle.rmeworld.specs.ImageRules.{IsLawfulImage};
+ghost use Rattle.rmeworld.specs.ImageStart.{IsStartOf};
+ghost use Rattle.rmeworld.specs.ImageText.{Spells};
+ghost use Rattle.rmeworld.specs.ImageWiden.{WideningKeeps};
+ghost use Rattle.rmeworld.specs.declared.image.Image.{Image as ImageOf};
+
+use crate::image::reading::read_image;
+use crate::image::writing::write_image;
+use rmecore::Refusal;
+use crate::image::Image;
+use std::alloc::Global;
+
+/// A wider image is lawful where the image was, and its list is the same, each value with words 0 at its end.
+pub fn widening_keeps()
+    ensures { WideningKeeps }
+{}
+
+/// A judge can start from the start of a lawful image.
+pub fn images_are_starts()
+    ensures { (i : ImageOf) (s : Start) → IsLawfulImage i → IsStartOf i s → IsStart s }
+{}
+
+/// A text spells no two images, and spells it in one form.
+pub fn texts_spell_one_image()
+    ensures { (text : List ℕ) (wide also : Bool) (i j : ImageOf) → Spells text wide i → Spells text also j → (wide ≡ also) × (i ≡ j) }
+{}
+
+/// What is written of an image is read back: it is the same image, with version 2. Of a lawful image nothing but want of
+/// memory is refused.
+pub fn written_is_read(alloc: Global, image: &Image) -> Result<Image, Refusal>
+    ensures same { IfOk result (λ read. read ≡ record image.now { version = 2 }) }
+    ensures lawful { IsLawfulImage image.now → IfErr result (λ e. e ≡ OutOfMemory) }
+{
+    let text = write_image(alloc, image)?;
+    read_image(alloc, &text)
+}

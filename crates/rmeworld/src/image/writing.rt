@@ -1,0 +1,69 @@
+//! Images written as text.
+
+ghost use Rattle.std.specs.Prelude.{◌≡◌, IfOk, IfErr, true};
+ghost use Rattle.rmecore.specs.declared.refusal.Refusal.TheVariants.{OutOfMemory};
+ghost use Rattle.rmeworld.specs.ImageText.{list_data, own_data, lock_data, written_data, image_line, Spells};
+ghost use Rattle.serde_json.specs.View.{view};
+
+use rmecore::{Own, Refusal};
+use crate::image::Image;
+use serde_json::{Value, json};
+use std::alloc::{AllocError, Global};
+
+/// The one line of an image: compact JSON, its members by rising name, and a line feed. The version that is written is 2,
+/// whatever the image was read from. It checks no rule.
+pub fn write_image(alloc: Global, image: &Image) -> Result<Vec<u8>, Refusal>
+    ensures ok { IfOk result (λ text. text.items ≡ image_line image.now) }
+    ensures spelled { IfOk result (λ text. Spells text.items true (record image.now { version = 2 })) }
+    ensures err { IfErr result (λ e. e ≡ OutOfMemory) }
+{
+    let value = image_value(alloc, image)?;
+    let mut text = value.to_vec(alloc)?;
+    text.push(b'\n')?;
+    Ok(text)
+}
+
+// The image as JSON.
+fn image_value(alloc: Global, image: &Image) -> Result<Value, AllocError>
+    ensures { IfOk result (λ v. view v ≡ written_data image.now) }
+{
+    let data = list_value(alloc, image.cells.as_slice())?;
+    let lock = lock_value(alloc, image.lock.as_slice())?;
+    json!(in alloc; {
+        "cap": image.cap,
+        "data": data,
+        "limit": image.limit,
+        "lock": lock,
+        "version": 2u64,
+        "width": image.width
+    })
+}
+
+// A list of numbers.
+fn list_value(alloc: Global, numbers: &[u64]) -> Result<Value, AllocError>
+    ensures { IfOk result (λ v. view v ≡ list_data numbers.now) }
+{
+    let mut items = Vec::with_capacity(alloc, numbers.len())?;
+    for number in numbers {
+        items.push(Value::from(*number))?;
+    }
+    Ok(Value::Array(items))
+}
+
+// The lock words of a process, as a list of three.
+fn own_value(alloc: Global, own: &Own) -> Result<Value, AllocError>
+    ensures { IfOk result (λ v. view v ≡ own_data own.now) }
+{
+    list_value(alloc, &[own.choosing, own.number, own.inside])
+}
+
+// The lock words of all processes.
+fn lock_value(alloc: Global, lock: &[Own]) -> Result<Value, AllocError>
+    ensures { IfOk result (λ v. view v ≡ lock_data lock.now) }
+{
+    let mut items = Vec::with_capacity(alloc, lock.len())?;
+    for own in lock {
+        items.push(own_value(alloc, own)?)?;
+    }
+    Ok(Value::Array(items))
+}

@@ -1,0 +1,165 @@
+//! Scripts that are played on a world: calls, steps and crashes, and what is asked of the world between them.
+//!
+//! `step 0 8 clean` is eight steps of process 0, the last of which is answered clean, and no other; `step 0 8` is eight
+//! that are not answered. `refused 5 unlock 0` is a call that is refused with this number. `words 0 0 1 1` asks for the
+//! lock words of process 0, `began` for those at the start of its call, `steps`, `blocked` and `deeds` for counts, `data`
+//! for a data word, and `image` for the text of the image.
+
+use super::phrase::{Phrase, answer_of, cut, place};
+use rmeworld::write_image;
+use redomail::Deed;
+use rmecore::{Own, Refusal};
+use rmeworld::{Answer, World};
+use std::alloc::Global;
+
+/// Takes steps. Is this what the last one is answered, and no other?
+pub fn step(world: &mut World, p: u64, count: u64, wanted: Option<Answer>) -> bool {
+    for k in 0..count {
+        let Ok(stepped) = world.advance(p) else {
+            return false;
+        };
+        let is_last = k.saturating_add(1) == count;
+        if stepped.answer != if is_last { wanted } else { None } {
+            return false;
+        }
+    }
+    true
+}
+
+/// Why what is asked is refused.
+fn refusal_of(world: &mut World, phrase: &Phrase<'_>) -> Option<Refusal> {
+    let p = phrase.number(0);
+    match place("step|crash|steps", phrase.word) {
+        Some(0) => world.advance(p).err(),
+        Some(1) => world.crash(p).err(),
+        Some(_) => world.steps(p).err(),
+        None => world.start(p, phrase.call()?).err(),
+    }
+}
+
+/// Is this refused, with this number?
+fn is_refused(world: &mut World, asked: &str) -> bool {
+    let mut line = asked;
+    let number = cut(&mut line, " ").parse::<u64>().ok();
+    match refusal_of(world, &Phrase::read(line)) {
+        Some(refusal) => number.is_some() && refusal.number() == number,
+        None => false,
+    }
+}
+
+/// Are these the words that a phrase tells of its process?
+pub fn are_words(own: Option<Own>, phrase: &Phrase<'_>) -> bool {
+    match own {
+        Some(own) => phrase.numbers(1) == [own.choosing, own.number, own.inside].as_slice(),
+        None => false,
+    }
+}
+
+fn written(alloc: Global, world: &World) -> Result<Vec<u8>, Refusal> {
+    let image = world.image()?;
+    write_image(alloc, &image)
+}
+
+fn is_written(alloc: Global, world: &World, text: &str) -> bool {
+    match written(alloc, world) {
+        Ok(bytes) => bytes.strip_suffix(b"\n") == Some(text.as_bytes()),
+        Err(_) => false,
+    }
+}
+
+/// Is this word of the image so?
+fn shows(world: &World, phrase: &Phrase<'_>) -> bool {
+    let at = phrase.number(0) as usize;
+    let Ok(image) = world.image() else {
+        return false;
+    };
+    match place("data|words", phrase.word) {
+        Some(0) => image.cells.as_slice().get(at).copied() == Some(phrase.number(1)),
+        Some(_) => are_words(image.lock.as_slice().get(at).copied(), phrase),
+        None => false,
+    }
+}
+
+/// Is what is asked so?
+fn is_so(world: &World, phrase: &Phrase<'_>) -> bool {
+    let p = phrase.number(0);
+    match place("steps|blocked|deeds|began", phrase.word) {
+        Some(0) => world.steps(p) == Ok(phrase.number(1)),
+        Some(1) => world.blocked(p) == Ok(phrase.number(1)),
+        Some(2) => world.history().len() as u64 == p,
+        Some(_) => are_words(world.began(p).ok(), phrase),
+        None => shows(world, phrase),
+    }
+}
+
+/// Takes a line. Does it go as it says?
+pub fn line(alloc: Global, world: &mut World, text: &str) -> bool {
+    let phrase = Phrase::read(text);
+    let p = phrase.number(0);
+    match place("step|crash|refused|image", phrase.word) {
+        Some(0) => {
+            let wanted = answer_of(phrase.rest);
+            wanted.is_some() != phrase.rest.is_empty() && step(world, p, phrase.number(1), wanted)
+        }
+        Some(1) => world.crash(p).is_ok(),
+        Some(2) => is_refused(world, text.strip_prefix("refused ").unwrap_or("")),
+        Some(_) => is_written(alloc, world, phrase.rest),
+        None => starts(world, &phrase),
+    }
+}
+
+/// Is it a call that is accepted, or is what is asked so?
+fn starts(world: &mut World, phrase: &Phrase<'_>) -> bool {
+    match phrase.call() {
+        Some(call) => world.start(phrase.number(0), call).is_ok(),
+        None => is_so(world, phrase),
+    }
+}
+
+/// The first line that does not go as it says, counted from 1.
+pub fn first_wrong(alloc: Global, world: &mut World, script: &str) -> Option<u64> {
+    let mut rest = script;
+    let mut at = 0u64;
+    for _ in 0..script.len() {
+        if rest.is_empty() {
+            break;
+        }
+        at = at.saturating_add(1);
+        if !line(alloc, world, cut(&mut rest, "; ")) {
+            return Some(at);
+        }
+    }
+    None
+}
+
+/// Are these the deeds of the history?
+pub fn are_deeds(history: &[Deed], deeds: &str) -> bool {
+    let mut rest = deeds;
+    for deed in history {
+        if Phrase::read(cut(&mut rest, "; ")).deed() != Some(*deed) {
+            return false;
+        }
+    }
+    rest.is_empty()
+}
+
+/// A new world, of these processes, limit, capacity and width.
+pub fn world_of(alloc: Global, sizes: &str) -> Result<World, Refusal> {
+    let sizes = Phrase::read(sizes);
+    World::new(
+        alloc,
+        sizes.number(0),
+        sizes.number(1),
+        sizes.number(2),
+        sizes.number(3),
+    )
+}
+
+/// Plays a script on a world and compares its history. The line that goes wrong, and 0 for the history.
+pub fn wrong_on(alloc: Global, world: &mut World, script: &str, deeds: &str) -> Option<u64> {
+    match first_wrong(alloc, world, script) {
+        None if are_deeds(world.history(), deeds) => None,
+        None => Some(0),
+        line => line,
+    }
+}

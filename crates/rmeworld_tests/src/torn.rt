@@ -1,0 +1,235 @@
+//! Images torn at each step of an append and of a repair. Each is lawful, is read back as it was written, and goes on to
+//! the mailbox of a run that nothing cut off.
+
+use super::phrase::answer_of;
+use super::played::{first_wrong, line, step};
+use rmeworld::image::laws::written_is_read;
+use rmecore::{Own, Refusal};
+use rmeworld::{Image, World, first_rule};
+use std::alloc::Global;
+
+/// The steps of an append that stores: those to the commit, and the apply steps.
+fn append_steps(width: u64) -> u64 {
+    commit_steps(width).saturating_add(apply_steps(width))
+}
+
+/// The steps of an append with which its commit is done: three gets, the record, and the put of armed.
+fn commit_steps(width: u64) -> u64 {
+    width.saturating_add(6)
+}
+
+fn apply_steps(width: u64) -> u64 {
+    width.saturating_add(5)
+}
+
+/// The steps of a consistent that mends: the gets of ruined, of armed and of the record, and the apply steps.
+fn mending_steps(width: u64) -> u64 {
+    width.saturating_add(4).saturating_add(apply_steps(width))
+}
+
+/// Starts the second append.
+fn send(alloc: Global, world: &mut World, width: u64) -> bool {
+    let call = if width == 1 {
+        "append 0 2 2"
+    } else {
+        "append 0 2 2 8 9"
+    };
+    line(alloc, world, call)
+}
+
+/// Sends the first message, and takes so many steps of the second append.
+fn begin_sending(alloc: Global, world: &mut World, width: u64, steps: u64) -> bool {
+    let first = if width == 1 {
+        "lock 0; step 0 8 clean; append 0 1 1; step 0 13 stored"
+    } else {
+        "lock 0; step 0 8 clean; append 0 1 1 8 9; step 0 17 stored"
+    };
+    first_wrong(alloc, world, first).is_none() && send(alloc, world, width) && take(world, steps)
+}
+
+/// Takes steps, whatever they are answered.
+fn take(world: &mut World, steps: u64) -> bool {
+    for _ in 0..steps {
+        if world.advance(0).is_err() {
+            return false;
+        }
+    }
+    true
+}
+
+/// Is cut off, comes in again, and takes so many steps of the repair.
+fn begin_mending(alloc: Global, world: &mut World, steps: u64) -> bool {
+    let again = "crash 0; lock 0; step 0 4 owner-died; consistent 0";
+    first_wrong(alloc, world, again).is_none() && take(world, steps)
+}
+
+/// The words of one process inside, with room for two messages, one of them sent, and so many steps of the second append;
+/// and where a repair is told, so many of its steps behind the commit.
+fn torn(
+    alloc: Global,
+    width: u64,
+    sent: u64,
+    mended: Option<u64>,
+) -> Result<Option<Image>, Refusal> {
+    let mut world = World::new(alloc, 1, 10, 2, width)?;
+    if !is_torn(alloc, &mut world, width, sent, mended) {
+        return Ok(None);
+    }
+    Ok(Some(world.image()?))
+}
+
+fn is_torn(alloc: Global, world: &mut World, width: u64, sent: u64, mended: Option<u64>) -> bool {
+    if !begin_sending(alloc, world, width, sent) {
+        return false;
+    }
+    match mended {
+        Some(steps) => begin_mending(alloc, world, steps),
+        None => true,
+    }
+}
+
+fn is_same(image: &Image, other: &Image) -> bool {
+    image.cap == other.cap
+        && image.cells.as_slice() == other.cells.as_slice()
+        && image.limit == other.limit
+        && image.lock.as_slice() == other.lock.as_slice()
+        && image.version == other.version
+        && image.width == other.width
+}
+
+/// Where a world goes on: a lock, a consistent, and the second append again, each with just the steps that it has to take.
+fn goes_on(alloc: Global, world: &mut World, width: u64, armed: bool, stored: bool) -> bool {
+    first_wrong(alloc, world, "lock 0; step 0 4 owner-died; consistent 0").is_none()
+        && mends(world, width, armed)
+        && send(alloc, world, width)
+        && stores(world, width, stored)
+}
+
+fn mends(world: &mut World, width: u64, armed: bool) -> bool {
+    if armed {
+        step(world, 0, mending_steps(width), answer_of("mended"))
+    } else {
+        step(world, 0, 2, answer_of("nothing-to-mend"))
+    }
+}
+
+fn stores(world: &mut World, width: u64, stored: bool) -> bool {
+    if stored {
+        step(world, 0, append_steps(width), answer_of("stored"))
+    } else {
+        step(world, 0, 3, answer_of("already"))
+    }
+}
+
+/// A world of what is read of the text of an image that may be torn.
+fn read_again(alloc: Global, image: &Image) -> Result<Option<World>, Refusal> {
+    let read = written_is_read(alloc, image)?;
+    if !is_same(image, &read) {
+        return Ok(None);
+    }
+    Ok(Some(World::from_image(alloc, &read)?))
+}
+
+fn comes_to(world: &World, whole: &Image) -> bool {
+    match world.image() {
+        Ok(image) => is_same(&image, whole),
+        Err(_) => false,
+    }
+}
+
+/// Is the image lawful, read as it was written, and does it go on to the whole mailbox?
+fn goes_on_from(alloc: Global, image: &Image, whole: &Image, armed: bool, stored: bool) -> bool {
+    if first_rule(image).is_some() {
+        return false;
+    }
+    match read_again(alloc, image) {
+        Ok(Some(mut world)) => {
+            goes_on(alloc, &mut world, image.width, armed, stored) && comes_to(&world, whole)
+        }
+        _ => false,
+    }
+}
+
+/// The first step of the second append behind which a crash is not gone on from.
+fn first_lost_in_append(alloc: Global, width: u64, whole: &Image) -> Option<u64> {
+    let most = append_steps(width);
+    for k in 0..most.saturating_add(1) {
+        let stored = k < commit_steps(width);
+        let armed = !stored && k < most;
+        let goes_on = match torn(alloc, width, k, None) {
+            Ok(Some(image)) => goes_on_from(alloc, &image, whole, armed, stored),
+            _ => false,
+        };
+        if !goes_on {
+            return Some(k);
+        }
+    }
+    None
+}
+
+/// The first step of a repair behind which a crash is not gone on from.
+fn first_lost_in_repair(alloc: Global, width: u64, whole: &Image) -> Option<u64> {
+    let most = mending_steps(width);
+    for k in 0..most.saturating_add(1) {
+        let goes_on = match torn(alloc, width, commit_steps(width), Some(k)) {
+            Ok(Some(image)) => goes_on_from(alloc, &image, whole, k < most, false),
+            _ => false,
+        };
+        if !goes_on {
+            return Some(k);
+        }
+    }
+    None
+}
+
+/// The first step, of the append or else of the repair, behind which a crash is not gone on from.
+fn first_lost(alloc: Global, width: u64) -> Option<u64> {
+    match torn(alloc, width, append_steps(width), None) {
+        Ok(Some(whole)) => first_lost_in_append(alloc, width, &whole).or(first_lost_in_repair(
+            alloc, width, &whole,
+        )),
+        _ => Some(u64::MAX),
+    }
+}
+
+#[test]
+fn torn_appends_and_repairs(rt: HostRuntime) {
+    assert_eq!(rt; first_lost(rt.alloc(), 1), None);
+    assert_eq!(rt; first_lost(rt.alloc(), 3), None);
+}
+
+/// Is it so in the append and in the repair, two steps before the end?
+fn are_between(alloc: Global, width: u64) -> bool {
+    let sent = append_steps(width).saturating_sub(2);
+    let mended = mending_steps(width).saturating_sub(2);
+    is_between(torn(alloc, width, sent, None), width)
+        && is_between(torn(alloc, width, commit_steps(width), Some(mended)), width)
+}
+
+/// Between the put of last and the put of count the sender's last number is told already, and the message isn't shown.
+#[test]
+fn torn_between_last_and_count(rt: HostRuntime) {
+    assert!(rt; are_between(rt.alloc(), 1));
+    assert!(rt; are_between(rt.alloc(), 3));
+}
+
+/// Is count 1, armed 1, and last 2, with the process inside?
+fn is_between(image: Result<Option<Image>, Refusal>, width: u64) -> bool {
+    match image {
+        Ok(Some(image)) => has_last_before_count(&image, width.saturating_add(10) as usize),
+        _ => false,
+    }
+}
+
+fn has_last_before_count(image: &Image, last: usize) -> bool {
+    let words = image.cells.as_slice();
+    let inside = Own {
+        choosing: 0,
+        number: 1,
+        inside: 1,
+    };
+    words.get(2) == Some(&1)
+        && words.get(3) == Some(&1)
+        && words.get(last) == Some(&2)
+        && image.lock.as_slice() == [inside].as_slice()
+}

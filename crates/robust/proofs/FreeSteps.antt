@@ -1,0 +1,145 @@
+-- Steps in a row, told by passes alone.
+use Rattle.std.proofs.Common.{◌≡◌, ℕ, suc, ◌+◌, Bool, false, if◌then◌else◌, List, [], ◌∷◌, ◌++◌, length, Option, Some, None, IsSome, IfSome, refl, sym, ap, ◌∙◌, subst, arith, length-append}
+use Rattle.robust.proofs.AccessCommon.{Access, answer, kind_of, word_of, carried, access, is_blocked, after_access, next_access as lock_access, Place, Check, Checking, answer_at, by_lock, blocked_by}
+use Rattle.robust.proofs.AccessCommon.{Spot, mended_entered, Stand, stepped, standing, IsAllowed, lock_moved, TakenStep, Setup, spot_now, Pass, moved_spot, Advances, Seated, IsRunBy, TakesStep, next_of}
+use Rattle.robust.proofs.AccessCommon.{outcome_of, many_more, spelled, gone, spot_of, next_same, may_advance, run_by_step, more, goes_on, ran_answered, length_snoc, takes_sizes, takes_spot, free_spot}
+use Rattle.robust.proofs.AccessCommon.{IsSame, Unanswered, EndsIn, Way}
+use Rattle.rmecore.specs.Simulated.{one_more}
+use Rattle.rmeworld.specs.declared.answer.Answer.{Answer}
+use Rattle.execution.specs.Calls.{answers_from, Going, Turning, Takes, answers_of, blocked_of}
+use Rattle.redomail.specs.Left.{begun}
+use Rattle.rmeworld.specs.Entered.{is_entry}
+use Rattle.rmeworld.specs.Errands.{errand_of}
+use Rattle.execution.proofs.Turned.{answers-append, later_blocked}
+use Rattle.rmecore.proofs.Accesses.{all_allowed}
+use Rattle.rmeworld.specs.declared.errand.Errand.TheVariants.{Free as IsFree, Doing as Does}
+use Rattle.rmeworld.specs.Stand.{spot_of as standing_at, next_access}
+use Rattle.rmeworld.proofs.Chores.{lock_goes, lock_allowed}
+
+abbrev pub seat : Pass → ℕ → Seated
+seat x k = record { pass = x; steps = k }
+
+-- the machine that stands where a pass stands free
+abbrev pub stand_of : Pass → Place → Bool → Stand
+stand_of x t b = record { layout = x.setup.layout; limit = x.setup.limit; index = x.by; lock = t; mended = b; barred = false; errand = IsFree }
+
+pub run_by_free : (x : Pass) (t : Place) (b : Bool) → spot_now x ≡ free_spot t b → IsRunBy x (stand_of x t b)
+run_by_free x t b e = record { layout = refl; limit = refl; index = refl; spot = sym e }
+
+pub may_free : (x : Pass) (t : Place) (b : Bool) (a : Access) → spot_now x ≡ free_spot t b → access x.setup.limit x.by t ≡ Some a → (v : ℕ) → IsSome (moved_spot x (kind_of a) (word_of a) (carried a v))
+may_free x t b a e n v =
+    let s = stand_of x t b in
+    let all : IfSome (next_access s) (IsAllowed s) = lock_allowed s (all_allowed (standing s)) in
+    may_advance x s a (run_by_free x t b e) n (subst (λ (o : Option Access). IfSome o (IsAllowed s)) n all) v
+
+pub unanswered_none : (x : Pass) → Unanswered x 0 0 x
+unanswered_none x = record { mine = []; long = refl; takes = refl; answers = refl; blocked = refl }
+
+-- one step more, behind some that answered nothing
+module _ (x y z : Pass) (k : ℕ) (p : Unanswered x k 0 y) (a : Access) (v : ℕ) (next : next_of y ≡ Some a) (may : IsSome (moved_spot y (kind_of a) (word_of a) (carried a v))) (adv : Advances y (kind_of a) (word_of a) (carried a v) z) where
+  step : TakesStep (seat y (many_more (length p.mine) 0)) (outcome_of y a v) (seat z (one_more (many_more (length p.mine) 0)))
+  step = record { access = a; value = v; next = next; may = may; advances = adv; told = refl; steps = refl }
+
+  going : Going (seat x 0) p.mine (seat y (many_more (length p.mine) 0))
+  going = record { takes = p.takes; answers = p.answers; blocked = p.blocked; steps = refl }
+
+  longer : length (more (seat x 0) (seat y (many_more (length p.mine) 0)) (seat z (one_more (many_more (length p.mine) 0))) p.mine (outcome_of y a v) going step) ≡ k + 1
+  longer = length_snoc p.mine _ ∙ ap suc p.long ∙ (let e : suc k ≡ k + 1 = omega arith in e)
+
+  pub quiet_by : (outcome_of y a v).answer ≡ None → (outcome_of y a v).progress.blocked ≡ false → Unanswered x (k + 1) 0 z
+  quiet_by none free =
+      let g = goes_on (seat x 0) (seat y (many_more (length p.mine) 0)) (seat z (one_more (many_more (length p.mine) 0))) p.mine (outcome_of y a v) going step none free in
+      record { mine = more (seat x 0) (seat y (many_more (length p.mine) 0)) (seat z (one_more (many_more (length p.mine) 0))) p.mine (outcome_of y a v) going step; long = longer; takes = g.takes; answers = g.answers; blocked = g.blocked }
+
+  pub ended_by : (said : Answer) → (outcome_of y a v).answer ≡ Some said → EndsIn x (k + 1) said z
+  ended_by said is =
+      let r = ran_answered (seat x 0) (seat y (many_more (length p.mine) 0)) (seat z (one_more (many_more (length p.mine) 0))) p.mine (outcome_of y a v) going step said is in
+      record { mine = more (seat x 0) (seat y (many_more (length p.mine) 0)) (seat z (one_more (many_more (length p.mine) 0))) p.mine (outcome_of y a v) going step; long = longer; takes = r.takes; answers = r.answers; blocked = r.blocked }
+
+-- one step more of the lock's part
+module _ (x y z : Pass) (k : ℕ) (p : Unanswered x k 0 y) (t : Place) (b : Bool) (here : spot_now y ≡ free_spot t b) (a : Access) (v : ℕ) (next : access y.setup.limit y.by t ≡ Some a) (adv : Advances y (kind_of a) (word_of a) (carried a v) z) where
+  r : IsRunBy y (stand_of y t b)
+  r = run_by_free y t b here
+
+  is_next : next_of y ≡ Some a
+  is_next = sym (next_same y (stand_of y t b) r) ∙ next
+
+  says : (o : Option Answer) → by_lock false (answer t (kind_of a) (carried a v)) ≡ o → (outcome_of y a v).answer ≡ o
+  says o h = ap (λ (q : Spot). answer_at q (kind_of a) (carried a v)) here ∙ h
+
+  pub quiet : by_lock false (answer t (kind_of a) (carried a v)) ≡ None → is_blocked y.by t (kind_of a) (carried a v) ≡ false → Unanswered x (k + 1) 0 z
+  quiet none free = quiet_by x y z k p a v is_next (may_free y t b a here next v) adv (says None none) (ap (λ (q : Spot). blocked_by y.by q.lock q.errand (kind_of a) (carried a v)) here ∙ free)
+
+  pub ended : (said : Answer) → by_lock false (answer t (kind_of a) (carried a v)) ≡ Some said → EndsIn x (k + 1) said z
+  ended said is = ended_by x y z k p a v is_next (may_free y t b a here next v) adv said (says (Some said) is)
+
+  -- where the step leads
+  pub there_by : (u : Place) → after_access (standing (stand_of y t b)) (lock_access (standing (stand_of y t b))) v ≡ u → spot_now z ≡ standing_at (lock_moved (stand_of y t b) u)
+  there_by u to =
+      let goes = lock_goes (stand_of y t b) v (all_allowed (standing (stand_of y t b))) in
+      let run = run_by_step y z (stand_of y t b) (stepped (stand_of y t b) v) a v r next adv refl refl refl goes in
+      sym run.spot ∙ ap (λ (w : Place). standing_at (lock_moved (stand_of y t b) w)) to
+
+  -- where the step leads, if that is no entry
+  pub there : (u : Place) → after_access (standing (stand_of y t b)) (lock_access (standing (stand_of y t b))) v ≡ u → is_entry t u ≡ false → mended_entered b t u ≡ b → spot_now z ≡ free_spot u b
+  there u to none kept = there_by u to ∙ (λ i. record { lock = u; mended = kept i; barred = false; errand = errand_of (if none i then Does Checking (begun y.setup.layout y.by Check) else IsFree) })
+
+-- one step of the lock's part alone
+pub moves : (y z : Pass) (t u : Place) (a : Access) (v : ℕ) → spot_now y ≡ free_spot t (spot_now y).mended → access y.setup.limit y.by t ≡ Some a → Advances y (kind_of a) (word_of a) (carried a v) z
+    → after_access (standing (stand_of y t (spot_now y).mended)) (lock_access (standing (stand_of y t (spot_now y).mended))) v ≡ u → by_lock false (answer t (kind_of a) (carried a v)) ≡ None → is_blocked y.by t (kind_of a) (carried a v) ≡ false → is_entry t u ≡ false
+    → mended_entered (spot_now y).mended t u ≡ (spot_now y).mended → Way y 1 z u
+moves y z t u a v at next adv to none free out kept = record {
+  at = there y y z 0 (unanswered_none y) t (spot_now y).mended at a v next adv u to out kept;
+  unanswered = quiet y y z 0 (unanswered_none y) t (spot_now y).mended at a v next adv none free;
+  clear = (adv.fallen, adv.start);
+  same = (adv.adds.setup, adv.adds.by);
+}
+
+pub takes-append : (x y z : Pass) (a b : List TakenStep) → Takes x a y → Takes y b z → Takes x (a ++ b) z
+takes-append x y z [] b h k = subst (λ (p : Pass). Takes p b z) h k
+takes-append x y z (e ∷ es) b h k = (h.0, h.1, h.2, takes-append h.0 y z es b h.3 k, h.4)
+
+-- steps that answer nothing, and then some more
+module _ (x y z : Pass) (j : ℕ) (p : Unanswered x j 0 y) (b : List TakenStep) (takes : Takes y b z) where
+  then_answers : answers_of x (p.mine ++ b) ≡ answers_of y b
+  then_answers =
+      let sizes = takes_sizes x y p.mine p.takes in
+      answers-append x.setup (spot_of x.setup x.by x.seen) p.mine b
+      ∙ ap (λ (l : List Answer). l ++ answers_from x.setup (gone x.setup (spot_of x.setup x.by x.seen) (spelled p.mine)) b) p.answers
+      ∙ ap (λ (u : Setup × Spot). answers_from u.0 u.1 b) (λ i. (sym sizes.0 i, sym (takes_spot x y p.mine p.takes) i))
+
+  then_blocked : blocked_of x (p.mine ++ b) ≡ blocked_of y b
+  then_blocked =
+      let t : Turning (seat x 0) p.mine 0 (seat y (many_more (length p.mine) 0)) = record { takes = p.takes; answers = p.answers; blocked = p.blocked; steps = refl } in
+      later_blocked (seat x 0) (seat y (many_more (length p.mine) 0)) (seat z 0) p.mine b 0 t ∙ (let e : 0 + blocked_of y b ≡ blocked_of y b = omega arith in e)
+
+  then_long : (k : ℕ) → length b ≡ k → length (p.mine ++ b) ≡ j + k
+  then_long k e = let l = length-append p.mine b in let a = p.long in omega arith
+
+pub unanswered_then : (x y z : Pass) (j k m : ℕ) → Unanswered x j 0 y → Unanswered y k m z → Unanswered x (j + k) m z
+unanswered_then x y z j k m p q = record {
+  mine = p.mine ++ q.mine;
+  long = then_long x y z j p q.mine q.takes k q.long;
+  takes = takes-append x y z p.mine q.mine p.takes q.takes;
+  answers = then_answers x y z j p q.mine q.takes ∙ q.answers;
+  blocked = then_blocked x y z j p q.mine q.takes ∙ q.blocked;
+}
+
+pub ends_then : (x y z : Pass) (j k : ℕ) (a : Answer) → Unanswered x j 0 y → EndsIn y k a z → EndsIn x (j + k) a z
+ends_then x y z j k a p q = record {
+  mine = p.mine ++ q.mine;
+  long = then_long x y z j p q.mine q.takes k q.long;
+  takes = takes-append x y z p.mine q.mine p.takes q.takes;
+  answers = then_answers x y z j p q.mine q.takes ∙ q.answers;
+  blocked = then_blocked x y z j p q.mine q.takes ∙ q.blocked;
+}
+
+pub same_then : (x y z : Pass) → IsSame x y → IsSame y z → IsSame x z
+same_then x y z h k = (k.0 ∙ h.0, k.1 ∙ h.1)
+
+-- a way, and then another
+pub way_then : {x y z : Pass} {j k : ℕ} {t u : Place} → Way x j y t → Way y k z u → Way x (j + k) z u
+way_then {x} {y} {z} {j} {k} {t} {u} w v = record { at = v.at ∙ (λ i. free_spot u (w.at i).mended); unanswered = unanswered_then x y z j k 0 w.unanswered v.unanswered; clear = v.clear; same = same_then x y z w.same v.same }
+
+pub way_to : (x y : Pass) (j k : ℕ) (t u : Place) → j ≡ k → t ≡ u → Way x j y t → Way x k y u
+way_to x y j k t u e f w = subst (λ (r : ℕ × Place). Way x r.0 y r.1) (λ i. (e i, f i)) w

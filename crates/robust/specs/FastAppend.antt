@@ -1,0 +1,40 @@
+-- The fast path of an append: what is left of its script behind some steps, told by the member's passes alone.
+use Rattle.std.specs.Prelude.{◌≡◌, ℕ, true, false, List, drop}
+use Rattle.redomail.specs.declared.reply.Reply.{Reply}
+use Rattle.redomail.specs.declared.reply.Reply.TheVariants.{Stored}
+use Rattle.redomail.specs.declared.task.Task.TheVariants as task
+use Rattle.redomail.specs.Script.{Script, Get as Asks, Put as Writes, Done, puts}
+use Rattle.redomail.specs.Tasks.{append, record_of, store_steps}
+use Rattle.rmeworld.specs.declared.answer.Answer.TheVariants.{Mail}
+use Rattle.rmeworld.specs.declared.why.Why.TheVariants.{Working}
+use Rattle.rmeworld.specs.Spot.{Spot, settled}
+use Rattle.execution.specs.Pass.{Pass}
+use Rattle.robust.specs.declared.access.fast_append.NewEntry.{NewEntry}
+use Rattle.robust.specs.FastPath.{Unanswered, EndsIn}
+
+-- a holder with nothing to mend and this script of an append left; with none left it is inside, with nothing to do
+abbrev pub at_append : ℕ → List ℕ → Script Reply → Spot
+at_append seq value left = settled true false (Working (task.Append seq value)) left
+
+-- right behind its start
+abbrev pub append_begun : Pass → ℕ → List ℕ → Spot
+append_begun x seq value = at_append seq value (append x.setup.layout x.by seq value)
+
+-- k steps one after another, none of them blocked, behind which this script is left: they answer nothing, or where it is done
+-- the last of them alone answers, with its reply
+abbrev pub HasLeft : Pass → ℕ → Script Reply → Pass → Type 0
+HasLeft x k (Done reply) y = EndsIn x k (Mail reply) y
+HasLeft x k (Asks i rest) y = Unanswered x k 0 y
+HasLeft x k (Writes i v rest) y = Unanswered x k 0 y
+
+-- the process is the sender of this entry, in its arena
+abbrev pub IsOf : Pass → NewEntry → Type 0
+IsOf x e = (x.setup ≡ e.setup) × (x.by ≡ e.own)
+
+-- the puts that store it
+abbrev pub steps_of : NewEntry → List (ℕ × ℕ)
+steps_of e = store_steps e.setup.layout e.own (record_of e.at e.seq e.value)
+
+-- its storing, with the first k puts made
+abbrev pub stored_so_far : NewEntry → ℕ → Spot
+stored_so_far e k = at_append e.seq e.value (puts (drop k (steps_of e)) (Done Stored))

@@ -1,0 +1,76 @@
+-- The fast path of a lock: steps that a member takes in a row, told by its passes alone.
+use Rattle.std.specs.Prelude.{◌≡◌, ℕ, Bool, true, false, if◌then◌else◌, List, [], ◌∷◌, length, None}
+use Rattle.rmecore.specs.Place.{Place, Inside, Leaving}
+use Rattle.rmecore.specs.Machine.{place_of}
+use Rattle.rmecore.specs.declared.stage.Stage.TheVariants.{Wait as AtWait}
+use Rattle.redomail.specs.Tasks.{script}
+use Rattle.redomail.specs.declared.task.Task.TheVariants.{Check}
+use Rattle.rmeworld.specs.declared.answer.Answer.{Answer}
+use Rattle.rmeworld.specs.declared.why.Why.TheVariants.{Checking}
+use Rattle.rmeworld.specs.Spot.{Spot, Free, Doing}
+use Rattle.execution.specs.declared.entry.TakenStep.{TakenStep}
+use Rattle.execution.specs.Pass.{Pass, spot_now}
+use Rattle.execution.specs.Calls.{Takes, answers_of, blocked_of}
+use Rattle.execution.specs.Under.{Begun}
+use Rattle.rmecore.specs.declared.stage.Stage.{Stage}
+use Rattle.rmeworld.specs.Refused.{is_waiting}
+use Rattle.rmeworld.specs.declared.answer.Answer.TheVariants.{Clean}
+use Rattle.rmeworld.specs.declared.call.Call.TheVariants.{Lock}
+use Rattle.robust.specs.declared.access.fast_path.Reached.{Reached}
+use Rattle.robust.specs.declared.access.fast_path.Reached.TheVariants as Reaches
+
+-- at this place of the lock, with nothing to do on the data words, and not turned away
+abbrev pub free_spot : Place → Bool → Spot
+free_spot t b = record { lock = t; mended = b; barred = false; errand = Free }
+
+-- no crash and no start is owed
+abbrev pub IsClear : Pass → Type 0
+IsClear x = (x.fallen ≡ false) × (x.start ≡ None)
+
+-- the same process of the same table
+abbrev pub IsSame : Pass → Pass → Type 0
+IsSame x y = (y.setup ≡ x.setup) × (y.by ≡ x.by)
+
+-- k steps one after another that answer nothing, of which m were blocked
+pub record Unanswered (x : Pass) (k m : ℕ) (y : Pass) : Type 0 where
+  pub mine : List TakenStep
+  pub long : length mine ≡ k
+  pub takes : Takes x mine y
+  pub answers : answers_of x mine ≡ []
+  pub blocked : blocked_of x mine ≡ m
+
+-- a process in the line, with this number: from which index on nobody was passed, and whether the first of those was looked at
+abbrev pub waits_at : Pass → ℕ → ℕ → Bool → Spot
+waits_at x k i looked = free_spot (place_of x.setup.layout.procs x.by (AtWait k i looked)) (spot_now x).mended
+
+-- k steps to a place, none of them blocked, by which nothing is owed
+pub record Way (x : Pass) (k : ℕ) (y : Pass) (t : Place) : Type 0 where
+  pub at : spot_now y ≡ free_spot t (spot_now x).mended
+  pub unanswered : Unanswered x k 0 y
+  pub clear : IsClear y
+  pub same : IsSame x y
+
+-- inside, right before the ruin check of an entry by a lock, and right behind it
+abbrev pub checking_spot : Pass → Spot
+checking_spot x = record { lock = Inside; mended = true; barred = false; errand = Doing Checking (script x.setup.layout x.by Check) }
+
+abbrev pub checked_spot : Bool → Spot
+checked_spot ruined = if ruined then record { lock = Leaving; mended = true; barred = true; errand = Free } else record { lock = Inside; mended = true; barred = false; errand = Free }
+
+-- k steps one after another, none of them blocked, of which the last alone answers, and so
+pub record EndsIn (x : Pass) (k : ℕ) (a : Answer) (y : Pass) : Type 0 where
+  pub mine : List TakenStep
+  pub long : length mine ≡ k
+  pub takes : Takes x mine y
+  pub answers : answers_of x mine ≡ a ∷ []
+  pub blocked : blocked_of x mine ≡ 0
+
+-- How far the fast path of a lock has led in k steps: to a place outside the section, where the last step was blocked or where
+-- the general way goes on; into the section; or out of it again. It was not turned away before
+pub record Enters (x : Pass) (r : Reached) (k : ℕ) (y : Pass) : Type 0 where
+  pub blocked : (t : Stage) → r ≡ Reaches.Blocked t → (spot_now y ≡ free_spot (place_of x.setup.layout.procs x.by t) (spot_now x).mended) × Unanswered x k 1 y × Begun Lock x.setup.layout.procs (spot_now y) × (is_waiting (spot_now y).lock ≡ true)
+  pub stands : (t : Stage) → r ≡ Reaches.Stands t → (spot_now y ≡ free_spot (place_of x.setup.layout.procs x.by t) (spot_now x).mended) × Unanswered x k 0 y × Begun Lock x.setup.layout.procs (spot_now y)
+  pub clean : r ≡ Reaches.Clean → (spot_now y ≡ checked_spot false) × EndsIn x k Clean y
+  pub ruined : r ≡ Reaches.Ruined → (spot_now y ≡ checked_spot true) × Unanswered x k 0 y
+  pub same : IsSame x y
+  pub barred : (spot_now x).barred ≡ false

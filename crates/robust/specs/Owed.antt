@@ -1,0 +1,31 @@
+-- What a process owes to its next step.
+use Rattle.std.specs.Prelude.{◌≡◌, Bool, true, false, List, [], ◌∷◌, Option, Some, None}
+use Rattle.rmecore.specs.declared.kind.Kind.{Kind}
+use Rattle.rmecore.specs.declared.word.Word.{Word}
+use Rattle.rmeworld.specs.declared.call.Call.{Call}
+use Rattle.execution.specs.declared.entry.Step.{Step}
+use Rattle.robust.specs.declared.access.owed.Owed.{Owed}
+
+abbrev pub is_there : {A : Type 0} → List A → Bool
+is_there [] = false
+is_there (x ∷ xs) = true
+
+abbrev pub head_of : {A : Type 0} → List A → Option A
+head_of [] = None
+head_of (x ∷ xs) = Some x
+
+-- whether it crashed since its last step
+abbrev pub has_crashed : Owed → Bool
+has_crashed o = is_there o.crashed.items
+
+-- the call that it started since then
+abbrev pub started : Owed → Option Call
+started o = head_of o.start.items
+
+-- a step of this kind at this word, which carries what is owed
+abbrev pub step_of : Owed → Kind → Word → Step
+step_of o kind word = record { crashed = has_crashed o; start = started o; kind = kind; word = word }
+
+-- neither a crash nor a start
+abbrev pub OwesNothing : Owed → Type 0
+OwesNothing o = (has_crashed o ≡ false) × (started o ≡ None)

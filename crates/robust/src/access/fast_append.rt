@@ -1,0 +1,192 @@
+//! The fast path of an append by a holder with nothing to mend, for plans that never fall: its gets and puts over the words
+//! alone, proved to be the run of its steps. The machine stands behind them where it stood before, and hears nothing of them.
+ghost use Rattle.std.specs.Prelude.{◌≡◌, ◌≢◌, ℕ, ◌+◌, ◌*◌, ◌<◌, ◌≤◌, List, ◌∷◌, None, true, length, drop, slice_index, IfSome};
+ghost use Rattle.rmecore.specs.Place.{Inside};
+ghost use Rattle.redomail.specs.Layout.{size};
+ghost use Rattle.redomail.specs.Script.{Done, puts};
+ghost use Rattle.redomail.specs.Tasks.{decided, record_of, store_steps};
+ghost use Rattle.redomail.specs.declared.layout.Layout.{Layout as LayoutOf};
+ghost use Rattle.redomail.specs.declared.reply.Reply.TheVariants.{Stored};
+ghost use Rattle.rmeworld.specs.declared.answer.Answer.TheVariants.{Mail};
+ghost use Rattle.execution.specs.Pass.{spot_now};
+ghost use Rattle.execution.specs.Under.{Appends};
+ghost use Rattle.robust.specs.FastPath.{free_spot, IsClear, IsSame, Unanswered, EndsIn};
+ghost use Rattle.robust.specs.FastAppend.{at_append, append_begun, HasLeft, IsOf, steps_of, stored_so_far};
+
+use crate::access::walker::Walker;
+use redomail::Reply;
+use redomail::layout::{ARMED, CLOSED, COUNT, RECORD};
+use rmecore::{Body, Kind, Word};
+use execution::Setup;
+
+/// The words that an append asks for: whether the mailbox is closed, count, and the sender's last number.
+#[derive(Clone, Copy)]
+struct Heads {
+    closed: u64,
+    count: u64,
+    last: u64,
+}
+
+/// A message on its way to its place, with the sizes of its arena and its sender.
+#[derive(Clone, Copy)]
+struct NewEntry {
+    setup: Setup,
+    own: u64,
+    at: u64,
+    seq: u64,
+    value: Body,
+}
+
+impl NewEntry {
+    /// A word of the row that begins with `first`: then come the number and the words of the value.
+    fn word(&self, first: u64, j: u64) -> u64
+        ensures { result ≡ slice_index (first ∷ self.now.seq ∷ self.now.value) j }
+    {
+        match j {
+            0 => first,
+            1 => self.seq,
+            _ => self.value.word(j - 2).unwrap_or(0),
+        }
+    }
+}
+
+/// Asks for the three words.
+fn read_heads(walker: &mut Walker, seq: u64, value: &Body) -> Heads
+    requires at { spot_now walker.old ≡ append_begun walker.old seq value.now }
+    ensures at { spot_now walker.new ≡ at_append seq value.now (decided walker.old.setup.layout walker.old.by seq value.now result.closed result.count result.last) }
+    ensures left { HasLeft walker.old 3 (decided walker.old.setup.layout walker.old.by seq value.now result.closed result.count result.last) walker.new }
+    ensures room { result.count ≤ walker.old.setup.layout.cap }
+    ensures clear { IsClear walker.new }
+    ensures same { IsSame walker.old walker.new }
+{
+    let _ = seq;
+    let _ = value;
+    let layout = walker.setup().layout;
+    let own = walker.by();
+    let closed = walker.load(Kind::Get, Word::Data(CLOSED));
+    let count = walker.load(Kind::Get, Word::Data(COUNT));
+    let last = walker.load(Kind::Get, Word::Data(layout.last(own)));
+    Heads {
+        closed,
+        count,
+        last,
+    }
+}
+
+/// What an append answers once it knows the three words; none where it stores its message.
+fn answered(cap: u64, seq: u64, heads: &Heads) -> Option<Reply>
+    ensures answers { IfSome result (λ reply. (l : LayoutOf) (p : ℕ) (value : List ℕ) → l.cap ≡ cap → decided l p seq value heads.now.closed heads.now.count heads.now.last ≡ Done reply) }
+    ensures stores { result ≡ None → (l : LayoutOf) (p : ℕ) (value : List ℕ) → l.cap ≡ cap → decided l p seq value heads.now.closed heads.now.count heads.now.last ≡ puts (store_steps l p (record_of heads.now.count seq value)) (Done Stored) }
+    ensures room { result ≡ None → heads.now.count ≢ cap }
+    ensures kind { IfSome result (Appends seq) }
+{
+    if seq == 0 {
+        Some(Reply::OutOfOrder)
+    } else if seq <= heads.last {
+        Some(Reply::Already)
+    } else if seq - 1 > heads.last {
+        Some(Reply::OutOfOrder)
+    } else if heads.closed == 1 {
+        Some(Reply::Closed)
+    } else if heads.count == cap {
+        Some(Reply::Full)
+    } else {
+        None
+    }
+}
+
+/// One put of a storing, but the last.
+fn put(walker: &mut Walker, entry: &NewEntry, step: u64, i: u64, v: u64)
+    requires clear { IsClear walker.old }
+    requires of { IsOf walker.old entry.now }
+    requires table { i < size entry.now.setup.layout }
+    requires more { step + 1 < 8 + 2 * length entry.now.value }
+    requires next { drop step (steps_of entry.now) ≡ (i, v) ∷ drop (step + 1) (steps_of entry.now) }
+    requires at { spot_now walker.old ≡ stored_so_far entry.now step }
+    ensures at { spot_now walker.new ≡ stored_so_far entry.now (step + 1) }
+    ensures unanswered { Unanswered walker.old 1 0 walker.new }
+    ensures clear { IsClear walker.new }
+    ensures of { IsOf walker.new entry.now }
+{
+    let _ = step;
+    let _ = entry;
+    walker.store(Kind::Put, Word::Data(i), v);
+}
+
+/// The puts of a row: a first word, the number, and the words of the value.
+fn put_row(walker: &mut Walker, entry: &NewEntry, step: u64, start: u64, first: u64)
+    requires clear { IsClear walker.old }
+    requires of { IsOf walker.old entry.now }
+    requires wide { length entry.now.value ≤ 8 }
+    requires table { start + (2 + length entry.now.value) ≤ size entry.now.setup.layout }
+    requires small { size entry.now.setup.layout ≤ 900000 }
+    requires more { step + (2 + length entry.now.value) < 8 + 2 * length entry.now.value }
+    requires row { (j : ℕ) → j < 2 + length entry.now.value → drop (step + j) (steps_of entry.now) ≡ (start + j, slice_index (first ∷ entry.now.seq ∷ entry.now.value) j) ∷ drop (step + j + 1) (steps_of entry.now) }
+    requires at { spot_now walker.old ≡ stored_so_far entry.now step }
+    ensures at { spot_now walker.new ≡ stored_so_far entry.now (step + (2 + length entry.now.value)) }
+    ensures unanswered { Unanswered walker.old (2 + length entry.now.value) 0 walker.new }
+    ensures clear { IsClear walker.new }
+    ensures of { IsOf walker.new entry.now }
+{
+    for j in 0..2 + entry.value.width() {
+        put(walker, entry, step + j, start + j, entry.word(first, j));
+    }
+}
+
+/// All puts of a storing: the record, the commit that arms it, the entry at its place, the sender's last number, count, and the
+/// record is armed no more.
+fn store(walker: &mut Walker, entry: &NewEntry)
+    requires clear { IsClear walker.old }
+    requires of { IsOf walker.old entry.now }
+    requires wide { length entry.now.value ≡ entry.now.setup.layout.width }
+    requires room { entry.now.at < entry.now.setup.layout.cap }
+    requires at { spot_now walker.old ≡ stored_so_far entry.now 0 }
+    ensures at { spot_now walker.new ≡ free_spot Inside true }
+    ensures ends { EndsIn walker.old (8 + 2 * length entry.now.value) (Mail Stored) walker.new }
+    ensures of { IsOf walker.new entry.now }
+{
+    let _pass = walker.by();
+    let layout = entry.setup.layout;
+    let row = 2 + entry.value.width();
+    put_row(walker, entry, 0, RECORD, entry.at);
+    put(walker, entry, row, ARMED, 1);
+    put_row(walker, entry, row + 1, layout.place(entry.at, 0), entry.own);
+    put(
+        walker,
+        entry,
+        2 * row + 1,
+        layout.last(entry.own),
+        entry.seq,
+    );
+    put(walker, entry, 2 * row + 2, COUNT, entry.at + 1);
+    walker.store(Kind::Put, Word::Data(ARMED), 0);
+}
+
+/// The steps of an append, right behind its start. Tells how many they were.
+pub fn append(walker: &mut Walker, seq: u64, value: &Body) -> (Reply, u64)
+    requires wide { length value.now ≡ walker.old.setup.layout.width }
+    requires at { spot_now walker.old ≡ append_begun walker.old seq value.now }
+    ensures at { spot_now walker.new ≡ free_spot Inside true }
+    ensures ends { EndsIn walker.old result.1 (Mail result.0) walker.new }
+    ensures kind { Appends seq result.0 }
+    ensures few { result.1 ≤ 27 }
+    ensures same { IsSame walker.old walker.new }
+{
+    let setup = walker.setup();
+    let own = walker.by();
+    let heads = read_heads(walker, seq, value);
+    match answered(setup.layout.cap, seq, &heads) {
+        Some(reply) => (reply, 3),
+        None => {
+            let entry = NewEntry {
+                setup,
+                own,
+                at: heads.count,
+                seq,
+                value: *value,
+            };
+            store(walker, &entry);
+            (Reply::Stored, 11 + 2 * setup.layout.width)
+        }
+    }
+}

@@ -1,0 +1,130 @@
+//! A process in the line: it looks at the others and weighs their numbers, by loops over the words alone, proved to be the run
+//! of their steps.
+ghost use Rattle.std.specs.Prelude.{◌≡◌, ◌≢◌, ◌+◌, ◌<◌, ◌≤◌, [], true, false, ◌==◌, ◌||◌, None, if◌then◌else◌};
+ghost use Rattle.rmecore.specs.Place.{Wait, is_before};
+ghost use Rattle.execution.specs.Pass.{spot_now};
+ghost use Rattle.robust.specs.FastPath.{free_spot, IsSame, Unanswered, waits_at};
+
+use crate::access::walker::Walker;
+use rmecore::{Kind, Word};
+
+/// How far a wait has come: from which index on nobody was passed, whether the first of those was looked at, how many steps
+/// that took, and whether the last of them was blocked.
+#[derive(Clone, Copy)]
+pub struct Passed {
+    pub next: u64,
+    pub looked: bool,
+    pub taken: u64,
+    pub is_blocked: bool,
+}
+
+/// Whether a waiter with this number goes past process `j`, whose number was read.
+fn passes(number: u64, own: u64, value: u64, j: u64) -> bool
+    ensures { result ≡ ((value == 0) || is_before number own value j) }
+{
+    value == 0 || (number, own) < (value, j)
+}
+
+/// Looks at process `j`: whether it is in no doorway.
+fn look(walker: &mut Walker, number: u64, j: u64) -> bool
+    requires other { (j < walker.old.setup.layout.procs) × (j ≢ walker.old.by) }
+    requires at { spot_now walker.old ≡ waits_at walker.old number j false }
+    ensures at { spot_now walker.new ≡ waits_at walker.old number j result }
+    ensures unanswered { Unanswered walker.old 1 (if result then 0 else 1) walker.new }
+    ensures same { IsSame walker.old walker.new }
+{
+    let _pass = walker.by();
+    let value = walker.load(Kind::Look, Word::Choosing(j));
+    value == 0
+}
+
+/// Weighs the number of process `j`: whether the waiter goes past it.
+fn weigh(walker: &mut Walker, number: u64, j: u64) -> bool
+    requires other { (j < walker.old.setup.layout.procs) × (j ≢ walker.old.by) }
+    requires at { spot_now walker.old ≡ waits_at walker.old number j true }
+    ensures passed { result ≡ true → spot_now walker.new ≡ waits_at walker.old number (j + 1) false }
+    ensures stays { result ≡ false → spot_now walker.new ≡ waits_at walker.old number j true }
+    ensures unanswered { Unanswered walker.old 1 (if result then 0 else 1) walker.new }
+    ensures same { IsSame walker.old walker.new }
+{
+    let own = walker.by();
+    let value = walker.load(Kind::Weigh, Word::Number(j));
+    passes(number, own, value, j)
+}
+
+/// Looks at the others from an index on and weighs their numbers, up to the last or to a blocked reading.
+#[inline(always)]
+pub fn pass_others(walker: &mut Walker, number: u64, from: u64) -> Passed
+    requires from { from ≤ 64 }
+    requires at { spot_now walker.old ≡ waits_at walker.old number from false }
+    ensures at { spot_now walker.new ≡ waits_at walker.old number result.next result.looked }
+    ensures passed { result.is_blocked ≡ false → spot_now walker.new ≡ free_spot (Wait number [] None) (spot_now walker.old).mended }
+    ensures unanswered { Unanswered walker.old result.taken (if result.is_blocked then 1 else 0) walker.new }
+    ensures few { result.taken ≤ 130 }
+    ensures next { result.next ≤ 64 }
+    ensures same { IsSame walker.old walker.new }
+{
+    let own = walker.by();
+    let procs = walker.procs();
+    let mut taken = 0;
+    for j in from..procs {
+        if j != own {
+            if !look(walker, number, j) {
+                return Passed {
+                    next: j,
+                    looked: false,
+                    taken: taken + 1,
+                    is_blocked: true,
+                };
+            }
+            if !weigh(walker, number, j) {
+                return Passed {
+                    next: j,
+                    looked: true,
+                    taken: taken + 2,
+                    is_blocked: true,
+                };
+            }
+            taken += 2;
+        }
+    }
+    Passed {
+        next: from.max(procs),
+        looked: false,
+        taken,
+        is_blocked: false,
+    }
+}
+
+/// Goes on in the line: process `next` is looked at, or weighed where it was looked at, and then the others behind it.
+#[inline(always)]
+pub fn wait_on(walker: &mut Walker, number: u64, next: u64, looked: bool) -> Passed
+    requires next { next ≤ 64 }
+    requires other { looked ≡ true → (next < walker.old.setup.layout.procs) × (next ≢ walker.old.by) }
+    requires at { spot_now walker.old ≡ waits_at walker.old number next looked }
+    ensures at { spot_now walker.new ≡ waits_at walker.old number result.next result.looked }
+    ensures passed { result.is_blocked ≡ false → spot_now walker.new ≡ free_spot (Wait number [] None) (spot_now walker.old).mended }
+    ensures unanswered { Unanswered walker.old result.taken (if result.is_blocked then 1 else 0) walker.new }
+    ensures few { result.taken ≤ 131 }
+    ensures same { IsSame walker.old walker.new }
+{
+    let _pass = walker.by();
+    if !looked {
+        return pass_others(walker, number, next);
+    }
+    if !weigh(walker, number, next) {
+        return Passed {
+            next,
+            looked: true,
+            taken: 1,
+            is_blocked: true,
+        };
+    }
+    let behind = pass_others(walker, number, next + 1);
+    Passed {
+        next: behind.next,
+        looked: behind.looked,
+        taken: behind.taken + 1,
+        is_blocked: behind.is_blocked,
+    }
+}

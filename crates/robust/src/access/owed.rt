@@ -1,0 +1,42 @@
+//! What a process owes to its next step. Proofs alone read it: it has no bytes.
+ghost use Rattle.std.specs.Prelude.{◌≡◌, true, Some, None};
+ghost use Rattle.robust.specs.Owed.{has_crashed, OwesNothing, started};
+
+use histories::Log;
+use rmeworld::Call;
+
+/// Whether the process crashed since its last step, and the call that it started since then: no item, or one.
+#[derive(Drop)]
+pub struct Owed {
+    pub crashed: Log<bool>,
+    pub start: Log<Call>,
+}
+
+impl Owed {
+    /// The step carries neither a crash nor a start.
+    pub fn nothing() -> Owed
+        ensures { OwesNothing result }
+    {
+        Owed {
+            crashed: Log::new(),
+            start: Log::new(),
+        }
+    }
+
+    /// The process crashes.
+    pub fn crash() -> Owed
+        ensures { (has_crashed result ≡ true) × (started result ≡ None) }
+    {
+        Owed {
+            crashed: Log::new().and(&true),
+            start: Log::new(),
+        }
+    }
+
+    /// The process starts a call.
+    pub fn begin(&mut self, call: &Call)
+        ensures { (has_crashed self.new ≡ has_crashed self.old) × (started self.new ≡ Some call.now) }
+    {
+        self.start = Log::new().and(call);
+    }
+}

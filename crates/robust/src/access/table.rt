@@ -1,0 +1,227 @@
+//! The shared table, which no other file names: its rule, what a step tells, and each load and store.
+ghost use Rattle.std.specs.Prelude.{◌≡◌, ℕ, ◌<◌, []};
+ghost use Rattle.atomic_table.specs.Table.{Splits, Joins};
+ghost use Rattle.execution.specs.Pass.{glanced};
+ghost use Rattle.execution.specs.Rule.{Kept, Did, MayLoad, MayStore, MayPass, without_first, first_alone, joined, spent_known};
+ghost use Rattle.robust.specs.Owed.{step_of};
+
+use crate::access::owed::Owed;
+use atomic_table::{Join, Play, Seat, Split, Table, TableRule};
+use rmecore::{Kind, Word};
+use execution::Setup;
+use execution::entry::Known;
+use std::alloc::Global;
+use std::marker::{Brand, PhantomData};
+
+/// There is one run, whose words are the table's, and each seat's pass is a beginning of it. The key is the sizes.
+pub struct OneRun;
+
+impl TableRule<(), Known, Setup> for OneRun {
+    ghost use Rattle.execution.specs.Rule.{Kept, opening_known};
+
+    ghost holds = { Kept };
+
+    ghost first = { opening_known };
+}
+
+/// The table: three lock words a process, then the data words.
+pub type Board = Table<(), Known, Setup, OneRun, Global>;
+
+/// A seat at the table.
+pub type RunSeat = Seat<(), Known>;
+
+/// Names the step that a load or a store is.
+trait StepName {
+    ghost use Rattle.std.specs.Prelude.{ℕ};
+    ghost use Rattle.execution.specs.declared.entry.Step.{Step};
+
+    ghost step: { Step };
+
+    /// The value of a step at a word that there is not.
+    ghost value: { ℕ };
+}
+
+impl StepName for Brand {
+    ghost use Rattle.execution.specs.Rule.{no_step};
+
+    ghost step = { no_step };
+
+    ghost value = { 0 };
+}
+
+/// Tells that the run has grown by the step that D names.
+struct Does<D> {
+    of: PhantomData<D>,
+}
+
+impl<D: StepName> Play<(), Known> for Does<D> {
+    ghost use Rattle.std.specs.Prelude.{◌≡◌};
+    ghost use Rattle.execution.specs.Rule.{Did};
+
+    ghost then = { λ step before found after. Did D.step before.0 found after.0 × (after.1 ≡ before.1) };
+}
+
+/// Tells that the run has grown by a step at a word that there is not.
+struct Passes<D> {
+    of: PhantomData<D>,
+}
+
+impl<D: StepName> Play<(), Known> for Passes<D> {
+    ghost use Rattle.std.specs.Prelude.{◌≡◌};
+    ghost use Rattle.execution.specs.Rule.{Did};
+
+    ghost then = { λ step before found after. Did D.step before.0 D.value after.0 × (after.1 ≡ before.1) };
+}
+
+/// The first process of a seat gets a seat of its own.
+struct Cut;
+
+impl Split<Known> for Cut {
+    ghost use Rattle.execution.specs.Rule.{without_first, first_alone};
+
+    ghost left = { without_first };
+
+    ghost right = { first_alone };
+}
+
+/// One seat answers for the processes of both.
+struct Glue;
+
+impl Join<Known> for Glue {
+    ghost use Rattle.execution.specs.Rule.{joined, spent_known};
+
+    ghost both = { joined };
+
+    ghost spent = { spent_known };
+}
+
+fn load_named<D: StepName>(
+    table: &Board,
+    seat: &mut RunSeat,
+    owed: &Owed,
+    kind: Kind,
+    word: Word,
+    at: u64,
+) -> u64
+    requires table { seat.old.table_id ≡ table.now.shared.table_id }
+    requires word { at < table.now.shared.table_id.words }
+    requires step { step_of owed.now kind word ≡ D.step }
+    requires may { MayLoad (step_of owed.now kind word) at seat.old.me.0.view }
+    ensures same { (seat.new.table_id ≡ seat.old.table_id) × (seat.new.id ≡ seat.old.id) × (seat.new.me.1 ≡ seat.old.me.1) }
+    ensures did { Did (step_of owed.now kind word) seat.old.me.0 result seat.new.me.0 }
+{
+    let _ = owed;
+    let _ = (kind, word);
+    table.shared.load::<Does<D>>(seat, at as usize)
+}
+
+fn store_named<D: StepName>(
+    table: &Board,
+    seat: &mut RunSeat,
+    owed: &Owed,
+    kind: Kind,
+    word: Word,
+    at: u64,
+    new: u64,
+)
+    requires table { seat.old.table_id ≡ table.now.shared.table_id }
+    requires word { at < table.now.shared.table_id.words }
+    requires step { step_of owed.now kind word ≡ D.step }
+    requires may { MayStore (step_of owed.now kind word) at seat.old.me.0.view new }
+    ensures same { (seat.new.table_id ≡ seat.old.table_id) × (seat.new.id ≡ seat.old.id) × (seat.new.me.1 ≡ seat.old.me.1) }
+    ensures did { Did (step_of owed.now kind word) seat.old.me.0 new seat.new.me.0 }
+{
+    let _ = owed;
+    let _ = (kind, word);
+    table.shared.store::<Does<D>>(seat, at as usize, new);
+}
+
+fn pass_named<D: StepName>(
+    table: &Board,
+    seat: &mut RunSeat,
+    owed: &Owed,
+    kind: Kind,
+    word: Word,
+    value: u64,
+)
+    requires table { seat.old.table_id ≡ table.now.shared.table_id }
+    requires some { 0 < table.now.shared.table_id.words }
+    requires step { step_of owed.now kind word ≡ D.step }
+    requires value { value ≡ D.value }
+    requires may { MayPass (step_of owed.now kind word) seat.old.me.0.view value }
+    ensures same { (seat.new.table_id ≡ seat.old.table_id) × (seat.new.id ≡ seat.old.id) × (seat.new.me.1 ≡ seat.old.me.1) }
+    ensures did { Did (step_of owed.now kind word) seat.old.me.0 value seat.new.me.0 }
+{
+    let _ = owed;
+    let _ = (kind, word, value);
+    table.shared.load::<Passes<D>>(seat, 0);
+}
+
+/// A step at a data word that there is not. The pass grows by this step, and no word changes.
+pub fn pass(table: &Board, seat: &mut RunSeat, owed: &Owed, kind: Kind, word: Word, value: u64)
+    requires table { seat.old.table_id ≡ table.now.shared.table_id }
+    requires some { 0 < table.now.shared.table_id.words }
+    requires may { MayPass (step_of owed.now kind word) seat.old.me.0.view value }
+    ensures same { (seat.new.table_id ≡ seat.old.table_id) × (seat.new.id ≡ seat.old.id) × (seat.new.me.1 ≡ seat.old.me.1) }
+    ensures did { Did (step_of owed.now kind word) seat.old.me.0 value seat.new.me.0 }
+{
+    pass_named::<Brand>(table, seat, owed, kind, word, value);
+}
+
+/// One load. The pass grows by this step.
+pub fn load(table: &Board, seat: &mut RunSeat, owed: &Owed, kind: Kind, word: Word, at: u64) -> u64
+    requires table { seat.old.table_id ≡ table.now.shared.table_id }
+    requires word { at < table.now.shared.table_id.words }
+    requires may { MayLoad (step_of owed.now kind word) at seat.old.me.0.view }
+    ensures same { (seat.new.table_id ≡ seat.old.table_id) × (seat.new.id ≡ seat.old.id) × (seat.new.me.1 ≡ seat.old.me.1) }
+    ensures did { Did (step_of owed.now kind word) seat.old.me.0 result seat.new.me.0 }
+{
+    load_named::<Brand>(table, seat, owed, kind, word, at)
+}
+
+/// One load of a word for no call. What the process owes stays owed.
+pub fn glance(table: &Board, seat: &mut RunSeat, word: Word, at: u64) -> u64
+    requires table { seat.old.table_id ≡ table.now.shared.table_id }
+    requires word { at < table.now.shared.table_id.words }
+    requires may { MayLoad (glanced word) at seat.old.me.0.view }
+    ensures same { (seat.new.table_id ≡ seat.old.table_id) × (seat.new.id ≡ seat.old.id) × (seat.new.me.1 ≡ seat.old.me.1) }
+    ensures did { Did (glanced word) seat.old.me.0 result seat.new.me.0 }
+{
+    let owed = Owed::nothing();
+    load_named::<Brand>(table, seat, &owed, Kind::Glance, word, at)
+}
+
+/// One store. The pass grows by this step.
+pub fn store(
+    table: &Board,
+    seat: &mut RunSeat,
+    owed: &Owed,
+    kind: Kind,
+    word: Word,
+    at: u64,
+    new: u64,
+)
+    requires table { seat.old.table_id ≡ table.now.shared.table_id }
+    requires word { at < table.now.shared.table_id.words }
+    requires may { MayStore (step_of owed.now kind word) at seat.old.me.0.view new }
+    ensures same { (seat.new.table_id ≡ seat.old.table_id) × (seat.new.id ≡ seat.old.id) × (seat.new.me.1 ≡ seat.old.me.1) }
+    ensures did { Did (step_of owed.now kind word) seat.old.me.0 new seat.new.me.0 }
+{
+    store_named::<Brand>(table, seat, owed, kind, word, at, new);
+}
+
+/// The first process of a seat gets a seat of its own.
+pub fn cut_off(table: &Board, seat: &mut RunSeat) -> RunSeat
+    requires { (seat.old.table_id ≡ table.now.shared.table_id) × (0 < table.now.shared.table_id.words) × Splits (Kept table.now.shared.key) seat.old.id seat.old.me.0 (without_first seat.old.me.0) (first_alone seat.old.me.0) }
+    ensures { (seat.new.table_id ≡ seat.old.table_id) × (seat.new.me ≡ (without_first seat.old.me.0, seat.old.me.1)) × (result.table_id ≡ seat.old.table_id) × (result.me ≡ (first_alone seat.old.me.0, [])) }
+{
+    table.shared.split_seat::<Cut>(seat)
+}
+
+/// A seat answers for the processes of another seat too.
+pub fn take_in(table: &Board, seat: &mut RunSeat, other: RunSeat)
+    requires { (seat.old.table_id ≡ table.now.shared.table_id) × (other.table_id ≡ table.now.shared.table_id) × (other.me.1 ≡ []) × (0 < table.now.shared.table_id.words) × Joins (Kept table.now.shared.key) seat.old.id seat.old.me.0 other.id other.me.0 (joined seat.old.me.0 other.me.0) spent_known }
+    ensures { (seat.new.table_id ≡ seat.old.table_id) × (seat.new.me ≡ (joined seat.old.me.0 other.me.0, seat.old.me.1)) }
+{
+    table.shared.join_seat::<Glue>(seat, other);
+}

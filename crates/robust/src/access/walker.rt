@@ -1,0 +1,203 @@
+//! A process's seat at the table, with its pass. Each method takes at most one step.
+ghost use Rattle.std.specs.Prelude.{◌≡◌, ℕ, ◌<◌, ◌≤◌, ◌+◌, ◌^◌, true, false, [], Some, None, IsSome, IfOk, OnOk};
+ghost use Rattle.std.specs.Arc.{arc_value};
+ghost use Rattle.rmecore.specs.World.{is_store};
+ghost use Rattle.redomail.specs.Layout.{size};
+ghost use Rattle.rmeworld.specs.Spot.{next_spot, Begins};
+ghost use Rattle.rmeworld.specs.Stand.{IsSize};
+ghost use Rattle.execution.specs.Runs.{InTable, IsBeyond, index as index_of, word_count, IsRun};
+ghost use Rattle.execution.specs.Pass.{Pass, Advances, Looks, IsPass, alone, rest_known, fresh, spot_now, moved_spot};
+
+use crate::access::owed::Owed;
+use crate::access::table;
+use crate::access::table::{Board, RunSeat};
+use redomail::Layout;
+use rmecore::{Kind, Word};
+use rmeworld::Call;
+use execution::Setup;
+use std::alloc::{AllocError, Global};
+use std::marker::Model;
+use std::sync::Arc;
+
+/// A seat at the table. Contracts see it as its pass.
+#[derive(Drop)]
+pub struct Walker {
+    board: Arc<Board, Global>,
+    seat: RunSeat,
+    setup: Setup,
+    by: u64,
+    owed: Owed,
+}
+
+impl Model for Walker {
+    ghost use Rattle.std.specs.Prelude.{◌≡◌, []};
+    ghost use Rattle.std.specs.Arc.{arc_value};
+    ghost use Rattle.robust.specs.Owed.{has_crashed, started};
+    ghost use Rattle.execution.specs.Pass.{Pass, IsPass, alone};
+
+    ghost Value = { Pass };
+
+    ghost view = { λ w. record { table = w.seat.table_id; setup = w.setup; by = w.by; fallen = has_crashed w.owed; start = started w.owed; seen = w.seat.me.0.view.seen } };
+
+    ghost invariant = { λ w. record { table : w.seat.table_id ≡ (arc_value w.board).shared.table_id; seat : w.seat.me ≡ (alone w.setup w.by w.seat.me.0.view.seen, []); pass : IsPass (record { table = w.seat.table_id; setup = w.setup; by = w.by; fallen = has_crashed w.owed; start = started w.owed; seen = w.seat.me.0.view.seen }) } };
+}
+
+/// How many data words there are.
+#[tactic(auto, using(execution::proofs::Running::size_is))]
+pub fn data_words(layout: &Layout) -> u64
+    requires { IsSize layout.now }
+    ensures { result ≡ size layout.now }
+{
+    10 + layout.width + layout.procs + (2 + layout.width) * layout.cap
+}
+
+/// Where a word of the world stands in the table.
+pub fn index(setup: &Setup, word: Word) -> u64
+    requires size { IsSize setup.now.layout }
+    requires table { InTable setup.now word }
+    ensures index { result ≡ index_of setup.now word }
+    ensures within { result < word_count setup.now }
+{
+    match word {
+        Word::Choosing(p) => 3 * p,
+        Word::Number(p) => 3 * p + 1,
+        Word::Inside(p) => 3 * p + 2,
+        Word::Data(i) => 3 * setup.layout.procs + i,
+    }
+}
+
+impl Walker {
+    /// The seat of the next process is cut off.
+    pub fn first(
+        board: &Arc<Board, Global>,
+        seat: &mut RunSeat,
+        setup: Setup,
+        by: u64,
+    ) -> Result<Walker, AllocError>
+        requires table { (seat.old.table_id ≡ (arc_value board.now).shared.table_id) × (seat.old.table_id.words ≡ word_count setup) }
+        requires seat { seat.old.me ≡ (rest_known setup by, []) }
+        requires within { (by < setup.layout.procs) × IsSize setup.layout }
+        requires limited { (1 ≤ setup.limit) × (setup.limit ≤ 2 ^ 62) }
+        ensures rest { OnOk result ((seat.new.table_id ≡ seat.old.table_id) × (seat.new.me ≡ (rest_known setup (by + 1), []))) }
+        ensures walker { IfOk result (λ w. w ≡ fresh seat.old.table_id setup by) }
+    {
+        let board = Arc::try_clone(board)?;
+        let own = table::cut_off(&board, seat);
+        Ok(Walker {
+            board,
+            seat: own,
+            setup,
+            by,
+            owed: Owed::nothing(),
+        })
+    }
+
+    /// Its process.
+    pub fn by(&self) -> u64
+        ensures is { result ≡ self.now.by }
+        ensures pass { IsPass self.now }
+    {
+        self.by
+    }
+
+    /// How many processes there are.
+    pub fn procs(&self) -> u64
+        ensures is { result ≡ self.now.setup.layout.procs }
+        ensures pass { IsPass self.now }
+    {
+        self.setup.layout.procs
+    }
+
+    /// The greatest number that a process may take.
+    pub fn limit(&self) -> u64
+        ensures is { result ≡ self.now.setup.limit }
+        ensures pass { IsPass self.now }
+    {
+        self.setup.limit
+    }
+
+    /// The sizes of the arena.
+    pub fn setup(&self) -> Setup
+        ensures is { result ≡ self.now.setup }
+        ensures pass { IsPass self.now }
+    {
+        self.setup
+    }
+
+    /// One load, which carries the crash and the start that are owed.
+    pub fn load(&mut self, kind: Kind, word: Word) -> u64
+        requires table { InTable self.old.setup word }
+        requires kind { is_store kind ≡ false }
+        requires may { (found : ℕ) → found < 2 ^ 64 → IsSome (moved_spot self.old kind word found) }
+        ensures { Advances self.old kind word result self.new }
+    {
+        let at = index(&self.setup, word);
+        let found = table::load(&self.board, &mut self.seat, &self.owed, kind, word, at);
+        self.owed = Owed::nothing();
+        found
+    }
+
+    /// One store, which carries the crash and the start that are owed.
+    pub fn store(&mut self, kind: Kind, word: Word, new: u64)
+        requires table { InTable self.old.setup word }
+        requires kind { is_store kind ≡ true }
+        requires may { IsSome (moved_spot self.old kind word new) }
+        ensures { Advances self.old kind word new self.new }
+    {
+        let at = index(&self.setup, word);
+        table::store(&self.board, &mut self.seat, &self.owed, kind, word, at, new);
+        self.owed = Owed::nothing();
+    }
+
+    /// A step at a data word that there is not: no word changes, and a load reads 0. It loads a word for nothing.
+    pub fn pass(&mut self, kind: Kind, word: Word, value: u64)
+        requires beyond { IsBeyond self.old.setup word }
+        requires zero { is_store kind ≡ false → value ≡ 0 }
+        requires may { IsSome (moved_spot self.old kind word value) }
+        ensures { Advances self.old kind word value self.new }
+    {
+        table::pass(&self.board, &mut self.seat, &self.owed, kind, word, value);
+        self.owed = Owed::nothing();
+    }
+
+    /// Reads any word, wherever the process stands. What is owed stays owed.
+    pub fn glance(&mut self, word: Word) -> u64
+        requires { InTable self.old.setup word }
+        ensures { Looks self.old word result self.new }
+    {
+        let at = index(&self.setup, word);
+        table::glance(&self.board, &mut self.seat, word, at)
+    }
+
+    /// The process loses its private memory. The words stay.
+    pub fn crash(&mut self)
+        ensures { self.new ≡ record self.old { fallen = true; start = None } }
+    {
+        self.owed = Owed::crash();
+    }
+
+    /// The process starts a call.
+    pub fn begin(&mut self, call: Call)
+        requires none { self.old.start ≡ None }
+        requires may { IsSome (next_spot self.old.setup.layout self.old.setup.limit (spot_now self.old) (Begins self.old.by call)) }
+        ensures { self.new ≡ record self.old { start = Some call } }
+    {
+        self.owed.begin(&call);
+    }
+
+    /// The table and the seat.
+    pub fn into_parts(self) -> (Arc<Board, Global>, RunSeat)
+        ensures table { (result.1.table_id ≡ self.table) × ((arc_value result.0).shared.table_id ≡ self.table) }
+        ensures seat { result.1.me ≡ (alone self.setup self.by self.seen, []) }
+        ensures pass { IsPass self }
+    {
+        let Walker {
+            board,
+            seat,
+            setup: _,
+            by: _,
+            owed: _,
+        } = self;
+        (board, seat)
+    }
+}

@@ -1,0 +1,9 @@
+//! The calls of a process over the words of a table: its seat and its machine, step by step, with a plan of crashes that is
+//! asked before each step.
+
+mod drive;
+mod led;
+mod locking;
+mod reading;
+pub mod runner;
+mod whole;

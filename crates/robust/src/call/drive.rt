@@ -1,0 +1,108 @@
+//! A call under way, step by step, with a plan of crashes that is asked before each step.
+ghost use Rattle.std.specs.Prelude.{◌≡◌, ◌≢◌, ℕ, ◌+◌, ◌≤◌, List, [], ◌∷◌, length, Some, None, true, false, IfOk, IfErr, OnOk, OnErr};
+ghost use Rattle.rmeworld.specs.declared.call.Call.TheVariants.{Lock};
+ghost use Rattle.rmeworld.specs.OwnSteps.{most_steps};
+ghost use Rattle.rmeworld.specs.Refused.{is_idle};
+ghost use Rattle.execution.specs.declared.entry.TakenStep.{TakenStep};
+ghost use Rattle.execution.specs.Pass.{IsPass, spot_now};
+ghost use Rattle.execution.specs.Calls.{blocked_of, Ran, CutOff, Still, Served, Crashes, Calm, Fell};
+ghost use Rattle.execution.specs.Lasting.{Lasts};
+ghost use Rattle.execution.specs.Running.{began};
+ghost use Rattle.execution.specs.Tabled.{table_steps, CountsAtMost};
+ghost use Rattle.robust.specs.Working.{seat_of};
+ghost use Rattle.execution.specs.Faults.{fault_for as fault_of, refusal_now, Fails};
+ghost use Rattle.execution.specs.Under.{IsUnder, Begun, Fits};
+
+use crate::call::runner::Runner;
+use crash_plans::CrashPlan;
+use rmecore::Refusal;
+use rmeworld::{Answer, Call};
+use execution::LockFault;
+
+/// More steps than any call takes beside blocked ones.
+const MOST_STEPS: u64 = 256;
+
+impl Runner {
+    /// Takes the steps of the call that is under way, up to its answer or to a blocked reading.
+    pub fn run<C: CrashPlan>(
+        &mut self,
+        plan: &mut C,
+        call: &Call,
+    ) -> Result<Option<Answer>, LockFault>
+        requires under { IsUnder call.now (spot_now self.old.pass) }
+        requires busy { is_idle (spot_now self.old.pass) ≡ false }
+        requires lasts { Lasts self.old.pass.setup.layout.procs 256 (spot_now self.old.pass) }
+        ensures ran { IfOk result (λ o. (mine : List TakenStep) × Ran self.old o self.new mine × Calm (length mine) (C.asked plan.old) (C.asked plan.new) (C.fallen plan.old) (C.fallen plan.new)) }
+        ensures still { IfOk result (λ o. Still call.now self.new o) }
+        ensures crashed { IfErr result (λ e. e ≡ LockFault.Crashed) }
+        ensures cut { OnErr result ((mine : List TakenStep) × CutOff self.old mine self.new × Fell (length mine + 1) (C.asked plan.old) (C.asked plan.new) (C.fallen plan.old) (C.fallen plan.new) × (blocked_of self.old.pass mine ≡ 0)) }
+    {
+        if let Some(ran) = self.fast_way(plan, call) {
+            return Ok(ran);
+        }
+        for turn in 0..MOST_STEPS {
+            self.ask(plan)?;
+            let outcome = self.advance();
+            if let Some(answer) = outcome.answer {
+                return Ok(Some(answer));
+            }
+            if outcome.progress.blocked {
+                return Ok(None);
+            }
+        }
+        unreachable!()
+    }
+
+    /// Takes the steps of a call that is never blocked, up to its answer.
+    pub fn serve<C: CrashPlan>(&mut self, plan: &mut C, call: &Call) -> Result<Answer, LockFault>
+        requires begun { Begun call.now self.old.pass.setup.layout.procs (spot_now self.old.pass) }
+        requires pass { IsPass self.old.pass }
+        requires start { self.old.pass.start ≡ Some call.now }
+        requires brief { call.now ≢ Lock }
+        ensures answered { IfOk result (λ a. (mine : List TakenStep) × Served self.old call.now (a ∷ []) 0 self.new mine × Calm (length mine + 1) (C.asked plan.old) (C.asked plan.new) (C.fallen plan.old) (C.fallen plan.new)) }
+        ensures fits { IfOk result (λ a. Fits call.now a) }
+        ensures crashed { IfErr result (λ e. e ≡ LockFault.Crashed) }
+        ensures cut { OnErr result ((mine : List TakenStep) × Crashes self.old call.now self.new mine × Fell (length mine + 1) (C.asked plan.old) (C.asked plan.new) (C.fallen plan.old) (C.fallen plan.new)) }
+        ensures idle { self.new.pass.start ≡ None }
+        ensures few { CountsAtMost (most_steps self.old.pass.setup.layout call.now) self.old self.new }
+    {
+        match self.run(plan, call)? {
+            Some(answer) => {
+                self.ask(plan)?;
+                Ok(answer)
+            }
+            None => unreachable!(),
+        }
+    }
+
+    /// Starts a call that is never blocked, and takes its steps up to its answer.
+    pub fn call<C: CrashPlan>(&mut self, plan: &mut C, call: &Call) -> Result<Answer, LockFault>
+        requires idle { self.old.pass.start ≡ None }
+        requires brief { call.now ≢ Lock }
+        ensures answered { IfOk result (λ a. (mine : List TakenStep) × Served (began self.old call.now) call.now (a ∷ []) 0 self.new mine × Calm (length mine + 1) (C.asked plan.old) (C.asked plan.new) (C.fallen plan.old) (C.fallen plan.new)) }
+        ensures accepted { OnOk result (refusal_now self.old call.now ≡ None) }
+        ensures fits { IfOk result (λ a. Fits call.now a) }
+        ensures fails { IfErr result (Fails self.old call.now self.new (C.asked plan.old) (C.asked plan.new) (C.fallen plan.old) (C.fallen plan.new)) }
+        ensures idle { self.new.pass.start ≡ None }
+        ensures seat { seat_of self.new ≡ seat_of self.old }
+        ensures table { IfOk result (λ a. table_steps self.old.pass call.now a ≡ Some self.new.steps) }
+        ensures few { refusal_now self.old call.now ≡ None → self.new.steps ≤ most_steps self.old.pass.setup.layout call.now }
+    {
+        match self.begin(call) {
+            Ok(()) => self.serve(plan, call),
+            Err(refusal) => Err(fault_for(call, refusal)),
+        }
+    }
+}
+
+/// The fault that a refused start is.
+fn fault_for(call: &Call, refusal: Refusal) -> LockFault
+    ensures { result ≡ fault_of call.now refusal }
+{
+    match (call, refusal) {
+        (Call::Consistent, _) => LockFault::NotInconsistent,
+        (_, Refusal::AlreadyIn) => LockFault::AlreadyIn,
+        (_, Refusal::BadIndex) => LockFault::BadIndex,
+        _ => LockFault::NotOwner,
+    }
+}

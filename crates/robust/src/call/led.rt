@@ -1,0 +1,46 @@
+//! What the fast path of a lock has led to, for who called it and for the machine of the process.
+ghost use Rattle.std.specs.Prelude.{◌≡◌, true, false};
+ghost use Rattle.rmeworld.specs.Stand.{spot_of as standing_at};
+ghost use Rattle.rmeworld.specs.declared.errand.Errand.TheVariants as Errand;
+ghost use Rattle.robust.specs.FastPath.{checked_spot};
+ghost use Rattle.robust.specs.FastCalls.{told_by};
+
+use rmecore::Stage;
+use rmeworld::{Answer, Process};
+
+/// What the fast path of a lock has led to, for who called it: a blocked reading, an entry with nothing to mend, or neither, and
+/// the general way goes on.
+#[derive(Clone, Copy)]
+pub enum Led {
+    Blocked,
+    Entered,
+    Further,
+}
+
+/// What a call of the lock is told: nothing yet, where it was blocked.
+pub fn told(led: Led) -> Option<Option<Answer>>
+    ensures { result ≡ told_by led }
+{
+    match led {
+        Led::Blocked => Some(None),
+        Led::Entered => Some(Some(Answer::Clean)),
+        Led::Further => None,
+    }
+}
+
+/// The process is turned away from a ruined lock.
+pub fn bar(process: &mut Process)
+    requires free { process.old.errand ≡ Errand.Free }
+    requires barred { process.old.barred ≡ false }
+    ensures at { standing_at process.new ≡ checked_spot true }
+    ensures same { (process.new.layout ≡ process.old.layout) × (process.new.limit ≡ process.old.limit) × (process.new.index ≡ process.old.index) }
+{
+    let next = process.layout().procs;
+    process.seam_stand(Stage::Wait {
+        number: 1,
+        next,
+        looked: false,
+    });
+    process.feed(1);
+    process.feed(1);
+}

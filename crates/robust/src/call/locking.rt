@@ -1,0 +1,158 @@
+//! A lock that may be blocked, and calls that set out from anywhere outside the section.
+ghost use Rattle.std.specs.Prelude.{◌≡◌, ◌⊎◌, ℕ, ◌≤◌, ◌+◌, List, length, Some, None, true, false, IfOk, IfErr, IfSome, OnOk, OnErr};
+ghost use Rattle.rmecore.specs.declared.refusal.Refusal.{Refusal as RefusalOf};
+ghost use Rattle.rmeworld.specs.declared.call.Call.TheVariants.{Lock, Recover, Withdraw};
+ghost use Rattle.rmeworld.specs.OwnSteps.{most_steps};
+ghost use Rattle.rmeworld.specs.Refused.{is_idle};
+ghost use Rattle.execution.specs.Pass.{IsPass, spot_now};
+ghost use Rattle.execution.specs.Running.{began};
+ghost use Rattle.execution.specs.Tabled.{LockCounts, CountsAtMost};
+ghost use Rattle.execution.specs.Under.{Begun, Fits, Leaves};
+ghost use Rattle.execution.specs.Faults.{refusal_now, ready, CutIn, LockBy, LockEnds};
+
+use crate::call::runner::Runner;
+use crossbeam_utils::Backoff;
+use crash_plans::CrashPlan;
+use rmecore::Refusal;
+use rmeworld::{Answer, Call};
+use execution::LockFault;
+use std::sync::Wait;
+
+impl Runner {
+    /// Starts a lock or a recovery, unless the process is in the section. Where a lock still waits, its process crashes
+    /// first: it has given up its call, and its words stay.
+    pub fn set_out(&mut self, call: &Call) -> Result<(), LockFault>
+        requires idle { self.old.pass.start ≡ None }
+        requires comes { (call.now ≡ Lock) ⊎ (call.now ≡ Recover) }
+        ensures out { OnOk result ((self.new ≡ began (ready self.old) call.now) × Begun call.now self.new.pass.setup.layout.procs (spot_now self.new.pass) × IsPass self.new.pass) }
+        ensures accepted { OnOk result (refusal_now (ready self.old) call.now ≡ None) }
+        ensures refused { OnErr result ((self.new ≡ self.old) × (refusal_now self.old call.now ≡ Some Refusal.AlreadyIn)) }
+        ensures fault { IfErr result (λ e. e ≡ LockFault.AlreadyIn) }
+    {
+        match self.begin(call) {
+            Ok(()) => Ok(()),
+            Err(Refusal::AlreadyIn) => Err(LockFault::AlreadyIn),
+            Err(_) => {
+                self.crash();
+                match self.begin(call) {
+                    Ok(()) => Ok(()),
+                    Err(_) => unreachable!(),
+                }
+            }
+        }
+    }
+
+    /// Starts a lock, as `set_out` does.
+    #[inline(always)]
+    pub fn set_out_lock(&mut self) -> Result<(), LockFault>
+        requires idle { self.old.pass.start ≡ None }
+        ensures out { OnOk result ((self.new ≡ began (ready self.old) Lock) × Begun Lock self.new.pass.setup.layout.procs (spot_now self.new.pass) × IsPass self.new.pass) }
+        ensures accepted { OnOk result (refusal_now (ready self.old) Lock ≡ None) }
+        ensures refused { OnErr result ((self.new ≡ self.old) × (refusal_now self.old Lock ≡ Some Refusal.AlreadyIn)) }
+        ensures fault { IfErr result (λ e. e ≡ LockFault.AlreadyIn) }
+    {
+        if self.start_lock() {
+            return Ok(());
+        }
+        self.set_out(&Call::Lock)
+    }
+
+    /// Takes the steps of a lock up to its answer, or until it has been blocked once more than it was given turns. Between
+    /// two blocked readings it rests. With no answer the process still waits in the line. The asking before the answer is left
+    /// to the caller.
+    pub fn take_turns<C: CrashPlan>(
+        &mut self,
+        plan: &mut C,
+        turns: u64,
+    ) -> Result<Option<Answer>, LockFault>
+        requires begun { Begun Lock self.old.pass.setup.layout.procs (spot_now self.old.pass) }
+        requires pass { IsPass self.old.pass }
+        requires start { self.old.pass.start ≡ Some Lock }
+        ensures ends { IfOk result (λ o. LockBy 0 self.old turns o self.new (C.asked plan.old) (C.asked plan.new) (C.fallen plan.old) (C.fallen plan.new)) }
+        ensures fits { IfOk result (λ o. IfSome o (λ a. Fits Lock a × Leaves Lock a (spot_now self.new.pass))) }
+        ensures waits { IfOk result (λ o. o ≡ None → is_idle (spot_now self.new.pass) ≡ false) }
+        ensures waiting { IfOk result (λ o. o ≡ None → refusal_now self.new Withdraw ≡ None) }
+        ensures crashed { IfErr result (λ e. e ≡ LockFault.Crashed) }
+        ensures cut { OnErr result (CutIn self.old Lock self.new (C.asked plan.old) (C.asked plan.new) (C.fallen plan.old) (C.fallen plan.new)) }
+        ensures few { CountsAtMost (most_steps self.old.pass.setup.layout Lock + turns) self.old self.new }
+    {
+        let backoff = Backoff::new();
+        let mut left = turns;
+        loop {
+            if let Some(answer) = self.run(plan, &Call::Lock)? {
+                return Ok(Some(answer));
+            }
+            if left == 0 {
+                return Ok(None);
+            }
+            left -= 1;
+            backoff.snooze();
+        }
+    }
+
+    /// Takes the steps of a lock up to its answer, however often it is blocked. The asking before the answer is left to the
+    /// caller.
+    #[inline(always)]
+    pub fn take_all<R: Wait, C: CrashPlan>(
+        &mut self,
+        rt: &R,
+        plan: &mut C,
+    ) -> Result<Answer, LockFault>
+        requires begun { Begun Lock self.old.pass.setup.layout.procs (spot_now self.old.pass) }
+        requires pass { IsPass self.old.pass }
+        requires start { self.old.pass.start ≡ Some Lock }
+        ensures ends { IfOk result (λ a. (turns : ℕ) × LockBy 0 self.old turns (Some a) self.new (C.asked plan.old) (C.asked plan.new) (C.fallen plan.old) (C.fallen plan.new)) }
+        ensures fits { IfOk result (λ a. Fits Lock a × Leaves Lock a (spot_now self.new.pass)) }
+        ensures crashed { IfErr result (λ e. e ≡ LockFault.Crashed) }
+        ensures cut { OnErr result (CutIn self.old Lock self.new (C.asked plan.old) (C.asked plan.new) (C.fallen plan.old) (C.fallen plan.new)) }
+    {
+        let backoff = Backoff::new();
+        for _ in rt.forever() {
+            if let Some(answer) = self.run(plan, &Call::Lock)? {
+                return Ok(answer);
+            }
+            backoff.snooze();
+        }
+        unreachable!()
+    }
+
+    /// The same as `take_turns`, with the asking before the answer.
+    pub fn wait_turns<C: CrashPlan>(
+        &mut self,
+        plan: &mut C,
+        turns: u64,
+    ) -> Result<Option<Answer>, LockFault>
+        requires begun { Begun Lock self.old.pass.setup.layout.procs (spot_now self.old.pass) }
+        requires pass { IsPass self.old.pass }
+        requires start { self.old.pass.start ≡ Some Lock }
+        ensures ends { IfOk result (λ o. LockEnds self.old turns o self.new (C.asked plan.old) (C.asked plan.new) (C.fallen plan.old) (C.fallen plan.new)) }
+        ensures fits { IfOk result (λ o. IfSome o (Fits Lock)) }
+        ensures waiting { IfOk result (λ o. o ≡ None → refusal_now self.new Withdraw ≡ None) }
+        ensures crashed { IfErr result (λ e. e ≡ LockFault.Crashed) }
+        ensures cut { OnErr result (CutIn self.old Lock self.new (C.asked plan.old) (C.asked plan.new) (C.fallen plan.old) (C.fallen plan.new)) }
+        ensures idle { self.new.pass.start ≡ None }
+        ensures counts { IfOk result (λ o. LockCounts self.old o self.new) }
+        ensures few { CountsAtMost (most_steps self.old.pass.setup.layout Lock + turns) self.old self.new }
+    {
+        let answer = self.take_turns(plan, turns)?;
+        self.ask(plan)?;
+        Ok(answer)
+    }
+
+    /// The same as `take_all`, with the asking before the answer.
+    pub fn wait<R: Wait, C: CrashPlan>(&mut self, rt: &R, plan: &mut C) -> Result<Answer, LockFault>
+        requires begun { Begun Lock self.old.pass.setup.layout.procs (spot_now self.old.pass) }
+        requires pass { IsPass self.old.pass }
+        requires start { self.old.pass.start ≡ Some Lock }
+        ensures ends { IfOk result (λ a. (turns : ℕ) × LockEnds self.old turns (Some a) self.new (C.asked plan.old) (C.asked plan.new) (C.fallen plan.old) (C.fallen plan.new)) }
+        ensures fits { IfOk result (Fits Lock) }
+        ensures crashed { IfErr result (λ e. e ≡ LockFault.Crashed) }
+        ensures cut { OnErr result (CutIn self.old Lock self.new (C.asked plan.old) (C.asked plan.new) (C.fallen plan.old) (C.fallen plan.new)) }
+        ensures idle { self.new.pass.start ≡ None }
+        ensures counts { IfOk result (λ a. LockCounts self.old (Some a) self.new) }
+    {
+        let answer = self.take_all(rt, plan)?;
+        self.ask(plan)?;
+        Ok(answer)
+    }
+}

@@ -1,0 +1,432 @@
+//! A process at work: its seat and its machine, one step at a time.
+ghost use Rattle.std.specs.Prelude.{◌≡◌, ℕ, List, [], ◌∷◌, length, IfSome, ◌<◌, ◌≤◌, ◌^◌, true, false, Some, None, IsSome, is_none, IfErr, OnOk, OnErr, IsTrue};
+ghost use Rattle.rmecore.specs.Machine.{kind_of, word_of, carried};
+ghost use Rattle.rmecore.specs.Simulated.{one_more};
+ghost use Rattle.rmecore.specs.World.{is_store};
+ghost use Rattle.rmeworld.specs.Refused.{start_refusal, is_idle};
+ghost use Rattle.rmeworld.specs.Stand.{IsSize, InWords, StoresOwn};
+ghost use Rattle.execution.specs.Runs.{InTable, IsBeyond};
+ghost use Rattle.rmecore.specs.Place.{Inside, Rest};
+ghost use Rattle.rmeworld.specs.OwnSteps.{most_steps};
+ghost use Rattle.rmeworld.specs.declared.answer.Answer.TheVariants.{Unlocked};
+ghost use Rattle.rmeworld.specs.declared.call.Call.TheVariants.{Append, Lock, Unlock};
+ghost use Rattle.execution.specs.declared.entry.TakenStep.{TakenStep};
+ghost use Rattle.execution.specs.Calls.{Ran, Going, Still, Calm};
+ghost use Rattle.execution.specs.Faults.{refusal_now, AnsweredIn};
+ghost use Rattle.execution.specs.Tabled.{table_steps};
+ghost use Rattle.execution.specs.Under.{Begun, Fits, Leaves};
+ghost use Rattle.crash_plans.specs.Plans.{so_many_more};
+ghost use Rattle.robust.specs.FastPath.{free_spot, EndsIn};
+ghost use Rattle.robust.specs.FastCalls.{told_by, HasFastWay};
+ghost use Rattle.robust.specs.Working.{seat_of};
+ghost use Rattle.execution.specs.Pass.{Advances, Looks, IsPass, fresh, spot_now, moved_spot};
+
+use crate::call::led::{Led, bar, told};
+use crash_plans::CrashPlan;
+use rmecore::{Access, Body, Kind, Refusal, Stage, Word};
+use rmeworld::{Answer, Call, Outcome, Process};
+use execution::{LockFault, Setup};
+use std::marker::Model;
+use crate::access::walker::Walker;
+use crate::access::fast_append::append;
+use crate::access::fast_path::{Reached, go_in, leave};
+use crate::access::walker::data_words;
+
+/// A process with its seat, its machine, and how many own steps its last call has taken, held at the greatest u64.
+#[derive(Drop)]
+pub struct Runner {
+    walker: Walker,
+    process: Process,
+    steps: u64,
+}
+
+impl Model for Runner {
+    ghost use Rattle.execution.specs.Running.{Seated, IsRunBy};
+
+    ghost Value = { Seated };
+
+    ghost view = { λ r. record { pass = r.walker; steps = r.steps } };
+
+    ghost invariant = { λ r. IsRunBy r.walker r.process };
+}
+
+/// Whether the table has the word. It has each lock word, and the data words below their number.
+fn in_table(setup: &Setup, word: Word) -> bool
+    requires size { IsSize setup.now.layout }
+    requires within { InWords setup.now.layout.procs word }
+    ensures yes { result ≡ true → InTable setup.now word }
+    ensures no { result ≡ false → IsBeyond setup.now word }
+{
+    match word {
+        Word::Data(i) => i < data_words(&setup.layout),
+        _ => true,
+    }
+}
+
+/// One load of the machine.
+fn read(walker: &mut Walker, kind: Kind, word: Word) -> u64
+    requires within { InWords walker.old.setup.layout.procs word }
+    requires kind { is_store kind ≡ false }
+    requires allowed { (v : ℕ) → IsSome (moved_spot walker.old kind word v) }
+    ensures { Advances walker.old kind word result walker.new }
+{
+    let setup = walker.setup();
+    if in_table(&setup, word) {
+        return walker.load(kind, word);
+    }
+    walker.pass(kind, word, 0);
+    0
+}
+
+/// One access of the machine: one load or store of the table.
+fn perform(walker: &mut Walker, access: Access) -> u64
+    requires within { InWords walker.old.setup.layout.procs (word_of access) }
+    requires own { StoresOwn walker.old.by access }
+    requires allowed { (v : ℕ) → IsSome (moved_spot walker.old (kind_of access) (word_of access) (carried access v)) }
+    ensures { Advances walker.old (kind_of access) (word_of access) (carried access result) walker.new }
+{
+    let setup = walker.setup();
+    match access {
+        Access::Load(kind, word) => read(walker, kind, word),
+        Access::Store(kind, word, value) => {
+            if in_table(&setup, word) {
+                walker.store(kind, word, value);
+            } else {
+                walker.pass(kind, word, value);
+            }
+            value
+        }
+    }
+}
+
+/// So many askings of a plan that never falls.
+fn count_calm<C: CrashPlan>(plan: &mut C, askings: u64)
+    requires { C.calm plan.old ≡ true }
+    ensures asked { C.asked plan.new ≡ so_many_more askings (C.asked plan.old) }
+    ensures fallen { C.fallen plan.new ≡ C.fallen plan.old }
+{
+    plan.count_askings(askings);
+}
+
+impl Runner {
+    ghost use Rattle.execution.specs.Running.{Seated, TakesStep, fell, began, behind};
+
+    /// A process at rest, with this seat.
+    pub fn new(walker: Walker) -> Runner
+        requires { walker ≡ fresh walker.table walker.setup walker.by }
+        ensures { result ≡ record { pass = walker; steps = 0 } }
+    {
+        let setup = walker.setup();
+        let process = Process::new(setup.layout, setup.limit, walker.by());
+        Runner {
+            walker,
+            process,
+            steps: 0,
+        }
+    }
+
+    /// Its process.
+    pub fn by(&self) -> u64
+        ensures is { result ≡ self.now.pass.by }
+        ensures pass { IsPass self.now.pass }
+    {
+        self.walker.by()
+    }
+
+    /// The sizes of the arena.
+    pub fn setup(&self) -> Setup
+        ensures is { result ≡ self.now.pass.setup }
+        ensures pass { IsPass self.now.pass }
+    {
+        self.walker.setup()
+    }
+
+    /// The own steps of the last call that was started.
+    pub fn steps(&self) -> u64
+        ensures { result ≡ self.now.steps }
+    {
+        self.steps
+    }
+
+    /// Loses the private memory.
+    pub fn crash(&mut self)
+        ensures { self.new ≡ fell self.old }
+    {
+        self.walker.crash();
+        self.process.crash();
+    }
+
+    /// Asks the plan once. Where it falls, the process crashes.
+    pub fn ask<C: CrashPlan>(&mut self, plan: &mut C) -> Result<(), LockFault>
+        ensures asked { C.asked plan.new ≡ one_more (C.asked plan.old) }
+        ensures goes_on { OnOk result ((self.new ≡ self.old) × (C.fallen plan.new ≡ C.fallen plan.old)) }
+        ensures falls { OnErr result ((self.new ≡ fell self.old) × (C.fallen plan.new ≡ one_more (C.fallen plan.old))) }
+        ensures crashed { IfErr result (λ e. e ≡ LockFault.Crashed) }
+    {
+        if plan.falls() {
+            self.crash();
+            return Err(LockFault::Crashed);
+        }
+        Ok(())
+    }
+
+    /// Takes the next step.
+    pub fn advance(&mut self) -> Outcome
+        requires { is_idle (spot_now self.old.pass) ≡ false }
+        ensures { TakesStep self.old result self.new }
+    {
+        if let Some((scan, Access::Load(kind, word))) = self.process.scan() {
+            let found = read(&mut self.walker, kind, word);
+            self.steps = self.steps.saturating_add(1);
+            return self.process.scan_on(scan, found);
+        }
+        let Some(access) = self.process.next() else {
+            unreachable!()
+        };
+        let value = perform(&mut self.walker, access);
+        self.steps = self.steps.saturating_add(1);
+        self.process.feed(value)
+    }
+
+    /// The fast path of a lock that has just been started or was blocked, where the plan never falls: its steps up to its answer
+    /// or to a blocked reading, or as far as nothing is in the way. The askings before them are counted behind them.
+    #[inline(always)]
+    fn fast_lock<C: CrashPlan>(&mut self, plan: &mut C) -> Led
+        requires begun { Begun Lock self.old.pass.setup.layout.procs (spot_now self.old.pass) }
+        ensures ran { IfSome (told_by result) (λ o. (mine : List TakenStep) × Ran self.old o self.new mine × Calm (length mine) (C.asked plan.old) (C.asked plan.new) (C.fallen plan.old) (C.fallen plan.new)) }
+        ensures still { IfSome (told_by result) (Still Lock self.new) }
+        ensures on { told_by result ≡ None → (mine : List TakenStep) × Going self.old mine self.new × Calm (length mine) (C.asked plan.old) (C.asked plan.new) (C.fallen plan.old) (C.fallen plan.new) }
+        ensures begun { told_by result ≡ None → Begun Lock self.new.pass.setup.layout.procs (spot_now self.new.pass) }
+    {
+        if !plan.is_calm() {
+            return Led::Further;
+        }
+        let Some(stage) = self.process.stage() else {
+            return Led::Further;
+        };
+        let Some((reached, taken)) = go_in(&mut self.walker, stage) else {
+            return Led::Further;
+        };
+        self.steps = self.steps.saturating_add(taken);
+        count_calm(plan, taken);
+        match reached {
+            Reached::Blocked(stage) => {
+                self.process.seam_stand(stage);
+                Led::Blocked
+            }
+            Reached::Stands(stage) => {
+                self.process.seam_stand(stage);
+                Led::Further
+            }
+            Reached::Clean => {
+                self.process.seam_stand_clean();
+                Led::Entered
+            }
+            Reached::Ruined => {
+                bar(&mut self.process);
+                Led::Further
+            }
+        }
+    }
+
+    /// The fast path of a call, where it has one.
+    pub fn fast_way<C: CrashPlan>(&mut self, plan: &mut C, call: &Call) -> Option<Option<Answer>>
+        requires begun { Begun call.now self.old.pass.setup.layout.procs (spot_now self.old.pass) }
+        ensures ran { IfSome result (λ o. (mine : List TakenStep) × Ran self.old o self.new mine × Calm (length mine) (C.asked plan.old) (C.asked plan.new) (C.fallen plan.old) (C.fallen plan.new)) }
+        ensures still { IfSome result (Still call.now self.new) }
+        ensures on { result ≡ None → (mine : List TakenStep) × Going self.old mine self.new × Calm (length mine) (C.asked plan.old) (C.asked plan.new) (C.fallen plan.old) (C.fallen plan.new) }
+        ensures begun { result ≡ None → Begun call.now self.new.pass.setup.layout.procs (spot_now self.new.pass) }
+    {
+        match call {
+            Call::Lock if self.is_at_start() => told(self.fast_lock(plan)),
+            Call::Lock => told(self.fast_lock_later(plan)),
+            _ => None,
+        }
+    }
+
+    /// Whether a call of the lock has just been started.
+    fn is_at_start(&self) -> bool {
+        matches!(self.process.stage(), Some(Stage::ReadingChoosing { .. }))
+    }
+
+    /// The same as `fast_lock`, for a lock that was blocked: a copy of its own, so that an uncontended lock pays nothing for it.
+    #[inline(never)]
+    fn fast_lock_later<C: CrashPlan>(&mut self, plan: &mut C) -> Led
+        requires begun { Begun Lock self.old.pass.setup.layout.procs (spot_now self.old.pass) }
+        ensures ran { IfSome (told_by result) (λ o. (mine : List TakenStep) × Ran self.old o self.new mine × Calm (length mine) (C.asked plan.old) (C.asked plan.new) (C.fallen plan.old) (C.fallen plan.new)) }
+        ensures still { IfSome (told_by result) (Still Lock self.new) }
+        ensures on { told_by result ≡ None → (mine : List TakenStep) × Going self.old mine self.new × Calm (length mine) (C.asked plan.old) (C.asked plan.new) (C.fallen plan.old) (C.fallen plan.new) }
+        ensures begun { told_by result ≡ None → Begun Lock self.new.pass.setup.layout.procs (spot_now self.new.pass) }
+    {
+        self.fast_lock(plan)
+    }
+
+    /// Whether the process is a holder with nothing to mend and no call under way.
+    pub fn is_clean(&self) -> bool
+        ensures { result ≡ true → spot_now self.now.pass ≡ free_spot Inside true }
+    {
+        self.process.is_clean()
+    }
+
+    /// An unlock of a holder with nothing to mend, where the plan never falls: two stores. The askings before them and before
+    /// the answer are counted behind them.
+    pub fn fast_unlock<C: CrashPlan>(&mut self, plan: &mut C)
+        requires idle { self.old.pass.start ≡ None }
+        requires clean { spot_now self.old.pass ≡ free_spot Inside true }
+        requires calm { C.calm plan.old ≡ true }
+        ensures accepted { refusal_now self.old Unlock ≡ None }
+        ensures served { AnsweredIn (began self.old Unlock) Unlock (Unlocked ∷ []) 0 self.new (C.asked plan.old) (C.asked plan.new) (C.fallen plan.old) (C.fallen plan.new) }
+        ensures table { table_steps self.old.pass Unlock Unlocked ≡ Some self.new.steps }
+        ensures few { self.new.steps ≤ most_steps self.old.pass.setup.layout Unlock }
+        ensures seat { seat_of self.new ≡ seat_of self.old }
+    {
+        self.go_out();
+        self.steps = 2;
+        count_calm(plan, 3);
+    }
+
+    /// The two stores of an unlock of a holder with nothing to mend. They are not counted yet.
+    #[inline(always)]
+    fn go_out(&mut self)
+        requires idle { self.old.pass.start ≡ None }
+        requires clean { spot_now self.old.pass ≡ free_spot Inside true }
+        ensures pass { IsPass (behind self.old Unlock).pass }
+        ensures ends { EndsIn (behind self.old Unlock).pass 2 Unlocked self.new.pass }
+        ensures out { (spot_now self.new.pass).lock ≡ Rest }
+        ensures steps { self.new.steps ≡ self.old.steps }
+    {
+        self.walker.begin(Call::Unlock);
+        let _pass = self.walker.by();
+        leave(&mut self.walker);
+        self.process.seam_stand(Stage::Rest);
+    }
+
+    /// Whether a call behind another one has a fast path: an append or an unlock of a holder with nothing to mend, where the
+    /// plan never falls.
+    pub fn has_fast_way<C: CrashPlan>(&self, plan: &C, call: &Call) -> bool
+        ensures clean { result ≡ true → spot_now self.now.pass ≡ free_spot Inside true }
+        ensures calm { result ≡ true → C.calm plan.now ≡ true }
+        ensures call { result ≡ true → HasFastWay call.now }
+    {
+        match call {
+            Call::Append { .. } | Call::Unlock => self.process.is_clean() && plan.is_calm(),
+            _ => false,
+        }
+    }
+
+    /// The fast path of an append: its gets and puts. The machine stands where it stood.
+    fn fast_append<C: CrashPlan>(&mut self, plan: &mut C, seq: u64, value: &Body) -> Answer
+        requires idle { self.old.pass.start ≡ None }
+        requires accepted { refusal_now self.old (Append seq value.now) ≡ None }
+        requires clean { spot_now self.old.pass ≡ free_spot Inside true }
+        requires calm { C.calm plan.old ≡ true }
+        ensures ran { (mine : List TakenStep) × Ran (behind self.old (Append seq value.now)) (Some result) self.new mine × Calm (length mine) (C.asked plan.old) (C.asked plan.new) (C.fallen plan.old) (C.fallen plan.new) }
+        ensures pass { IsPass (behind self.old (Append seq value.now)).pass }
+        ensures leaves { Fits (Append seq value.now) result × Leaves (Append seq value.now) result (spot_now self.new.pass) }
+    {
+        self.walker.begin(Call::Append { seq, value: *value });
+        let _pass = self.walker.by();
+        let (reply, taken) = append(&mut self.walker, seq, value);
+        self.steps = self.steps.saturating_add(taken);
+        count_calm(plan, taken);
+        Answer::Mail(reply)
+    }
+
+    /// The fast path of an unlock behind another call: two stores.
+    fn fast_leave<C: CrashPlan>(&mut self, plan: &mut C) -> Answer
+        requires idle { self.old.pass.start ≡ None }
+        requires clean { spot_now self.old.pass ≡ free_spot Inside true }
+        requires calm { C.calm plan.old ≡ true }
+        ensures ran { (mine : List TakenStep) × Ran (behind self.old Unlock) (Some result) self.new mine × Calm (length mine) (C.asked plan.old) (C.asked plan.new) (C.fallen plan.old) (C.fallen plan.new) }
+        ensures pass { IsPass (behind self.old Unlock).pass }
+        ensures leaves { Fits Unlock result × Leaves Unlock result (spot_now self.new.pass) }
+    {
+        self.go_out();
+        self.steps = self.steps.saturating_add(2);
+        count_calm(plan, 2);
+        Answer::Unlocked
+    }
+
+    /// The fast path of a call behind another one. The askings before its steps are counted behind them.
+    pub fn fast_call<C: CrashPlan>(&mut self, plan: &mut C, call: &Call) -> Answer
+        requires idle { self.old.pass.start ≡ None }
+        requires accepted { refusal_now self.old call.now ≡ None }
+        requires clean { spot_now self.old.pass ≡ free_spot Inside true }
+        requires calm { C.calm plan.old ≡ true }
+        requires call { HasFastWay call.now }
+        ensures ran { (mine : List TakenStep) × Ran (behind self.old call.now) (Some result) self.new mine × Calm (length mine) (C.asked plan.old) (C.asked plan.new) (C.fallen plan.old) (C.fallen plan.new) }
+        ensures pass { IsPass (behind self.old call.now).pass }
+        ensures leaves { Fits call.now result × Leaves call.now result (spot_now self.new.pass) }
+    {
+        match call {
+            Call::Append { seq, value } => self.fast_append(plan, *seq, value),
+            Call::Unlock => self.fast_leave(plan),
+            _ => unreachable!(),
+        }
+    }
+
+    /// Starts a lock, where the process is neither inside nor in a call. Elsewhere nothing changes.
+    pub fn start_lock(&mut self) -> bool
+        requires idle { self.old.pass.start ≡ None }
+        ensures started { result ≡ true → (self.new ≡ began self.old Lock) × Begun Lock self.new.pass.setup.layout.procs (spot_now self.new.pass) × IsPass self.new.pass × (refusal_now self.old Lock ≡ None) }
+        ensures not { result ≡ false → self.new ≡ self.old }
+    {
+        if !self.process.start_lock() {
+            return false;
+        }
+        self.walker.begin(Call::Lock);
+        let _pass = self.walker.by();
+        self.steps = 0;
+        true
+    }
+
+    /// Starts a call behind another one, whose steps go on being counted, unless it is refused.
+    pub fn begin_behind(&mut self, call: &Call) -> Result<(), Refusal>
+        requires { self.old.pass.start ≡ None }
+        ensures accepted { OnOk result ((start_refusal self.old.pass.setup.layout (spot_now self.old.pass) call.now ≡ None) × (self.new ≡ behind self.old call.now)) }
+        ensures begun { OnOk result (Begun call.now self.old.pass.setup.layout.procs (spot_now self.new.pass)) }
+        ensures pass { OnOk result (IsPass self.new.pass) }
+        ensures refused { IfErr result (λ e. start_refusal self.old.pass.setup.layout (spot_now self.old.pass) call.now ≡ Some e) }
+        ensures err { OnErr result (self.new ≡ self.old) }
+    {
+        self.process.start(*call)?;
+        self.walker.begin(*call);
+        let _by = self.walker.by();
+        Ok(())
+    }
+
+    /// Starts a call, unless it is refused.
+    pub fn begin(&mut self, call: &Call) -> Result<(), Refusal>
+        requires { self.old.pass.start ≡ None }
+        ensures accepted { OnOk result ((start_refusal self.old.pass.setup.layout (spot_now self.old.pass) call.now ≡ None) × (self.new ≡ began self.old call.now)) }
+        ensures begun { OnOk result (Begun call.now self.old.pass.setup.layout.procs (spot_now self.new.pass)) }
+        ensures pass { OnOk result (IsPass self.new.pass) }
+        ensures refused { IfErr result (λ e. start_refusal self.old.pass.setup.layout (spot_now self.old.pass) call.now ≡ Some e) }
+        ensures err { OnErr result (self.new ≡ self.old) }
+    {
+        self.begin_behind(call)?;
+        self.steps = 0;
+        Ok(())
+    }
+
+    /// Reads any word of the table.
+    pub fn glance(&mut self, word: Word) -> u64
+        requires { InTable self.old.pass.setup word }
+        ensures seen { Looks self.old.pass word result self.new.pass }
+        ensures steps { self.new.steps ≡ self.old.steps }
+    {
+        self.walker.glance(word)
+    }
+
+    /// The seat.
+    pub fn into_walker(self) -> Walker
+        ensures { result ≡ self.pass }
+    {
+        let Runner {
+            walker,
+            process: _,
+            steps: _,
+        } = self;
+        walker
+    }
+}

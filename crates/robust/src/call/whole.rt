@@ -1,0 +1,209 @@
+//! What a whole mailbox call does behind the start of its lock.
+ghost use Rattle.std.specs.Prelude.{◌≡◌, ◌≢◌, ℕ, ◌+◌, ◌≤◌, List, [], ◌∷◌, Ok, Err, Some, None, true, false, IfOk, IfErr, IfSome, OnOk, OnErr};
+ghost use Rattle.redomail.specs.declared.reply.Reply.{Reply as ReplyOf};
+ghost use Rattle.rmeworld.specs.declared.call.Call.{Call as CallOf};
+ghost use Rattle.rmeworld.specs.declared.call.Call.TheVariants.{Lock, Unlock, Withdraw};
+ghost use Rattle.rmeworld.specs.declared.answer.Answer.{Answer as AnswerOf};
+ghost use Rattle.rmeworld.specs.declared.answer.Answer.TheVariants.{Mail, Unlocked};
+ghost use Rattle.rmeworld.specs.OwnSteps.{most_steps};
+ghost use Rattle.execution.specs.Pass.{spot_now};
+ghost use Rattle.execution.specs.Running.{Seated, began};
+ghost use Rattle.execution.specs.Tabled.{CountsAtMost};
+ghost use Rattle.execution.specs.Under.{Fits, Leaves, IsHolder};
+ghost use Rattle.execution.specs.Faults.{refusal_now, ready, CutIn, CutBy, AnsweredBy, LockBy, answer_of};
+ghost use Rattle.execution.specs.WholeSteps.{InsideCounts, most_inside, most_whole};
+ghost use Rattle.execution.specs.Whole.{IsTask, IsFront, IsInner, IsWithin, Inner, WholeBy, WholeGoes, WholeEnds, WholeFails};
+
+use crate::call::runner::Runner;
+use crash_plans::CrashPlan;
+use redomail::Reply;
+use rmeworld::{Answer, Call};
+use execution::{Entry, LockFault};
+use std::sync::Wait;
+
+impl Runner {
+    /// Starts a call that is never blocked behind another one, and takes its steps up to its answer. The asking before the
+    /// answer is left to the caller.
+    fn follow<C: CrashPlan>(&mut self, plan: &mut C, call: &Call) -> Result<Answer, LockFault>
+        requires idle { self.old.pass.start ≡ None }
+        requires accepted { refusal_now self.old call.now ≡ None }
+        requires brief { call.now ≢ Lock }
+        ensures answered { IfOk result (λ a. AnsweredBy 0 self.old (call.now ∷ []) (a ∷ []) 0 self.new (C.asked plan.old) (C.asked plan.new) (C.fallen plan.old) (C.fallen plan.new)) }
+        ensures leaves { IfOk result (λ a. Fits call.now a × Leaves call.now a (spot_now self.new.pass)) }
+        ensures crashed { IfErr result (λ e. e ≡ LockFault.Crashed) }
+        ensures cut { OnErr result (CutIn self.old call.now self.new (C.asked plan.old) (C.asked plan.new) (C.fallen plan.old) (C.fallen plan.new)) }
+        ensures few { CountsAtMost (most_steps self.old.pass.setup.layout call.now) self.old self.new }
+    {
+        if self.has_fast_way(plan, call) {
+            return Ok(self.fast_call(plan, call));
+        }
+        match self.begin_behind(call) {
+            Ok(()) => match self.run(plan, call)? {
+                Some(answer) => Ok(answer),
+                None => unreachable!(),
+            },
+            Err(_) => unreachable!(),
+        }
+    }
+
+    /// Does a task of the mailbox as a holder with nothing to mend, and leaves.
+    fn work<C: CrashPlan>(&mut self, plan: &mut C, task: &Call) -> Result<Reply, LockFault>
+        requires idle { self.old.pass.start ≡ None }
+        requires holder { IsHolder (spot_now self.old.pass) × ((spot_now self.old.pass).mended ≡ true) }
+        requires task { IsTask self.old.pass.setup.layout task.now }
+        ensures fits { IfOk result (λ reply. Fits task.now (Mail reply)) }
+        ensures out { OnOk result (refusal_now (ready self.new) Lock ≡ None) }
+        ensures done { IfOk result (λ reply. AnsweredBy 0 self.old (task.now ∷ Unlock ∷ []) (Mail reply ∷ Unlocked ∷ []) 0 self.new (C.asked plan.old) (C.asked plan.new) (C.fallen plan.old) (C.fallen plan.new)) }
+        ensures crashed { IfErr result (λ e. e ≡ LockFault.Crashed) }
+        ensures cut { OnErr result (CutBy self.old (λ order. IsFront order (task.now ∷ Unlock ∷ [])) self.new (C.asked plan.old) (C.asked plan.new) (C.fallen plan.old) (C.fallen plan.new)) }
+        ensures counts { IfOk result (λ reply. InsideCounts self.old true (task.now ∷ Unlock ∷ []) (Mail reply ∷ Unlocked ∷ []) self.new) }
+        ensures few { CountsAtMost (most_steps self.old.pass.setup.layout task.now + most_steps self.old.pass.setup.layout Unlock) self.old self.new }
+    {
+        let answer = self.follow(plan, task)?;
+        self.follow(plan, &Call::Unlock)?;
+        match answer {
+            Answer::Mail(reply) => Ok(reply),
+            _ => unreachable!(),
+        }
+    }
+
+    /// Mends, does a task of the mailbox and leaves. Where the mending finds the lock ruined it leaves at once.
+    fn mend_and_work<C: CrashPlan>(
+        &mut self,
+        plan: &mut C,
+        task: &Call,
+    ) -> Result<Result<Reply, LockFault>, LockFault>
+        requires idle { self.old.pass.start ≡ None }
+        requires holder { Leaves Lock (answer_of Entry.OwnerDied) (spot_now self.old.pass) }
+        requires task { IsTask self.old.pass.setup.layout task.now }
+        ensures done { IfOk result (λ r. (order : List CallOf) × (answers : List AnswerOf) × Inner Entry.OwnerDied task.now r order answers × AnsweredBy 0 self.old order answers 0 self.new (C.asked plan.old) (C.asked plan.new) (C.fallen plan.old) (C.fallen plan.new) × InsideCounts self.old false order answers self.new) }
+        ensures fits { IfOk result (λ r. IfOk r (λ reply. Fits task.now (Mail reply))) }
+        ensures out { OnOk result (refusal_now (ready self.new) Lock ≡ None) }
+        ensures crashed { IfErr result (λ e. e ≡ LockFault.Crashed) }
+        ensures cut { OnErr result (CutBy self.old (IsInner Entry.OwnerDied task.now) self.new (C.asked plan.old) (C.asked plan.new) (C.fallen plan.old) (C.fallen plan.new)) }
+        ensures few { CountsAtMost (most_inside self.old.pass.setup.layout task.now) self.old self.new }
+    {
+        match self.follow(plan, &Call::Consistent)? {
+            Answer::Mail(_) => {
+                let reply = self.work(plan, task)?;
+                Ok(Ok(reply))
+            }
+            Answer::NotRecoverable => {
+                self.follow(plan, &Call::Unlock)?;
+                Ok(Err(LockFault::NotRecoverable))
+            }
+            _ => unreachable!(),
+        }
+    }
+
+    /// What comes behind the answer of the lock, or behind its turns, up to the asking before the answer.
+    fn come<C: CrashPlan>(
+        &mut self,
+        plan: &mut C,
+        answer: Option<Answer>,
+        task: &Call,
+    ) -> Result<Result<Reply, LockFault>, LockFault>
+        requires idle { self.old.pass.start ≡ None }
+        requires leaves { IfSome answer (λ a. Fits Lock a × Leaves Lock a (spot_now self.old.pass)) }
+        requires task { IsTask self.old.pass.setup.layout task.now }
+        ensures fits { IfOk result (λ r. IfOk r (λ reply. Fits task.now (Mail reply))) }
+        ensures out { (answer ≡ None → refusal_now (ready self.old) Lock ≡ None) → refusal_now (ready self.new) Lock ≡ None }
+        ensures comes { IfOk result (λ r. (x : Seated) (turns asked fallen : ℕ) → LockBy 0 x turns answer self.old asked (C.asked plan.old) fallen (C.fallen plan.old) → WholeBy 0 x turns task.now r self.new asked (C.asked plan.new) fallen (C.fallen plan.new)) }
+        ensures patient { IfOk result (λ r. r ≡ Err LockFault.NotYet → answer ≡ None) }
+        ensures stays { OnOk result (answer ≡ None → self.new ≡ self.old) }
+        ensures crashed { IfErr result (λ e. e ≡ LockFault.Crashed) }
+        ensures cut { OnErr result ((x : Seated) (turns asked fallen : ℕ) → LockBy 0 x turns answer self.old asked (C.asked plan.old) fallen (C.fallen plan.old) → CutBy x (IsWithin task.now) self.new asked (C.asked plan.new) fallen (C.fallen plan.new)) }
+        ensures few { CountsAtMost (most_inside self.old.pass.setup.layout task.now) self.old self.new }
+    {
+        match answer {
+            Some(answer) => match answer {
+                Answer::Clean => {
+                    let reply = self.work(plan, task)?;
+                    Ok(Ok(reply))
+                }
+                Answer::OwnerDied => {
+                    let ended = self.mend_and_work(plan, task)?;
+                    Ok(ended)
+                }
+                Answer::NumbersSpent => Ok(Err(LockFault::NumbersSpent)),
+                _ => Ok(Err(LockFault::NotRecoverable)),
+            },
+            None => Ok(Err(LockFault::NotYet)),
+        }
+    }
+
+    /// What comes behind the answer of the lock, or behind its turns, with the asking before the answer.
+    fn finish<C: CrashPlan>(
+        &mut self,
+        plan: &mut C,
+        answer: Option<Answer>,
+        task: &Call,
+    ) -> Result<Reply, LockFault>
+        requires idle { self.old.pass.start ≡ None }
+        requires leaves { IfSome answer (λ a. Fits Lock a × Leaves Lock a (spot_now self.old.pass)) }
+        requires task { IsTask self.old.pass.setup.layout task.now }
+        ensures fits { IfOk result (λ reply. Fits task.now (Mail reply)) }
+        ensures out { (answer ≡ None → refusal_now (ready self.old) Lock ≡ None) → refusal_now (ready self.new) Lock ≡ None }
+        ensures goes { (x : Seated) (turns asked fallen : ℕ) → LockBy 0 x turns answer self.old asked (C.asked plan.old) fallen (C.fallen plan.old) → WholeGoes x turns task.now result self.new asked (C.asked plan.new) fallen (C.fallen plan.new) }
+        ensures patient { result ≡ Err LockFault.NotYet → answer ≡ None }
+        ensures stays { result ≡ Err LockFault.NotYet → self.new ≡ self.old }
+        ensures few { CountsAtMost (most_inside self.old.pass.setup.layout task.now) self.old self.new }
+    {
+        let reply = self.come(plan, answer, task)?;
+        match self.ask(plan) {
+            Ok(()) => reply,
+            Err(fault) => Err(fault),
+        }
+    }
+
+    /// A whole mailbox call, which gives up once it is blocked more often than it was given turns.
+    #[tactic(auto, using(execution::proofs::WholeCalls::whole_replied, execution::proofs::WholeCalls::whole_fails, execution::proofs::WholeCalls::cut_fails, execution::proofs::WholeCalls::goes_idle, execution::proofs::WholeCalls::task_fits, execution::proofs::Chained::lock_idle))]
+    pub fn mail_within<C: CrashPlan>(
+        &mut self,
+        plan: &mut C,
+        task: &Call,
+        turns: u64,
+    ) -> Result<Reply, LockFault>
+        requires idle { self.old.pass.start ≡ None }
+        requires task { IsTask self.old.pass.setup.layout task.now }
+        ensures accepted { OnOk result (refusal_now (ready self.old) Lock ≡ None) }
+        ensures fits { IfOk result (λ reply. Fits task.now (Mail reply)) }
+        ensures out { result ≢ Err LockFault.AlreadyIn → refusal_now (ready self.new) Lock ≡ None }
+        ensures waits { result ≡ Err LockFault.NotYet → refusal_now self.new Withdraw ≡ None }
+        ensures replied { IfOk result (λ reply. WholeEnds (began (ready self.old) Lock) turns task.now (Ok reply) self.new (C.asked plan.old) (C.asked plan.new) (C.fallen plan.old) (C.fallen plan.new)) }
+        ensures fails { IfErr result (WholeFails self.old turns task.now self.new (C.asked plan.old) (C.asked plan.new) (C.fallen plan.old) (C.fallen plan.new)) }
+        ensures idle { self.new.pass.start ≡ None }
+        ensures few { OnOk result (self.new.steps ≤ most_whole self.old.pass.setup.layout task.now + turns) }
+        ensures few_out { IfErr result (λ e. e ≢ LockFault.AlreadyIn → self.new.steps ≤ most_whole self.old.pass.setup.layout task.now + turns) }
+    {
+        self.set_out_lock()?;
+        match self.take_turns(plan, turns) {
+            Ok(answer) => self.finish(plan, answer, task),
+            Err(fault) => Err(fault),
+        }
+    }
+
+    /// A whole mailbox call, however often it is blocked.
+    pub fn mail<R: Wait, C: CrashPlan>(
+        &mut self,
+        rt: &R,
+        plan: &mut C,
+        task: &Call,
+    ) -> Result<Reply, LockFault>
+        requires idle { self.old.pass.start ≡ None }
+        requires task { IsTask self.old.pass.setup.layout task.now }
+        ensures accepted { OnOk result (refusal_now (ready self.old) Lock ≡ None) }
+        ensures fits { IfOk result (λ reply. Fits task.now (Mail reply)) }
+        ensures out { result ≢ Err LockFault.AlreadyIn → refusal_now (ready self.new) Lock ≡ None }
+        ensures replied { IfOk result (λ reply. (turns : ℕ) × WholeEnds (began (ready self.old) Lock) turns task.now (Ok reply) self.new (C.asked plan.old) (C.asked plan.new) (C.fallen plan.old) (C.fallen plan.new)) }
+        ensures fails { IfErr result (λ e. (turns : ℕ) × WholeFails self.old turns task.now self.new (C.asked plan.old) (C.asked plan.new) (C.fallen plan.old) (C.fallen plan.new) e) }
+        ensures patient { IfErr result (λ e. e ≢ LockFault.NotYet) }
+        ensures idle { self.new.pass.start ≡ None }
+    {
+        self.set_out_lock()?;
+        match self.take_all(rt, plan) {
+            Ok(answer) => self.finish(plan, Some(answer), task),
+            Err(fault) => Err(fault),
+        }
+    }
+}

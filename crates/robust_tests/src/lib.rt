@@ -1,0 +1,6 @@
+//! Tests of the running lock and of its plain reference: the worked rows over members, and members that crash.
+#![tactic(auto)]
+
+mod plain;
+pub mod support;
+mod table;

@@ -1,0 +1,15 @@
+//! The worked rows over members, and members that crash, on the plain reference of the running lock. Tests alone: each names
+//! public functions of `one_lock` or `plain_lab`.
+
+#[cfg(test)]
+mod gates;
+#[cfg(test)]
+mod gathers;
+#[cfg(test)]
+mod kit;
+#[cfg(test)]
+mod labs;
+#[cfg(test)]
+mod members;
+#[cfg(test)]
+mod sweep;

@@ -1,0 +1,140 @@
+//! A gate that holds its worker at one asking, until the other worker has come far enough.
+
+use crossbeam_utils::Backoff;
+use one_lock::lab::Gate;
+use crash_plans::{CrashPlan, Never};
+use std::alloc::{AllocError, Global};
+use std::sync::Arc;
+use std::sync::atomic::{AtomicU64, Ordering};
+
+/// How often a gate looks before it gives up.
+const MOST_LOOKS: u64 = 10_000_000;
+
+/// How far a worker has come, and whether its gate has given up.
+#[derive(Drop)]
+pub struct Progress {
+    askings: AtomicU64,
+    answer: AtomicU64,
+    /// How many askings there were when the answer was told.
+    answered_at: AtomicU64,
+    gave_up: AtomicU64,
+}
+
+impl Progress {
+    pub fn new(alloc: Global) -> Result<Arc<Progress>, AllocError> {
+        let progress = Progress {
+            askings: AtomicU64::new(0),
+            answer: AtomicU64::new(0),
+            answered_at: AtomicU64::new(0),
+            gave_up: AtomicU64::new(0),
+        };
+        Ok(Arc::new(alloc, progress)?)
+    }
+
+    pub fn has_given_up(&self) -> bool {
+        self.gave_up.load(Ordering::SeqCst) > 0
+    }
+
+    /// The worker asked just so often, and told of this answer behind its last asking; of none where it is 0.
+    pub fn has_told_at(&self, answer: u64, askings: u64) -> bool {
+        self.has_told(answer, askings) && self.askings.load(Ordering::SeqCst) == askings
+    }
+
+    /// The worker asked at least so often, and told of this answer behind its last asking; of none where it is 0.
+    pub fn has_told(&self, answer: u64, least_askings: u64) -> bool {
+        let askings = self.askings.load(Ordering::SeqCst);
+        let last = if answer == 0 { 0 } else { askings };
+        askings >= least_askings
+            && self.answer.load(Ordering::SeqCst) == answer
+            && self.answered_at.load(Ordering::SeqCst) == last
+    }
+}
+
+/// How far the other worker has to come.
+#[derive(Clone, Copy, Debug)]
+pub enum Until {
+    Asking(u64),
+    Answer(u64),
+}
+
+/// A gate without a crash. It holds its worker at the asking with this number.
+#[derive(Drop)]
+pub struct Gated {
+    never: Never,
+    askings: u64,
+    at: u64,
+    until: Until,
+    mine: Arc<Progress>,
+    others: Arc<Progress>,
+}
+
+impl Gated {
+    pub fn new(
+        at: u64,
+        until: Until,
+        mine: &Arc<Progress>,
+        others: &Arc<Progress>,
+    ) -> Result<Gated, AllocError> {
+        Ok(Gated {
+            never: Never::new(),
+            askings: 0,
+            at,
+            until,
+            mine: Arc::try_clone(mine)?,
+            others: Arc::try_clone(others)?,
+        })
+    }
+
+    fn is_let_go(&self) -> bool {
+        match self.until {
+            Until::Asking(k) => self.others.askings.load(Ordering::SeqCst) >= k,
+            Until::Answer(call) => self.others.answer.load(Ordering::SeqCst) >= call,
+        }
+    }
+
+    fn hold(&self) {
+        let backoff = Backoff::new();
+        for _ in 0..MOST_LOOKS {
+            if self.is_let_go() {
+                return;
+            }
+            backoff.snooze();
+        }
+        self.mine.gave_up.store(1, Ordering::SeqCst);
+    }
+}
+
+impl CrashPlan for Gated {
+    ghost asked = { λ g. g.never.asked };
+
+    ghost fallen = { λ g. g.never.fallen };
+
+    fn falls(&mut self) -> bool {
+        self.askings = self.askings.saturating_add(1);
+        self.mine.askings.store(self.askings, Ordering::SeqCst);
+        if self.askings == self.at {
+            self.hold();
+        }
+        self.never.falls()
+    }
+}
+
+impl Gate for Gated {
+    fn answered(&mut self, call: u64) {
+        self.mine.answered_at.store(self.askings, Ordering::SeqCst);
+        self.mine.answer.store(call, Ordering::SeqCst);
+    }
+}
+
+/// Two gates that meet: the second's first asking waits until worker 0 is at its asking 12, inside, and that one until
+/// worker 1 is at this asking.
+pub fn meeting(
+    alloc: Global,
+    asking: u64,
+) -> Result<(Gated, Gated, Arc<Progress>, Arc<Progress>), AllocError> {
+    let zero = Progress::new(alloc)?;
+    let one = Progress::new(alloc)?;
+    let first = Gated::new(12, Until::Asking(asking), &zero, &one)?;
+    let second = Gated::new(1, Until::Asking(12), &one, &zero)?;
+    Ok((first, second, zero, one))
+}

@@ -1,0 +1,88 @@
+//! A gate that notes what its worker tells it, and behind which asking.
+
+use one_lock::lab::{Gate, Spec};
+use crash_plans::{Both, CrashPlan};
+use std::alloc::{AllocError, Global};
+use std::sync::Arc;
+use std::sync::atomic::{AtomicU64, Ordering};
+
+/// One worker with three messages. Nobody else takes a number, so that the limit 1 is enough.
+pub const ALONE: Spec = Spec {
+    procs: 1,
+    messages: 3,
+    limit: 1,
+    cap: 3,
+    width: 1,
+};
+
+/// The answers of that worker, each with the askings up to it, where it crashes at its askings 12 and 42. An append that
+/// nothing cuts off takes 23 steps; one that is called again after a crash inside before its arming, 21.
+const TOLD: [(u64, u64); 3] = [(1, 34), (2, 64), (3, 88)];
+
+/// What a gate has noted: the askings, the answers that came as they should, and whether another one came.
+#[derive(Drop)]
+pub struct Notes {
+    askings: AtomicU64,
+    right: AtomicU64,
+    wrong: AtomicU64,
+}
+
+impl Notes {
+    /// Each of the three answers was told once and in order, behind the asking that it comes behind, and the worker has asked
+    /// no more since.
+    pub fn are_right(&self) -> bool {
+        self.right.load(Ordering::SeqCst) == 3
+            && self.wrong.load(Ordering::SeqCst) == 0
+            && self.askings.load(Ordering::SeqCst) == 88
+    }
+}
+
+/// The gate of that worker.
+#[derive(Drop)]
+pub struct Noting {
+    plan: Both,
+    askings: u64,
+    heard: usize,
+    notes: Arc<Notes>,
+}
+
+impl Noting {
+    pub fn new(alloc: Global) -> Result<(Noting, Arc<Notes>), AllocError> {
+        let notes = Notes {
+            askings: AtomicU64::new(0),
+            right: AtomicU64::new(0),
+            wrong: AtomicU64::new(0),
+        };
+        let notes = Arc::new(alloc, notes)?;
+        let gate = Noting {
+            plan: Both::new(12, 30),
+            askings: 0,
+            heard: 0,
+            notes: Arc::try_clone(&notes)?,
+        };
+        Ok((gate, notes))
+    }
+}
+
+impl CrashPlan for Noting {
+    ghost asked = { λ g. g.plan.count.asked };
+
+    ghost fallen = { λ g. g.plan.count.fallen };
+
+    fn falls(&mut self) -> bool {
+        self.askings = self.askings.saturating_add(1);
+        self.notes.askings.store(self.askings, Ordering::SeqCst);
+        self.plan.falls()
+    }
+}
+
+impl Gate for Noting {
+    fn answered(&mut self, call: u64) {
+        if TOLD.get(self.heard) == Some(&(call, self.askings)) {
+            self.heard = self.heard.saturating_add(1);
+            self.notes.right.store(self.heard as u64, Ordering::SeqCst);
+        } else {
+            self.notes.wrong.store(1, Ordering::SeqCst);
+        }
+    }
+}

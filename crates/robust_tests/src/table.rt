@@ -1,0 +1,21 @@
+//! The worked rows over members, and members that crash, on the running lock. Tests alone: each names public functions of
+//! `robust`.
+
+#[cfg(test)]
+mod asked;
+#[cfg(test)]
+mod calls;
+#[cfg(test)]
+mod eight;
+#[cfg(test)]
+mod held;
+#[cfg(test)]
+mod kit;
+#[cfg(test)]
+mod labs;
+#[cfg(test)]
+mod members;
+#[cfg(test)]
+mod scarce;
+#[cfg(test)]
+mod sweeps;

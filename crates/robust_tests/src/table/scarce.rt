@@ -1,0 +1,141 @@
+//! Each request for memory refused in turn: all memory is taken, but for a reserve that is given back piece by piece, until
+//! a call meets no refusal.
+
+ghost use Rattle.execution.specs.Gathering.{OneArena};
+
+use super::kit::{two, words};
+use redomail::Reply;
+use rmecore::Refusal;
+use rmeworld::Image;
+use robust::{Arena, GatherFault, Member, gather};
+use crate::support::counted::never;
+use crate::support::messages::{are, body};
+use std::alloc::{AllocError, Global};
+use std::process::Abort;
+use std::test::Fail;
+
+const LARGEST: usize = 8 * 1024 * 1024 * 1024;
+
+const BLOCKS: usize = 200_000;
+
+const PIECES: usize = 400;
+
+const PIECE: usize = 240;
+
+/// All memory but for a reserve.
+#[derive(Drop)]
+struct Scarce {
+    reserve: Vec<Vec<u8>>,
+    taken: Vec<Vec<u8>>,
+}
+
+impl Scarce {
+    fn new(alloc: Global) -> Result<Scarce, AllocError> {
+        let mut reserve = Vec::with_capacity(alloc, PIECES)?;
+        for _ in 0..PIECES {
+            reserve.push(Vec::<u8>::with_capacity(alloc, PIECE)?)?;
+        }
+        let taken = all_that_is_left(alloc)?;
+        Ok(Scarce { reserve, taken })
+    }
+
+    /// Gives back one piece, while there is one.
+    fn give_back(&mut self) {
+        let piece = self.reserve.pop();
+        drop(piece);
+    }
+}
+
+/// Blocks that shrink, until the smallest is refused.
+fn all_that_is_left(alloc: Global) -> Result<Vec<Vec<u8>>, AllocError> {
+    let mut blocks = Vec::with_capacity(alloc, BLOCKS)?;
+    let mut size = LARGEST;
+    for _ in 0..2 * BLOCKS {
+        if blocks.len() + 1 >= BLOCKS {
+            break;
+        }
+        match Vec::<u8>::with_capacity(alloc, size) {
+            Ok(block) => blocks.push(block)?,
+            Err(_) if size <= 16 => break,
+            Err(_) if size <= 4096 => size -= 16,
+            Err(_) => size /= 2,
+        }
+    }
+    Ok(blocks)
+}
+
+#[test]
+fn a_new_arena(rt: HostRuntime) -> Result<(), Fail> {
+    let alloc = rt.alloc();
+    let mut scarce = Scarce::new(alloc)?;
+    let mut refused = 0u64;
+    for _ in 0..PIECES {
+        match Arena::new(&rt, alloc, 2, 10, 2, 1) {
+            Ok(members) => {
+                assert_eq!(rt; members.len(), 2);
+                break;
+            }
+            Err(refusal) => assert_eq!(rt; refusal, Refusal::OutOfMemory),
+        }
+        refused = refused.saturating_add(1);
+        scarce.give_back();
+    }
+    assert!(rt; 0 < refused && refused < PIECES as u64);
+    Ok(())
+}
+
+/// Gathers, again after each refusal, and counts the refusals.
+fn gather_at_last(
+    rt: &impl Abort,
+    alloc: Global,
+    mut members: Vec<Member>,
+    scarce: &mut Scarce,
+) -> (Option<Image>, u64)
+    requires { OneArena members.items }
+{
+    let mut refused = 0u64;
+    for _ in 0..PIECES {
+        match gather(alloc, members) {
+            Ok(image) => return (Some(image), refused),
+            Err((back, fault)) => {
+                assert!(rt; fault == GatherFault::OutOfMemory);
+                members = back;
+            }
+        }
+        refused = refused.saturating_add(1);
+        scarce.give_back();
+    }
+    (None, refused)
+}
+
+#[test]
+fn a_gathering(rt: HostRuntime) -> Result<(), Fail> {
+    let alloc = rt.alloc();
+    let (one, other) = two(&rt, alloc, 10, 2);
+    let members = vec![in alloc; one, other]?;
+    let mut scarce = Scarce::new(alloc)?;
+    let (image, refused) = gather_at_last(&rt, alloc, members, &mut scarce);
+    let image = image.expect(&rt, "an image at last");
+    assert!(rt; words(&rt, &image, 0) == (0, 0, 0) && words(&rt, &image, 1) == (0, 0, 0));
+    assert!(rt; 0 < refused && refused < PIECES as u64);
+    Ok(())
+}
+
+#[test]
+fn a_reading(rt: HostRuntime) -> Result<(), Fail> {
+    let alloc = rt.alloc();
+    let (mut one, mut other) = two(&rt, alloc, 10, 2);
+    assert!(rt; one.append_within(1, body(5), &mut never(), 0) == Ok(Reply::Stored));
+    let mut scarce = Scarce::new(alloc)?;
+    let mut refused = 0u64;
+    for _ in 0..PIECES {
+        if let Ok(messages) = other.read_from(alloc, 0) {
+            assert!(rt; are(messages.as_slice(), &[(0, 1, 5)]));
+            break;
+        }
+        refused = refused.saturating_add(1);
+        scarce.give_back();
+    }
+    assert!(rt; 0 < refused && refused < PIECES as u64);
+    Ok(())
+}

@@ -1,0 +1,105 @@
+-- The lines of a schedule: what is read is spelled so, and what is spelled so is read.
+use Rattle.std.proofs.Common.{◌≡◌, ℕ, Bool, true, false, cond, eqb, List, [], ◌∷◌, map, drop, Ok, refl, sym, ap, ◌∙◌, arith, inl, inr, lit<, codes, ne_eqb}
+use Rattle.schedule.proofs.LinesCommon.{cases_eq, decimal, word_of, words_of_line, IsLine, commands_by_name, places, line_with, line_at, Shape, Number, any, many, has_fixed, numbers_at, is_nil, item_after}
+use Rattle.schedule.specs.declared.lines.line.Line.TheVariants.{Start, Step, Crash}
+use Rattle.schedule.specs.declared.lines.line.Line.{Line}
+use Rattle.schedule.specs.declared.lines.command.Command.{Command}
+use Rattle.schedule.specs.declared.lines.command.Command.TheVariants as commands
+use Rattle.rmeworld.specs.declared.call.Call.TheVariants as calls
+use Rattle.schedule.proofs.Joins.{ArePlain, decimal_above, decimals_plain, IsCodec}
+use Rattle.schedule.proofs.Forms.{Says, item_takes, one, two, three, reads}
+use Rattle.schedule.proofs.Places.{Fits, AreNarrow, number_again, numbers_again, many_narrow, many_fixed, many_from, many_fit}
+
+abbrev LineSays : ℕ → Command → List Shape → List ℕ → Type 0
+LineSays width c shapes ns = Says Line words_of_line (IsLine width) (word_of c) (line_with c ns) shapes ns
+
+append_says : (width : ℕ) (ns : List ℕ) → Fits (any ∷ any ∷ many width) ns → LineSays width commands.Append (any ∷ any ∷ many width) ns
+append_says width [] h = absurd h
+append_says width (p ∷ []) h = absurd h.3
+append_says width (p ∷ seq ∷ v) h =
+    let m = many_from width v h.3.3 in
+    record { said = ap (λ (xs : List (List ℕ)). codes "append" ∷ decimal p ∷ decimal seq ∷ xs) (sym m.0); fits = (omega arith, (omega (arith, h.3.1), m.1, m.2)) }
+
+step_says : (width : ℕ) (ns : List ℕ) → Fits (any ∷ Number 2 1000000 ∷ []) ns → LineSays width commands.Step (any ∷ Number 2 1000000 ∷ []) ns
+step_says width [] h = absurd h
+step_says width (p ∷ []) h = absurd h.3
+step_says width (p ∷ k ∷ []) h =
+    let more : eqb k 1 ≡ false = ne_eqb k 1 (λ z. absurd (omega (arith, h.3.0))) in
+    record { said = rw more refl; fits = (omega arith, omega (arith, h.3.0), h.3.1) }
+step_says width (p ∷ k ∷ q ∷ ns) h = absurd h.3.3
+
+abbrev step_places : Bool → List Shape
+step_places b = cond b (any ∷ []) (any ∷ Number 2 1000000 ∷ [])
+
+steps_say : (width : ℕ) (b : Bool) (ns : List ℕ) → Fits (step_places b) ns → LineSays width commands.Step (step_places b) ns
+steps_say width true ns h = one (LineSays width commands.Step (any ∷ [])) (λ p small. record { said = refl; fits = (small, omega arith, omega arith) }) ns h
+steps_say width false ns h = step_says width ns h
+
+steps_narrow : (b : Bool) → AreNarrow (step_places b)
+steps_narrow true = (lit< tt, tt)
+steps_narrow false = (lit< tt, (lit< tt, tt))
+
+steps_fixed : (b : Bool) (ws : List (List ℕ)) → has_fixed (step_places b) ws ≡ true
+steps_fixed true ws = refl
+steps_fixed false ws = refl
+
+says : (width : ℕ) (c : Command) (ws : List (List ℕ)) (ns : List ℕ) → Fits (places width c ws) ns → LineSays width c (places width c ws) ns
+says width commands.Append ws ns h = append_says width ns h
+says width commands.Put ws ns h = three (LineSays width commands.Put (any ∷ any ∷ any ∷ [])) (λ p i v small below under. record { said = refl; fits = (small, (below, under)) }) ns h
+says width commands.Get ws ns h = two (LineSays width commands.Get (any ∷ any ∷ [])) (λ p i small below. record { said = refl; fits = (small, below) }) ns h
+says width commands.Step ws ns h = steps_say width (is_nil (drop 1 ws)) ns h
+says width commands.Crash ws ns h = one (LineSays width commands.Crash (any ∷ [])) (λ p small. record { said = refl; fits = small }) ns h
+says width c ws ns h = one (LineSays width c (any ∷ [])) (λ p small. record { said = refl; fits = (small, tt) }) ns h
+
+narrow : (width : ℕ) (c : Command) (ws : List (List ℕ)) → AreNarrow (places width c ws)
+narrow width commands.Append ws = (lit< tt, (lit< tt, many_narrow width))
+narrow width commands.Put ws = (lit< tt, (lit< tt, (lit< tt, tt)))
+narrow width commands.Get ws = (lit< tt, (lit< tt, tt))
+narrow width commands.Step ws = steps_narrow (is_nil (drop 1 ws))
+narrow width _ ws = (lit< tt, tt)
+
+fixed : (width : ℕ) (c : Command) (ws : List (List ℕ)) → has_fixed (places width c ws) ws ≡ true
+fixed width commands.Append ws = many_fixed width (drop 1 (drop 1 ws))
+fixed width commands.Step ws = steps_fixed (is_nil (drop 1 ws)) ws
+fixed width _ ws = refl
+
+-- what is read is spelled so
+line_takes : (width : ℕ) (ws : List (List ℕ)) (l : Line) → line_at width ws ≡ Ok l → (ws ≡ words_of_line l) × IsLine width l
+line_takes width ws l e =
+    item_takes commands_by_name (places width) line_with words_of_line (IsLine width) word_of ws l (refl, (refl, (refl, (refl, (refl, (refl, (refl, (refl, (refl, (refl, (refl, tt))))))))))) (narrow width) (fixed width) (says width) e
+
+-- what is spelled so is read
+line_again : (width : ℕ) (l : Line) → IsLine width l → line_at width (words_of_line l) ≡ Ok l
+unfolding item_after
+line_again width (Start p (calls.Append seq v)) h =
+    let fit = many_fit width v h.1.1 h.1.2 in
+    let same = (many_from width v fit).0 in
+    let again : numbers_at (many width) (map decimal v) ≡ Ok v = ap (numbers_at (many width)) (sym same) ∙ numbers_again (many width) v fit in
+    rw (reads p h.0, reads seq h.1.0, again) refl
+line_again width (Start p (calls.Put i v)) h = rw (reads p h.0, reads i h.1.0, reads v h.1.1) refl
+line_again width (Start p (calls.Get i)) h = rw (reads p h.0, reads i h.1) refl
+line_again width (Step p k) h =
+    elim (cases_eq k 1) [
+      | inl is ↦ rw is (rw (reads p h.0) refl)
+      | inr isnt ↦ let more : eqb k 1 ≡ false = ne_eqb k 1 isnt in
+          rw (more, reads p h.0, number_again 2 1000000 k (lit< tt) (omega (arith, h.1)) h.2) refl
+    ]
+line_again width (Crash p) h = rw (reads p h) refl
+line_again width (Start p _) h = rw (reads p h.0) refl
+
+-- its words are plain
+line_plain : (width : ℕ) (l : Line) → IsLine width l → ArePlain (words_of_line l)
+line_plain width (Start p (calls.Append seq v)) h = (refl, (decimal_above p h.0, decimals_plain (decimal seq) v (decimal_above seq h.1.0) h.1.2))
+line_plain width (Start p (calls.Put i v)) h = (refl, (decimal_above p h.0, (decimal_above i h.1.0, decimal_above v h.1.1)))
+line_plain width (Start p (calls.Get i)) h = (refl, (decimal_above p h.0, decimal_above i h.1))
+line_plain width (Step p k) h =
+    elim (cases_eq k 1) [
+      | inl is ↦ rw is (refl, decimal_above p h.0)
+      | inr isnt ↦ let more : eqb k 1 ≡ false = ne_eqb k 1 isnt in
+          rw more (refl, (decimal_above p h.0, decimal_above k (omega (arith, h.2))))
+    ]
+line_plain width (Crash p) h = (refl, decimal_above p h)
+line_plain width (Start p _) h = (refl, decimal_above p h.0)
+
+pub line_codec : (width : ℕ) → IsCodec Line (line_at width) words_of_line (IsLine width)
+line_codec width = record { takes = line_takes width; again = line_again width; plain = line_plain width }

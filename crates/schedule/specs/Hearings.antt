@@ -1,0 +1,53 @@
+-- The judging of a run as it goes on.
+use Rattle.std.specs.Prelude.{◌≡◌, ℕ, List, [], ◌∷◌, ◌++◌, Result, Ok, Err}
+use Rattle.rmecore.specs.declared.fault.Fault.{Fault}
+use Rattle.redomail.specs.declared.deed.Deed.{Deed}
+use Rattle.judge.specs.Table.{State, judged}
+use Rattle.judge.specs.Kept.{Kept}
+use Rattle.judge.specs.Stands.{Keeps}
+use Rattle.schedule.specs.declared.replays.hearing.Hearing.{Hearing}
+use Rattle.schedule.specs.declared.replays.verdict.Verdict.{Verdict}
+use Rattle.schedule.specs.declared.replays.verdict.Verdict.TheVariants.{Fine, Against}
+use Rattle.schedule.specs.Verdicts.{verdict_from}
+
+-- no deed is heard yet
+abbrev pub opened : Hearing
+opened = record { number = 1; verdict = Fine }
+
+-- a judge, and what was made of its answers
+pub record Bench : Type 0 where
+  pub judge : Kept
+  pub hearing : Hearing
+
+abbrev pub bench : Kept → Hearing → Bench
+bench judge hearing = record { judge = judge; hearing = hearing }
+
+-- the verdict where more deeds come: the first that is not allowed decides
+abbrev pub with_more : Verdict → ℕ → State → List Deed → Verdict
+with_more Fine k s deeds = verdict_from k s deeds
+with_more (Against at fault) k s deeds = Against at fault
+
+abbrev pub Sits : Bench → State → Type 0
+Sits b s = b.hearing.verdict ≡ Fine → Keeps b.judge s
+
+-- what comes after a deed that is allowed, or this state
+abbrev pub if_allowed : Result State Fault → (State → State) → State → State
+if_allowed (Ok s) rest otherwise = rest s
+if_allowed (Err fault) rest otherwise = otherwise
+
+-- the state of the judge table after the deeds that come before the first that is not allowed
+abbrev pub heard : State → List Deed → State
+heard s [] = s
+heard s (d ∷ ds) = if_allowed (judged s d) (λ t. heard t ds) s
+
+-- the state where more deeds come: after the first that is not allowed none is judged
+abbrev pub heard_with : Verdict → State → List Deed → State
+heard_with Fine s deeds = heard s deeds
+heard_with (Against at fault) s deeds = s
+
+-- a bench that has heard these deeds
+abbrev pub Hears : Bench → List Deed → Bench → Type 0
+Hears before deeds now =
+    (s : State) → Sits before s
+    → (Keeps before.judge s → Keeps now.judge (heard_with before.hearing.verdict s deeds))
+    × ((more : List Deed) → with_more before.hearing.verdict before.hearing.number s (deeds ++ more) ≡ with_more now.hearing.verdict now.hearing.number (heard_with before.hearing.verdict s deeds) more)

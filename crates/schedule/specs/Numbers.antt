@@ -1,0 +1,12 @@
+-- The numbers of the faults.
+use Rattle.std.specs.Prelude.{ℕ}
+use Rattle.schedule.specs.declared.lines.fault.LineFault.{LineFault}
+use Rattle.schedule.specs.declared.lines.fault.LineFault.TheVariants.{NoHeader, BadWord, BadNumber, TooBig, NoNewline, TrailingText}
+
+abbrev pub number_of : LineFault → ℕ
+number_of NoHeader = 1
+number_of BadWord = 2
+number_of BadNumber = 3
+number_of TooBig = 4
+number_of NoNewline = 5
+number_of TrailingText = 6

@@ -1,0 +1,157 @@
+//! The lines of a schedule, read where they stand in its text. A line is not kept, so a text is read twice: once for its
+//! faults, and once more as it is played.
+
+ghost use Rattle.std.specs.Prelude.{◌≡◌, ℕ, ◌+◌, ◌^◌, ◌<◌, ◌≤◌, ◌++◌, length, List, drop, Ok, Err, IfOk, IfErr};
+ghost use Rattle.schedule.specs.declared.lines.line.Line.{Line as LineOf};
+ghost use Rattle.schedule.specs.Commands.{line_at};
+ghost use Rattle.schedule.specs.Texts.{items_at, Fails};
+ghost use Rattle.schedule.specs.Fronts.{Tries, Begins};
+ghost use Rattle.schedule.specs.Words.{parts_of};
+ghost use Rattle.schedule.specs.Schedules.{schedule_at, scheduled_with};
+
+use crate::lexer::front::steps;
+use crate::lexer::line_front::first_line;
+use crate::lines::cut::cut_once;
+use crate::lines::reading::read_line;
+use crate::lines::line::Line;
+use crate::lines::fault::LineFault;
+use crate::texts::fault::TextFault;
+use crate::texts::head::Head;
+use crate::texts::whole::Heading;
+
+/// The first line of a text that is not empty, read by its words, and what stands behind it.
+#[inline(never)]
+fn line_by_words(width: u64, text: &[u8]) -> Result<(Line, &[u8]), LineFault>
+    requires width { (1 ≤ width) × (width ≤ 8) }
+    requires some { 0 < length text.now }
+    ensures read { IfOk result (λ read. Begins (line_at width) text.now read.0 read.1.now) }
+    ensures fault { IfErr result (λ fault. (k : ℕ) → items_at (line_at width) k (parts_of text.now) ≡ Err (k, fault)) }
+{
+    let Some((line, after)) = cut_once(text, b'\n') else {
+        return Err(LineFault::NoNewline);
+    };
+    match read_line(width, line) {
+        Ok(item) => Ok((item, after)),
+        Err(fault) => Err(fault),
+    }
+}
+
+/// The first line of a text that is not empty, and what stands behind it.
+#[inline(always)]
+pub fn next_line(width: u64, text: &[u8]) -> Result<(Line, &[u8]), LineFault>
+    requires width { (1 ≤ width) × (width ≤ 8) }
+    requires some { 0 < length text.now }
+    ensures read { IfOk result (λ read. Begins (line_at width) text.now read.0 read.1.now) }
+    ensures fault { IfErr result (λ fault. (k : ℕ) → items_at (line_at width) k (parts_of text.now) ≡ Err (k, fault)) }
+{
+    match first_line(width, text) {
+        Some((line, after)) => Ok((line, after)),
+        None => line_by_words(width, text),
+    }
+}
+
+/// What stands behind the first line of a text that is not empty.
+#[inline(never)]
+fn behind_line(width: u64, text: &[u8]) -> Result<&[u8], LineFault>
+    requires width { (1 ≤ width) × (width ≤ 8) }
+    requires some { 0 < length text.now }
+    ensures read { IfOk result (λ after. (line : LineOf) × Begins (line_at width) text.now line after.now) }
+    ensures fault { IfErr result (λ fault. (k : ℕ) → items_at (line_at width) k (parts_of text.now) ≡ Err (k, fault)) }
+{
+    match next_line(width, text) {
+        Ok((_, after)) => Ok(after),
+        Err(fault) => Err(fault),
+    }
+}
+
+/// What stands behind the first line of a text that is not empty. Most lines are of steps.
+#[inline(always)]
+fn behind_next(width: u64, text: &[u8]) -> Result<&[u8], LineFault>
+    requires width { (1 ≤ width) × (width ≤ 8) }
+    requires some { 0 < length text.now }
+    ensures read { IfOk result (λ after. (line : LineOf) × Begins (line_at width) text.now line after.now) }
+    ensures fault { IfErr result (λ fault. (k : ℕ) → items_at (line_at width) k (parts_of text.now) ≡ Err (k, fault)) }
+{
+    match steps(text) {
+        Some((_, _, after)) => Ok(after),
+        None => behind_line(width, text),
+    }
+}
+
+/// Whether the lines from this number on are those of a schedule.
+#[inline(never)]
+fn check_lines(width: u64, first: u64, text: &[u8]) -> Result<(), TextFault>
+    requires width { (1 ≤ width) × (width ≤ 8) }
+    requires room { first + length text.now < 2 ^ 64 }
+    ensures { Tries result (items_at (line_at width) first (parts_of text.now)) }
+{
+    let mut rest = text;
+    let mut number = first;
+    while !rest.is_empty() {
+        match behind_next(width, rest) {
+            Ok(after) => rest = after,
+            Err(fault) => return Err(TextFault::At {
+                line: number,
+                fault,
+            }),
+        }
+        number += 1;
+    }
+    Ok(())
+}
+
+/// The header of a schedule's text, and its other lines, which are all read.
+fn read(text: &[u8]) -> Result<(Head, &[u8]), TextFault>
+    requires room { length text.now + 2 < 2 ^ 64 }
+    ensures lines { IfOk result (λ read. (lines : List LineOf) × (items_at (line_at read.0.width) 2 (parts_of read.1.now) ≡ Ok lines) × (schedule_at text.now ≡ Ok (scheduled_with (read.0, lines)))) }
+    ensures width { IfOk result (λ read. (1 ≤ read.0.width) × (read.0.width ≤ 8)) }
+    ensures room { IfOk result (λ read. length read.1.now + 2 < 2 ^ 64) }
+    ensures shorter { IfOk result (λ read. length read.1.now ≤ length text.now) }
+    ensures behind { IfOk result (λ read. (first : List ℕ) × (text.now ≡ first ++ read.1.now)) }
+    ensures fault { IfErr result (λ fault. Fails fault (schedule_at text.now)) }
+{
+    if text.is_empty() {
+        return Err(TextFault::At {
+            line: 1,
+            fault: LineFault::NoHeader,
+        });
+    }
+    let Some((first, lines)) = cut_once(text, b'\n') else {
+        return Err(TextFault::At {
+            line: 1,
+            fault: LineFault::NoNewline,
+        });
+    };
+    match Head::read(first) {
+        Ok(head) => {
+            check_lines(head.width, 2, lines)?;
+            Ok((head, lines))
+        }
+        Err(fault) => Err(TextFault::At { line: 1, fault }),
+    }
+}
+
+/// The header of a schedule's text, and where its other lines begin, which are all read.
+fn read_to(text: &[u8]) -> Result<(Head, usize), TextFault>
+    requires room { length text.now + 2 < 2 ^ 64 }
+    ensures lines { IfOk result (λ read. (lines : List LineOf) × (items_at (line_at read.0.width) 2 (parts_of (drop read.1 text.now)) ≡ Ok lines) × (schedule_at text.now ≡ Ok (scheduled_with (read.0, lines)))) }
+    ensures width { IfOk result (λ read. (1 ≤ read.0.width) × (read.0.width ≤ 8)) }
+    ensures within { IfOk result (λ read. read.1 ≤ length text.now) }
+    ensures fault { IfErr result (λ fault. Fails fault (schedule_at text.now)) }
+{
+    match read(text) {
+        Ok((head, lines)) => Ok((head, text.len() - lines.len())),
+        Err(fault) => Err(fault),
+    }
+}
+
+/// As `read_to`, of a text that is owned.
+pub fn read_whole(text: &Vec<u8>) -> Result<(Head, usize), TextFault>
+    requires room { length text.now.items + 2 < 2 ^ 64 }
+    ensures lines { IfOk result (λ read. (lines : List LineOf) × (items_at (line_at read.0.width) 2 (parts_of (drop read.1 text.now.items)) ≡ Ok lines) × (schedule_at text.now.items ≡ Ok (scheduled_with (read.0, lines)))) }
+    ensures width { IfOk result (λ read. (1 ≤ read.0.width) × (read.0.width ≤ 8)) }
+    ensures within { IfOk result (λ read. read.1 ≤ length text.now.items) }
+    ensures fault { IfErr result (λ fault. Fails fault (schedule_at text.now.items)) }
+{
+    read_to(text)
+}

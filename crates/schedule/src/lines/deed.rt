@@ -1,0 +1,154 @@
+//! Reads the deed lines of a trace.
+
+ghost use Rattle.std.specs.Prelude.{◌≡◌, ◌≤◌, ◌<◌, ◌^◌, ◌==◌, true, length, IsTrue};
+ghost use Rattle.schedule.specs.Words.{Reads, words_of, named, item_after};
+ghost use Rattle.schedule.specs.Deeds.{deeds_by_name, places, deed_with, deed_at, fits, IsDeed, IsValue};
+ghost use Rattle.rmecore.specs.AbstractLock.{doer};
+
+use crate::lines::fault::LineFault;
+use crate::lines::item::Item;
+use crate::lines::range::{fit_words, fits_word};
+use crate::lines::words::Words;
+use redomail::Deed;
+use rmecore::{Body, Outer};
+
+/// The first word of a deed's line.
+#[derive(Clone, Copy)]
+pub enum DeedWord {
+    Begin,
+    Ready,
+    Enter,
+    Crash,
+    Reenter,
+    Leave,
+    Quit,
+    Commit,
+    Show,
+    Close,
+    Ruin,
+}
+
+fn deed_word_at(word: &[u8]) -> Option<DeedWord>
+    ensures { result ≡ named deeds_by_name word.now }
+{
+    if word == b"begin".as_slice() {
+        Some(DeedWord::Begin)
+    } else if word == b"ready".as_slice() {
+        Some(DeedWord::Ready)
+    } else if word == b"enter".as_slice() {
+        Some(DeedWord::Enter)
+    } else if word == b"crash".as_slice() {
+        Some(DeedWord::Crash)
+    } else if word == b"reenter".as_slice() {
+        Some(DeedWord::Reenter)
+    } else if word == b"leave".as_slice() {
+        Some(DeedWord::Leave)
+    } else if word == b"quit".as_slice() {
+        Some(DeedWord::Quit)
+    } else if word == b"commit".as_slice() {
+        Some(DeedWord::Commit)
+    } else if word == b"show".as_slice() {
+        Some(DeedWord::Show)
+    } else if word == b"close".as_slice() {
+        Some(DeedWord::Close)
+    } else if word == b"ruin".as_slice() {
+        Some(DeedWord::Ruin)
+    } else {
+        None
+    }
+}
+
+#[tactic(auto, unfolding(crate::specs::Words::item_after))]
+fn deed_after(width: u64, word: DeedWord, words: &mut Words) -> Result<Deed, LineFault>
+    requires { (1 ≤ width) × (width ≤ 8) }
+    ensures { Reads (λ deed. deed) result (item_after (places width) deed_with word words.old) }
+{
+    let p = words.number()?;
+    let deed = match word {
+        DeedWord::Begin => Deed::Outer(Outer::Begin(p)),
+        DeedWord::Ready => Deed::Outer(Outer::Ready(p)),
+        DeedWord::Enter => Deed::Outer(Outer::Enter(p)),
+        DeedWord::Crash => Deed::Outer(Outer::Crash(p)),
+        DeedWord::Reenter => Deed::Outer(Outer::Reenter(p)),
+        DeedWord::Leave => Deed::Outer(Outer::Leave(p)),
+        DeedWord::Quit => Deed::Outer(Outer::Quit(p)),
+        DeedWord::Commit => {
+            let seq = words.number()?;
+            let v = words.body(width)?;
+            Deed::Commit { p, seq, v }
+        }
+        DeedWord::Show => {
+            let at = words.number()?;
+            let seq = words.number()?;
+            let v = words.body(width)?;
+            Deed::Show { p, at, seq, v }
+        }
+        DeedWord::Close => Deed::Close { p },
+        DeedWord::Ruin => Deed::Ruin { p },
+    };
+    words.end()?;
+    Ok(deed)
+}
+
+/// The deed that a trace of this width has there.
+pub fn read_deed(width: u64, line: &[u8]) -> Result<Deed, LineFault>
+    requires { (1 ≤ width) × (width ≤ 8) }
+    ensures { Reads (λ deed. deed) result (deed_at width (words_of line.now)) }
+{
+    let mut words = Words::of(line);
+    let word = words.next().ok_or(LineFault::BadWord)?;
+    let deed_word = deed_word_at(word).ok_or(LineFault::BadWord)?;
+    deed_after(width, deed_word, &mut words)
+}
+
+impl Item for Deed {
+    ghost item_at = { deed_at };
+
+    ghost is_item = { IsDeed };
+
+    ghost fits = { fits };
+
+    fn read(width: u64, line: &[u8]) -> Result<Deed, LineFault> {
+        read_deed(width, line)
+    }
+
+    fn fits(&self, width: u64) -> bool {
+        match *self {
+            Deed::Outer(outer) => outer_fits(outer),
+            Deed::Commit { p, seq, v } => {
+                fits_word(p);
+                fits_word(seq);
+                value_fits(&v, width)
+            }
+            Deed::Show { p, at, seq, v } => {
+                fits_word(p);
+                fits_word(at);
+                fits_word(seq);
+                value_fits(&v, width)
+            }
+            Deed::Close { p } | Deed::Ruin { p } => {
+                fits_word(p);
+                true
+            }
+        }
+    }
+}
+
+fn outer_fits(outer: Outer) -> bool
+    ensures all { result ≡ true }
+    ensures outer { doer outer < 2 ^ 64 }
+{
+    match outer {
+        Outer::Begin(p) | Outer::Ready(p) | Outer::Enter(p) | Outer::Crash(p) => fits_word(p),
+        Outer::Reenter(p) | Outer::Leave(p) | Outer::Quit(p) => fits_word(p),
+    }
+    true
+}
+
+fn value_fits(value: &Body, width: u64) -> bool
+    ensures fits { result ≡ (length value.now == width) }
+    ensures value { IsTrue result → IsValue width value.now }
+{
+    fit_words(value.as_slice());
+    value.width() == width
+}

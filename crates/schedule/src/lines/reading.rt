@@ -1,0 +1,105 @@
+//! Reads the lines of a schedule.
+
+ghost use Rattle.std.specs.Prelude.{◌≡◌, ◌≤◌, drop, IsTrue};
+ghost use Rattle.schedule.specs.Words.{Reads, words_of, item_after};
+ghost use Rattle.schedule.specs.Commands.{places, line_with, line_at, call_fits, fits, IsCall, IsLine};
+
+use crate::lines::command::{Command, command_at};
+use crate::lines::count::Count;
+use crate::lines::fault::LineFault;
+use crate::lines::item::Item;
+use crate::lines::line::Line;
+use crate::lines::range::{fit_words, fits_word};
+use crate::lines::words::Words;
+use rmeworld::Call;
+
+#[tactic(auto, unfolding(crate::specs::Words::item_after))]
+fn line_after(width: u64, command: Command, words: &mut Words) -> Result<Line, LineFault>
+    requires { (1 ≤ width) × (width ≤ 8) }
+    ensures { Reads (λ line. line) result (item_after (places width) line_with command words.old) }
+{
+    let p = words.number()?;
+    let line = match command {
+        Command::Lock => Line::Start(p, Call::Lock),
+        Command::Unlock => Line::Start(p, Call::Unlock),
+        Command::Consistent => Line::Start(p, Call::Consistent),
+        Command::Recover => Line::Start(p, Call::Recover),
+        Command::Append => {
+            let seq = words.number()?;
+            let value = words.body(width)?;
+            Line::Start(p, Call::Append { seq, value })
+        }
+        Command::Close => Line::Start(p, Call::Close),
+        Command::Put => Line::Start(p, Call::Put(words.number()?, words.number()?)),
+        Command::Get => Line::Start(p, Call::Get(words.number()?)),
+        Command::Withdraw => Line::Start(p, Call::Withdraw),
+        Command::Step => Line::Step(p, words.count()?),
+        Command::Crash => Line::Crash(p),
+    };
+    words.end()?;
+    Ok(line)
+}
+
+/// The line that a schedule of this width has there.
+pub fn read_line(width: u64, line: &[u8]) -> Result<Line, LineFault>
+    requires { (1 ≤ width) × (width ≤ 8) }
+    ensures { Reads (λ line. line) result (line_at width (words_of line.now)) }
+{
+    let mut words = Words::of(line);
+    let word = words.next().ok_or(LineFault::BadWord)?;
+    let command = command_at(word).ok_or(LineFault::BadWord)?;
+    line_after(width, command, &mut words)
+}
+
+impl Item for Line {
+    ghost item_at = { line_at };
+
+    ghost is_item = { IsLine };
+
+    ghost fits = { fits };
+
+    fn read(width: u64, line: &[u8]) -> Result<Line, LineFault> {
+        read_line(width, line)
+    }
+
+    fn fits(&self, width: u64) -> bool {
+        match *self {
+            Line::Start(p, call) => {
+                fits_word(p);
+                call_fits(call, width)
+            }
+            Line::Step(p, count) => {
+                fits_word(p);
+                count.get() > 0
+            }
+            Line::Crash(p) => {
+                fits_word(p);
+                true
+            }
+        }
+    }
+}
+
+fn call_fits(call: Call, width: u64) -> bool
+    ensures fits { result ≡ call_fits width call }
+    ensures call { IsTrue result → IsCall width call }
+{
+    match call {
+        Call::Append { seq, value } => {
+            fits_word(seq);
+            fit_words(value.as_slice());
+            value.width() == width
+        }
+        Call::Get(i) => {
+            fits_word(i);
+            true
+        }
+        Call::Put(i, v) => {
+            fits_word(i);
+            fits_word(v);
+            true
+        }
+        Call::Lock | Call::Unlock | Call::Consistent => true,
+        Call::Recover | Call::Close | Call::Withdraw => true,
+    }
+}

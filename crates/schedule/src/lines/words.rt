@@ -1,0 +1,153 @@
+//! The words of a line, one after the other.
+
+ghost use Rattle.std.specs.Prelude.{if◌then◌else◌, ◌≡◌, ℕ, ◌^◌, ◌<◌, ◌-◌, ◌≤◌, List, [], length, take, drop, Option, MatchOption, IfSome, IfNone, IfOk, OnOk, Ok, Some, None, IsTrue, ◌↔◌, true, false, Err, ◌∷◌};
+ghost use Rattle.std.specs.Option.{option_copied};
+ghost use Rattle.std.specs.Str.Parse.{digits_value, AllDigits};
+ghost use Rattle.schedule.specs.declared.lines.fault.LineFault.TheVariants.{NoHeader};
+ghost use Rattle.schedule.specs.Words.{words_left, words_of, first_of, is_numeral, number_in, Reads, numbers_at, many, any, Number, Shape, begins_with, is_nil};
+
+use crate::lines::count::Count;
+use crate::lines::cut::cut_once;
+use crate::lines::fault::LineFault;
+use crate::lines::number::number_from;
+use rmecore::Body;
+use std::marker::Model;
+
+/// What is left of a line, which is cut at every space.
+#[derive(Drop)]
+pub struct Words<'a> {
+    rest: Option<&'a [u8]>,
+}
+
+impl<'a> Model for Words<'a> {
+    ghost use Rattle.std.specs.Prelude.{ℕ, List};
+    ghost use Rattle.schedule.specs.Words.{words_left};
+    ghost use Rattle.std.specs.Option.{option_copied};
+
+    ghost Value = { List (List ℕ) };
+
+    ghost view = { λ w. words_left (option_copied w.rest) };
+}
+
+impl<'a> Words<'a> {
+    /// All words of a line.
+    pub fn of(line: &'a [u8]) -> Words<'a>
+        ensures { result ≡ words_of line.now }
+    {
+        Words { rest: Some(line) }
+    }
+
+    /// The next word, if there is one.
+    pub fn next(&mut self) -> Option<&'a [u8]>
+        ensures word { option_copied result ≡ first_of self.old }
+        ensures rest { self.new ≡ drop 1 self.old }
+    {
+        let line = self.rest?;
+        match cut_once(line, b' ') {
+            Some((word, rest)) => {
+                self.rest = Some(rest);
+                Some(word)
+            }
+            None => {
+                self.rest = None;
+                Some(line)
+            }
+        }
+    }
+
+    /// Whether a word is left.
+    pub fn is_empty(&self) -> bool
+        ensures { result ≡ is_nil self.now }
+    {
+        match self.rest {
+            Some(_) => false,
+            None => true,
+        }
+    }
+
+    /// The number from `least` to `most` that the next word says.
+    pub fn number_from(&mut self, least: u64, most: u64) -> Result<u64, LineFault>
+        ensures number { Reads (λ n. n) result (number_in least most (first_of self.old)) }
+        ensures range { IfOk result (λ n. (least ≤ n) × (n ≤ most)) }
+        ensures rest { self.new ≡ drop 1 self.old }
+    {
+        number_from(least, most, self.next())
+    }
+
+    /// The number that the next word says.
+    pub fn number(&mut self) -> Result<u64, LineFault>
+        ensures number { Reads (λ n. n) result (number_in 0 (2 ^ 64 - 1) (first_of self.old)) }
+        ensures rest { self.new ≡ drop 1 self.old }
+    {
+        self.number_from(0, u64::MAX)
+    }
+
+    /// No word is left.
+    pub fn end(&self) -> Result<(), LineFault>
+        ensures { Reads (λ _. []) result (numbers_at [] self.now) }
+    {
+        match self.rest {
+            Some(_) => Err(LineFault::TrailingText),
+            None => Ok(()),
+        }
+    }
+
+    /// How many steps the last word says; one if no word is left.
+    pub fn count(&mut self) -> Result<Count, LineFault>
+        ensures number { Reads (λ k. k) result (if is_nil self.old then Ok 1 else number_in 2 1000000 (first_of self.old)) }
+        ensures rest { self.new ≡ drop 1 self.old }
+    {
+        if self.is_empty() {
+            return Ok(Count::ONE);
+        }
+        let value = self.number_from(2, 1_000_000)?;
+        Ok(Count::new(value).unwrap())
+    }
+
+    /// The words that are left as numbers, `width` of them and no more.
+    pub fn body(&mut self, width: u64) -> Result<Body, LineFault>
+        requires { (1 ≤ width) × (width ≤ 8) }
+        ensures numbers { Reads (λ body. body) result (numbers_at (many width) self.old) }
+        ensures rest { OnOk result (self.new ≡ []) }
+    {
+        let mut words = [0; 8];
+        for j in 0..width as usize {
+            words[j] = self.number()?;
+        }
+        self.end()?;
+        Ok(Body::new(&words[..width as usize]).unwrap())
+    }
+
+    /// The next word is this one, in a header.
+    pub fn fixed(&mut self, word: &[u8]) -> Result<(), LineFault>
+        ensures word { Reads (λ _. true) result (if begins_with word.now self.old then Ok true else Err NoHeader) }
+        ensures rest { self.new ≡ drop 1 self.old }
+    {
+        match self.next() {
+            Some(next) if next == word => Ok(()),
+            _ => Err(LineFault::NoHeader),
+        }
+    }
+
+    /// Whether the next word is this one. It stays.
+    pub fn begins_with(&self, word: &[u8]) -> bool
+        ensures { result ≡ begins_with word.now self.now }
+    {
+        let mut words = Words { rest: self.rest };
+        match words.next() {
+            Some(next) => next == word,
+            None => false,
+        }
+    }
+
+    /// The width that the last word of a wide header says; a narrow one has no word there.
+    pub fn width(&mut self, wide: bool) -> Result<u64, LineFault>
+        ensures width { Reads (λ width. (if wide then width ∷ [] else [])) result (numbers_at (if wide then Number 2 8 ∷ [] else []) self.old) }
+        ensures range { IfOk result (λ width. (1 ≤ width) × (width ≤ 8)) }
+        ensures narrow { IfOk result (λ width. wide ≡ false → width ≡ 1) }
+    {
+        let width = if wide { self.number_from(2, 8)? } else { 1 };
+        self.end()?;
+        Ok(width)
+    }
+}

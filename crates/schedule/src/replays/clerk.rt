@@ -1,0 +1,132 @@
+//! Who writes down what a run tells, and hears the judge on it.
+
+ghost use Rattle.std.specs.Prelude.{◌≡◌, ◌++◌, ◌∷◌, [], None, IfErr, OnOk, OnErr};
+ghost use Rattle.schedule.specs.Hearings.{opened, bench, Hears};
+ghost use Rattle.schedule.specs.Tapes.{Writes};
+ghost use Rattle.schedule.specs.Plays.{Tells, Halts};
+ghost use Rattle.schedule.specs.Reports.{told_text};
+ghost use Rattle.schedule.specs.Runs.{deeds_of, did, told_of};
+
+use crate::replays::halt::Halt;
+use crate::replays::hearing::Hearing;
+use crate::replays::verdict::Verdict;
+use judge::Judge;
+use crate::lines::answer::{put_answer, put_deed};
+use redomail::Deed;
+use rmeworld::Answer;
+use crate::texts::device::{Sink, write_all};
+use std::alloc::{AllocError, Global};
+use std::marker::Model;
+
+/// The hearing of the judge, and a page for lines that are not written yet.
+#[derive(Drop)]
+pub struct Clerk {
+    hearing: Hearing,
+    page: Vec<u8>,
+}
+
+impl Model for Clerk {
+    ghost use Rattle.schedule.specs.declared.replays.hearing.Hearing.{Hearing as HearingOf};
+
+    ghost Value = { HearingOf };
+
+    ghost view = { λ c. c.hearing };
+}
+
+impl Clerk {
+    /// Nothing is heard or written yet.
+    pub fn new(alloc: Global) -> Clerk
+        ensures { result ≡ opened }
+    {
+        Clerk {
+            hearing: Hearing::OPENED,
+            page: Vec::new(alloc),
+        }
+    }
+
+    /// The verdict so far.
+    pub fn verdict(&self) -> Verdict
+        ensures { result ≡ self.now.verdict }
+    {
+        self.hearing.verdict()
+    }
+
+    /// Hears the judge on a deed, if there is one.
+    fn hear(&mut self, judge: &mut Judge, deed: &Option<Deed>)
+        ensures { Hears (bench judge.old self.old) (deeds_of (did deed.now)) (bench judge.new self.new) }
+    {
+        let Some(deed) = deed else {
+            return;
+        };
+        self.hearing.hear(judge, deed);
+    }
+
+    /// Writes down the deed and the answer of p.
+    fn write<W: Sink>(
+        &mut self,
+        w: &mut W,
+        p: u64,
+        deed: &Option<Deed>,
+        answer: &Option<Answer>,
+    ) -> Result<(), Halt>
+        ensures written { OnOk result (Writes (W.tape w.old) (W.tape w.new) (told_text (told_of p deed.now answer.now))) }
+        ensures halted { IfErr result (λ halt. Halts (W.tape w.old) (W.tape w.new) (told_text (told_of p deed.now answer.now)) None halt) }
+        ensures same { self.new ≡ self.old }
+    {
+        self.page.clear();
+        put_told(&mut self.page, p, deed, answer)?;
+        write_all(w, &self.page)?;
+        Ok(())
+    }
+
+    /// Hears the judge on the deed, and writes it down with the answer.
+    #[inline(never)]
+    fn record_all<W: Sink>(
+        &mut self,
+        judge: &mut Judge,
+        w: &mut W,
+        p: u64,
+        deed: &Option<Deed>,
+        answer: &Option<Answer>,
+    ) -> Result<(), Halt>
+        ensures { Tells (W.tape w.old) (W.tape w.new) (bench judge.old self.old) (bench judge.new self.new) (told_of p deed.now answer.now) result }
+    {
+        self.hear(judge, deed);
+        self.write(w, p, deed, answer)
+    }
+
+    /// Takes what a step or a crash of p tells. Most steps tell nothing.
+    pub fn tell<W: Sink>(
+        &mut self,
+        judge: &mut Judge,
+        w: &mut W,
+        p: u64,
+        deed: &Option<Deed>,
+        answer: &Option<Answer>,
+    ) -> Result<(), Halt>
+        ensures { Tells (W.tape w.old) (W.tape w.new) (bench judge.old self.old) (bench judge.new self.new) (told_of p deed.now answer.now) result }
+    {
+        if deed.is_none() && answer.is_none() {
+            return Ok(());
+        }
+        self.record_all(judge, w, p, deed, answer)
+    }
+}
+
+fn put_told(
+    page: &mut Vec<u8>,
+    p: u64,
+    deed: &Option<Deed>,
+    answer: &Option<Answer>,
+) -> Result<(), AllocError>
+    ensures written { OnOk result (page.new.items ≡ page.old.items ++ told_text (told_of p deed.now answer.now)) }
+    ensures wanted { OnErr result (told_text (told_of p deed.now answer.now) ≡ [] → ⊥) }
+{
+    if let Some(deed) = deed {
+        put_deed(page, deed)?;
+    }
+    if let Some(answer) = answer {
+        put_answer(page, p, *answer)?;
+    }
+    Ok(())
+}

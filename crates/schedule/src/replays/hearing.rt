@@ -1,0 +1,55 @@
+//! Hearing a judge on the deeds of a run.
+
+ghost use Rattle.std.specs.Prelude.{◌≡◌, ◌∷◌, []};
+ghost use Rattle.schedule.specs.Hearings.{bench, Hears};
+
+use crate::replays::verdict::Verdict;
+use judge::Judge;
+use redomail::Deed;
+
+/// The number of the next deed, and the verdict so far. After the first deed that the judge refuses no further one is judged.
+#[derive(Clone, Copy)]
+pub struct Hearing {
+    number: u64,
+    verdict: Verdict,
+}
+
+impl Hearing {
+    /// No deed is heard yet.
+    pub const OPENED: Hearing = Hearing {
+        number: 1,
+        verdict: Verdict::Fine,
+    };
+
+    /// The verdict so far.
+    pub fn verdict(&self) -> Verdict
+        ensures { result ≡ self.now.verdict }
+    {
+        self.verdict
+    }
+
+    /// Asks the judge, after deeds that were allowed.
+    fn ask(&mut self, judge: &mut Judge, deed: &Deed)
+        requires { self.old.verdict ≡ Verdict.Fine }
+        ensures { Hears (bench judge.old self.old) (deed.now ∷ []) (bench judge.new self.new) }
+    {
+        if let Err(fault) = judge.feed_from(deed) {
+            self.verdict = Verdict::Against {
+                at: self.number,
+                fault,
+            };
+            return;
+        }
+        self.number = self.number.saturating_add(1);
+    }
+
+    /// Hears the judge on the next deed.
+    pub fn hear(&mut self, judge: &mut Judge, deed: &Deed)
+        ensures { Hears (bench judge.old self.old) (deed.now ∷ []) (bench judge.new self.new) }
+    {
+        match self.verdict {
+            Verdict::Fine => self.ask(judge, deed),
+            Verdict::Against { .. } => {}
+        }
+    }
+}

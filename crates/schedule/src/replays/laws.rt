@@ -1,0 +1,39 @@
+//! Laws of the runs of schedules.
+
+ghost use Rattle.std.specs.Prelude.{◌≡◌, ℕ, List, Result, Some, None, IfOk};
+ghost use Rattle.redomail.specs.declared.layout.Layout.{Layout as LayoutOf};
+ghost use Rattle.judge.specs.Starts.{state_of};
+ghost use Rattle.judge.specs.Table.{empty};
+ghost use Rattle.judge.specs.declared.start.Start.{Start as StartOf};
+ghost use Rattle.rmeworld.specs.declared.image.Image.{Image as ImageOf};
+ghost use Rattle.rmeworld.specs.ImageRules.{layout_of, IsLawfulImage};
+ghost use Rattle.rmeworld.specs.ImageStart.{IsStartOf};
+ghost use Rattle.rmeworld.specs.Replayed.{image_of, world_behaviour};
+ghost use Rattle.rmeworld.specs.WorldState.{new_world, new_refusal, image_world};
+ghost use Rattle.schedule.specs.declared.lines.line.Line.{Line as LineOf};
+ghost use Rattle.schedule.specs.declared.replays.replay_fault.ReplayFault.{ReplayFault as ReplayFaultOf};
+ghost use Rattle.schedule.specs.declared.replays.verdict.Verdict.{Verdict as VerdictOf};
+ghost use Rattle.schedule.specs.declared.replays.verdict.Verdict.TheVariants.{Fine};
+ghost use Rattle.schedule.specs.Tapes.{Tape};
+ghost use Rattle.schedule.specs.Replays.{Replays};
+ghost use Rattle.schedule.specs.Runs.{deeds_of, run_on};
+ghost use Rattle.schedule.specs.Stories.{IsStory};
+ghost use Rattle.schedule.specs.Verdicts.{verdict_on};
+
+/// The run of a schedule on a world is a story of the definition, whether a line is refused or not, and whether memory is
+/// found or not. From a new world, or from that of a lawful image, some story tells just the deeds and answers that the run
+/// tells, in its order, and ends with just the words that it leaves. A replay reports of just this run.
+pub fn runs_are_stories()
+    ensures new { (l : LayoutOf) (limit : ℕ) (lines : List LineOf) → new_refusal l limit ≡ None → IsStory l limit None (run_on world_behaviour 2 (new_world l limit) lines) }
+    ensures later { (i : ImageOf) (lines : List LineOf) → IsLawfulImage i → IsStory (layout_of i) i.limit (Some i) (run_on world_behaviour 2 (image_world i) lines) }
+{}
+
+/// The lock theorem of replays: whatever lines are played on a new world, a new judge of its processes and its capacity
+/// allows each deed, and so does a judge that starts from the start of an image, on the world of that image. `replayed` and
+/// `replayed_later` say it of what `replay_on` answers there.
+pub fn worlds_are_never_found_out()
+    ensures new { (l : LayoutOf) (limit : ℕ) (lines : List LineOf) → new_refusal l limit ≡ None → verdict_on (empty l.procs l.cap) (deeds_of (run_on world_behaviour 2 (new_world l limit) lines).told) ≡ Fine }
+    ensures later { (i : ImageOf) (s : StartOf) (lines : List LineOf) → IsLawfulImage i → IsStartOf i s → verdict_on (state_of s) (deeds_of (run_on world_behaviour 2 (image_world i) lines).told) ≡ Fine }
+    ensures replayed { (l : LayoutOf) (limit : ℕ) (lines : List LineOf) (before now : Tape) (answer : Result VerdictOf ReplayFaultOf) → new_refusal l limit ≡ None → Replays before now (empty l.procs l.cap) image_of (run_on world_behaviour 2 (new_world l limit) lines) answer → IfOk answer (λ verdict. verdict ≡ Fine) }
+    ensures replayed_later { (i : ImageOf) (s : StartOf) (lines : List LineOf) (before now : Tape) (answer : Result VerdictOf ReplayFaultOf) → IsLawfulImage i → IsStartOf i s → Replays before now (state_of s) image_of (run_on world_behaviour 2 (image_world i) lines) answer → IfOk answer (λ verdict. verdict ≡ Fine) }
+{}

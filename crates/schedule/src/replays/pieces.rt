@@ -1,0 +1,106 @@
+//! Lines out of pieces of any length, and the whole text of a source.
+
+ghost use Rattle.std.specs.Prelude.{◌≡◌, ℕ, ◌+◌, ◌-◌, ◌^◌, ◌⊎◌, List, [], ◌∷◌, ◌++◌, OnOk, IfOk, IfErr, true, min, length, ◌≤◌};
+ghost use Rattle.schedule.specs.Words.{parts_of};
+
+use crate::replays::replay_fault::ReplayFault;
+use crate::lines::cut::cut_once;
+use crate::texts::device::{Failed, Source};
+use std::alloc::{AllocError, Global};
+
+/// Takes lines.
+pub trait TakeLine {
+    /// what it is after these lines
+    ghost after: { Self → List (List ℕ) → Type 0 };
+
+    /// Takes the next line, without its LF.
+    fn take_line(&mut self, line: &[u8]) -> Result<(), AllocError>
+        ensures { (lines : List (List ℕ)) → after self.old lines → OnOk result (after self.new (lines ++ line.now ∷ [])) };
+
+    /// Takes lines from the front of a text that begins with a line. It may leave any of them, and answers what stands from
+    /// there on.
+    fn take_front<'a>(&mut self, text: &'a [u8]) -> &'a [u8]
+        ensures taken { (lines : List (List ℕ)) → after self.old lines → (more : List (List ℕ)) × (parts_of text.now ≡ more ++ parts_of result.now) × after self.new (lines ++ more) }
+        ensures shorter { length result.now ≤ length text.now };
+}
+
+/// Hands on the line that begins in the buffer and ends so. One that begins here is handed on from where it stands.
+fn hand_on<T: TakeLine>(buffer: &mut Vec<u8>, taker: &mut T, end: &[u8]) -> Result<(), AllocError>
+    ensures cleared { OnOk result (buffer.new.items ≡ []) }
+    ensures taken { (lines : List (List ℕ)) → T.after taker.old lines → OnOk result (T.after taker.new (lines ++ (buffer.old.items ++ end.now) ∷ [])) }
+{
+    if buffer.is_empty() {
+        taker.take_line(end)?;
+        return Ok(());
+    }
+    buffer.extend_from_slice(end)?;
+    taker.take_line(buffer)?;
+    buffer.clear();
+    Ok(())
+}
+
+/// Hands on each line that ends in the piece, and keeps the beginning of the next in the buffer.
+fn feed<T: TakeLine>(buffer: &mut Vec<u8>, taker: &mut T, piece: &[u8]) -> Result<(), AllocError>
+    requires { parts_of buffer.old.items ≡ buffer.old.items ∷ [] }
+    ensures kept { OnOk result (parts_of buffer.new.items ≡ buffer.new.items ∷ []) }
+    ensures taken { (lines : List (List ℕ)) → T.after taker.old lines → OnOk result ((more : List (List ℕ))
+        × (parts_of (buffer.old.items ++ piece.now) ≡ more ++ buffer.new.items ∷ []) × T.after taker.new (lines ++ more)) }
+{
+    let mut rest = piece;
+    while let Some((front, after)) = cut_once(rest, b'\n') {
+        hand_on(buffer, taker, front)?;
+        rest = taker.take_front(after);
+    }
+    buffer.extend_from_slice(rest)?;
+    Ok(())
+}
+
+/// Room for any line without a fault: the longest names twelve words, eleven of them numbers of twenty digits.
+const LINE_ROOM: usize = 240;
+
+/// Hands on each line of the source, and answers what stands after the last one. It keeps one line at a time.
+/// What the taker becomes doesn't depend on how the bytes were cut into pieces.
+pub fn take_lines<S: Source, T: TakeLine>(
+    alloc: Global,
+    source: &mut S,
+    taker: &mut T,
+) -> Result<Vec<u8>, ReplayFault>
+    ensures taken { (lines : List (List ℕ)) → T.after taker.old lines → IfOk result (λ rest. (text : List ℕ) × ((S.reading source.new).given ≡ (S.reading source.old).given ++ text)
+        × ((more : List (List ℕ)) × (parts_of text ≡ more ++ rest.items ∷ []) × T.after taker.new (lines ++ more))) }
+    ensures ended { OnOk result ((S.reading source.new).ended ≡ true) }
+    ensures finite { OnOk result (length (S.reading source.new).given ≤ 2 ^ 63) }
+    ensures fine { OnOk result ((S.reading source.new).failures ≡ (S.reading source.old).failures) }
+    ensures fault { IfErr result (λ fault. (fault ≡ ReplayFault.Read) × ((S.reading source.new).failures ≡ min ((S.reading source.old).failures + 1) (2 ^ 64 - 1))
+        ⊎ (fault ≡ ReplayFault.OutOfMemory) × ((S.reading source.new).failures ≡ (S.reading source.old).failures)) }
+{
+    let mut buffer = Vec::with_capacity(alloc, LINE_ROOM)?;
+    let mut piece = [0; 4096];
+    for _ in 0..u64::MAX {
+        match source.read(&mut piece) {
+            Ok(0) => return Ok(buffer),
+            Ok(n) => feed(&mut buffer, taker, &piece[..n])?,
+            Err(Failed) => return Err(ReplayFault::Read),
+        }
+    }
+    unreachable!()
+}
+
+/// All bytes that the source still gives.
+pub fn read_all<S: Source>(alloc: Global, source: &mut S) -> Result<Vec<u8>, ReplayFault>
+    ensures given { IfOk result (λ text. (S.reading source.new).given ≡ (S.reading source.old).given ++ text.items) }
+    ensures ended { OnOk result ((S.reading source.new).ended ≡ true) }
+    ensures fine { OnOk result ((S.reading source.new).failures ≡ (S.reading source.old).failures) }
+    ensures fault { IfErr result (λ fault. (fault ≡ ReplayFault.Read) × ((S.reading source.new).failures ≡ min ((S.reading source.old).failures + 1) (2 ^ 64 - 1))
+        ⊎ (fault ≡ ReplayFault.OutOfMemory) × ((S.reading source.new).failures ≡ (S.reading source.old).failures)) }
+{
+    let mut text = Vec::new(alloc);
+    let mut piece = [0; 4096];
+    for _ in 0..u64::MAX {
+        match source.read(&mut piece) {
+            Ok(0) => return Ok(text),
+            Ok(n) => text.extend_from_slice(&piece[..n])?,
+            Err(Failed) => return Err(ReplayFault::Read),
+        }
+    }
+    unreachable!()
+}

@@ -1,0 +1,94 @@
+//! The lines of a schedule's text, played on a machine where they stand.
+
+ghost use Rattle.std.specs.Prelude.{◌≡◌, ℕ, ◌+◌, ◌^◌, ◌<◌, ◌≤◌, List, length, Ok, IfOk, IfErr};
+ghost use Rattle.schedule.specs.declared.lines.line.Line.{Line as LineOf};
+ghost use Rattle.schedule.specs.Commands.{line_at};
+ghost use Rattle.schedule.specs.Texts.{items_at};
+ghost use Rattle.schedule.specs.Fronts.{IsRead, Begins};
+ghost use Rattle.schedule.specs.Words.{parts_of};
+ghost use Rattle.schedule.specs.Hearings.{bench};
+ghost use Rattle.schedule.specs.Plays.{Plays, Runs};
+ghost use Rattle.schedule.specs.Runs.{line_on, run_on};
+
+use crate::replays::clerk::Clerk;
+use crate::replays::halt::Halt;
+use crate::replays::play::{play_line, take_steps};
+use crate::replays::replay_fault::ReplayFault;
+use crate::lexer::front::steps;
+use crate::lexer::in_place::next_line;
+use judge::Judge;
+use rmeworld::Machine;
+use crate::texts::device::Sink;
+
+/// The first line of a text, and what stands behind it.
+#[inline(never)]
+fn play_next<'a, M: Machine, W: Sink>(
+    machine: &mut M,
+    judge: &mut Judge,
+    clerk: &mut Clerk,
+    w: &mut W,
+    width: u64,
+    text: &'a [u8],
+) -> Result<&'a [u8], Halt>
+    requires width { (1 ≤ width) × (width ≤ 8) }
+    requires some { 0 < length text.now }
+    requires read { IsRead (line_at width) text.now }
+    ensures ok { IfOk result (λ rest. (line : LineOf) × Begins (line_at width) text.now line rest.now × (let part = line_on M.behaviour machine.old line in Plays (W.tape w.old) (W.tape w.new) (bench judge.old clerk.old) (bench judge.new clerk.new) part.told part.left part.refused machine.new result)) }
+    ensures err { IfErr result (λ _. (line : LineOf) × (after : List ℕ) × Begins (line_at width) text.now line after × (let part = line_on M.behaviour machine.old line in Plays (W.tape w.old) (W.tape w.new) (bench judge.old clerk.old) (bench judge.new clerk.new) part.told part.left part.refused machine.new result)) }
+{
+    let Ok((line, after)) = next_line(width, text) else {
+        unreachable!()
+    };
+    play_line(machine, judge, clerk, w, &line)?;
+    Ok(after)
+}
+
+/// The same. Most lines are of steps.
+#[inline(always)]
+fn play_first<'a, M: Machine, W: Sink>(
+    machine: &mut M,
+    judge: &mut Judge,
+    clerk: &mut Clerk,
+    w: &mut W,
+    width: u64,
+    text: &'a [u8],
+) -> Result<&'a [u8], Halt>
+    requires width { (1 ≤ width) × (width ≤ 8) }
+    requires some { 0 < length text.now }
+    requires read { IsRead (line_at width) text.now }
+    ensures ok { IfOk result (λ rest. (line : LineOf) × Begins (line_at width) text.now line rest.now × (let part = line_on M.behaviour machine.old line in Plays (W.tape w.old) (W.tape w.new) (bench judge.old clerk.old) (bench judge.new clerk.new) part.told part.left part.refused machine.new result)) }
+    ensures err { IfErr result (λ _. (line : LineOf) × (after : List ℕ) × Begins (line_at width) text.now line after × (let part = line_on M.behaviour machine.old line in Plays (W.tape w.old) (W.tape w.new) (bench judge.old clerk.old) (bench judge.new clerk.new) part.told part.left part.refused machine.new result)) }
+{
+    let Some((p, n, after)) = steps(text) else {
+        return play_next(machine, judge, clerk, w, width, text);
+    };
+    take_steps(machine, judge, clerk, w, p, n)?;
+    Ok(after)
+}
+
+/// The lines of a text, of which the first has number 2.
+#[inline(never)]
+pub(crate) fn play_text<M: Machine, W: Sink>(
+    machine: &mut M,
+    judge: &mut Judge,
+    clerk: &mut Clerk,
+    w: &mut W,
+    width: u64,
+    text: &[u8],
+) -> Result<(), ReplayFault>
+    requires width { (1 ≤ width) × (width ≤ 8) }
+    requires room { length text.now + 2 < 2 ^ 64 }
+    requires read { (lines : List LineOf) × (items_at (line_at width) 2 (parts_of text.now) ≡ Ok lines) }
+    ensures { (lines : List LineOf) → items_at (line_at width) 2 (parts_of text.now) ≡ Ok lines → Runs (W.tape w.old) (W.tape w.new) (bench judge.old clerk.old) (bench judge.new clerk.new) (run_on M.behaviour 2 machine.old lines) machine.new result }
+{
+    let mut rest = text;
+    let mut number = 2;
+    while !rest.is_empty() {
+        match play_first(machine, judge, clerk, w, width, rest) {
+            Ok(after) => rest = after,
+            Err(halt) => return Err(halt.at(number)),
+        }
+        number += 1;
+    }
+    Ok(())
+}

@@ -1,0 +1,151 @@
+//! Replaying the text of a schedule.
+
+ghost use Rattle.std.specs.Prelude.{◌≡◌, ◌+◌, ◌^◌, ◌<◌, ◌≤◌, List, length, drop, Ok, IfOk};
+ghost use Rattle.judge.specs.Table.{State};
+ghost use Rattle.judge.specs.Stands.{Keeps};
+ghost use Rattle.schedule.specs.Replays.{Replays};
+ghost use Rattle.schedule.specs.Runs.{run_on};
+ghost use Rattle.rmecore.specs.Refused.{number_of};
+ghost use Rattle.rmeworld.specs.WorldState.{new_refusal};
+ghost use Rattle.schedule.specs.declared.lines.line.Line.{Line as LineOf};
+ghost use Rattle.schedule.specs.Commands.{line_at};
+ghost use Rattle.schedule.specs.Texts.{items_at};
+ghost use Rattle.schedule.specs.Words.{parts_of};
+ghost use Rattle.schedule.specs.Hearings.{bench};
+ghost use Rattle.schedule.specs.Plays.{Runs};
+ghost use Rattle.schedule.specs.Schedules.{schedule_at, scheduled_with};
+ghost use Rattle.schedule.specs.Wholes.{layout_of, header_fault, OfSchedule, OfText, ReplaysSource};
+
+use crate::replays::clerk::Clerk;
+use crate::replays::laws::worlds_are_never_found_out;
+use crate::replays::pieces::read_all;
+use crate::replays::play_in_place::play_text;
+use crate::replays::replay_fault::ReplayFault;
+use crate::replays::replaying::{close, settle};
+use crate::replays::verdict::Verdict;
+use crate::lexer::in_place::read_whole;
+use judge::Judge;
+use rmecore::Refusal;
+use rmeworld::{Machine, World};
+use crate::texts::head::Head;
+use crate::texts::device::{Sink, Source};
+use crate::texts::fault::TextFault;
+use std::alloc::Global;
+
+/// What is answered where a world or a judge of the header's sizes is refused.
+fn at_header(refusal: Refusal) -> ReplayFault
+    ensures { result ≡ header_fault (number_of refusal) }
+{
+    match refusal.number() {
+        Some(number) => ReplayFault::Refused { line: 1, number },
+        None => ReplayFault::OutOfMemory,
+    }
+}
+
+/// The lines of a schedule's text from a place on, as `play_text`. Then the text is let go.
+fn play_behind<M: Machine, W: Sink>(
+    machine: &mut M,
+    judge: &mut Judge,
+    clerk: &mut Clerk,
+    w: &mut W,
+    width: u64,
+    text: Vec<u8>,
+    from: usize,
+) -> Result<(), ReplayFault>
+    requires width { (1 ≤ width) × (width ≤ 8) }
+    requires room { length text.items + 2 < 2 ^ 64 }
+    requires within { from ≤ length text.items }
+    requires read { (lines : List LineOf) × (items_at (line_at width) 2 (parts_of (drop from text.items)) ≡ Ok lines) }
+    ensures { (lines : List LineOf) → items_at (line_at width) 2 (parts_of (drop from text.items)) ≡ Ok lines → Runs (W.tape w.old) (W.tape w.new) (bench judge.old clerk.old) (bench judge.new clerk.new) (run_on M.behaviour 2 machine.old lines) machine.new result }
+{
+    play_text(machine, judge, clerk, w, width, &text[from..])
+}
+
+/// Replays the lines of a schedule's text from a place on, as `replay_on` does, and keeps none of them. What is written at the
+/// end takes memory too, so the text is let go before.
+fn replay_in_place<M: Machine, W: Sink>(
+    alloc: Global,
+    machine: &mut M,
+    judge: &mut Judge,
+    width: u64,
+    text: Vec<u8>,
+    from: usize,
+    w: &mut W,
+) -> Result<Verdict, ReplayFault>
+    requires width { (1 ≤ width) × (width ≤ 8) }
+    requires room { length text.items + 2 < 2 ^ 64 }
+    requires within { from ≤ length text.items }
+    requires read { (lines : List LineOf) × (items_at (line_at width) 2 (parts_of (drop from text.items)) ≡ Ok lines) }
+    ensures { (start : State) (lines : List LineOf) → Keeps judge.old start → items_at (line_at width) 2 (parts_of (drop from text.items)) ≡ Ok lines → Replays (W.tape w.old) (W.tape w.new) start M.behaviour.image_of (run_on M.behaviour 2 machine.old lines) result }
+{
+    let mut clerk = Clerk::new(alloc);
+    if let Err(fault) = play_behind(machine, judge, &mut clerk, w, width, text, from) {
+        return Err(settle(w, fault));
+    }
+    let verdict = clerk.verdict();
+    let Ok(image) = machine.image() else {
+        return Err(ReplayFault::OutOfMemory);
+    };
+    close(alloc, &image, verdict, w)?;
+    Ok(verdict)
+}
+
+/// Replays the lines of a schedule's text from a place on, on a new world, before a new judge.
+fn replay_new<W: Sink>(
+    alloc: Global,
+    head: Head,
+    text: Vec<u8>,
+    from: usize,
+    w: &mut W,
+) -> Result<Verdict, ReplayFault>
+    requires width { (1 ≤ head.width) × (head.width ≤ 8) }
+    requires room { length text.items + 2 < 2 ^ 64 }
+    requires within { from ≤ length text.items }
+    requires read { (all : List LineOf) × (items_at (line_at head.width) 2 (parts_of (drop from text.items)) ≡ Ok all) }
+    ensures of { (all : List LineOf) → items_at (line_at head.width) 2 (parts_of (drop from text.items)) ≡ Ok all → OfSchedule (W.tape w.old) (W.tape w.new) (scheduled_with (head, all)) (new_refusal (layout_of (scheduled_with (head, all))) head.limit) result }
+    ensures fine { IfOk result (λ verdict. verdict ≡ Verdict.Fine) }
+{
+    worlds_are_never_found_out();
+    let mut world = match World::new(alloc, head.procs, head.limit, head.cap, head.width) {
+        Ok(world) => world,
+        Err(refusal) => return Err(at_header(refusal)),
+    };
+    let mut judge = match Judge::new(alloc, head.procs, head.cap) {
+        Ok(judge) => judge,
+        Err(_) => return Err(ReplayFault::OutOfMemory),
+    };
+    replay_in_place(alloc, &mut world, &mut judge, head.width, text, from, w)
+}
+
+/// Replays the schedule that the text spells.
+fn replay_text<W: Sink>(alloc: Global, text: Vec<u8>, w: &mut W) -> Result<Verdict, ReplayFault>
+    requires room { length text.items + 2 < 2 ^ 64 }
+    ensures of { OfText (W.tape w.old) (W.tape w.new) (schedule_at text.items) result }
+    ensures fine { IfOk result (λ verdict. verdict ≡ Verdict.Fine) }
+{
+    match read_whole(&text) {
+        Ok((head, from)) => replay_new(alloc, head, text, from, w),
+        Err(TextFault::At { line, fault }) => Err(ReplayFault::Text {
+            line,
+            number: fault.number(),
+        }),
+        Err(TextFault::OutOfMemory) => Err(ReplayFault::OutOfMemory),
+    }
+}
+
+/// Replays the schedule whose text the source gives, and writes its report. The whole input is read, then checked, and then
+/// played on a new world of the schedule's sizes, before a new judge; a header that no world has is refused at line 1.
+pub fn replay<R: Source, W: Sink>(
+    alloc: Global,
+    source: &mut R,
+    w: &mut W,
+) -> Result<Verdict, ReplayFault>
+    // What was read, written and answered.
+    ensures replay { ReplaysSource (R.reading source.old) (R.reading source.new)
+        (W.tape w.old) (W.tape w.new) result }
+    // By the lock theorem no replay answers `Against`.
+    ensures fine { IfOk result (λ verdict. verdict ≡ Verdict.Fine) }
+{
+    let text = read_all(alloc, source)?;
+    replay_text(alloc, text, w)
+}

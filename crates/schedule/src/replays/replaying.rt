@@ -1,0 +1,88 @@
+//! Replaying a schedule.
+
+ghost use Rattle.std.specs.Prelude.{◌≡◌, ℕ, ◌+◌, ◌-◌, ◌^◌, min, ◌⊎◌, List, None, Some, OnOk, IfErr};
+ghost use Rattle.judge.specs.Table.{State};
+ghost use Rattle.judge.specs.Stands.{Keeps};
+ghost use Rattle.schedule.specs.Tapes.{Writes, Begins};
+ghost use Rattle.schedule.specs.Plays.{IsRefused, IsOver};
+ghost use Rattle.schedule.specs.Runs.{deeds_of, run_on};
+ghost use Rattle.schedule.specs.Hearings.{heard};
+ghost use Rattle.schedule.specs.Replays.{Replays, Closes};
+
+use crate::replays::clerk::Clerk;
+use crate::replays::last_words::put_end;
+use crate::replays::play::play_lines;
+use crate::replays::replay_fault::ReplayFault;
+use crate::replays::verdict::Verdict;
+use judge::Judge;
+use rmeworld::{Image, Machine};
+use crate::texts::schedule::Schedule;
+use crate::texts::device::{Sink, write_all};
+use std::alloc::Global;
+
+/// Writes a text and flushes the sink.
+fn put_out<W: Sink>(w: &mut W, text: &[u8]) -> Result<(), ReplayFault>
+    ensures written { OnOk result (Writes (W.tape w.old) (W.tape w.new) text.now) }
+    ensures failed { IfErr result (λ fault. (fault ≡ ReplayFault.Write) × Begins (W.tape w.old).taken (W.tape w.new).taken text.now × ((W.tape w.new).failures ≡ min ((W.tape w.old).failures + 1) (2 ^ 64 - 1))) }
+{
+    write_all(w, text)?;
+    w.flush()?;
+    Ok(())
+}
+
+/// Writes the end of a report.
+pub fn close<W: Sink>(
+    alloc: Global,
+    image: &Image,
+    verdict: Verdict,
+    w: &mut W,
+) -> Result<(), ReplayFault>
+    ensures { Closes (W.tape w.old) (W.tape w.new) image.now verdict result }
+{
+    let mut page = Vec::new(alloc);
+    put_end(alloc, &mut page, image, verdict)?;
+    put_out(w, &page)
+}
+
+/// Flushes the sink after a run that was not played to its end.
+pub(crate) fn settle<W: Sink>(w: &mut W, fault: ReplayFault) -> ReplayFault
+    ensures taken { (W.tape w.new).taken ≡ (W.tape w.old).taken }
+    ensures fault { (result ≡ fault) × ((W.tape w.new).failures ≡ (W.tape w.old).failures) ⊎ (result ≡ ReplayFault.Write) × ((W.tape w.new).failures ≡ min ((W.tape w.old).failures + 1) (2 ^ 64 - 1)) × IsRefused fault }
+{
+    match fault {
+        ReplayFault::Refused { .. } => match w.flush() {
+            Ok(()) => fault,
+            Err(_) => ReplayFault::Write,
+        },
+        _ => fault,
+    }
+}
+
+/// Replays the lines of a schedule on a machine, from where a judge stands, and writes the report: lines go to the sink as
+/// the steps are taken. The sizes that count are the machine's and the judge's; those that the schedule names are not asked.
+/// What is answered speaks of the run that the machine's own steps are.
+pub fn replay_on<M: Machine, W: Sink>(
+    alloc: Global,
+    machine: &mut M,
+    judge: &mut Judge,
+    schedule: &Schedule,
+    w: &mut W,
+) -> Result<Verdict, ReplayFault>
+    // The report of just this run is written, and its verdict answered; or why not.
+    ensures replay { (start : State) → Keeps judge.old start → Replays (W.tape w.old) (W.tape w.new) start M.behaviour.image_of (run_on M.behaviour 2 machine.old schedule.now.lines) result }
+    // After a verdict, or a refused line, the machine is left as the run leaves it: a run stops at the line that is refused.
+    ensures left { IsOver result → machine.new ≡ (run_on M.behaviour 2 machine.old schedule.now.lines).left }
+    // And the judge has heard the deeds of just this run, up to the first that is not allowed.
+    ensures heard { (start : State) → Keeps judge.old start → IsOver result → Keeps judge.new (heard start (deeds_of (run_on M.behaviour 2 machine.old schedule.now.lines).told)) }
+{
+    let mut clerk = Clerk::new(alloc);
+    if let Err(fault) = play_lines(machine, judge, &mut clerk, w, schedule.lines()) {
+        return Err(settle(w, fault));
+    }
+    let verdict = clerk.verdict();
+    let Ok(image) = machine.image() else {
+        return Err(ReplayFault::OutOfMemory);
+    };
+    close(alloc, &image, verdict, w)?;
+    Ok(verdict)
+}

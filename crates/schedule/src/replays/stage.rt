@@ -1,0 +1,122 @@
+//! What is known of a trace after some of its lines.
+
+ghost use Rattle.std.specs.Prelude.{◌≡◌, ℕ, ◌+◌, ◌<◌, ◌≤◌, ◌^◌, List, [], ◌∷◌, ◌++◌, length, OnOk, IfOk};
+ghost use Rattle.schedule.specs.declared.replays.stage.Stage.TheVariants as stages;
+ghost use Rattle.schedule.specs.Trials.{IsStage, Stands, Fed};
+
+use crate::replays::hearing::Hearing;
+use crate::lexer::deed_front::first_deed;
+use judge::Judge;
+use crate::lines::fault::LineFault;
+use crate::lines::deed::read_deed;
+use crate::texts::trace::TraceHead;
+use crate::texts::whole::Heading;
+use std::alloc::{AllocError, Global};
+
+/// What is known of a trace after some of its lines.
+#[derive(Drop)]
+pub enum Stage {
+    /// Not even the first line is known.
+    First,
+    /// The header is refused with this number; later lines may still have a fault.
+    Refused(TraceHead, u64),
+    /// The deeds so far were heard.
+    Judging(TraceHead, Judge, Hearing),
+    /// The first faulty line.
+    Faulty(u64, LineFault),
+}
+
+/// After the first line.
+fn begin(alloc: Global, line: &[u8]) -> Result<Stage, AllocError>
+    ensures stage { IfOk result (λ stage. IsStage stage) }
+    ensures stands { IfOk result (λ stage. Stands stage (line.now ∷ [])) }
+{
+    let head = match TraceHead::read(line) {
+        Ok(head) => head,
+        Err(fault) => return Ok(Stage::Faulty(1, fault)),
+    };
+    match Judge::new(alloc, head.procs, head.cap) {
+        Ok(judge) => Ok(Stage::Judging(head, judge, Hearing::OPENED)),
+        Err(refusal) => match refusal.number() {
+            Some(number) => Ok(Stage::Refused(head, number)),
+            None => Err(AllocError),
+        },
+    }
+}
+
+/// Hears the judge on the deeds of the lines at the front of a text, and counts these. It stops before a line that has a
+/// fault, that is not whole, or that is read another way, and answers what stands from there on.
+fn hear_lines<'a>(
+    head: &TraceHead,
+    judge: &mut Judge,
+    hearing: &mut Hearing,
+    number: &mut u64,
+    text: &'a [u8],
+) -> &'a [u8]
+    requires { (1 ≤ head.now.width) × (head.now.width ≤ 8) }
+    ensures fed { Fed (stages.Judging head.now judge.old hearing.old) (stages.Judging head.now judge.new hearing.new) text.now result.now number.old number.new }
+    ensures shorter { length result.now ≤ length text.now }
+{
+    let mut rest = text;
+    while let Some((deed, after)) = first_deed(head.width, rest) {
+        hearing.hear(judge, &deed);
+        *number = number.saturating_add(1);
+        rest = after;
+    }
+    rest
+}
+
+impl Stage {
+    /// Takes the first line. What this takes on the stack is not made ready at each other line.
+    #[inline(never)]
+    fn take_first(&mut self, alloc: Global, line: &[u8]) -> Result<(), AllocError>
+        requires { IsStage self.old }
+        ensures stage { IsStage self.new }
+        ensures stands { OnOk result (Stands self.new (line.now ∷ [])) }
+    {
+        *self = begin(alloc, line)?;
+        Ok(())
+    }
+
+    /// Takes one more line, which has this number.
+    pub fn take(&mut self, alloc: Global, number: u64, line: &[u8]) -> Result<(), AllocError>
+        requires { IsStage self.old }
+        ensures stage { IsStage self.new }
+        ensures stands { (lines : List (List ℕ)) → Stands self.old lines → number ≡ length lines + 1 → OnOk result (Stands self.new (lines ++ line.now ∷ [])) }
+    {
+        match self {
+            Stage::First => self.take_first(alloc, line),
+            Stage::Refused(head, _) => match read_deed(head.width, line) {
+                Ok(_) => Ok(()),
+                Err(fault) => {
+                    *self = Stage::Faulty(number, fault);
+                    Ok(())
+                }
+            },
+            Stage::Judging(head, judge, hearing) => match read_deed(head.width, line) {
+                Ok(deed) => {
+                    hearing.hear(judge, &deed);
+                    Ok(())
+                }
+                Err(fault) => {
+                    *self = Stage::Faulty(number, fault);
+                    Ok(())
+                }
+            },
+            Stage::Faulty(..) => Ok(()),
+        }
+    }
+    /// Takes lines from the front of a text, the first of which has this number, and counts them. It may leave any of them,
+    /// and answers what stands from there on.
+    pub fn take_front<'a>(&mut self, number: &mut u64, text: &'a [u8]) -> &'a [u8]
+        requires { IsStage self.old }
+        ensures stage { IsStage self.new }
+        ensures fed { Fed self.old self.new text.now result.now number.old number.new }
+        ensures shorter { length result.now ≤ length text.now }
+    {
+        match self {
+            Stage::Judging(head, judge, hearing) => hear_lines(head, judge, hearing, number, text),
+            _ => text,
+        }
+    }
+}

@@ -1,0 +1,11 @@
+//! Schedules and traces as texts, read and written, and the devices that their bytes come from and go to.
+
+pub mod device;
+pub mod fault;
+pub mod head;
+pub mod laws;
+pub mod schedule;
+pub mod trace;
+pub mod whole;
+pub mod wrapped;
+pub mod writing;

@@ -1,0 +1,55 @@
+//! The first line of a schedule.
+
+ghost use Rattle.std.specs.Prelude.{◌≡◌, ◌≤◌, IfOk};
+ghost use Rattle.schedule.specs.Words.{Reads, words_of};
+ghost use Rattle.schedule.specs.Schedules.{head_at};
+
+use crate::texts::whole::Heading;
+use crate::lines::number::{number, number_from};
+use crate::lines::words::Words;
+use crate::lines::line::Line;
+use crate::lines::fault::LineFault;
+
+/// What the first line says.
+#[derive(Clone, Copy, Debug, PartialEq, Eq)]
+pub struct Head {
+    pub procs: u64,
+    pub limit: u64,
+    pub cap: u64,
+    pub width: u64,
+}
+
+impl Heading for Head {
+    type Item = Line;
+
+    ghost head_at = { head_at };
+
+    ghost width_of = { λ head. head.width };
+
+    #[tactic(auto, unfolding(crate::specs::Headers::header_at))]
+    fn read(line: &[u8]) -> Result<Head, LineFault> {
+        let mut words = Words::of(line);
+        words.fixed(b"rme")?;
+        let wide = words.begins_with(b"2");
+        words.fixed(if wide { b"2" } else { b"1" })?;
+        words.fixed(b"procs")?;
+        let procs = words.next();
+        words.fixed(b"limit")?;
+        let limit = words.next();
+        words.fixed(b"cap")?;
+        let cap = words.next();
+        if wide {
+            words.fixed(b"width")?;
+        }
+        Ok(Head {
+            procs: number(procs)?,
+            limit: number(limit)?,
+            cap: number(cap)?,
+            width: words.width(wide)?,
+        })
+    }
+
+    fn width(&self) -> u64 {
+        self.width
+    }
+}

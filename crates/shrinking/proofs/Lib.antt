@@ -1,4 +1,0 @@
-pub mod Answered
-pub mod Found
-pub mod Sizes
-pub mod Needed

@@ -1,4 +1,0 @@
-use Rattle.shrinking.proofs.far.sweep.Given as goal
-
-abbrev pub decreases-loop-to : goal.decreases-loop-to
-decreases-loop-to l = l.to

@@ -1,8 +1,0 @@
-use Rattle.shrinking.specs.Shrunk.{GoesWrong, IsNoLonger, size}
-use Rattle.shrinking.proofs.least.least.Given as goal
-
-abbrev pub invariant-loop-now : goal.invariant-loop-now
-invariant-loop-now l = IsNoLonger l.fn.schedule l.now × GoesWrong l.wanted.variant l.wanted.number l.now
-
-abbrev pub decreases-loop-now : goal.decreases-loop-now
-decreases-loop-now l = size l.now

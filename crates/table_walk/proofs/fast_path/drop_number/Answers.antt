@@ -1,5 +1,0 @@
-use Rattle.table_walk.proofs.Straight.{dropped}
-use Rattle.table_walk.proofs.fast_path.drop_number.Goals as goal
-
-pub returns : goal.returns
-returns c = record { way = dropped c.args.walker.now c.store.new.self c.by-own.result c.by-own.ensures.is c.requires.at c.store.ensures }

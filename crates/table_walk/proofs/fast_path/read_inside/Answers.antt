@@ -1,5 +1,0 @@
-use Rattle.table_walk.proofs.Straight.{inside_read}
-use Rattle.table_walk.proofs.fast_path.read_inside.Goals as goal
-
-pub returns : goal.returns
-returns c = record { way = inside_read c.args.walker.now c.load.new.self c.by-own.result c.by-own.ensures.is c.load.result c.requires.at c.load.ensures }

@@ -1,5 +1,0 @@
-use Rattle.table_walk.proofs.Straight.{shut_again}
-use Rattle.table_walk.proofs.fast_path.shut.Goals as goal
-
-pub returns : goal.returns
-returns c = record { way = shut_again c.args.walker.now c.store.new.self c.by-own.result c.by-own.ensures.is c.args.number c.requires.at c.store.ensures }

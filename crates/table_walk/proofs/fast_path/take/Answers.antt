@@ -1,5 +1,0 @@
-use Rattle.table_walk.proofs.Straight.{number_taken}
-use Rattle.table_walk.proofs.fast_path.take.Goals as goal
-
-pub returns : goal.returns
-returns c = record { way = number_taken c.args.walker.now c.store.new.self c.by-own.result c.by-own.ensures.is c.args.greatest c.requires.below c.requires.at c.store.ensures }

@@ -1,6 +1,0 @@
-use Rattle.table_walk.proofs.Common.{step_of}
-use Rattle.runs.proofs.Keeps.{loads}
-use Rattle.table_walk.proofs.table.load_named.Goals as goal
-
-pub load-requires : goal.load-requires
-load-requires g c = (c.requires.table, c.requires.word, rw (← c.requires.step) (loads _ _ _ _ _ (step_of c.args.owed.now c.args.kind c.args.word) _ c.requires.may))

@@ -1,5 +1,0 @@
-use Rattle.table_walk.proofs.Common.{step_of}
-use Rattle.table_walk.proofs.table.store.Given as goal
-
-abbrev pub ghosts-store_named : goal.ghosts-store_named
-ghosts-store_named a = record { step = step_of a.owed.now a.kind a.word; value = 0 }

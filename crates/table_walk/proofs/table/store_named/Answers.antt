@@ -1,6 +1,0 @@
-use Rattle.table_walk.proofs.Common.{step_of}
-use Rattle.runs.proofs.Keeps.{stores_kept}
-use Rattle.table_walk.proofs.table.store_named.Goals as goal
-
-pub store-requires : goal.store-requires
-store-requires g c = (c.requires.table, c.requires.word, rw (← c.requires.step) (stores_kept _ _ _ _ _ (step_of c.args.owed.now c.args.kind c.args.word) _ _ c.requires.may))

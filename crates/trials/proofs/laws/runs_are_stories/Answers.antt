@@ -1,8 +1,0 @@
-use Rattle.trials.proofs.WorldRuns.{new_is_story, image_is_story}
-use Rattle.trials.proofs.laws.runs_are_stories.Goals as goal
-
-pub returns-clause-new : goal.returns-clause-new
-returns-clause-new c = new_is_story
-
-pub returns-clause-later : goal.returns-clause-later
-returns-clause-later c = image_is_story

@@ -1,9 +1,0 @@
-pub mod Verdicts
-pub mod Runs
-pub mod Reports
-pub mod Hearings
-pub mod Plays
-pub mod Replays
-pub mod Trials
-pub mod Wholes
-pub mod Stories

@@ -82,7 +82,7 @@ pub are_moves : (x y : Pass) (mine : List TakenStep) → Takes x mine y → AreM
 are_moves x y [] h = All-nil _
 are_moves x y (e ∷ es) h = All-cons (λ (f : TakenStep). is_glance f.step.kind ≡ false) e es h.4 (are_moves h.0 y es h.3)
 
--- behind a step nothing is owed
+-- after a step nothing is pending
 pub nothing_owed : (x y : Pass) (mine : List TakenStep) → Takes x mine y → (mine ≡ [] → ⊥) → (y.fallen ≡ false) × (y.start ≡ None)
 nothing_owed x y [] h some = absurd (some refl)
 nothing_owed x y (e ∷ []) h some = (ap (λ (p : Pass). p.fallen) h.3 ∙ h.2.fallen, ap (λ (p : Pass). p.start) h.3 ∙ h.2.start)

@@ -8,7 +8,7 @@ use Rattle.execution.proofs.Leads.{gone-append}
 use Rattle.execution.proofs.Called.{ends_cons, calls_fell, served_ran, crashes_of}
 use Rattle.execution.proofs.Turned.{answers-append, blocked-append, many_append, many_add}
 
--- the spot behind some own entries
+-- the state after some own entries
 pub calls_spot : (x y : Pass) (mine : List TakenStep) → Calls x mine y → spot_of y.setup y.by y.seen ≡ gone x.setup (spot_of x.setup x.by x.seen) (spelled mine)
 calls_spot x y mine c =
     let own_are : own x.by y.seen ≡ own x.by x.seen ++ mine = ap (own x.by) c.seen ∙ own-append x.by x.seen c.since ∙ ap (λ (l : List TakenStep). own x.by x.seen ++ l) c.mine_are in
@@ -108,7 +108,7 @@ module _ (x y z : Seated) (c : Call) (cs : List Call) (told : List Answer) (j : 
     idle = t.idle;
   }
 
-  -- a crash in the calls behind
+  -- a crash in the later calls
   pub crashes_after : (P Q : List Call → Type 0) (n : List TakenStep) → CrashesIn y P z n → Q (c ∷ cs) → ((ds : List Call) → P ds → Q (c ∷ cs ++ ds)) → CrashesIn x Q z (m ++ n)
   crashes_after P Q n t first more =
       let started : starts (m ++ n) ≡ c ∷ cs ++ starts n = starts-append m n ∙ ap (λ (l : List Call). l ++ starts n) s.started in
@@ -126,7 +126,7 @@ module _ (x y z : Seated) (c : Call) (cs : List Call) (told : List Answer) (j : 
       either (inl none) = subst (λ (l : List Call). Q (c ∷ cs ++ l)) (sym (ap starts none)) (subst Q (sym (append-nil (c ∷ cs))) first)
       either (inr p) = more (starts n) p
 
-  -- a crash right behind them
+  -- a crash right after them
   pub crashes_behind : (Q : List Call → Type 0) → z ≡ fell y → Q (c ∷ cs) → CrashesIn x Q z m
   crashes_behind Q e q = record {
     calls = calls_fell x.pass y.pass z.pass m s.calls (ap (λ (u : Seated). u.pass) e);
@@ -170,7 +170,7 @@ answered-append x y z c d cs ds told bs j k more a0 a1 a2 f0 f1 f2 h t = (h.0 ++
 pub cut_after : (x y z : Seated) (c : Call) (cs : List Call) (told : List Answer) (j a0 a1 a2 f0 f1 f2 : ℕ) (P Q : List Call → Type 0) → AnsweredBy 0 x (c ∷ cs) told j y a0 a1 f0 f1 → CutBy y P z a1 a2 f1 f2 → Q (c ∷ cs) → ((ds : List Call) → P ds → Q (c ∷ cs ++ ds)) → CutBy x Q z a0 a2 f0 f2
 cut_after x y z c cs told j a0 a1 a2 f0 f1 f2 P Q h t first more = (h.0 ++ t.0, crashes_after x y z c cs told j h.0 h.1 P Q t.0 t.1 first more, fell-append h.0 t.0 a0 a1 a2 f0 f1 f2 h.2 t.2)
 
--- a call behind another one
+-- a call after another one
 pub ran_behind : (y z : Seated) (call : Call) (a : Answer) (n : List TakenStep) → IsPass (behind y call).pass → Ran (behind y call) (Some a) z n → ServedAll y (call ∷ []) (a ∷ []) 0 z n
 ran_behind y z call a n pass r = served_from y z call (call ∷ []) (a ∷ []) 0 n (served_ran (behind y call) z call a n pass refl r)
 

@@ -38,7 +38,7 @@ called_counts x z y call a b c d (Ok answer) is pass h =
     let at = subst (λ (u : Seated). IsPass u.pass × Served u call (answer ∷ []) 0 y h.0) is (pass, h.1) in
     served_counts x y call answer h.0 at.0.size at.1
 
--- the entries between two passes
+-- the entries between two views
 since_is : (x y : Pass) (mine : List TakenStep) → Calls x mine y → own x.by (drop (length x.seen) y.seen) ≡ mine
 since_is x y mine c = ap (λ (es : List TakenStep). own x.by (drop (length x.seen) es)) c.seen ∙ ap (own x.by) (drop-append_seam x.seen c.since) ∙ c.mine_are
 
@@ -79,7 +79,7 @@ takes_few x y call (e ∷ es) pass start takes =
     few_kept x call (answers_of x (e ∷ es)) (blocked_of x (e ∷ es)) (length (e ∷ es)) pass.size.procs
     (keeps_the_table x y call (answers_of x (e ∷ es)) (blocked_of x (e ∷ es)) (e ∷ es) (calls_of x y (e ∷ es) pass.run takes) (first_crash x y (e ∷ es) takes) (first_start x y (e ∷ es) call takes start (λ none. cc)) (are_moves x y (e ∷ es) takes) refl refl)
 
--- steps of a call, of which no more than so many were blocked
+-- steps of a call, of which at most `most` were blocked
 pub few_taken : (x z : Seated) (y : Pass) (call : Call) (mine : List TakenStep) (most : ℕ) → IsPass x.pass → x.pass.start ≡ Some call → Takes x.pass mine y → most_steps x.pass.setup.layout call + blocked_of x.pass mine ≤ most → z.steps ≡ many_more (length mine) x.steps → CountsAtMost most x z
 few_taken x z y call mine most pass start takes few steps = (length mine, (let all = takes_few x.pass y call mine pass start takes in omega arith), steps)
 

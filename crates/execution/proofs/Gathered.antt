@@ -1,4 +1,4 @@
--- What the seat knows into which the other members' seats are joined, and what its glances tell once it answers for all.
+-- What the seat knows into which the other members' seats are joined, and what its glances find once it answers for all.
 use Rattle.std.proofs.Common.{◌≡◌, ℕ, suc, ◌+◌, ◌<◌, ◌==◌, true, true≢false, List, [], ◌∷◌, ◌++◌, length, map, get_or, All, refl, sym, ap, ◌∙◌, subst, ⊎_elim, arith, append-nil, append_assoc, length-append, eq-eqb, eqb-true, remove}
 use Rattle.execution.proofs.Common.{or_cases, All-nil, All-cons, All-append, All-head, All-tail, slice_index, Own, Word, size, reading, Known, TakenStep, View, Setup, OneArena, has_member, image_at}
 use Rattle.execution.proofs.Common.{IsGlance, IsWhole, IsTold, Gathers, Knows, Absorbs, AnswersAll, Looked, Stays, alone, view_of, glanced, count_from, joined, IsIn, Did, MayLoad, stepper, entry_of}

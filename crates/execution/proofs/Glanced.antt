@@ -1,4 +1,4 @@
--- Glances one after another: what they add to a pass, and what they read.
+-- Glances in a row: what they add to a view, and what they read.
 use Rattle.std.proofs.Common.{◌≡◌, ℕ, zero, suc, ◌+◌, ◌*◌, ◌-◌, ◌<◌, ◌≤◌, List, [], ◌∷◌, ◌++◌, length, refl, sym, ap, ◌∙◌, subst, arith, length-append, inl, inr, get_or-set_same, get_or-set_other, drop, Result, Ok, Err, IfOk, OnOk, OnErr}
 use Rattle.execution.proofs.Common.{cases_eq, drop-append-le, drop_all, length-drop, slice_index, slice_set, Word, Data as DataAt, Layout, Message, held, Words, size, words_of, row, place_at, message}
 use Rattle.execution.proofs.Common.{entry, entries, TakenStep, Setup, Pass, IsPass, Calls, glanced, glance_entry, Looks, cells_of, row_words, entry_words, AreGlances, up_to_count, ReadsFrom, Seated, IsRun}
@@ -27,7 +27,7 @@ are_glances x ws y h = are_by x x.pass ws y h refl
 pub calls_glanced : (x : Seated) (ws : List Word) (y : Seated) (h : Glances x ws y) → IsRun x.pass.setup x.pass.seen → Calls x.pass (entries_of x ws y h) y.pass
 calls_glanced x ws y h run = calls_grown x.pass y.pass (entries_of x ws y h) run (grows_glanced x ws y h)
 
--- glances leave the sizes, what is owed, and the count
+-- glances leave the sizes, the pending events and the count of own steps
 same_glanced : (x : Seated) (ws : List Word) (y : Seated) → Glances x ws y → (y.pass.setup ≡ x.pass.setup) × (y.pass.fallen ≡ x.pass.fallen) × (y.pass.start ≡ x.pass.start) × (y.steps ≡ x.steps)
 same_glanced x [] y h = (ap (λ (s : Seated). s.pass.setup) h, ap (λ (s : Seated). s.pass.fallen) h, ap (λ (s : Seated). s.pass.start) h, ap (λ (s : Seated). s.steps) h)
 same_glanced x (w ∷ ws) y h = let later = same_glanced h.0 ws y h.4 in (later.0 ∙ h.2.adds.setup, later.1 ∙ h.2.fallen, later.2 ∙ h.2.start, later.3 ∙ h.3)
@@ -59,7 +59,7 @@ length_entries l a (suc n) =
     let grown : suc n * (2 + l.width) ≡ n * (2 + l.width) + (2 + l.width) = grind arith in
     omega (arith, more, old, row, grown)
 
--- a glance at a data word tells the word as it stands, before it and after it
+-- a glance at a data word finds its value, the same before and after the glance
 pub told : (x y : Pass) (i v : ℕ) → Looks x (DataAt i) v y → v ≡ cells_of y.setup y.seen i
 told x y i v h =
     let a = h.adds in
@@ -130,7 +130,7 @@ read_more xs k v w p long read is j h =
       | inr ne ↦ get_or-set_other xs k j v 0 ne ∙ read j (omega (arith, ne))
     ]
 
--- where an entry below count stands
+-- the place of an entry below count
 pub place_is : (x : Pass) (s : Setup) (a r : ℕ) → IsPass x → s ≡ x.setup → a < cells_of x.setup x.seen 2 → r ≡ held (place_at s.layout a + 0)
     → (r ≡ place_at x.setup.layout a) × (place_at x.setup.layout a + 2 + x.setup.layout.width ≤ size x.setup.layout) × (size x.setup.layout ≤ 900000)
 place_is x s a r pass e below is =
@@ -208,7 +208,7 @@ module _ (x : Seated) (place count : ℕ) (y z : Seated) (messages : List Messag
         start = same.2;
       }
 
--- the same, as the loop over the entries tells it
+-- the same, as the loop over the entries states it
 pub reads_all : (x : Seated) (place count : ℕ) (y z : Seated) (messages : List Message) → IsPass x.pass → Looks x.pass (DataAt 2) count y.pass → y.steps ≡ x.steps → Glances y (entry_words y.pass.setup.layout place (count - place)) z
     → messages ≡ drop place (entries y.pass.setup.layout (cells_of y.pass.setup y.pass.seen) count) → ReadsFrom x place messages z
 reads_all x place count y z messages pass looks steps glances answer =

@@ -1,4 +1,4 @@
--- What a step leads to, from a spot of a call.
+-- The process state after a step of a call.
 use Rattle.std.proofs.Common.{◌≡◌, ℕ, zero, suc, ◌+◌, ◌<◌, ◌≤◌, Bool, true, false, ◌||◌, ◌==◌, if◌then◌else◌, Option, Some, None, IsSome, unwrap_or, refl, sym, ap, ◌∙◌, subst, inl, inr, arith}
 use Rattle.execution.proofs.Common.{cases_Bool, Kind, Look as Looks, Weigh as Weighs, Word, Choosing as ChoosingOf, Number as NumberOf, Data as DataAt, answer, is_blocked, is_glance, Place, Rest}
 use Rattle.execution.proofs.Common.{Wait, Inside, Leaving, is_before, next, Layout, Reply, Script, Get as Asks, Put as Writes, Done, Answer, Mail}

@@ -9,7 +9,7 @@ use Rattle.rmeworld.proofs.StoryGrows.{spots_are_own}
 use Rattle.execution.proofs.Runs.{spelled-append, spelled_snoc, spot_in_run, scene-append}
 use Rattle.execution.proofs.Running.{taken_moves}
 
--- what the happening at some place of a sound story tells
+-- what a sound execution says of the event at some place in it
 pub tells_at : (l : Layout) (limit : ℕ) (w : Scene) (s : State) (xs : List Happening) (h : Happening) (ys : List Happening) → Sound l limit w s (xs ++ h ∷ ys) → Tells (last_scene l limit w xs) h (all_after s (deeds l limit w (xs ++ h ∷ []))).mail.shown
 tells_at l limit w s [] h ys k =
     let g = k.1 in
@@ -27,7 +27,7 @@ own_before false None q = refl
 own_before true None q = rw (eq-eqb q q refl) refl
 own_before _ _ q = rw (eq-eqb q q refl) refl
 
--- the scene right before the step of e, after these entries
+-- the global state right before the step of e, after these entries
 abbrev pub scene_at : Setup → List TakenStep → TakenStep → Scene
 scene_at s es e = last_scene s.layout s.limit (end_of s es) (before e.step.crashed e.step.start e.by)
 

@@ -124,7 +124,7 @@ module _ (sizes : Setup) (log : List TakenStep) (owner : ℕ → ℕ) (words : L
         told = subst (λ (l : List TakenStep). All (IsIn l) v.told) f.0.0.1 (λ i d h. let g = f.1 i d h in record { begins = g.0; own_are = λ p m. (g.1 p m).own_is });
       }
 
-  -- so the step may be taken, and tells this
+  -- so the step may be taken, and the caller learns this
   allowed : (homes : List (Option (Unit {0}))) (c : List (ℕ × Unit {0})) (word new : ℕ) (now : List ℕ) → set words word new ≡ now → IsKept sizes (log ++ e ∷ []) owner now (set views id w)
       → (u : Known) × (a : Act (Unit {0})) × Valid homes c a × Kept sizes (stepped (record { words = words; homes = homes; views = views }) word new id c u a) × (Did step v value u × (carried_after c a ≡ c))
   allowed homes c word new now same kept = (w, keeps, tt, (log ++ e ∷ [], owner, subst (λ (ws : List ℕ). IsKept sizes (log ++ e ∷ []) owner ws (set views id w)) (sym same) kept), (told kept.run, refl))

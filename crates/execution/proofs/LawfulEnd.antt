@@ -21,7 +21,7 @@ at_counted f k zero p d h = absurd (omega arith)
 at_counted f k (suc n) zero d h = let e : k ≡ k + 0 = omega arith in ap f e
 at_counted f k (suc n) (suc p) d h = let e : suc k + p ≡ k + suc p = omega arith in at_counted f (suc k) n p d (omega arith) ∙ ap f e
 
--- a list of the values of a function, and what stands past its end
+-- a list of a function's values, and the default past its end
 from_counted : {A : Type 0} (f : ℕ → A) (n : ℕ) (d : A) → ((p : ℕ) → n ≤ p → f p ≡ d) → (p : ℕ) → slice_index_or (map f (count_from 0 n)) p d ≡ f p
 from_counted f n d past p =
     elim (cases_lt p n) [
@@ -42,7 +42,7 @@ words_beyond s es run p past =
     let r = projected s.layout s.limit at_first (spelled es) (λ q. tt) run in
     ap (λ (f : ℕ → Own). f p) (sym r.ends) ∙ beyond_same s.layout.procs s.limit core_rest nobody r.events (core_first s.layout.procs) r.run p past
 
--- the words of the list are those that stand in the scene
+-- the words of the list are those of the global state
 pub cells_counted : (s : Setup) (es : List TakenStep) → IsRun s es → words_of (map (end_of s es).cells (count_from 0 (size s.layout))) ≡ (end_of s es).cells
 cells_counted s es run =
     let w = end_of s es in

@@ -1,4 +1,4 @@
--- What a member's own entries tell of its spot.
+-- What a member's own entries say of its process state.
 use Rattle.std.proofs.Common.{◌≡◌, ℕ, ◌^◌, ◌<◌, ◌≤◌, Bool, true, false, List, [], ◌∷◌, ◌++◌, Option, IsSome, unwrap_or, refl, sym, ap, ◌∙◌, subst, eq-eqb, append-nil}
 use Rattle.execution.proofs.Common.{Kind, Word, is_store, Call, Spot, next_spot, Happening, at_rest, IsSize, Known, Step, TakenStep, Setup, Pass, IsPass, spot_now, Adds, alone, view_of, glanced}
 use Rattle.execution.proofs.Common.{glance_entry, Looks, owed, next_entry, moved_spot, Advances, Did, MayLoad, May, MayPass, before, taken, happenings, spelled, own, IsRun, gone, spot_of, has, index}
@@ -41,7 +41,7 @@ spot_moves x y kind word value a =
     let still : spot_now y ≡ spot_of y.setup y.by y.seen = ap (λ (t : Bool × Option Call). gone y.setup (spot_of y.setup y.by y.seen) (before t.0 t.1 y.by)) (λ i. (a.fallen i, a.start i)) in
     still ∙ here
 
--- a glance leaves the spot, and what is owed
+-- a glance leaves the process state and the pending events
 looked_spot : (x y : Pass) (word : Word) (value : ℕ) → Looks x word value y → spot_of y.setup y.by y.seen ≡ spot_of x.setup x.by x.seen
 looked_spot x y word value a = spot_after x y (glance_entry x word value) refl a.adds
 
@@ -66,7 +66,7 @@ pub may_load : (x : Pass) (k : Known) (kind : Kind) (word : Word) (at : ℕ) →
 may_load x k kind word at e pass t is loads some =
     subst (λ v. MayLoad (owed x kind word) at v) (sym (alone_is x k e)) (is, t, loads, λ found small. may x kind word found pass (some found small))
 
--- what a step tells, as the pass grows
+-- what a step adds to a view
 adds_of : (x : Pass) (step : Step) (value : ℕ) (l : Known) (y : Pass) → Did step (alone x.setup x.by x.seen) value l → y.table ≡ x.table → y.setup ≡ x.setup → y.by ≡ x.by → y.seen ≡ l.view.seen → Adds x (record { by = x.by; step = step; value = value }) y
 adds_of x step value l y d table setup by seen = record {
   table = table;
@@ -93,7 +93,7 @@ alone_after x k step value l e d =
     let answers : l.view.answers ≡ x.by ∷ [] = d.answers ∙ ap (λ (k : Known). k.view.answers) e in
     λ i. record { view = record { setup = setup i; answers = answers i; seen = l.view.seen }; told = d.none_told i }
 
--- the same, where the caller's premises speak of the pass under another name
+-- the same, where the caller's premises name the view otherwise
 pub load_as : (x now : Pass) (k : Known) (kind : Kind) (word : Word) (at : ℕ) → x ≡ now → k ≡ alone x.setup x.by x.seen → IsPass x → InTable now.setup word → at ≡ index x.setup word → is_store kind ≡ false → ((found : ℕ) → found < 18446744073709551616 → IsSome (moved_spot now kind word found)) → MayLoad (owed x kind word) at k.view
 load_as x now k kind word at same e pass t is loads some =
     may_load x k kind word at e pass (subst (λ (y : Pass). InTable y.setup word) (sym same) t) is loads (subst (λ (y : Pass). (found : ℕ) → found < 18446744073709551616 → IsSome (moved_spot y kind word found)) (sym same) some)

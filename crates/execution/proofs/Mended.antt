@@ -26,7 +26,7 @@ either_spot : (P : Spot → Type 0) (ok : Bool) (u v : Spot) → P u → P v →
 either_spot P true u v h k = h
 either_spot P false u v h k = k
 
--- a reply comes only where there is nothing to mend
+-- a reply is answered only where there is nothing to mend
 abbrev Fine : Bool → Option Answer → Type 0
 Fine m o = (r : Reply) → o ≡ Some (Mail r) → m ≡ true
 
@@ -101,7 +101,7 @@ work_is m Inside b (Doing (Working t) left) h = h
 work_is m Inside b (Doing Mending left) h = h
 work_is m _ b _ h = absurd h
 
--- a process that owes no start stands where it begins
+-- a process with no pending start is in the state in which it begins
 begins_here : (x : Pass) → x.start ≡ None → spot_now x ≡ spot_begun x
 begins_here x none = ap (λ (o : Option Call). gone x.setup (spot_of x.setup x.by x.seen) (before x.fallen o x.by)) none ∙ ap (gone x.setup (spot_of x.setup x.by x.seen)) (append-nil (crash_first x.fallen x.by))
 
@@ -119,7 +119,7 @@ module _ (x y : Seated) (call : Call) (a : Answer) (blocked : ℕ) (mine : List 
       alive_spot y.pass r.alive ∙ calls_spot x.pass y.pass mine r.calls ∙ ap (gone s q) walked.spelled_as ∙ gone-append s q (before x.pass.fallen (Some call) x.pass.by) walked.steps
       ∙ ap (λ (t : Spot). gone s t walked.steps) (start_leads s x.pass.by q x.pass.fallen call)
 
-  -- who begins a call inside so stands so behind it
+  -- whether there is something to mend is the same before and after such a call
   still : (m : Bool) → IsHolder (spot_now x.pass) → (spot_now x.pass).mended ≡ m → Begun x.pass.setup.layout x.pass.by m (spot_begun x.pass).barred call → Calm m (a ∷ []) → (spot_begun y.pass).mended ≡ m
   still m holder mended starts calm =
       let here = begins_here x.pass idle in

@@ -81,7 +81,7 @@ pub record Single (x : Pass) (start : Spot) (answers : List Answer) (y : Pass) (
   pub front : List TakenStep
   pub ends : y.seen ≡ front ++ entry ∷ []
 
--- from this spot each step ends inside with no call under way
+-- from this state each step ends inside with no call under way
 abbrev pub EndsInside : Layout → ℕ → ℕ → Bool → Spot → Type 0
 EndsInside l limit p b start =
     (kind : Kind) (word : Word) (v : ℕ) → IsSome (next_spot l limit start (Moves p kind word v)) → unwrap_or (next_spot l limit start (Moves p kind word v)) start ≡ inside_free b

@@ -1,4 +1,4 @@
--- A worker's appends start their calls in order, and one that is told of a ruin has read it.
+-- A worker's appends start their calls in order, and a worker that is answered NotRecoverable has read the ruin.
 use Rattle.std.proofs.Common.{◌≡◌, ◌⊎◌, ℕ, Bool, true, false, List, [], ◌∷◌, ◌++◌, Option, Some, None, Result, Ok, Err, IfOk, IfErr, All, refl, sym, ap, ◌∙◌, subst, inl, inr}
 use Rattle.execution.proofs.Common.{All-head, All-tail, Reply, Answer, Call, Lock, Unlock, Consistent, Append, is_idle, TakenStep, Entry as Entering, LockFault, and_call, starts, FirstCrash, ready}
 use Rattle.execution.proofs.Common.{IsGlance, spot_now, Calls, own_of, last_call, last_of, MayStart, AreInOrder, Seated, began, own, WholeEnds, AppendFails, Comes, IsFront, IsWithin, calls_inside}
@@ -36,7 +36,7 @@ may_any last c (Append seq value) h = tt
 may_any last c Unlock h = absurd (let k : false ≡ true = h.1 in cc)
 may_any last c _ h = absurd h
 
--- also where a crash stands in the first of them
+-- also where the first entry carries a crash
 pub mine_in_order : (last : Option Call) (c : Bool) (mine : List TakenStep) → FirstCrash c mine → ((other : Option Call) → CallsInOrder other (starts mine)) → AreInOrder last mine
 mine_in_order last c [] crash any = tt
 mine_in_order last c (e ∷ es) crash any = go e.step.start refl

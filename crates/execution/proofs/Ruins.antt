@@ -1,5 +1,5 @@
--- A worker ruins no lock: it starts an unlock only behind an append or a mending. So it is told of a ruin only where it has
--- read one, and it leaves nothing unmended unless it has read one.
+-- A worker ruins no lock: it starts an unlock only after an append or a mending. So it is answered NotRecoverable only after
+-- it has read the ruin, and it leaves nothing unmended unless it has read one.
 use Rattle.std.proofs.Common.{◌≡◌, ℕ, ◌==◌, ◌&&◌, Bool, true, false, if◌then◌else◌, ◌⊎◌, List, [], ◌∷◌, length, Option, Some, None, IsSome, unwrap_or, refl, sym, ap, ◌∙◌, subst, inl, inr, eqb-true}
 use Rattle.execution.proofs.Common.{and_parts, cases_Bool, Kind, Glance as Looks, Word, Choosing as ChoosingOf, Number as NumberOf, Data as DataAt, Place, Dead, Inside, next, started, is_store}
 use Rattle.execution.proofs.Common.{Layout, Reply, Task, Script, Get as Asks, Put as Writes, Done, repair, consistent, script, Call, Lock, Unlock, Consistent, Append, Why, Checking, Ruining}
@@ -16,7 +16,7 @@ use Rattle.execution.proofs.Leads.{gone-append}
 use Rattle.execution.proofs.OneStep.{goes_front, goes_back}
 use Rattle.execution.proofs.Runs.{by_kind}
 
--- each reply of what comes behind the reading is such
+-- each reply of the script after the reading satisfies this
 abbrev pub IsMended : Reply → Type 0
 IsMended (reply.Mended repaired) = Unit {0}
 IsMended _ = ⊥
@@ -24,7 +24,7 @@ IsMended _ = ⊥
 abbrev pub check : Script Reply
 check = Asks 0 (λ x. Done (reply.Ruined (x == 1)))
 
--- how a worker's process stands that has read no ruin, by the call that it has started last
+-- the state of a worker's process that has read no ruin, by the call that it started last
 abbrev pub Stands : Layout → Option Call → Place → Bool → Bool → Errand → Type 0
 Stands l last s b c Free = (c ≡ false) × (settles last ≡ true → (s ≡ Inside) × (b ≡ true))
 Stands l last s b c (Doing Checking left) = (c ≡ false) × (left ≡ check) × (settles last ≡ false)

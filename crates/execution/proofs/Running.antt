@@ -1,4 +1,4 @@
--- The machine and the pass stay together.
+-- The machine's state and the view agree at each step.
 use Rattle.std.proofs.Common.{◌≡◌, ℕ, ◌+◌, ◌*◌, Bool, true, false, Option, Some, None, IsSome, unwrap_or, refl, sym, ap, ◌∙◌, subst}
 use Rattle.execution.proofs.Common.{Kind, Word, kind_of, word_of, carried, is_glance, Layout, size, place_at, Call, answer_at, Spot, Begins, next_spot, Moves, Stand, access_by, next_access, outcome, stepped}
 use Rattle.execution.proofs.Common.{spot_after, IsAllowed, progress_by, Setup, Pass, spot_now, Looks, moved_spot, Advances, IsRunBy, next_of, outcome_of, before, taken, gone, spot_of}
@@ -29,7 +29,7 @@ taken_moves p _ word v h = refl
 pub next_moves : (x : Pass) (a : Access) → next_of x ≡ Some a → is_glance (kind_of a) ≡ false
 next_moves x a e = no_glance x.setup.limit x.by (spot_now x).lock (spot_now x).errand a e
 
--- the machine's next step is the pass's
+-- the machine's next step is the one that follows from the view
 pub next_same : (x : Pass) (s : Stand) → IsRunBy x s → next_access s ≡ next_of x
 next_same x s r = ap (λ (t : ℕ × ℕ × Spot). access_by t.0 t.1 t.2.lock t.2.errand) (λ i. (r.limit i, r.index i, r.spot i))
 

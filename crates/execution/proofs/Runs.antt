@@ -1,4 +1,4 @@
--- Two laws of runs of entries: the spot of a process follows from its own entries, and an allowed entry prolongs a run.
+-- Two laws of runs: a process's state follows from its own entries, and an entry that is allowed prolongs a run.
 use Rattle.std.proofs.Common.{◌≡◌, ◌≢◌, ℕ, zero, suc, ◌-◌, ◌<◌, ◌==◌, ◌≤◌, nat_lt, lt-ltb, le-ltb, ltb-true, Bool, true, false, if◌then◌else◌, List, [], ◌∷◌, ◌++◌, length, set, get_or, replicate, Option, Some, None, IsSome, unwrap_or, refl, sym, ap, ◌∙◌, subst, inl, inr, arith, append_assoc, append-nil, eq-eqb, ne_eqb, length-set, get_or-set_same, get_or-set_other}
 use Rattle.execution.proofs.Common.{cases_Bool, cases_eq, length-replicate, get_or-replicate, filter-append, dite, ℕ_discrete, Kind, Glance, Own, Word}
 use Rattle.execution.proofs.Common.{Choosing as ChoosingOf, Number as NumberOf, Data as DataAt, put, is_store, write, put_same, put_other, Layout, Words, size, Call, Spot, Begins, next_spot, Happening}
@@ -48,7 +48,7 @@ own_happenings-append p (x ∷ xs) ys =
     let later = own_happenings-append p xs ys in
     elim (cases_Bool (who x == p)) [ inl is ↦ rw is (ap (λ (l : List Happening). x ∷ l) later) | inr is ↦ rw is later ]
 
--- all that an entry is spelled out to is its process's
+-- each event that an entry is spelled out to is of the entry's process
 own_all : (p q : ℕ) (h : Happening) → who h ≡ q → (c : Bool) (o : Option Call) (b : Bool) → (q == p) ≡ b → own_happenings p (before c o q ++ h ∷ []) ≡ (if b then before c o q ++ h ∷ [] else [])
 own_all p q h e false None true is = rw (e, is) refl
 own_all p q h e false (Some call) true is = rw (e, is) refl
@@ -77,7 +77,7 @@ module _ (l : Layout) (limit : ℕ) where
   story-append w [] ys r t = t
   story-append w (x ∷ xs) ys r t = (r.0, story-append (onward l limit w x) xs ys r.1 t)
 
--- one entry, from the spot of its process
+-- one entry, from the state of its process
 module _ (s : Setup) (q : ℕ) (lt : q < s.layout.procs) (h : Happening) (by : who h ≡ q) where
   move_goes : (w : Scene) (spot : Spot) → w.spots q ≡ spot → Goes s spot (h ∷ []) → Reads w h → Story s.layout s.limit w (h ∷ [])
   move_goes w spot at goes reads =

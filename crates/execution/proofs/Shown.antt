@@ -1,4 +1,4 @@
--- After each run the data words stand for a mailbox list, and what it shows stays, whoever steps later.
+-- After each run the data words are those of a mailbox list, and what it shows stays, whoever steps later.
 use Rattle.std.proofs.Common.{◌≡◌, ℕ, ◌<◌, ◌≤◌, List, [], ◌∷◌, ◌++◌, refl, sym, ap, ◌∙◌, inl, inr, ◌⊎◌, arith, append-nil, append_assoc}
 use Rattle.execution.proofs.Common.{cases_eq, Layout, Message, IsLayout, message, entry, entries, Shape, all_after, State, empty, state_led, at_first, deeds, Someone, Nobody, find_in, all_after-append}
 use Rattle.execution.proofs.Common.{Arrived, origin, arrives, deeds-append, TakenStep, Setup, deeds_of, shown_by, cells_of, AreShown, RunsShow, EntriesStandInRuns, spelled, IsRun, end_of}

@@ -66,7 +66,7 @@ module _ (s : Setup) (p : ℕ) where
   nothing_before : (q : Spot) (e : TakenStep) → IsPlain p e → spot_before s q e ≡ q
   nothing_before q e plain = λ i. gone s q (before (plain.1 i) (plain.2 i) e.by)
 
-  -- what these entries tell from spot q is what their steps tell from spot t
+  -- these entries from state q have the same outcome as their steps from state t
   abbrev Alike : List TakenStep → Spot → Spot → Type 0
   Alike es q t = (answers_from s q es ≡ answers_in s.layout s.limit t (steps_of p es)) × (blocked_from s q es ≡ blocked_in s.layout s.limit t (steps_of p es))
 

@@ -1,4 +1,4 @@
--- Steps one after another, and what they tell.
+-- Steps in a row, and their outcome.
 use Rattle.std.proofs.Common.{◌≡◌, ℕ, suc, ◌+◌, ◌≤◌, Bool, true, false, if◌then◌else◌, List, [], ◌∷◌, ◌++◌, length, Option, Some, None, IsSome, unwrap_or, refl, sym, ap, ◌∙◌, subst, arith, length-append}
 use Rattle.execution.proofs.Common.{Kind, Look, Weigh, Word, answer, is_blocked, kind_of, word_of, carried, Place, Wait, one_more, Answer, Call, Lock, by_lock, answer_at, blocked_by, and_answer}
 use Rattle.execution.proofs.Common.{is_idle, is_waiting, Errand, Free, Doing, Spot, next_spot, Moves, TakenStep, Setup, answers_of, blocked_of, Takes, blocks, Ran, answers_from, blocked_from, spot_before}
@@ -45,7 +45,7 @@ blocked-append s q (x ∷ xs) b =
     let first = if is_blocked_at (spot_before s q x) x then 1 else 0 in
     ap (λ (m : ℕ). first + m) later ∙ assoc first (blocked_from s (gone s q (happenings x)) xs) (blocked_from s (gone s q (spelled (x ∷ xs))) b)
 
--- the spot at the next step of a pass
+-- the process state at the next step of a view
 at_now : (x y : Pass) (mine : List TakenStep) (kind : Kind) (word : Word) (v : ℕ) → Takes x mine y → spot_before x.setup (gone x.setup (spot_of x.setup x.by x.seen) (spelled mine)) (next_entry y kind word v) ≡ spot_now y
 at_now x y mine kind word v h = ap (λ (t : Setup × Spot). gone t.0 t.1 (before y.fallen y.start y.by)) (λ i. (sym (takes_sizes x y mine h).0 i, sym (takes_spot x y mine h) i))
 

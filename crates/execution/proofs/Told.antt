@@ -1,4 +1,4 @@
--- A worker that is told of a ruined lock has read that it is.
+-- A worker that is answered NotRecoverable has read that the lock is ruined.
 use Rattle.std.proofs.Common.{◌≡◌, ℕ, ◌==◌, Bool, true, false, if◌then◌else◌, List, [], ◌∷◌, ◌++◌, Option, Some, None, Result, Ok, Err, IfErr, IsSome, refl, sym, ap, ◌∙◌, subst, inl, inr, append_assoc, eqb-true}
 use Rattle.execution.proofs.Common.{cases_Bool, All-head, All-tail, Kind, Word, Data as DataAt, answer, is_glance, Place, Layout, Reply, Task, Script, Done, tail, repair, consistent}
 use Rattle.execution.proofs.Common.{Answer, NotRecoverable as RuinedAnswer, OwnerDied, Unlocked, Call, Lock, Append, Checking, Ruining, Mending, Working, by_lock, by_reply, by_script, answer_at, answer_by}

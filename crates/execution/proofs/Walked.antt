@@ -1,5 +1,5 @@
--- The steps of one process in a story are a walk: each comes where it may, and a reread finds its word as it stood when the
--- call began, since nobody else stores into the lock words of a process.
+-- The steps of one process in an execution are a walk: each is allowed at its place, and a reread finds its word as it was
+-- when the call began, since no other process stores into the lock words of this one.
 use Rattle.std.proofs.Common.{◌≡◌, ◌≢◌, ℕ, ◌+◌, ◌<◌, ◌==◌, ◌&&◌, nat_lt, nat_le, Bool, true, false, if◌then◌else◌, List, [], ◌∷◌, Option, Some, None, IsSome, unwrap_or, refl, sym, ◌∙◌, subst, eqb-true, inl, inr}
 use Rattle.execution.proofs.Common.{and_parts, cases_Bool, eqb-false, Kind, Look as Looks, Weigh as Weighs, Open as Opens, Peek as Peeks, Take as Takes, Shut as Shuts, Mark as Marks, Drop as Drops, Glance as Glancing}
 use Rattle.execution.proofs.Common.{Own, Word, Choosing as ChoosingOf, Number as NumberOf, Data as DataAt, is_glance, ReadsBegun, Place, Wait, Reread, Opening, Door, Shutting, Leaving}
@@ -95,7 +95,7 @@ module _ (l : Layout) (limit p : ℕ) where
       elim (cases_Bool (is_store kind)) [ inl store ↦ rw store (moved_apart l limit p q spot.lock spot.mended spot.barred spot.errand kind word v w.words ne can.1 store) | inr load ↦ rw load refl ]
   others_keep w _ can ne = refl
 
-  -- the next happening of p in a story: up to it its spot and its words stay
+  -- the next event of p in an execution: up to it p's state and words stay the same
   pub record Comes (w : Scene) (h : Happening) (later : List Happening) : Type 0 where
     pub scene : Scene
     pub spot : scene.spots p ≡ w.spots p
@@ -165,7 +165,7 @@ module _ (l : Layout) (limit p : ℕ) where
   walks began (Moves q kind word v ∷ ms) moves = subst (λ (r : ℕ). Walking began (Moves r kind word v ∷ ms)) (sym moves.0.0) (walk_one began kind word v ms moves.0.1 (walks began ms moves.1))
   walks began (_ ∷ ms) moves = absurd moves.0
 
-  -- a call that p starts at this spot, with these words
+  -- a call that p starts in this state, with these words
   abbrev pub StartsAt : Own → Spot → Call → List Happening → Type 0
   StartsAt began spot call ms = (p < l.procs) × IsSome (next_spot l limit spot (Begins p call)) × Walks l limit p began (next_or_same l limit spot (Begins p call)) ms
 

@@ -32,7 +32,7 @@ front_one c more = (more, refl)
 pub front_cons : (c : Call) (done order : List Call) → IsFront done order → IsFront (c ∷ done) (c ∷ order)
 front_cons c done order h = (h.0, ap (λ (l : List Call). c ∷ l) h.1)
 
--- behind the lock
+-- after the lock
 pub within_inner : (entry : Entering) (task : Call) (done : List Call) → IsInner entry task done → IsWithin task (call.Lock ∷ done)
 within_inner entry task done (inl h) = inl (entry, front_cons call.Lock done (calls_inside entry task) h)
 within_inner entry task done (inr h) = inr (front_cons call.Lock done (call.Consistent ∷ call.Unlock ∷ []) h)
@@ -53,7 +53,7 @@ cut_more x z a0 a1 f0 f1 P Q h more =
 pub cut_first : (x z : Seated) (a0 a1 f0 f1 : ℕ) (c : Call) (Q : List Call → Type 0) → Q (c ∷ []) → CutIn x c z a0 a1 f0 f1 → CutBy x Q z a0 a1 f0 f1
 cut_first x z a0 a1 f0 f1 c Q first h = cut_more x z a0 a1 f0 f1 (λ (order : List Call). order ≡ c ∷ []) Q h (λ done k. subst Q (sym k) first)
 
--- one call and others behind it
+-- one call and others after it
 module _ (x y z : Seated) (a0 a1 a2 f0 f1 f2 : ℕ) where
   pub one_then : (c d : Call) (ds : List Call) (a b : Answer) (told : List Answer) → a ≡ b → AnsweredBy 0 x (c ∷ []) (a ∷ []) 0 y a0 a1 f0 f1 → AnsweredBy 0 y (d ∷ ds) told 0 z a1 a2 f1 f2 → AnsweredBy 0 x (c ∷ d ∷ ds) (b ∷ told) 0 z a0 a2 f0 f2
   one_then c d ds a b told is h t = subst (λ (v : Answer). AnsweredBy 0 x (c ∷ d ∷ ds) (v ∷ told) 0 z a0 a2 f0 f2) is (answered-append x y z c d [] ds (a ∷ []) told 0 0 0 a0 a1 a2 f0 f1 f2 h t)
@@ -61,7 +61,7 @@ module _ (x y z : Seated) (a0 a1 a2 f0 f1 f2 : ℕ) where
   pub two_done : (c d : Call) (a b u v : Answer) → a ≡ b → u ≡ v → AnsweredBy 0 x (c ∷ []) (a ∷ []) 0 y a0 a1 f0 f1 → AnsweredBy 0 y (d ∷ []) (u ∷ []) 0 z a1 a2 f1 f2 → AnsweredBy 0 x (c ∷ d ∷ []) (b ∷ v ∷ []) 0 z a0 a2 f0 f2
   two_done c d a b u v is so h t = subst (λ (w : Answer). AnsweredBy 0 x (c ∷ d ∷ []) (b ∷ w ∷ []) 0 z a0 a2 f0 f2) so (one_then c d [] a b (u ∷ []) is h t)
 
-  -- cut off behind the first
+  -- cut off after the first
   pub cut_then : (c : Call) (a : Answer) (P Q : List Call → Type 0) → AnsweredBy 0 x (c ∷ []) (a ∷ []) 0 y a0 a1 f0 f1 → CutBy y P z a1 a2 f1 f2 → Q (c ∷ []) → ((done : List Call) → P done → Q (c ∷ done)) → CutBy x Q z a0 a2 f0 f2
   cut_then c a P Q h t first more = cut_after x y z c [] (a ∷ []) 0 a0 a1 a2 f0 f1 f2 P Q h t first more
 
@@ -172,7 +172,7 @@ task_fits x w y turns o task a0 a1 f0 f1 e h fits =
     let same : y.pass.setup ≡ x.pass.setup = lock_setup w y turns o a0 a1 f0 f1 h ∙ ap (λ (u : Seated). u.pass.setup) e ∙ (ready_same (is_idle (spot_now x.pass)) x).0 in
     subst (λ (s : Setup). IsTask s.layout task) (sym same) fits
 
--- a fact of an answer, with the number of turns that it stands for
+-- a fact of an answer, with the number of turns that it holds for
 pub ok_some : {T E : Type 0} (P : ℕ → T → Type 0) (r : Result T E) (turns : ℕ) → IfOk r (P turns) → IfOk r (λ (it : T). (k : ℕ) × P k it)
 ok_some P (Ok it) turns h = (turns, h)
 ok_some P (Err why) turns h = tt

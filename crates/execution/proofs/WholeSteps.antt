@@ -41,7 +41,7 @@ one_counts x y call a blocked more a0 a1 f0 f1 h =
     let told = calls_keep_the_table x call (a ∷ []) blocked y h.0 h.1 in
     (told.0, told.1, h.1.steps ∙ ap (λ (n : ℕ). many_more n x.steps) told.2)
 
--- a call of a holder, and the others behind it
+-- a call of a holder, and the calls after it
 inside_first : (x y z : Seated) (m n : Bool) (c : Call) (a : Answer) (order : List Call) (answers : List Answer) (k : ℕ) → y.pass.setup ≡ x.pass.setup → mended_by m a ≡ n → ((w : Own) → own_steps x.pass.setup.layout w m c a ≡ Some k) → y.steps ≡ many_more (k + 0) x.steps
     → InsideCounts y n order answers z → InsideCounts x m (c ∷ order) (a ∷ answers) z
 inside_first x y z m n c a order answers k same mends told steps h = (
@@ -79,7 +79,7 @@ module _ (x y z : Seated) (a b : Answer) (a0 a1 a2 f0 f1 f2 : ℕ) (idle : x.pas
       let still : (spot_begun y.pass).mended ≡ false = still_unmended x y Consistent answer.NotRecoverable 0 d.0 idle d.1 refl refl holder unmended in
       inside_first x y z false false Consistent answer.NotRecoverable (Unlock ∷ []) (answer.Unlocked ∷ []) one.0 d.1.calls.setup refl (λ w. one.1) one.2 (left_counts y z b a1 a2 f1 f2 false so still t)
 
--- a mending, and the calls behind it
+-- a mending, and the calls after it
 pub mend_counts : (x y z : Seated) (a : Answer) (a0 a1 f0 f1 : ℕ) (mended : Bool) (order : List Call) (answers : List Answer) → a ≡ answer.Mail (Mended mended) → AnsweredBy 0 x (Consistent ∷ []) (a ∷ []) 0 y a0 a1 f0 f1
     → InsideCounts y true order answers z → InsideCounts x false (Consistent ∷ order) (answer.Mail (Mended mended) ∷ answers) z
 mend_counts x y z a a0 a1 f0 f1 mended order answers is h t =
@@ -87,7 +87,7 @@ mend_counts x y z a a0 a1 f0 f1 mended order answers is h t =
     let one = one_counts x y Consistent (answer.Mail (Mended mended)) 0 0 a0 a1 f0 f1 d in
     inside_first x y z false true Consistent (answer.Mail (Mended mended)) order answers one.0 d.1.calls.setup refl (λ w. one.1) one.2 t
 
--- a lock that entered, and the calls behind it
+-- a lock that entered, and the calls after it
 pub whole_counts : (x y z : Seated) (turns : ℕ) (entry : Entering) (order : List Call) (answers : List Answer) (a0 a1 f0 f1 : ℕ) → (h : LockBy 0 x turns (Some (answer_of entry)) y a0 a1 f0 f1) → InsideCounts y (mended_by true (answer_of entry)) order answers z
     → SumCounts x (Lock ∷ order) (answer_of entry ∷ answers) (h.0 + 0) z
 whole_counts x y z turns entry order answers a0 a1 f0 f1 h t =
@@ -121,7 +121,7 @@ module _ (x y : Seated) (turns a0 a1 f0 f1 : ℕ) (task : Call) where
       let told = calls_keep_the_table x Lock [] (turns + 1) y h.0 h.1 in
       (Lock ∷ [], [], turns + 1, inl (refl, refl, refl, refl), h, (told.0, told.2, h.1.steps ∙ ap (λ (n : ℕ). many_more n x.steps) told.1))
 
--- no more than so many, one part after another
+-- upper bounds of two parts add up
 pub at_most_both : (x y z : Seated) (j k : ℕ) → CountsAtMost j x y → CountsAtMost k y z → CountsAtMost (j + k) x z
 at_most_both x y z j k h t = (h.0 + t.0, (let a = h.1 in let b = t.1 in omega arith), t.2 ∙ ap (many_more t.0) h.2 ∙ many_add h.0 t.0 x.steps)
 
@@ -131,7 +131,7 @@ at_most_more x y z j most few h same = (h.0, (let a = h.1 in omega arith), same 
 pub none_at_most : (x z : Seated) (most : ℕ) → z.steps ≡ x.steps → CountsAtMost most x z
 none_at_most x z most same = (0, omega arith, same)
 
--- a call behind another one goes on counting
+-- a call after another one counts on
 pub few_behind : (y w z : Seated) (call : Call) → w ≡ behind y call → CountsAtMost (most_steps w.pass.setup.layout call) w z → CountsAtMost (most_steps y.pass.setup.layout call) y z
 few_behind y w z call e h = subst (λ (u : Seated). CountsAtMost (most_steps u.pass.setup.layout call) u z) e h
 
@@ -148,7 +148,7 @@ sum_moved a b c = omega arith
 sum_less : (a b c : ℕ) → a + b ≤ (a + c) + b
 sum_less a b c = omega arith
 
--- a mending, and the calls behind it
+-- a mending, and the calls after it
 pub mend_few : (x y z : Seated) (task : Call) → y.pass.setup ≡ x.pass.setup → CountsAtMost (most_steps x.pass.setup.layout Consistent) x y → CountsAtMost (most_steps y.pass.setup.layout task + 3) y z → CountsAtMost (most_inside x.pass.setup.layout task) x z
 mend_few x y z task same h t =
     let l : Layout = x.pass.setup.layout in
@@ -163,7 +163,7 @@ ruined_few x y z task h t =
     let mended : ℕ = most_steps l Consistent in
     at_most_more x z z (mended + 3) (most_inside l task) (sum_less mended 3 (most_steps l task)) (at_most_both x y z mended 3 h t) refl
 
--- what a lock answers that came to nothing else
+-- the answer of a lock that had no other outcome
 pub ruined_is : (a : Answer) → Fits Lock a → (a ≡ answer.Clean → ⊥) → (a ≡ answer.OwnerDied → ⊥) → (a ≡ answer.NumbersSpent → ⊥) → a ≡ answer.NotRecoverable
 ruined_is answer.Clean f clean died spent = absurd (clean refl)
 ruined_is answer.OwnerDied f clean died spent = absurd (died refl)
@@ -174,7 +174,7 @@ ruined_is _ f clean died spent = absurd f
 pub fits_some : (o : Option Answer) (a : Answer) (P : Answer → Type 0) → o ≡ Some a → IfSome o P → P a
 fits_some o a P is h = subst (λ (p : Option Answer). IfSome p P) is h
 
--- the lock, and what comes behind it
+-- the lock, and what comes after it
 module _ (x u y z : Seated) (task : Call) (turns : ℕ) (e : u ≡ began (ready x) Lock) where
   abbrev most_of : Layout → ℕ
   most_of l = most_whole l task + turns

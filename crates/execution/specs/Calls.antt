@@ -1,4 +1,4 @@
--- What a call tells: the caller's own entries, its answers, how often it was blocked, and how often the plan was asked.
+-- What a call leaves: the caller's own entries, its answers, its blocked readings, and how often the plan was asked.
 use Rattle.std.specs.Prelude.{◌≡◌, ℕ, ◌+◌, ◌⊎◌, Bool, true, false, if◌then◌else◌, List, [], ◌∷◌, length, Option, Some, None, All}
 use Rattle.rmeworld.specs.declared.call.Call.{Call}
 use Rattle.rmeworld.specs.declared.answer.Answer.{Answer}
@@ -17,11 +17,11 @@ use Rattle.execution.specs.Under.{IsUnder, Fits, Leaves}
 use Rattle.rmeworld.specs.declared.call.Call.TheVariants.{Lock}
 use Rattle.rmeworld.specs.CallWalk.{and_answer}
 
--- the spot of a process right before the step of one of its entries
+-- the state of a process right before the step of one of its entries
 abbrev pub spot_before : Setup → Spot → TakenStep → Spot
 spot_before s spot e = gone s spot (before e.step.crashed e.step.start e.by)
 
--- the answers of entries of one process, from its spot before them
+-- the answers of one process's entries, from its state before them
 abbrev pub answers_from : Setup → Spot → List TakenStep → List Answer
 answers_from s spot [] = []
 answers_from s spot (e ∷ es) = and_answer (answer_at (spot_before s spot e) e.step.kind e.value) (answers_from s (gone s spot (happenings e)) es)
@@ -29,7 +29,7 @@ answers_from s spot (e ∷ es) = and_answer (answer_at (spot_before s spot e) e.
 abbrev pub is_blocked_at : Spot → TakenStep → Bool
 is_blocked_at spot e = blocked_by e.by spot.lock spot.errand e.step.kind e.value
 
--- how many of them were blocked
+-- how many of the entries were blocked
 abbrev pub blocked_from : Setup → Spot → List TakenStep → ℕ
 blocked_from s spot [] = 0
 blocked_from s spot (e ∷ es) = (if is_blocked_at (spot_before s spot e) e then 1 else 0) + blocked_from s (gone s spot (happenings e)) es
@@ -38,32 +38,32 @@ abbrev pub and_call : Option Call → List Call → List Call
 and_call None calls = calls
 and_call (Some c) calls = c ∷ calls
 
--- the calls that they started
+-- the calls that the entries started
 abbrev pub starts : List TakenStep → List Call
 starts [] = []
 starts (e ∷ es) = and_call e.step.start (starts es)
 
--- the first of them carries the start of this call, the others none
+-- the first entry carries the start of this call, the others carry none
 abbrev pub FirstStart : Call → List TakenStep → Type 0
 FirstStart call [] = ⊥
 FirstStart call (e ∷ es) = (e.step.start ≡ Some call) × All (λ (f : TakenStep). f.step.start ≡ None) es
 
--- the first of them carries the start of this call
+-- the first entry carries the start of this call
 abbrev pub StartsWith : Call → List TakenStep → Type 0
 StartsWith call [] = ⊥
 StartsWith call (e ∷ es) = e.step.start ≡ Some call
 
--- where these calls are started: one call in the first entry alone, several from the first entry on
+-- where these calls are started: a single call in the first entry alone, several calls from the first entry on
 abbrev pub FirstStarts : List Call → List TakenStep → Type 0
 FirstStarts [] es = Unit {0}
 FirstStarts (call ∷ []) es = FirstStart call es
 FirstStarts (call ∷ next ∷ more) es = StartsWith call es
 
--- none of them is a glance
+-- no entry is a glance
 abbrev pub AreMoves : List TakenStep → Type 0
 AreMoves es = All (λ (e : TakenStep). is_glance e.step.kind ≡ false) es
 
--- a crash stands in the first of them, or nowhere
+-- the first entry carries a crash if c is true, and no other one does
 abbrev pub FirstCrash : Bool → List TakenStep → Type 0
 FirstCrash c [] = Unit {0}
 FirstCrash c (e ∷ es) = (e.step.crashed ≡ c) × All (λ (f : TakenStep). f.step.crashed ≡ false) es
@@ -74,13 +74,13 @@ answers_of x mine = answers_from x.setup (spot_of x.setup x.by x.seen) mine
 abbrev pub blocked_of : Pass → List TakenStep → ℕ
 blocked_of x mine = blocked_from x.setup (spot_of x.setup x.by x.seen) mine
 
--- steps one after another, each carrying what is owed, and none a glance
+-- steps in a row, none a glance. Each carries the pending crash and start
 abbrev pub Takes : Pass → List TakenStep → Pass → Type 0
 Takes x [] y = y ≡ x
 Takes x (e ∷ es) y =
     (z : Pass) × (e ≡ next_entry x e.step.kind e.step.word e.value) × Advances x e.step.kind e.step.word e.value z × Takes z es y × (is_glance e.step.kind ≡ false)
 
--- the blocked readings of steps that end with an answer, or with a blocked one
+-- the blocked readings of steps that end with an answer (none), or with a blocked reading (one)
 abbrev pub blocks : Option Answer → ℕ
 blocks None = 1
 blocks (Some a) = 0
@@ -92,29 +92,29 @@ pub record Ran (x : Seated) (o : Option Answer) (y : Seated) (mine : List TakenS
   pub blocked : blocked_of x.pass mine ≡ blocks o
   pub steps : y.steps ≡ many_more (length mine) x.steps
 
--- steps of a call without an answer so far
+-- steps of a call that has no answer yet
 pub record Going (x : Seated) (mine : List TakenStep) (y : Seated) : Type 0 where
   pub takes : Takes x.pass mine y.pass
   pub answers : answers_of x.pass mine ≡ []
   pub blocked : blocked_of x.pass mine ≡ 0
   pub steps : y.steps ≡ many_more (length mine) x.steps
 
--- steps of a call, and a crash behind them
+-- steps of a call, then a crash
 pub record CutOff (x : Seated) (mine : List TakenStep) (y : Seated) : Type 0 where
   pub last : Seated
   pub takes : Takes x.pass mine last.pass
   pub steps : last.steps ≡ many_more (length mine) x.steps
   pub crash : y ≡ fell last
 
--- what stands behind some steps of a call: an answer that fits it and the spot that it leaves, or a lock that goes on and
--- waits in the line
+-- the state after some steps of a call: an answer that fits the call, in the state that it leaves; or a lock that waits in
+-- the line
 abbrev pub Still : Call → Seated → Option Answer → Type 0
 Still call y (Some a) = Fits call a × Leaves call a (spot_now y.pass)
 Still call y None = (call ≡ Lock) × IsUnder call (spot_now y.pass) × (is_idle (spot_now y.pass) ≡ false) × Lasts y.pass.setup.layout.procs 256 (spot_now y.pass) × (is_waiting (spot_now y.pass).lock ≡ true)
 
--- Calls one after another. Their own entries are those of `calls`: the run so far begins with all that the caller had seen,
--- ends with the last call, and has just these of the caller. The first carries the crash that was owed, the first of each call
--- its start, and none is a glance. Their answers, how many were blocked, and how many there were
+-- Calls in a row. The run so far begins with all that the caller had seen, ends with the last call, and has just the entries
+-- `mine` of the caller. The first entry carries a pending crash, the first entry of each call its start, and none is a
+-- glance. The record also has their answers, the number of blocked readings and of own steps.
 pub record ServedAll (x : Seated) (order : List Call) (answers : List Answer) (blocked : ℕ) (y : Seated) (mine : List TakenStep) : Type 0 where
   pub calls : Calls x.pass mine y.pass
   pub crash : FirstCrash x.pass.fallen mine
@@ -131,8 +131,8 @@ pub record ServedAll (x : Seated) (order : List Call) (answers : List Answer) (b
 abbrev pub Served : Seated → Call → List Answer → ℕ → Seated → List TakenStep → Type 0
 Served x call answers blocked y mine = ServedAll x (call ∷ []) answers blocked y mine
 
--- Calls that a crash cut off, before their first step, between two, or behind their last: the next step is the crash. Which
--- of them were started
+-- Calls that a crash cut off, before their first step, between two steps, or after their last: the next step carries the
+-- crash. `Begun` holds of the calls that were started.
 pub record CrashesIn (x : Seated) (Begun : List Call → Type 0) (y : Seated) (mine : List TakenStep) : Type 0 where
   pub calls : Calls x.pass mine y.pass
   pub unmoved : mine ≡ [] → y.pass.seen ≡ x.pass.seen
@@ -146,11 +146,11 @@ pub record CrashesIn (x : Seated) (Begun : List Call → Type 0) (y : Seated) (m
 abbrev pub Crashes : Seated → Call → Seated → List TakenStep → Type 0
 Crashes x call y mine = CrashesIn x (λ (order : List Call). order ≡ call ∷ []) y mine
 
--- so many askings, of which the last fell
+-- the plan was asked k times and made the process crash at the last one
 abbrev pub Fell : ℕ → (asked asked_now fallen fallen_now : ℕ) → Type 0
 Fell k asked asked_now fallen fallen_now = (asked_now ≡ many_more k asked) × (fallen_now ≡ one_more fallen)
 
--- so many askings, of which none fell
+-- the plan was asked k times and never crashed the process
 abbrev pub Calm : ℕ → (asked asked_now fallen fallen_now : ℕ) → Type 0
 Calm k asked asked_now fallen fallen_now = (asked_now ≡ many_more k asked) × (fallen_now ≡ fallen)
 

@@ -16,18 +16,18 @@ use Rattle.execution.specs.Pass.{spot_now}
 use Rattle.execution.specs.Running.{Seated, began, fell}
 use Rattle.execution.specs.Calls.{ServedAll, Served, CrashesIn, Crashes, Fell, Calm}
 
--- the fault that a refused start is
+-- the fault that a refused start answers
 abbrev pub fault_for : Call → Refusal → LockFault
 fault_for Consistent refusal = NotInconsistent
 fault_for call IsIn = AlreadyIn
 fault_for call NoSuchWord = BadIndex
 fault_for call refusal = NotOwner
 
--- why the member can't start the call now
+-- why the member can't start the call now, if so
 abbrev pub refusal_now : Seated → Call → Option Refusal
 refusal_now x call = start_refusal x.pass.setup.layout (spot_now x.pass) call
 
--- refused: no step was taken, no plan asked, and nothing has changed
+-- refused: no step was taken, the plan wasn't asked, and nothing has changed
 abbrev pub Refused : Seated → Call → Seated → (asked asked_now fallen fallen_now : ℕ) → LockFault → Type 0
 Refused x call y asked asked_now fallen fallen_now e = ((refusal : Refusal) × (refusal_now x call ≡ Some refusal) × (e ≡ fault_for call refusal)) × (y ≡ x) × (asked_now ≡ asked) × (fallen_now ≡ fallen)
 
@@ -38,7 +38,7 @@ Cut x call y asked asked_now fallen fallen_now e = (e ≡ Crashed) × (refusal_n
 abbrev pub Fails : Seated → Call → Seated → (asked asked_now fallen fallen_now : ℕ) → LockFault → Type 0
 Fails x call y asked asked_now fallen fallen_now e = Refused x call y asked asked_now fallen fallen_now e ⊎ Cut x call y asked asked_now fallen fallen_now e
 
--- a call that sets out from anywhere outside the section: where a lock still waits, its process has crashed
+-- a call that may start from anywhere outside the section. A member whose lock still waits crashes first
 abbrev pub ready : Seated → Seated
 ready x = if is_idle (spot_now x.pass) then x else fell x
 
@@ -50,16 +50,16 @@ CutBy x Begun y asked asked_now fallen fallen_now = (mine : List TakenStep) × C
 abbrev pub CutIn : Seated → Call → Seated → (asked asked_now fallen fallen_now : ℕ) → Type 0
 CutIn x call y asked asked_now fallen fallen_now = (mine : List TakenStep) × Crashes x call y mine × Fell (length mine + 1) asked asked_now fallen fallen_now
 
--- calls with their answers, and so many askings beside those of their steps
+-- calls with their answers, and `more` askings beside those of their steps
 abbrev pub AnsweredBy : ℕ → Seated → List Call → List Answer → ℕ → Seated → (asked asked_now fallen fallen_now : ℕ) → Type 0
 AnsweredBy more x order answers blocked y asked asked_now fallen fallen_now = (mine : List TakenStep) × ServedAll x order answers blocked y mine × Calm (length mine + more) asked asked_now fallen fallen_now
 
--- an answer of a call that was blocked some times
+-- an answer of a call that was blocked `blocked` times
 abbrev pub AnsweredIn : Seated → Call → List Answer → ℕ → Seated → (asked asked_now fallen fallen_now : ℕ) → Type 0
 AnsweredIn x call answers blocked y asked asked_now fallen fallen_now = (mine : List TakenStep) × Served x call answers blocked y mine × Calm (length mine + 1) asked asked_now fallen fallen_now
 
--- how a lock ends that may be blocked so often, from right after its start, with so many askings beside those of its steps: with
--- an answer after no more blocked readings, or with none after one more
+-- how a lock ends that may be blocked `turns` times, from right after its start, with `more` askings beside those of its
+-- steps: with an answer after at most `turns` blocked readings, or without one after one more
 abbrev pub LockBy : ℕ → Seated → ℕ → Option Answer → Seated → (asked asked_now fallen fallen_now : ℕ) → Type 0
 LockBy more x turns (Some a) y asked asked_now fallen fallen_now = (blocked : ℕ) × (blocked ≤ turns) × AnsweredBy more x (Lock ∷ []) (a ∷ []) blocked y asked asked_now fallen fallen_now
 LockBy more x turns None y asked asked_now fallen fallen_now = AnsweredBy more x (Lock ∷ []) [] (turns + 1) y asked asked_now fallen fallen_now
@@ -68,7 +68,7 @@ LockBy more x turns None y asked asked_now fallen fallen_now = AnsweredBy more x
 abbrev pub LockEnds : Seated → ℕ → Option Answer → Seated → (asked asked_now fallen fallen_now : ℕ) → Type 0
 LockEnds x turns o y asked asked_now fallen fallen_now = LockBy 1 x turns o y asked asked_now fallen fallen_now
 
--- a recovery that fails: refused in the section, or cut off
+-- a recovery that fails: refused in the section, or cut off by a crash
 abbrev pub FailsOut : Seated → Call → Seated → (asked asked_now fallen fallen_now : ℕ) → LockFault → Type 0
 FailsOut x call y asked asked_now fallen fallen_now e =
     (e ≡ AlreadyIn) × (refusal_now x call ≡ Some IsIn) × (y ≡ x) × (asked_now ≡ asked) × (fallen_now ≡ fallen)
@@ -78,7 +78,7 @@ abbrev pub answer_of : Entering → Answer
 answer_of entering.Clean = Clean
 answer_of entering.OwnerDied = OwnerDied
 
--- a lock that fails: refused in the section, cut off, still waiting, out of numbers, or ruined
+-- a lock that fails: refused in the section, cut off by a crash, still waiting, out of numbers, or ruined
 abbrev pub LockFails : Seated → ℕ → Seated → (asked asked_now fallen fallen_now : ℕ) → LockFault → Type 0
 LockFails x turns y asked asked_now fallen fallen_now e =
     FailsOut x Lock y asked asked_now fallen fallen_now e

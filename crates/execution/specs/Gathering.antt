@@ -1,4 +1,4 @@
--- What gathering all members tells.
+-- What `gather` promises: one run that has the entries of all members, and the image of the words at its end.
 use Rattle.std.specs.Prelude.{◌≡◌, ◌≢◌, ◌⊎◌, ℕ, ◌<◌, ◌==◌, Bool, true, false, List, [], ◌∷◌, ◌++◌, length, map, All}
 use Rattle.std.specs.List.{list_any}
 use Rattle.atomic_table.specs.Seated.{TableId}
@@ -15,23 +15,23 @@ use Rattle.execution.specs.Rule.{count_from, joined, Begins, IsIn, Did}
 use Rattle.execution.specs.Pass.{Pass, alone, glanced}
 use Rattle.execution.specs.Running.{Seated}
 
--- the members are of one arena: their seats are at one table
+-- the members are of one arena: their seats belong to one table
 abbrev pub OneArena : List Seated → Type 0
 OneArena xs = (t : TableId) × All (λ (x : Seated). x.pass.table ≡ t) xs
 
 abbrev pub has_member : ℕ → List Seated → Bool
 has_member p xs = list_any (λ (x : Seated). x.pass.by == p) xs
 
--- how many processes their arena has
+-- the number of processes of their arena
 abbrev pub procs_of : List Seated → ℕ
 procs_of [] = 0
 procs_of (x ∷ xs) = x.pass.setup.layout.procs
 
--- some process of the arena has no member here
+-- some process of the arena has no member in the list
 abbrev pub IsMissing : List Seated → Type 0
 IsMissing xs = (xs ≡ []) ⊎ ((p : ℕ) × (p < procs_of xs) × (has_member p xs ≡ false))
 
--- the words that stand at the end of a run, with the sizes
+-- the image of a global state (the specification's "Image"), with the sizes
 abbrev pub image_at : Setup → Scene → Image
 image_at s w =
     record {
@@ -46,13 +46,13 @@ image_at s w =
 abbrev pub IsGlance : TakenStep → Type 0
 IsGlance e = (word : Word) × (e.step ≡ glanced word)
 
--- the pass of x begins the run, and has all entries of its process, which isn't the first member's
+-- the view of x is a prefix of the run and has all entries of its process, which isn't the first member's
 pub record IsWhole (first : Seated) (run : List TakenStep) (x : Seated) : Type 0 where
   pub begins : Begins x.pass.seen run
   pub own_is : x.pass.by ≢ first.pass.by → own x.pass.by run ≡ own x.pass.by x.pass.seen
 
--- The pass of each member begins the run, which has of each process just the entries that its member's pass has; but for the
--- process of the first member, whose seat took so many glances more.
+-- Each member's view is a prefix of the run. The run has no entry of a process that isn't in its member's view, but for the
+-- first member's process, whose seat took `count` more glances.
 pub record IsTold (first : Seated) (others : List Seated) (count : ℕ) (run : List TakenStep) : Type 0 where
   pub glances : List TakenStep
   pub are_glances : All IsGlance glances
@@ -61,8 +61,8 @@ pub record IsTold (first : Seated) (others : List Seated) (count : ℕ) (run : L
   pub own_is : own first.pass.by run ≡ own first.pass.by first.pass.seen ++ glances
   pub whole : All (IsWhole first run) others
 
--- There is one run, which begins with each member's pass and has no other entries but a glance before each joining of two
--- seats, and the image has the words at its end.
+-- There is one run. It has each member's view as a prefix, and no further entries but one glance before each joining of two
+-- seats. The image has the words at its end.
 pub record Gathers (xs : List Seated) (image : Image) : Type 0 where
   pub first : Seated
   pub others : List Seated
@@ -78,13 +78,13 @@ abbrev pub answers_of : Seated → List Seated → List ℕ
 answers_of first [] = first.pass.by ∷ []
 answers_of first (x ∷ xs) = answers_of first xs ++ x.pass.by ∷ []
 
--- what the first member's seat knows once these are joined into it, after so many glances
+-- what the first member's seat knows once these are joined into it, after `count` glances
 pub record Knows (first : Seated) (others : List Seated) (count : ℕ) (k : Known) : Type 0 where
   pub setup : k.view.setup ≡ first.pass.setup
   pub answers : k.view.answers ≡ answers_of first others
   pub tells : (run : List TakenStep) → IsIn run k.view → All (IsIn run) k.told → IsTold first others count run
 
--- a glance of the seat, and then a joining
+-- a glance of the seat, then the joining of another seat
 abbrev pub Absorbs : Known → Pass → Known → Type 0
 Absorbs k x l = (word : Word) × (found : ℕ) × (m : Known) × Did (glanced word) k found m × (l ≡ joined m (alone x.setup x.by x.seen))
 
@@ -92,7 +92,7 @@ Absorbs k x l = (word : Word) × (found : ℕ) × (m : Known) × Did (glanced wo
 abbrev pub AnswersAll : Setup → View → Type 0
 AnswersAll s v = (v.setup ≡ s) × ((p : ℕ) → p < s.layout.procs → has p v.answers ≡ true) × (0 < s.layout.procs)
 
--- a glance of such a seat. Nothing comes in between
+-- a glance of such a seat: no other step comes in between
 pub record Looked (s : Setup) (word : Word) (k : Known) (found : ℕ) (l : Known) : Type 0 where
   pub setup : l.view.setup ≡ k.view.setup
   pub answers : l.view.answers ≡ k.view.answers
@@ -102,7 +102,7 @@ pub record Looked (s : Setup) (word : Word) (k : Known) (found : ℕ) (l : Known
   pub found_is : found ≡ reading (end_of s k.view.seen) word
   pub told : All (IsIn k.view.seen) k.told
 
--- glances of such a seat leave all that it can read
+-- glances of such a seat change nothing that it can read
 pub record Stays (s : Setup) (k : Known) (l : Known) : Type 0 where
   pub setup : l.view.setup ≡ k.view.setup
   pub answers : l.view.answers ≡ k.view.answers

@@ -1,5 +1,5 @@
--- What the lock theorem says of a run: its deeds are legal and have the plain properties, the words at its end are lawful,
--- and an append that was answered Stored or Already is shown.
+-- What the lock theorem says of a run: its deeds are legal and have the plain properties, the words at its end are a lawful
+-- image, and an append that was answered Stored or Already is shown.
 use Rattle.std.specs.Prelude.{◌≡◌, ℕ, false, ◌⊎◌, List, [], ◌∷◌, ◌++◌, Some}
 use Rattle.rmecore.specs.Lawful.{IsLawful}
 use Rattle.rmecore.specs.Paid.{is_glance}
@@ -30,7 +30,7 @@ use Rattle.execution.specs.Calls.{spot_before}
 abbrev pub deeds_of : Setup → List TakenStep → List Deed
 deeds_of s es = deeds s.layout s.limit at_first (spelled es)
 
--- the abstract lock and the mailbox list after them
+-- the judge's state after them: the specification's "Abstract lock" and "Mailbox list"
 abbrev pub judged_by : Setup → List TakenStep → State
 judged_by s es = all_after (empty s.layout.procs s.layout.cap) (deeds_of s es)
 
@@ -38,7 +38,7 @@ judged_by s es = all_after (empty s.layout.procs s.layout.cap) (deeds_of s es)
 abbrev pub shown_by : Setup → List TakenStep → List Message
 shown_by s es = (judged_by s es).mail.shown
 
--- where the process of the entry e stands right before its step, after these entries
+-- the process state right before the step of the entry e, after the entries es
 abbrev pub spot_at : Setup → List TakenStep → TakenStep → Spot
 spot_at s es e = spot_before s (spot_of s e.by es) e
 
@@ -50,15 +50,15 @@ pub record EndsAppend (s : Setup) (es : List TakenStep) (e : TakenStep) (seq : �
   pub append : (spot_at s es e).errand ≡ Doing (Working (task.Append seq value)) left
   pub answer : answer_at (spot_at s es e) e.step.kind e.value ≡ Some (Mail reply)
 
--- an append that is answered Stored or Already has its number among its sender's messages shown, then and there
+-- an append that is answered Stored or Already has its number among its sender's shown messages at that point
 abbrev pub AnsweredIsShown : Setup → List TakenStep → Type 0
 AnsweredIsShown s es =
     (front : List TakenStep) (e : TakenStep) (back : List TakenStep) (seq : ℕ) (reply : Reply) → es ≡ (front ++ e ∷ []) ++ back → EndsAppend s front e seq reply
     → (reply ≡ Stored) ⊎ (reply ≡ Already) → IsAmong e.by seq (shown_by s (front ++ e ∷ []))
 
--- No two inside, one that crashed inside is the next to enter, first come first served, each sender's messages once and in
--- order (`plain`); the judge's whole table allows the deeds one after another (`legal`); the lock words and the data words
--- at the end are such as outlive a crash of everything.
+-- `plain`: no two are inside; one that crashed inside is the next to enter; first come, first served; each sender's messages
+-- once and in order. `legal`: the judge allows the deeds one after another. The words at the end are such as a crash of all
+-- processes leaves.
 pub record IsSoundRun (s : Setup) (es : List TakenStep) : Type 0 where
   pub legal : IsLegal s.layout.procs s.layout.cap (deeds_of s es)
   pub plain : IsPlain (deeds_of s es)

@@ -1,4 +1,4 @@
--- How long a call can go on: the most steps that are left of it beside the blocked ones, at each spot.
+-- How long a call can go on: a bound on the steps that are left of it, blocked ones not counted, at each process state.
 use Rattle.std.specs.Prelude.{ℕ, zero, suc, ◌+◌, ◌*◌, ◌≡◌, ◌≤◌, true, [], ◌∷◌, length, Some, None}
 use Rattle.rmecore.specs.Place.{Place, Rest, Dead, Reread, Opening, Door, Shutting, Wait, Inside, Leaving, Withdrawing, Unmarking, has}
 use Rattle.rmecore.specs.declared.core_call.CoreCall.TheVariants.{Lock}
@@ -8,7 +8,7 @@ use Rattle.rmeworld.specs.declared.why.Why.{Why}
 use Rattle.rmeworld.specs.declared.why.Why.TheVariants.{Checking, Ruining, Mending, Working}
 use Rattle.rmeworld.specs.Spot.{Errand, Free, Doing, Spot}
 
--- a script ends within so many steps, whatever it reads
+-- a script ends within k steps, whatever it reads
 abbrev pub Within : ℕ → Script Reply → Type 0
 Within k (Done reply) = Unit {0}
 Within zero (Get i rest) = ⊥
@@ -16,8 +16,8 @@ Within zero (Put i v rest) = ⊥
 Within (suc k) (Get i rest) = (x : ℕ) → Within k (rest x)
 Within (suc k) (Put i v rest) = Within k rest
 
--- the most steps of a lock among n processes that are left at a place. An entry has three more: the ruin check, and the exit
--- where the lock is ruined
+-- The most steps that are left of a lock among n processes, by its place (the specification's "Place"). An entry has three
+-- more: the ruin check, and the two steps of the exit from a ruined lock.
 abbrev pub lock_left : ℕ → Place → ℕ
 lock_left n Rest = 0
 lock_left n Dead = 0
@@ -35,12 +35,12 @@ lock_left n (Reread call []) = 3 * n + 11
 lock_left n (Reread call (c ∷ [])) = 3 * n + 10
 lock_left n (Reread call (c ∷ k ∷ rest)) = 3 * n + 9
 
--- who was looked at is one of those not yet passed
+-- the process that was looked at is one of those not yet passed
 abbrev pub IsFair : Place → Type 0
 IsFair (Wait k unpassed (Some j)) = has unpassed j ≡ true
 IsFair place = Unit {0}
 
--- the steps of the exit behind a script
+-- the steps of the exit after a script
 abbrev pub exit_of : Why → ℕ
 exit_of Checking = 2
 exit_of Ruining = 2
@@ -56,6 +56,6 @@ abbrev pub LastsBy : ℕ → ℕ → Place → Errand → Type 0
 LastsBy n k place Free = IsFair place × (lock_left n place ≤ k)
 LastsBy n k place (Doing why left) = (m : ℕ) × Within m left × (m + exit_of why ≤ k) × HasStep left
 
--- at most k steps are left at this spot, beside blocked ones
+-- at most k steps are left in this process state, blocked ones not counted
 abbrev pub Lasts : ℕ → ℕ → Spot → Type 0
 Lasts n k spot = LastsBy n k spot.lock spot.errand

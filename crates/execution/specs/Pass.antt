@@ -1,4 +1,4 @@
--- What a contract sees of a member's seat: its pass, and what its next step has to carry.
+-- What a contract sees of a member's seat: its view, and the pending events that its next step carries.
 use Rattle.std.specs.Prelude.{◌≡◌, ℕ, ◌-◌, ◌<◌, ◌≤◌, ◌^◌, Bool, false, List, [], ◌∷◌, ◌++◌, Option, None}
 use Rattle.atomic_table.specs.Seated.{TableId}
 use Rattle.rmecore.specs.declared.kind.Kind.{Kind}
@@ -15,8 +15,8 @@ use Rattle.execution.specs.declared.entry.Known.{Known}
 use Rattle.execution.specs.Runs.{own, IsRun, before, taken, gone, spot_of, Goes, word_count}
 use Rattle.execution.specs.Rule.{count_from}
 
--- which table, its sizes, which process; whether it has crashed since its last step, and which call it has started since;
--- and a beginning of the run
+-- A member's view: the table, its sizes, the process; whether the process has crashed since its last step; the call that it
+-- has started since; and a prefix of the run.
 pub record Pass : Type 0 where
   pub table : TableId
   pub setup : Setup
@@ -28,7 +28,7 @@ pub record Pass : Type 0 where
 abbrev pub view_of : Pass → View
 view_of x = record { setup = x.setup; answers = x.by ∷ []; seen = x.seen }
 
--- a seat of one process, into which no other was joined
+-- a seat of one process, into which no other seat was joined
 abbrev pub alone : Setup → ℕ → List TakenStep → Known
 alone s p seen = record { view = record { setup = s; answers = p ∷ []; seen = seen }; told = [] }
 
@@ -44,29 +44,29 @@ fresh t s p = record { table = t; setup = s; by = p; fallen = false; start = Non
 abbrev pub own_of : Pass → List TakenStep
 own_of x = own x.by x.seen
 
--- what the next step carries
+-- what the next step carries: the pending crash and start
 abbrev pub owed : Pass → Kind → Word → Step
 owed x kind word = record { crashed = x.fallen; start = x.start; kind = kind; word = word }
 
 abbrev pub next_entry : Pass → Kind → Word → ℕ → TakenStep
 next_entry x kind word value = record { by = x.by; step = owed x kind word; value = value }
 
--- a glance carries nothing: the next other step does
+-- a glance carries nothing: the pending events wait for the next other step
 abbrev pub glanced : Word → Step
 glanced word = record { crashed = false; start = None; kind = Glance; word = word }
 
 abbrev pub glance_entry : Pass → Word → ℕ → TakenStep
 glance_entry x word value = record { by = x.by; step = glanced word; value = value }
 
--- the spot of the process once its crash and its start, if there are, have come
+-- the process state after its pending crash and start
 abbrev pub spot_now : Pass → Spot
 spot_now x = gone x.setup (spot_of x.setup x.by x.seen) (before x.fallen x.start x.by)
 
--- the spot after a step of the process
+-- the process state after a step
 abbrev pub moved_spot : Pass → Kind → Word → ℕ → Option Spot
 moved_spot x kind word value = next_spot x.setup.layout x.setup.limit (spot_now x) (taken x.by kind word value)
 
--- what holds of each member's pass
+-- what holds of each member's view
 pub record IsPass (x : Pass) : Type 0 where
   pub size : IsSize x.setup.layout
   pub limited : (1 ≤ x.setup.limit) × (x.setup.limit ≤ 2 ^ 62)
@@ -75,11 +75,11 @@ pub record IsPass (x : Pass) : Type 0 where
   pub run : IsRun x.setup x.seen
   pub goes : Goes x.setup (spot_of x.setup x.by x.seen) (before x.fallen x.start x.by)
 
--- es ends with the last of xs
+-- xs is empty, or es ends with the last entry of xs
 abbrev pub EndsWith : List TakenStep → List TakenStep → Type 0
 EndsWith xs es = (front : List TakenStep) (e : TakenStep) → xs ≡ front ++ e ∷ [] → (start : List TakenStep) × (es ≡ start ++ e ∷ [])
 
--- one step: the run so far begins with all that was seen and ends with the step, and of this process it has no other step more
+-- one step: the run so far begins with all that was seen and ends with the step. In between there is no step of this process
 pub record Adds (x : Pass) (e : TakenStep) (y : Pass) : Type 0 where
   pub table : y.table ≡ x.table
   pub setup : y.setup ≡ x.setup
@@ -89,7 +89,7 @@ pub record Adds (x : Pass) (e : TakenStep) (y : Pass) : Type 0 where
   pub apart : own x.by between ≡ []
   pub run : IsRun y.setup y.seen
 
--- a step, which carried the crash and the start that were owed
+-- a step that carries the pending crash and start
 pub record Advances (x : Pass) (kind : Kind) (word : Word) (value : ℕ) (y : Pass) : Type 0 where
   pub adds : Adds x (next_entry x kind word value) y
   pub fallen : y.fallen ≡ false
@@ -101,8 +101,8 @@ pub record Looks (x : Pass) (word : Word) (value : ℕ) (y : Pass) : Type 0 wher
   pub fallen : y.fallen ≡ x.fallen
   pub start : y.start ≡ x.start
 
--- several steps: the run so far begins with all that was seen and ends with the last of them, and of this process it has just
--- these more
+-- several steps: the run so far begins with all that was seen and ends with the last of them. In between there are no other
+-- steps of this process
 pub record Calls (x : Pass) (mine : List TakenStep) (y : Pass) : Type 0 where
   pub table : y.table ≡ x.table
   pub setup : y.setup ≡ x.setup

@@ -1,4 +1,4 @@
--- What a reader of the mailbox is told: the messages that the mailbox list shows at one point of the run.
+-- What a reader of the mailbox is given: the messages that the mailbox list shows at one point of the run.
 use Rattle.std.specs.Prelude.{◌≡◌, ℕ, zero, suc, ◌+◌, ◌*◌, ◌<◌, ◌≤◌, false, List, [], ◌∷◌, ◌++◌, length, drop}
 use Rattle.rmecore.specs.declared.word.Word.{Word}
 use Rattle.rmecore.specs.declared.word.Word.TheVariants.{Data as DataAt}
@@ -15,43 +15,43 @@ use Rattle.execution.specs.Runs.{own, spelled, IsRun, end_of, stores}
 use Rattle.execution.specs.Pass.{Pass, glance_entry, Looks, Calls}
 use Rattle.execution.specs.Running.{Seated}
 
--- the data words that a run leaves
+-- the data words after a run
 abbrev pub cells_of : Setup → List TakenStep → Words
 cells_of s es = (end_of s es).cells
 
--- the messages that the mailbox list shows after a run, whose deeds lead to it
+-- the messages that the mailbox list (the specification's "Mailbox list") shows after the deeds of a run
 abbrev pub AreShown : Setup → List TakenStep → List Message → Type 0
 AreShown s es messages =
     (t : State) × Leads (empty s.layout.procs s.layout.cap) (deeds s.layout s.limit at_first (spelled es)) t × (t.mail.shown ≡ messages)
 
--- n data words in a row
+-- n consecutive data words from i on
 abbrev pub row_words : ℕ → ℕ → List Word
 row_words i zero = []
 row_words i (suc n) = row_words i n ++ DataAt (i + n) ∷ []
 
--- the words of the entries at n places from a on: of each its sender, its number and its value
+-- the words of n entries from place a on: of each its sender, its sequence number and its value
 abbrev pub entry_words : Layout → ℕ → ℕ → List Word
 entry_words l a zero = []
 entry_words l a (suc n) = entry_words l a n ++ row_words (place_at l (a + n)) (2 + l.width)
 
--- glances at these words, one after another. They are no steps of a call
+-- glances at these words in turn. They aren't own steps of a call
 abbrev pub Glances : Seated → List Word → Seated → Type 0
 Glances x [] y = y ≡ x
 Glances x (w ∷ ws) y = (z : Seated) × (v : ℕ) × Looks x.pass w v z.pass × (z.steps ≡ x.steps) × Glances z ws y
 
--- entries that are this process's glances at these words
+-- these entries are the process's glances at these words
 abbrev pub AreGlances : Pass → List Word → List TakenStep → Type 0
 AreGlances x [] [] = Unit {0}
 AreGlances x (w ∷ ws) (e ∷ es) = (e ≡ glance_entry x w e.value) × AreGlances x ws es
 AreGlances x _ _ = ⊥
 
--- the run up to and with a reader's glance of count
+-- the run up to the reader's glance of count, which is its last entry
 abbrev pub up_to_count : Pass → List TakenStep → ℕ → List TakenStep
 up_to_count x between count = (x.seen ++ between) ++ glance_entry x (DataAt 2) count ∷ []
 
--- A reading of the mailbox from a place on. The run up to and with its glance of count begins with all that the caller had
--- seen, and the answer is what the mailbox list shows right there, from that place on. The caller's own entries are that glance
--- and those at the words of the messages answered. What is owed stays owed, and the own steps of its last call stand.
+-- A reading of the mailbox from a place on. The run up to the glance of count begins with all that the caller had seen. The
+-- answer is what the mailbox list shows at that point, from the place on. The caller's own entries are that glance and those
+-- at the words of the messages answered. A pending crash or start stays pending, and the count of own steps stays.
 pub record ReadsFrom (x : Seated) (place : ℕ) (messages : List Message) (y : Seated) : Type 0 where
   pub between : List TakenStep
   pub apart : own x.pass.by between ≡ []
@@ -70,14 +70,14 @@ pub record ReadsFrom (x : Seated) (place : ℕ) (messages : List Message) (y : S
   pub fallen : y.pass.fallen ≡ x.pass.fallen
   pub start : y.pass.start ≡ x.pass.start
 
--- what stands where there was no room for the answer: the glance of count alone was taken, and the place is below it
+-- what a reading that ran out of memory leaves: only the glance of count was taken, and the place is below count
 pub record ReadsCount (x : Seated) (place : ℕ) (y : Seated) : Type 0 where
   pub count : ℕ
   pub below : place < count
   pub looks : Looks x.pass (DataAt 2) count y.pass
   pub steps : y.steps ≡ x.steps
 
--- A load tells the word as it stands in the run's world right before it.
+-- A load finds the word's value in the global state right before it.
 abbrev pub LoadsTell : Type 0
 LoadsTell = (s : Setup) (es : List TakenStep) (e : TakenStep) → IsRun s (es ++ e ∷ []) → stores e ≡ false → reading (end_of s es) e.step.word ≡ e.value
 

@@ -1,4 +1,5 @@
--- Where a process reads that the lock is ruined; in which order a worker starts its calls; and that so nobody ruins the lock.
+-- Where a process reads that the lock is ruined, and the order in which a worker starts its calls. In that order nobody
+-- ruins the lock.
 use Rattle.std.specs.Prelude.{◌≡◌, ℕ, ◌<◌, Bool, true, false, List, [], ◌∷◌, ◌++◌, Option, Some, None}
 use Rattle.rmecore.specs.declared.word.Word.TheVariants.{Data as DataAt}
 use Rattle.redomail.specs.Layout.{IsLayout}
@@ -20,7 +21,7 @@ pub record HasReadRuin (es : List TakenStep) : Type 0 where
   pub is : es ≡ front ++ entry ∷ back
   pub reads : ReadsRuin entry
 
--- the call that was started last, with no crash behind it
+-- the call that was started last, if no crash came after it
 abbrev pub last_call : Option Call → Bool → Option Call → Option Call
 last_call last crashed (Some call) = Some call
 last_call last true None = None
@@ -30,13 +31,13 @@ abbrev pub last_of : Option Call → List TakenStep → Option Call
 last_of last [] = last
 last_of last (e ∷ es) = last_of (last_call last e.step.crashed e.step.start) es
 
--- a mending or an append: behind it nothing is to be mended, or the mending has found the lock ruined
+-- a mending or an append: after it there is nothing to mend, or the mending has found the lock ruined
 abbrev pub settles : Option Call → Bool
 settles (Some Consistent) = true
 settles (Some (Append seq value)) = true
 settles _ = false
 
--- a worker starts nothing but these calls, and an unlock only behind a mending or an append
+-- a worker starts no other calls than these, and an unlock only after a mending or an append
 abbrev pub MayStart : Option Call → Bool → Option Call → Type 0
 MayStart last crashed None = Unit {0}
 MayStart last crashed (Some Lock) = Unit {0}

@@ -1,4 +1,5 @@
--- The rule of the table: there is one run, whose words are the table's, and each view is a beginning of it.
+-- The rule of the table (the specification's "Pass"): there is one run, its words are the table's, and each view is a prefix
+-- of it.
 use Rattle.std.specs.Prelude.{◌≡◌, ℕ, zero, suc, ◌<◌, true, false, if◌then◌else◌, ltb, List, [], ◌∷◌, ◌++◌, length, slice_index, All, None}
 use mathlib.Core.Option.{some}
 use lib.ListN.{get_elem?}
@@ -16,7 +17,7 @@ use Rattle.execution.specs.Runs.{own, has, spot_of, happenings, IsRun, end_of, G
 abbrev pub no_step : Step
 no_step = record { crashed = false; start = None; kind = Glance; word = ChoosingOf 0 }
 
--- the numbers from k on, n of them
+-- n numbers from k on
 abbrev pub count_from : ℕ → ℕ → List ℕ
 count_from k zero = []
 count_from k (suc n) = k ∷ count_from (suc k) n
@@ -38,25 +39,25 @@ first_alone k = record { view = record { setup = k.view.setup; answers = first_o
 abbrev pub without_first : Known → Known
 without_first k = record { view = record { setup = k.view.setup; answers = rest_of k.view.answers; seen = k.view.seen }; told = [] }
 
--- the longer of two beginnings of one run
+-- the longer of two prefixes of one run
 abbrev pub longer : List TakenStep → List TakenStep → List TakenStep
 longer xs ys = if ltb (length xs) (length ys) then ys else xs
 
 abbrev pub joined_view : View → View → View
 joined_view v w = record { setup = v.setup; answers = v.answers ++ w.answers; seen = longer v.seen w.seen }
 
--- both passes stay told until the next step says that they are beginnings of one run
+-- both views stay listed until the next step shows that they are prefixes of one run
 abbrev pub joined : Known → Known → Known
 joined k l = record { view = joined_view k.view l.view; told = (k.view ∷ k.told) ++ (l.view ∷ l.told) }
 
 abbrev pub spent_known : Known
 spent_known = record { view = record { setup = record { layout = record { procs = 0; cap = 0; width = 0 }; limit = 0 }; answers = []; seen = [] }; told = [] }
 
--- es begins with xs
+-- xs is a prefix of es
 abbrev pub Begins : List TakenStep → List TakenStep → Type 0
 Begins xs es = (rest : List TakenStep) × (es ≡ xs ++ rest)
 
--- what the rule says of a process and the seat i that answers for it
+-- what the rule says of a process p and the seat i that answers for it
 pub record IsAnswered (s : Setup) (log : List TakenStep) (owner : ℕ → ℕ) (i : ℕ) (v : View) (p : ℕ) : Type 0 where
   pub setup : v.setup ≡ s
   pub within : p < s.layout.procs
@@ -73,12 +74,13 @@ AllFit s log owner i k = Fits s log owner i k.view × All (Fits s log owner i) k
 abbrev pub IsMember : List Known → (ℕ → ℕ) → ℕ → Type 0
 IsMember views owner p = (k : Known) × (get_elem? views (owner p) ≡ some k) × (has p k.view.answers ≡ true)
 
--- the pass o is a beginning of the run so far, and has all entries of its processes
+-- the view o is a prefix of the run so far, and has all entries of its processes
 pub record IsIn (log : List TakenStep) (o : View) : Type 0 where
   pub begins : Begins o.seen log
   pub own_are : (p : ℕ) → has p o.answers ≡ true → own p log ≡ own p o.seen
 
--- one run, whose words are these; each pass is a beginning of it, with all entries of its processes; each process has a seat
+-- There is one run, whose words are these. Each view is a prefix of it, with all entries of its processes. Each process has
+-- a seat.
 pub record IsKept (s : Setup) (log : List TakenStep) (owner : ℕ → ℕ) (words : List ℕ) (views : List Known) : Type 0 where
   pub run : IsRun s log
   pub shows : Shows s (end_of s log) words
@@ -88,15 +90,15 @@ pub record IsKept (s : Setup) (log : List TakenStep) (owner : ℕ → ℕ) (word
 abbrev pub Kept : Setup → State (Unit {0}) Known → Type 0
 Kept s state = (log : List TakenStep) × (owner : ℕ → ℕ) × IsKept s log owner state.words state.views
 
--- the process that steps with a seat
+-- the process for which a seat steps: the first one that it answers for
 abbrev pub stepper : View → ℕ
 stepper v = slice_index v.answers 0
 
 abbrev pub entry_of : View → Step → ℕ → TakenStep
 entry_of v step value = record { by = stepper v; step = step; value = value }
 
--- what a step tells: the run so far begins with all that was seen, and ends with this step. In between no process of this
--- seat stepped. The passes that were joined into it are beginnings of that run too
+-- What the caller learns from a step: the run so far begins with all that was seen and ends with this step. No process of
+-- this seat stepped in between. The views that were joined into it are prefixes of that run too.
 pub record Did (step : Step) (k : Known) (found : ℕ) (l : Known) : Type 0 where
   pub setup : l.view.setup ≡ k.view.setup
   pub answers : l.view.answers ≡ k.view.answers
@@ -107,18 +109,18 @@ pub record Did (step : Step) (k : Known) (found : ℕ) (l : Known) : Type 0 wher
   pub run : IsRun l.view.setup l.view.seen
   pub told : All (IsIn (k.view.seen ++ between)) k.told
 
--- the process may take this step with this value, by its own entries alone
+-- the process may take this step with this value: its own entries alone decide that
 abbrev pub May : Step → View → ℕ → Type 0
 May step v value = (has (stepper v) v.answers ≡ true) × Goes v.setup (spot_of v.setup (stepper v) v.seen) (happenings (entry_of v step value))
 
--- the process may read this word, whatever it finds, and may write this value there
+-- the process may load this word, whatever value it finds
 abbrev pub MayLoad : Step → ℕ → View → Type 0
 MayLoad step word v = (word ≡ index v.setup step.word) × InTable v.setup step.word × (is_store step.kind ≡ false) × ((found : ℕ) → found < 18446744073709551616 → May step v found)
 
 abbrev pub MayStore : Step → ℕ → View → ℕ → Type 0
 MayStore step word v new = (word ≡ index v.setup step.word) × InTable v.setup step.word × (is_store step.kind ≡ true) × May step v new
 
--- a step at a data word that there is not. No word changes, and a load of it reads 0. In no run is there such a step, which
--- is the lock theorem's to say and not the rule's
+-- A step at a data word past the end of the mailbox: no word changes, and a load reads 0. No run has such a step. The lock
+-- theorem says so, not this rule.
 abbrev pub MayPass : Step → View → ℕ → Type 0
 MayPass step v value = IsBeyond v.setup step.word × (is_store step.kind ≡ false → value ≡ 0) × May step v value

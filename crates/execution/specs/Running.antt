@@ -1,4 +1,4 @@
--- A member at work: its pass, the steps of its call, and what one step of its machine is.
+-- A member at work: its view, the own steps of its call, and one step of its machine.
 use Rattle.std.specs.Prelude.{◌≡◌, ℕ, zero, suc, true, Option, Some, None, IsSome}
 use Rattle.rmecore.specs.Simulated.{one_more}
 use Rattle.rmecore.specs.Machine.{kind_of, word_of, carried}
@@ -9,32 +9,32 @@ use Rattle.rmeworld.specs.Answered.{answer_at}
 use Rattle.rmeworld.specs.Stand.{Stand, spot_of as standing_at, access_by, progress_by}
 use Rattle.execution.specs.Pass.{Pass, spot_now, moved_spot, Advances}
 
--- what contracts see of a member: its pass, and the own steps of its last call
+-- what contracts see of a member: its view, and the number of own steps of its last call
 pub record Seated : Type 0 where
   pub pass : Pass
   pub steps : ℕ
 
--- the machine stands where the pass says
+-- the machine's state is the one that follows from the view
 pub record IsRunBy (x : Pass) (s : Stand) : Type 0 where
   pub layout : s.layout ≡ x.setup.layout
   pub limit : s.limit ≡ x.setup.limit
   pub index : s.index ≡ x.by
   pub spot : standing_at s ≡ spot_now x
 
--- k more, held at the greatest u64
+-- k more, at most the greatest u64
 abbrev pub many_more : ℕ → ℕ → ℕ
 many_more zero count = count
 many_more (suc k) count = one_more (many_more k count)
 
--- the step that comes next
+-- the next step
 abbrev pub next_of : Pass → Option Access
 next_of x = access_by x.setup.limit x.by (spot_now x).lock (spot_now x).errand
 
--- what a step is for others and for its call
+-- what a step means for others and for its call
 abbrev pub outcome_of : Pass → Access → ℕ → Outcome
 outcome_of x a v = record { progress = progress_by x.by (spot_now x) a v; answer = answer_at (spot_now x) (kind_of a) (carried a v) }
 
--- one step of the machine, as one load or store
+-- one step of the machine, as one load or store of the table
 pub record TakesStep (x : Seated) (outcome : Outcome) (y : Seated) : Type 0 where
   pub access : Access
   pub value : ℕ
@@ -48,7 +48,7 @@ pub record TakesStep (x : Seated) (outcome : Outcome) (y : Seated) : Type 0 wher
 abbrev pub fell : Seated → Seated
 fell x = record x { pass = record x.pass { fallen = true; start = None } }
 
--- after the start of a call behind another one, whose steps go on being counted
+-- after the start of a call that follows another one in the same whole call: its steps are counted on
 abbrev pub behind : Seated → Call → Seated
 behind x call = record x { pass = record x.pass { start = Some call } }
 

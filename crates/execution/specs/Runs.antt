@@ -1,4 +1,5 @@
--- A run of the table: a list of entries, which is a story of the world once each entry is spelled out.
+-- The run of the table (the specification's "Run"): a list of entries. Spelled out, it is an execution of the simulated
+-- world.
 use Rattle.std.specs.Prelude.{◌≡◌, ℕ, ◌+◌, ◌*◌, ◌<◌, ◌≤◌, ◌==◌, ◌||◌, Bool, true, false, List, [], ◌∷◌, ◌++◌, length, slice_index, filter, Option, Some, None, IsSome, unwrap_or}
 use Rattle.rmecore.specs.World.{is_store}
 use Rattle.rmecore.specs.declared.kind.Kind.{Kind}
@@ -20,7 +21,7 @@ abbrev pub start_then : Option Call → ℕ → List Happening
 start_then None p = []
 start_then (Some call) p = Begins p call ∷ []
 
--- what comes before a step of process p: at most one crash, and then at most one start
+-- what comes before a step of process p: at most one crash, then at most one start
 abbrev pub before : Bool → Option Call → ℕ → List Happening
 before crashed start p = crash_first crashed p ++ start_then start p
 
@@ -32,12 +33,12 @@ taken p kind word v = Moves p kind word v
 abbrev pub happenings : TakenStep → List Happening
 happenings e = before e.step.crashed e.step.start e.by ++ taken e.by e.step.kind e.step.word e.value ∷ []
 
--- a run, spelled out
+-- a run as the list of its events
 abbrev pub spelled : List TakenStep → List Happening
 spelled [] = []
 spelled (e ∷ es) = happenings e ++ spelled es
 
--- the entries of one process
+-- the entries of process p
 abbrev pub own : ℕ → List TakenStep → List TakenStep
 own p es = filter (λ (e : TakenStep). e.by == p) es
 
@@ -48,28 +49,28 @@ has p (q ∷ qs) = (q == p) || has p qs
 abbrev pub IsRun : Setup → List TakenStep → Type 0
 IsRun s es = Story s.layout s.limit at_first (spelled es)
 
--- the world that a run leaves
+-- the global state after a run
 abbrev pub end_of : Setup → List TakenStep → Scene
 end_of s es = last_scene s.layout s.limit at_first (spelled es)
 
--- where a process stands after these happenings of its own. One that may not come leaves it where it is
+-- the state of a process after these events of its own. An event that isn't allowed leaves the state as it is
 abbrev pub gone : Setup → Spot → List Happening → Spot
 gone s spot hs = spot_after s.layout s.limit spot hs
 
--- the spot of process p, from its own entries
+-- the state of process p, a function of its own entries
 abbrev pub spot_of : Setup → ℕ → List TakenStep → Spot
 spot_of s p es = gone s at_rest (spelled (own p es))
 
--- a process may do this from its spot, one thing after the other
+-- each of these events is allowed to the process in turn, from this state on
 abbrev pub Goes : Setup → Spot → List Happening → Type 0
 Goes s spot [] = Unit {0}
 Goes s spot (h ∷ hs) = IsSome (next_spot s.layout s.limit spot h) × Goes s (unwrap_or (next_spot s.layout s.limit spot h) spot) hs
 
--- how many words the table has: three a process, and the data words
+-- how many words the table has: three for each process, then the data words
 abbrev pub word_count : Setup → ℕ
 word_count s = 3 * s.layout.procs + size s.layout
 
--- where a word of the world stands in the table
+-- the index of a word in the table
 abbrev pub index : Setup → Word → ℕ
 index s (ChoosingOf p) = 3 * p
 index s (NumberOf p) = 3 * p + 1
@@ -82,12 +83,12 @@ InTable s (NumberOf p) = p < s.layout.procs
 InTable s (InsideOf p) = p < s.layout.procs
 InTable s (DataAt i) = i < size s.layout
 
--- a data word that there is not
+-- a data word past the end of the mailbox
 abbrev pub IsBeyond : Setup → Word → Type 0
 IsBeyond s (DataAt i) = size s.layout ≤ i
 IsBeyond s word = ⊥
 
--- the words are those that stand in the world
+-- the table's words are those of the global state
 abbrev pub Shows : Setup → Scene → List ℕ → Type 0
 Shows s w words = (length words ≡ word_count s) × ((word : Word) → InTable s word → slice_index words (index s word) ≡ reading w word)
 

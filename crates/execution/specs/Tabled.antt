@@ -1,5 +1,5 @@
--- The own steps of a member's call, by the table of own steps. They go by the lock words of its process as they stood when the
--- call began, where all that it had seen ends, and by whether it had nothing to mend then.
+-- The own steps of a member's call, by the specification's table of own steps. The table goes by the lock words of the
+-- process when the call began, at the end of the caller's view, and by whether there was nothing to mend then.
 use Rattle.std.specs.Prelude.{◌≡◌, ℕ, ◌+◌, ◌<◌, ◌≤◌, List, [], ◌∷◌, length, drop, Option, Some, None}
 use Rattle.rmecore.specs.declared.own.Own.{Own}
 use Rattle.rmeworld.specs.declared.answer.Answer.{Answer}
@@ -16,20 +16,20 @@ use Rattle.execution.specs.Pass.{Pass}
 use Rattle.execution.specs.Running.{Seated, many_more}
 use Rattle.execution.specs.Calls.{blocked_of, Served}
 
--- the lock words of the process at the end of its pass
+-- the lock words of the process at the end of its view
 abbrev pub words_begun : Pass → Own
 words_begun x = (end_of x.setup x.seen).words x.by
 
--- where the process stands right before it starts a call, with the crash that is owed
+-- the process state right before a call starts, after a pending crash
 abbrev pub spot_begun : Pass → Spot
 spot_begun x = gone x.setup (spot_of x.setup x.by x.seen) (crash_first x.fallen x.by)
 
--- what the table says of a call that is answered so
+-- the table's number for a call with this answer
 abbrev pub table_steps : Pass → Call → Answer → Option ℕ
 table_steps x call a = own_steps x.setup.layout (words_begun x) (spot_begun x).mended call a
 
--- so many own steps, of which so many were blocked: with its answer those of the table, without one fewer than such a call
--- takes at most, each beside the blocked ones
+-- k own steps, some of them blocked: with an answer, the table's number and the blocked ones; without one, fewer than the
+-- most that the call takes, and the blocked ones
 abbrev pub KeepsTable : Pass → Call → List Answer → ℕ → ℕ → Type 0
 KeepsTable x call [] blocked steps = (k : ℕ) × (steps ≡ k + blocked) × (k < most_steps x.setup.layout call)
 KeepsTable x call (a ∷ []) blocked steps = (k : ℕ) × (table_steps x call a ≡ Some k) × (steps ≡ k + blocked)
@@ -40,20 +40,20 @@ abbrev pub CallsKeepTheTable : Type 0
 CallsKeepTheTable =
     (x : Seated) (call : Call) (answers : List Answer) (blocked : ℕ) (y : Seated) (mine : List TakenStep) → Served x call answers blocked y mine → KeepsTable x.pass call answers blocked (length mine)
 
--- the blocked readings of a process between two of its passes
+-- the blocked readings of a process between two of its views
 abbrev pub blocked_since : Pass → Pass → ℕ
 blocked_since x y = blocked_of x (own x.by (drop (length x.seen) y.seen))
 
--- how many own steps a lock has counted that comes to this answer, or has none yet: those of the table, and the blocked ones
+-- how many own steps a lock has counted that has this answer, or none yet: the table's number, and the blocked steps
 abbrev pub LockCounts : Seated → Option Answer → Seated → Type 0
 LockCounts x (Some a) y = (k : ℕ) × (table_steps x.pass Lock a ≡ Some k) × (y.steps ≡ many_more (k + blocked_since x.pass y.pass) x.steps)
 LockCounts x None y = (k : ℕ) × (k < most_steps x.pass.setup.layout Lock) × (y.steps ≡ many_more (k + blocked_since x.pass y.pass) x.steps)
 
--- the same of a lock that fails behind its start without a crash
+-- the same for a lock that fails after its start without a crash
 abbrev pub LockCountsOut : Seated → Seated → LockFault → Type 0
 LockCountsOut x y e =
     (e ≡ NotYet → LockCounts x None y) × (e ≡ NumbersSpent → LockCounts x (Some SpentAnswer) y) × (e ≡ NotRecoverable → LockCounts x (Some RuinedAnswer) y)
 
--- no more own steps have been counted than so many
+-- at most k own steps have been counted
 abbrev pub CountsAtMost : ℕ → Seated → Seated → Type 0
 CountsAtMost most x y = (k : ℕ) × (k ≤ most) × (y.steps ≡ many_more k x.steps)

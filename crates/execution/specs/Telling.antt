@@ -1,4 +1,4 @@
--- What the reply of an append tells of the mailbox.
+-- What the reply of an append says about the mailbox.
 use Rattle.std.specs.Prelude.{◌≡◌, ℕ, List, ◌++◌}
 use Rattle.redomail.specs.declared.reply.Reply.{Reply}
 use Rattle.rmeworld.specs.Sent.{ReplyTells}
@@ -6,8 +6,8 @@ use Rattle.execution.specs.declared.entry.TakenStep.{TakenStep}
 use Rattle.execution.specs.Headline.{judged_by}
 use Rattle.execution.specs.Running.{Seated}
 
--- What the reply tells held at one point of the call: the run up to there begins with all that the caller had seen, and what
--- the caller has seen behind the call begins with it.
+-- What the reply says holds at one point of the call: the run up to that point begins with all that the caller had seen, and
+-- is a prefix of what the caller has seen after the call.
 pub record ToldIn (x : Seated) (seq : ℕ) (reply : Reply) (y : Seated) : Type 0 where
   pub since : List TakenStep
   pub later : List TakenStep

@@ -1,4 +1,4 @@
--- Which call a process is about, from its spot alone, and which answers the call can have.
+-- Which call is under way, from the process state alone, and which answers that call can have.
 use Rattle.std.specs.Prelude.{◌≡◌, ℕ, Bool, true, false, ◌≢◌}
 use Rattle.rmecore.specs.Place.{Place, Rest, Reread, Opening, Door, Shutting, Wait, Inside, Leaving, Withdrawing, Unmarking}
 use Rattle.rmecore.specs.declared.core_call.CoreCall.TheVariants as core
@@ -15,7 +15,7 @@ use Rattle.rmeworld.specs.Refused.{is_idle}
 use Rattle.rmeworld.specs.Spot.{Errand, Free, Doing, Spot}
 use Rattle.execution.specs.Lasting.{Lasts}
 
--- a place of the lock's part of a call. A lock that was turned away is on its way out
+-- a place of the lock's part of a call. A lock that found the lock ruined is on its way out
 abbrev pub under_place : Call → Bool → Place → Bool
 under_place Lock false (Reread core.Lock seen) = true
 under_place Lock false Opening = true
@@ -33,7 +33,7 @@ under_place Unlock false (Unmarking core.Unlock) = true
 under_place Withdraw false Withdrawing = true
 under_place _ _ _ = false
 
--- each reply of a script
+-- P holds of each reply of a script
 abbrev pub Replies : (Reply → Type 0) → Script Reply → Type 0
 Replies P (Done reply) = P reply
 Replies P (Asks i rest) = (x : ℕ) → Replies P (rest x)
@@ -48,7 +48,7 @@ abbrev pub IsWord : Reply → Type 0
 IsWord (Word v) = Unit {0}
 IsWord _ = ⊥
 
--- the replies of an append with this number. The first one is never out of order
+-- the replies of an append with this number. Number 1 is never out of order
 abbrev pub Appends : ℕ → Reply → Type 0
 Appends seq Stored = Unit {0}
 Appends seq Already = Unit {0}
@@ -57,7 +57,7 @@ Appends seq Full = Unit {0}
 Appends seq Closed = Unit {0}
 Appends seq _ = ⊥
 
--- a script of a call
+-- a script that belongs to the call
 abbrev pub UnderScript : Call → Bool → Why → Script Reply → Type 0
 UnderScript Lock c Checking left = Unit {0}
 UnderScript Unlock c Ruining left = c ≡ false
@@ -72,7 +72,7 @@ abbrev pub UnderBy : Call → Place → Bool → Errand → Type 0
 UnderBy call s c Free = under_place call c s ≡ true
 UnderBy call s c (Doing why left) = UnderScript call c why left
 
--- the call is under way at this spot
+-- the call is under way in this process state
 abbrev pub IsUnder : Call → Spot → Type 0
 IsUnder call spot = UnderBy call spot.lock spot.barred spot.errand
 
@@ -97,8 +97,8 @@ Fits _ _ = ⊥
 abbrev pub IsHolder : Spot → Type 0
 IsHolder t = (t.lock ≡ Inside) × (t.errand ≡ Free)
 
--- the spot that the answer of a call leaves: a holder is inside, and after a lock or a mending it has nothing to mend but where
--- the owner died; after an unlock, or a lock that was turned away, the process is at rest
+-- The process state after the answer of a call. A holder is inside. After a lock or a mending it has nothing to mend, unless
+-- the owner died. After an unlock, or a lock that found the lock ruined, the process is at rest.
 abbrev pub Leaves : Call → Answer → Spot → Type 0
 Leaves Lock Clean t = IsHolder t × (t.mended ≡ true)
 Leaves Lock OwnerDied t = IsHolder t × (t.mended ≡ false)
@@ -111,6 +111,6 @@ Leaves (Append seq value) (Mail reply) t = IsHolder t
 Leaves Close (Mail reply) t = IsHolder t
 Leaves _ _ t = Unit {0}
 
--- under way, busy, and with few steps left
+-- the call is under way, has a next step, and few steps are left
 abbrev pub Begun : Call → ℕ → Spot → Type 0
 Begun call n t = IsUnder call t × (is_idle t ≡ false) × Lasts n 256 t

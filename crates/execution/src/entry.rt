@@ -1,12 +1,13 @@
-//! What a run of the table is made of. No value of `TakenStep`, `View` or `Known` is ever made: they stand in proofs alone.
+//! The types that a run of the table is made of. `TakenStep`, `View` and `Known` have no value at run time: only contracts
+//! and proofs use them.
 
 use crate::setup::Setup;
 use rmecore::{Kind, Word};
 use rmeworld::Call;
 use std::collections::LinkedList;
 
-/// What is known of a step before it is taken: whether its process crashed before it, the call that it started then, the
-/// kind of the step and its word.
+/// What is known of a step before it is taken: its kind, its word, whether its process crashed before it, and the call that
+/// the process started after that crash.
 #[derive(Clone, Copy)]
 pub struct Step {
     pub crashed: bool,
@@ -15,7 +16,7 @@ pub struct Step {
     pub word: Word,
 }
 
-/// One step of one process, with the value that it read or wrote.
+/// One step of one process, with the value that it loaded or stored: an entry of the run.
 #[derive(Clone, Copy)]
 pub struct TakenStep {
     pub by: u64,
@@ -23,14 +24,14 @@ pub struct TakenStep {
     pub value: u64,
 }
 
-/// A pass: for which processes it answers, and a beginning of the run.
+/// A view: a prefix of the run, and the processes whose steps are all in it.
 pub struct View {
     pub setup: Setup,
     pub answers: LinkedList<u64>,
     pub seen: LinkedList<TakenStep>,
 }
 
-/// What a seat knows: its pass, and those that were joined into it since its last step.
+/// What a seat knows: its view, and the views of the seats that were joined into it since its last step.
 pub struct Known {
     pub view: View,
     pub told: LinkedList<View>,

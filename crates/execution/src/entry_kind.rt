@@ -1,11 +1,11 @@
 //! How a lock was entered.
 
-/// How a process has entered the section.
+/// How a process has entered the section: the answer of a lock.
 #[derive(Clone, Copy, Debug, PartialEq, Eq)]
 pub enum Entry {
-    /// Nothing is to be mended.
+    /// There is nothing to mend.
     Clean,
-    /// The process itself has crashed inside before, and holds the section again (POSIX: EOWNERDEAD). It has to mend, or its
-    /// unlock ruins the lock.
+    /// The process itself crashed inside before and holds the section again (POSIX: EOWNERDEAD). It has to call `consistent`
+    /// first: an unlock without it ruins the lock for good.
     OwnerDied,
 }

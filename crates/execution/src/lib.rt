@@ -1,5 +1,6 @@
-//! Runs of the table: what the steps of the members are, what a pass tells of them, and what every run keeps. Nothing here
-//! is executed but the names of how a lock is entered and of what a call ends with.
+//! Executions of the running lock: the run of the table, the view that each seat has of it, and the rule that every step
+//! keeps.
+//! Only `Entry`, `LockFault` and `Setup` exist at run time. The rest is used by contracts and proofs.
 #![tactic(auto)]
 
 pub mod entry;

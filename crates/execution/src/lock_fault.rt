@@ -2,35 +2,35 @@
 
 use thiserror::Error;
 
-/// What a member's call ends with in place of an answer. The names are those of POSIX robust mutexes, with the crash.
+/// Why a member's call has no answer. The names are those of POSIX robust mutexes; `Crashed` and `NotYet` are added.
 #[derive(Clone, Copy, Debug, PartialEq, Eq, Error)]
 pub enum LockFault {
-    /// The plan fell: the process has lost its private memory. Its next lock or recovery rereads its words.
+    /// The crash plan made the process crash: its private memory is lost. Its next lock or recovery rereads its own words.
     #[error("the process crashed")]
     Crashed,
-    /// As many looks and weighs were blocked as the call was given turns, and one more. The process keeps its place in the
-    /// line: its next lock waits on with the same number, and a withdraw gives it up.
+    /// The call met one blocked reading more than the turns that it was given. The process keeps its place in the line: its
+    /// next lock waits on with the same number, and a withdraw gives the place up.
     #[error("not yet")]
     NotYet,
-    /// The greatest number that was read is the limit, so that no number was taken; the process is at rest.
+    /// A number that was read in the doorway is the limit, so no number was taken. The process is at rest.
     #[error("the numbers are spent")]
     NumbersSpent,
-    /// The lock is ruined (POSIX: ENOTRECOVERABLE).
+    /// The lock is ruined for good (POSIX: ENOTRECOVERABLE).
     #[error("the lock can't be recovered")]
     NotRecoverable,
-    /// The process is in the section.
+    /// The process is in the section already.
     #[error("the process is in the section")]
     AlreadyIn,
-    /// The process isn't in the section (POSIX: EPERM), or for a withdraw isn't waiting.
+    /// The process isn't in the section (POSIX: EPERM). For a withdraw: it isn't waiting in the line.
     #[error("the process isn't the owner")]
     NotOwner,
-    /// There is nothing to be mended by this process (POSIX: EINVAL).
+    /// This process has nothing to mend (POSIX: EINVAL).
     #[error("the process has nothing to mend")]
     NotInconsistent,
-    /// The board has no such word.
+    /// The board has no word with this index.
     #[error("no such word of the board")]
     BadIndex,
-    /// Memory ran out. No call of the running lock ends so.
+    /// Out of memory. No call of the running lock answers this.
     #[error("out of memory")]
     OutOfMemory,
     /// The value has another width than the messages of the arena.

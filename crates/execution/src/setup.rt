@@ -2,8 +2,8 @@
 
 use redomail::Layout;
 
-/// The sizes of an arena: its processes, the places and widths of its mailbox, and the greatest number that a process
-/// may take.
+/// The sizes of an arena: the number of processes, the capacity and width of its mailbox in messages and words, and the
+/// greatest number that a process may take.
 #[derive(Clone, Copy, Debug, PartialEq, Eq)]
 pub struct Setup {
     pub layout: Layout,

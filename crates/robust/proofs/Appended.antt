@@ -1,5 +1,5 @@
--- At which point of a whole mailbox call its append was answered, and what that tells: where the answer was Stored or Already
--- the message is shown; what another reply says of the mailbox held there.
+-- At which point of a whole mailbox call its append was answered, and what that shows: after Stored or Already the message
+-- is shown; what another reply says of the mailbox held at that point.
 use Rattle.std.proofs.Common.{◌≡◌, ℕ, ◌==◌, Bool, true, false, if◌then◌else◌, List, [], ◌∷◌, ◌++◌, Option, Some, None, Result, Ok, Err, IfOk, OnOk, All, refl, sym, ap, ◌∙◌, subst, inl, inr, append_assoc, eqb-true, ◌⊎◌}
 use Rattle.robust.proofs.Common.{All-nil, All-cons, All-head, All-tail, Place, Message, Reply, Stored, Already, Mended, Task, IsLayout, IsAmong, message, Answer, Mail, Unlocked, Call, Append, Lock}
 use Rattle.robust.proofs.Common.{Unlock, Consistent, answer_at, is_idle_by, mail_after, ReplyTells, RepliesTell, Happening, Errand, Free, Doing, Spot, Moves, at_rest, Scene, at_first, last_scene}
@@ -15,7 +15,7 @@ use Rattle.execution.specs.declared.entry_kind.Entry.TheVariants as entering
 use Rattle.robust.proofs.Working.{kept_ready}
 use Rattle.robust.proofs.Errands.{none_in, Only, Brings, each_start, only_begun, Answering, find, IsTasks, task_mails}
 
--- an entry of a process, and those before it and behind it
+-- an entry of a process, with the entries before it and after it
 pub record Own (p : ℕ) (es front : List TakenStep) (e : TakenStep) : Type 0 where
   pub earlier : List TakenStep
   pub later : List TakenStep
@@ -64,7 +64,7 @@ among_more p seq xs more h = record {
   found = ap (λ (l : List Message). l ++ more) h.found ∙ append_assoc h.before (message p seq h.value ∷ h.later) more;
 }
 
--- the step that ends the append with this number in what y's pass has more than z's, and the entries around it
+-- the step that ended the append with this number, among the entries that y's view has and z's has not
 pub record Ended (z y : Seated) (seq : ℕ) (r : Reply) : Type 0 where
   pub earlier : List TakenStep
   pub entry : TakenStep

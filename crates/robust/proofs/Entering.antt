@@ -7,7 +7,7 @@ use Rattle.robust.specs.declared.access.fast_path.Reached.{Reached}
 use Rattle.robust.specs.declared.access.fast_path.Reached.TheVariants as Reaches
 use Rattle.robust.proofs.FreeSteps.{unanswered_then, ends_then, same_then}
 
--- behind the line, by the two steps of the entry
+-- after the line, by the two steps of the entry
 pub enters_in : (x y z : Pass) (k : ℕ) (r : Bool) (e : Reached) → e ≡ (if r then Reaches.Ruined else Reaches.Clean) → Unanswered x k 0 y → IsSame x y → spot_now z ≡ checked_spot r → (r ≡ false → EndsIn y 2 Clean z) → (r ≡ true → Unanswered y 2 0 z) → IsSame y z → (spot_now x).barred ≡ false → Enters x e (k + 2) z
 enters_in x y z k true e is p s at clean ruined t free = record {
   blocked = λ b h. absurd (cc);

@@ -1,4 +1,4 @@
--- At which spots of a whole mailbox call a reply can come: but for a mending's only its task's.
+-- At which states of a whole mailbox call a reply can come: but for the mending's, it is the task's.
 use Rattle.std.proofs.Common.{◌≡◌, ℕ, ◌==◌, ◌&&◌, Bool, true, false, if◌then◌else◌, List, [], ◌∷◌, ◌++◌, length, Option, Some, None, All, unwrap_or, refl, sym, ap, ◌∙◌, subst}
 use Rattle.robust.proofs.Common.{All-nil, All-cons, All-head, All-tail, Kind, Word, Data as DataAt, Place, Dead, Inside, next, started, Layout, Reply, Task, Answer, Mail, Call, Append, Lock, Unlock}
 use Rattle.robust.proofs.Common.{Consistent, Recover, Close, Withdraw, answer_at, by_lock, by_reply, by_script, answer_by, Errand, Free, Doing, Spot, at_lock, settled, only_spot, moved_by}

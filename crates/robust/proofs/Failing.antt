@@ -79,7 +79,7 @@ module _ (x y : Seated) (seq : ℕ) (value : List ℕ) (a b c d : ℕ) where
   append_grows (Ok reply) h g = calls_grow x y h.1.4.0 h.1.4.1.calls
   append_grows (Err e) h g = fails_grow g.0 e g.1
 
--- what is told later is told from the start on
+-- what is answered later holds from the start on
 pub told_from : (x y z : Seated) (seq : ℕ) (r : Reply) → Grown x y → seat_of y ≡ seat_of x → ToldIn y seq r z → ToldIn x seq r z
 told_from x y z seq r grown same h =
     let seen : y.pass.seen ++ h.since ≡ x.pass.seen ++ (grown.0 ++ h.since) = ap (λ (es : List TakenStep). es ++ h.since) grown.1 ∙ append_assoc x.pass.seen grown.0 h.since in
@@ -96,7 +96,7 @@ shown_then x y n since later h =
     let more = shown_on x.pass.setup x.pass.seen since in
     subst (IsAmong x.pass.by n) (sym more.1) (among_more x.pass.by n (shown_by x.pass.setup x.pass.seen) more.0 h)
 
--- A refused append, whose number is 1 or behind one that is shown: it was answered Full or Closed.
+-- A refused append whose number is 1 or follows one that is shown: it was answered Full or Closed.
 pub refused : (x y : Seated) (seq : ℕ) (r : Reply) → 1 ≤ seq → ((n : ℕ) → n + 1 ≡ seq → 0 < n → HasShown n x) → seat_of y ≡ seat_of x → Appends seq r → ((r ≡ reply.Stored) ⊎ (r ≡ reply.Already) → ⊥) → ToldIn x seq r y
     → ((r ≡ reply.Full) ⊎ (r ≡ reply.Closed)) × RefusedAt y seq r
 refused x y seq r some shown same kind unsent told = (by_kind r kind unsent told.tells, at)

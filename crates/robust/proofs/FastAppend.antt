@@ -1,4 +1,4 @@
--- Steps of a script on the data words in a row, told by passes alone.
+-- Steps of a script on the data words in a row, in terms of views alone.
 use Rattle.std.proofs.Common.{◌≡◌, ℕ, zero, suc, ◌+◌, ◌*◌, ◌<◌, ◌≤◌, ◌==◌, ◌&&◌, true, false, List, [], ◌∷◌, ◌++◌, length, drop, slice_index, Some, None, IsSome, unwrap_or, refl, sym, ap, ◌∙◌, subst, arith, eq-eqb}
 use Rattle.robust.proofs.AccessCommon.{Access, Load, Store, Get as Gets, Put as Puts, Data as DataAt, kind_of, word_of, carried, Inside, Reply, Stored, IsLayout, held, last_at, place_at, size, Script}
 use Rattle.robust.proofs.AccessCommon.{puts, decided, record_of, held-small, length-store_steps, step-record, step-entry, step-disarm, place_low, place_up, place_small, Mail, Working, answer_at}
@@ -20,7 +20,7 @@ use Rattle.robust.proofs.FreeSteps.{unanswered_none, unanswered_then, quiet_by, 
 abbrev doing : ℕ → List ℕ → Script Reply → Spot
 doing seq value left = record { lock = Inside; mended = true; barred = false; errand = Doing (Working (task.Append seq value)) left }
 
--- one step more of an append, behind some that answered nothing
+-- one more step of an append, after some without an answer
 module _ (x y z : Pass) (k : ℕ) (p : Unanswered x k 0 y) (seq : ℕ) (value : List ℕ) (left after : Script Reply) (a : Access) (v : ℕ)
     (at : spot_now y ≡ doing seq value left)
     (next : access_by y.setup.limit y.by Inside (Doing (Working (task.Append seq value)) left) ≡ Some a)
@@ -89,7 +89,7 @@ count_fits x y z v first pass was adv =
 pub lawful : (x : Pass) (e : NewEntry) → IsOf x e → IsPass x → IsLayout e.setup.layout
 lawful x e of pass = subst (λ (s : Setup). IsLayout s.layout) of.0 pass.size.layout
 
--- a put with more behind it
+-- a put that others follow
 some_left : (xs : List (ℕ × ℕ)) (k : ℕ) → k < length xs → (e : ℕ × ℕ) × (rest : List (ℕ × ℕ)) × (drop k xs ≡ e ∷ rest)
 some_left [] k h = absurd (omega arith)
 some_left (x ∷ xs) zero h = (x, xs, refl)
@@ -170,7 +170,7 @@ module _ (e : NewEntry) where
       let none : drop (k + 1) (steps_of e) ≡ [] = drop_all (k + 1) (steps_of e) (omega arith) in
       step-disarm l e.own r k is ∙ ap (λ (xs : List (ℕ × ℕ)). (3, 0) ∷ xs) none
 
--- where an entry stands
+-- the place of an entry
 pub room_for : (l : Layout) (a : ℕ) → IsLayout l → a < l.cap → (place_at l a + 2 + l.width ≤ size l) × (size l ≤ 900000) × (10 + l.width + l.procs ≤ size l)
 room_for l a lawful below = (place_up l a l.cap below, place_small l l.cap lawful lawful.small, place_low l l.cap)
 

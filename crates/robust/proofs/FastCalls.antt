@@ -42,7 +42,7 @@ module _ (x z : Pass) (k s0 s1 a0 a1 f0 f1 : ℕ) (small : s0 ≤ 2 ^ 64 - 1) (s
   pub fast_answered : (a : Answer) → EndsIn x k a z → (mine : List TakenStep) × Ran (seat x s0) (Some a) (seat z s1) mine × Calm (length mine) a0 a1 f0 f1
   fast_answered a p = (p.mine, record { takes = p.takes; answers = p.answers; blocked = p.blocked; steps = counted p.mine p.long }, calm p.mine p.long)
 
--- the machine that is told where the fast path has led
+-- the machine whose state is set to what the fast path has reached
 pub run_by_stood : (x z : Pass) (s u : Stand) (t : Place) (b : Bool) → IsRunBy x s → IsSame x z → (spot_now x).barred ≡ false → s.errand ≡ IsFree → spot_now z ≡ free_spot t b → u ≡ record s { lock = t; mended = b } → IsRunBy z u
 run_by_stood x z s u t b r same barred free there is =
     let open_to : s.barred ≡ false = ap (λ (q : Spot). q.barred) r.spot ∙ barred in
@@ -125,7 +125,7 @@ module _ (x : Pass) (seq : ℕ) (value : List ℕ) (at : spot_now x ≡ free_spo
   pub append_starts : x.start ≡ None → spot_now (record x { start = Some (Append seq value) }) ≡ append_begun x seq value
   append_starts none = spot_begun x (Append seq value) none ∙ ap (λ (q : Spot). unwrap_or (next_spot x.setup.layout x.setup.limit q (Begins x.by (Append seq value))) q) at ∙ rw wide_enough refl
 
--- the machine stands where it stood
+-- the machine's state is the same as before
 pub run_by_back : (x y z : Pass) (s : Stand) (call : Call) → IsRunBy x s → y ≡ record x { start = Some call } → IsSame y z → spot_now x ≡ free_spot Inside true → spot_now z ≡ free_spot Inside true → IsRunBy z s
 run_by_back x y z s call r begun same was there = record {
   layout = r.layout ∙ ap (λ (p : Pass). p.setup.layout) (sym begun) ∙ ap (λ (u : Setup). u.layout) (sym same.0);

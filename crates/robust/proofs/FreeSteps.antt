@@ -1,4 +1,4 @@
--- Steps in a row, told by passes alone.
+-- Steps in a row, in terms of views alone.
 use Rattle.std.proofs.Common.{◌≡◌, ℕ, suc, ◌+◌, Bool, false, if◌then◌else◌, List, [], ◌∷◌, ◌++◌, length, Option, Some, None, IsSome, IfSome, refl, sym, ap, ◌∙◌, subst, arith, length-append}
 use Rattle.robust.proofs.AccessCommon.{Access, answer, kind_of, word_of, carried, access, is_blocked, after_access, next_access as lock_access, Place, Check, Checking, answer_at, by_lock, blocked_by}
 use Rattle.robust.proofs.AccessCommon.{Spot, mended_entered, Stand, stepped, standing, IsAllowed, lock_moved, TakenStep, Setup, spot_now, Pass, moved_spot, Advances, Seated, IsRunBy, TakesStep, next_of}
@@ -19,7 +19,7 @@ use Rattle.rmeworld.proofs.Chores.{lock_goes, lock_allowed}
 abbrev pub seat : Pass → ℕ → Seated
 seat x k = record { pass = x; steps = k }
 
--- the machine that stands where a pass stands free
+-- the state of the machine at a view's place with no script under way
 abbrev pub stand_of : Pass → Place → Bool → Stand
 stand_of x t b = record { layout = x.setup.layout; limit = x.setup.limit; index = x.by; lock = t; mended = b; barred = false; errand = IsFree }
 
@@ -35,7 +35,7 @@ may_free x t b a e n v =
 pub unanswered_none : (x : Pass) → Unanswered x 0 0 x
 unanswered_none x = record { mine = []; long = refl; takes = refl; answers = refl; blocked = refl }
 
--- one step more, behind some that answered nothing
+-- one more step, after some without an answer
 module _ (x y z : Pass) (k : ℕ) (p : Unanswered x k 0 y) (a : Access) (v : ℕ) (next : next_of y ≡ Some a) (may : IsSome (moved_spot y (kind_of a) (word_of a) (carried a v))) (adv : Advances y (kind_of a) (word_of a) (carried a v) z) where
   step : TakesStep (seat y (many_more (length p.mine) 0)) (outcome_of y a v) (seat z (one_more (many_more (length p.mine) 0)))
   step = record { access = a; value = v; next = next; may = may; advances = adv; told = refl; steps = refl }

@@ -9,7 +9,7 @@ peek_next limit n p j m lt ne = ap (λ (js : List ℕ). access limit p (Door js 
 
 -- from j on nobody was read, with this greatest
 module _ (x y : Pass) (j m k : ℕ) (w : Way x k y (Door (above x.setup.layout.procs x.by j) m)) where
-  -- the same others, told by the pass there
+  -- the same others, by the view there
   others_there : (i : ℕ) → above x.setup.layout.procs x.by i ≡ above y.setup.layout.procs y.by i
   others_there i = λ n. above (sym w.same.0 n).layout.procs (sym w.same.1 n) i
 

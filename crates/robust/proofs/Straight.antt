@@ -1,4 +1,4 @@
--- The steps of a lock that stand between its scans, and those of an unlock.
+-- The steps of a lock between its scans, and those of an unlock.
 use Rattle.std.proofs.Common.{◌≡◌, ◌≢◌, ℕ, zero, suc, ◌+◌, ◌-◌, ◌<◌, ◌≤◌, Bool, true, false, ◌==◌, nat_lt, List, [], ◌∷◌, length, Option, Some, None, IsSome, unwrap_or, refl, sym, ap, ◌∙◌, subst, inl, inr, arith, eq-eqb}
 use Rattle.robust.proofs.AccessCommon.{Load, Store, Get as Gets, Reread as Rereads, Open as Opens, Take as Takes, Shut as Shuts, Mark as Marks, Drop as Drops, Data as DataAt, Number as NumberOf}
 use Rattle.robust.proofs.AccessCommon.{Choosing as ChoosingOf, access, first, Place, Inside, Wait, Leaving, Rest, Door, above, Opening, Shutting, Unmarking, others, relocked, span, has-first, Unlocked}
@@ -98,7 +98,7 @@ wait_begun x y k i l few at = subst (Begun call.Lock x.setup.layout.procs) (sym 
     go true = (refl, refl, fair_of x.setup.layout.procs k (above x.setup.layout.procs x.by i) (first (above x.setup.layout.procs x.by i)) refl short)
     go false = (refl, refl, (tt, (let s = short in omega arith)))
 
--- the ruin check behind an entry
+-- the ruin check after an entry
 module _ (y z : Pass) where
   pub check_may : (v : ℕ) → spot_now y ≡ checking_spot y → IsSome (moved_spot y Gets (DataAt 0) v)
   check_may v at = subst (λ (q : Spot). IsSome (next_spot y.setup.layout y.setup.limit q (taken y.by Gets (DataAt 0) v))) (sym at) refl

@@ -8,7 +8,7 @@ use Rattle.robust.proofs.Errands.{none_in}
 use Rattle.robust.proofs.Appended.{Own, own_split, own_taken, all_at}
 use Rattle.execution.proofs.Ruins.{walk, unlocks_mended}
 
--- a story is its processes' own
+-- the events of an execution are those of its processes
 pub story_within : (l : Layout) (limit : ℕ) (w : Scene) (hs : List Happening) → Story l limit w hs → All (λ (h : Happening). who h < l.procs) hs
 story_within l limit w [] story = All-nil _
 story_within l limit w (h ∷ hs) story = All-cons (λ (x : Happening). who x < l.procs) h hs story.0.0 (story_within l limit (onward l limit w h) hs story.1)

@@ -53,7 +53,7 @@ module _ (y : Pass) (k j : ℕ) (lt : j < y.setup.layout.procs) (ne : j ≢ y.by
       pub weigh_blocked : ((v == 0) || is_before k own v j) ≡ false → spot_now y ≡ free_spot (place_of y.setup.layout.procs y.by (AtWait k j true)) b → Advances y Weighs (NumberOf j) v z → spot_now z ≡ free_spot (place_of y.setup.layout.procs y.by (AtWait k j true)) b
       weigh_blocked e at adv = there y y z 0 (unanswered_none y) seen b at (Load Weighs (NumberOf j)) v next_weigh adv seen (weigh_stays (standing (stand_of y seen b)) k j v first_is (by_own false e)) refl refl
 
--- the same place, told by another pass of the process
+-- the same place, by another view of the process
 pub same_waits : (x y : Pass) (k i : ℕ) (l : Bool) (t : Place) → IsSame x y → spot_now y ≡ free_spot t (spot_now x).mended → waits_at y k i l ≡ waits_at x k i l
 same_waits x y k i l t same at = λ n. free_spot (place_of (same.0 n).layout.procs (same.1 n) (AtWait k i l)) (at n).mended
 
@@ -73,7 +73,7 @@ module _ (x y : Pass) (number k j : ℕ) (h : KeptWait x y number k j) where
       pub look_counted : Unanswered x (k + 1) m z
       look_counted = unanswered_then x y z k 1 m h.1 p
 
-  -- a look and a weigh that let it pass
+  -- a look and a weigh that pass it
   module _ (z w : Pass) (at : spot_now z ≡ waits_at y number j true) (same : IsSame y z) (p : Unanswered y 1 0 z) (then_same : IsSame z w) where
     at_z : spot_now z ≡ waits_at x number j true
     at_z = looks_at z true at same

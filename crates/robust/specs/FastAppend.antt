@@ -1,4 +1,4 @@
--- The fast path of an append: what is left of its script behind some steps, told by the member's passes alone.
+-- The fast path of an append: what is left of its script after some steps, in terms of the member's views alone.
 use Rattle.std.specs.Prelude.{◌≡◌, ℕ, true, false, List, drop}
 use Rattle.redomail.specs.declared.reply.Reply.{Reply}
 use Rattle.redomail.specs.declared.reply.Reply.TheVariants.{Stored}
@@ -12,16 +12,17 @@ use Rattle.execution.specs.Pass.{Pass}
 use Rattle.robust.specs.declared.access.fast_append.NewEntry.{NewEntry}
 use Rattle.robust.specs.FastPath.{Unanswered, EndsIn}
 
--- a holder with nothing to mend and this script of an append left; with none left it is inside, with nothing to do
+-- a holder with nothing to mend, with this script of an append left; if the script is done, it is inside with no call under
+-- way
 abbrev pub at_append : ℕ → List ℕ → Script Reply → Spot
 at_append seq value left = settled true false (Working (task.Append seq value)) left
 
--- right behind its start
+-- right after the start of the append
 abbrev pub append_begun : Pass → ℕ → List ℕ → Spot
 append_begun x seq value = at_append seq value (append x.setup.layout x.by seq value)
 
--- k steps one after another, none of them blocked, behind which this script is left: they answer nothing, or where it is done
--- the last of them alone answers, with its reply
+-- k steps in a row, none of them blocked, after which this script is left. They have no answer; if the script is done, the
+-- last of them alone has one, its reply.
 abbrev pub HasLeft : Pass → ℕ → Script Reply → Pass → Type 0
 HasLeft x k (Done reply) y = EndsIn x k (Mail reply) y
 HasLeft x k (Asks i rest) y = Unanswered x k 0 y

@@ -1,4 +1,4 @@
--- The calls that have a fast path, and what a call of the lock is told of it.
+-- The calls that have a fast path, and what the fast path of a lock answers.
 use Rattle.std.specs.Prelude.{Option, Some, None}
 use Rattle.rmeworld.specs.declared.answer.Answer.{Answer}
 use Rattle.rmeworld.specs.declared.answer.Answer.TheVariants.{Clean}
@@ -7,13 +7,13 @@ use Rattle.rmeworld.specs.declared.call.Call.TheVariants.{Append, Unlock}
 use Rattle.robust.specs.declared.call.led.Led.{Led}
 use Rattle.robust.specs.declared.call.led.Led.TheVariants as Leads
 
--- the calls behind another one that have a fast path
+-- the calls after another one that have a fast path
 abbrev pub HasFastWay : Call → Type 0
 HasFastWay (Append seq value) = Unit {0}
 HasFastWay Unlock = Unit {0}
 HasFastWay _ = ⊥
 
--- what a call is told of it: nothing yet where it was blocked, and none where the general way goes on
+-- what the fast path answers: none where the machine goes on, an inner none where it was blocked, or the answer
 abbrev pub told_by : Led → Option (Option Answer)
 told_by Leads.Blocked = Some None
 told_by Leads.Entered = Some (Some Clean)

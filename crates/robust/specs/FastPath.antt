@@ -1,4 +1,4 @@
--- The fast path of a lock: steps that a member takes in a row, told by its passes alone.
+-- The fast path of a lock: steps that a member takes in a row, in terms of its views alone.
 use Rattle.std.specs.Prelude.{◌≡◌, ℕ, Bool, true, false, if◌then◌else◌, List, [], ◌∷◌, length, None}
 use Rattle.rmecore.specs.Place.{Place, Inside, Leaving}
 use Rattle.rmecore.specs.Machine.{place_of}
@@ -19,11 +19,11 @@ use Rattle.rmeworld.specs.declared.call.Call.TheVariants.{Lock}
 use Rattle.robust.specs.declared.access.fast_path.Reached.{Reached}
 use Rattle.robust.specs.declared.access.fast_path.Reached.TheVariants as Reaches
 
--- at this place of the lock, with nothing to do on the data words, and not turned away
+-- at this place of the lock, with no script under way, in a lock that isn't on its way out of a ruined lock
 abbrev pub free_spot : Place → Bool → Spot
 free_spot t b = record { lock = t; mended = b; barred = false; errand = Free }
 
--- no crash and no start is owed
+-- no crash and no start is pending
 abbrev pub IsClear : Pass → Type 0
 IsClear x = (x.fallen ≡ false) × (x.start ≡ None)
 
@@ -31,7 +31,7 @@ IsClear x = (x.fallen ≡ false) × (x.start ≡ None)
 abbrev pub IsSame : Pass → Pass → Type 0
 IsSame x y = (y.setup ≡ x.setup) × (y.by ≡ x.by)
 
--- k steps one after another that answer nothing, of which m were blocked
+-- k steps in a row without an answer, m of which were blocked
 pub record Unanswered (x : Pass) (k m : ℕ) (y : Pass) : Type 0 where
   pub mine : List TakenStep
   pub long : length mine ≡ k
@@ -39,25 +39,27 @@ pub record Unanswered (x : Pass) (k m : ℕ) (y : Pass) : Type 0 where
   pub answers : answers_of x mine ≡ []
   pub blocked : blocked_of x mine ≡ m
 
--- a process in the line, with this number: from which index on nobody was passed, and whether the first of those was looked at
+-- a process in the line with this number: i is the first index that was not passed, `looked` whether that process was looked
+-- at
 abbrev pub waits_at : Pass → ℕ → ℕ → Bool → Spot
 waits_at x k i looked = free_spot (place_of x.setup.layout.procs x.by (AtWait k i looked)) (spot_now x).mended
 
--- k steps to a place, none of them blocked, by which nothing is owed
+-- k steps to a place, none of them blocked, after which nothing is pending
 pub record Way (x : Pass) (k : ℕ) (y : Pass) (t : Place) : Type 0 where
   pub at : spot_now y ≡ free_spot t (spot_now x).mended
   pub unanswered : Unanswered x k 0 y
   pub clear : IsClear y
   pub same : IsSame x y
 
--- inside, right before the ruin check of an entry by a lock, and right behind it
+-- inside, right before the ruin check after an entry by a lock
 abbrev pub checking_spot : Pass → Spot
 checking_spot x = record { lock = Inside; mended = true; barred = false; errand = Doing Checking (script x.setup.layout x.by Check) }
 
+-- right after that ruin check
 abbrev pub checked_spot : Bool → Spot
 checked_spot ruined = if ruined then record { lock = Leaving; mended = true; barred = true; errand = Free } else record { lock = Inside; mended = true; barred = false; errand = Free }
 
--- k steps one after another, none of them blocked, of which the last alone answers, and so
+-- k steps in a row, none of them blocked. The last one alone has an answer, a
 pub record EndsIn (x : Pass) (k : ℕ) (a : Answer) (y : Pass) : Type 0 where
   pub mine : List TakenStep
   pub long : length mine ≡ k
@@ -65,8 +67,8 @@ pub record EndsIn (x : Pass) (k : ℕ) (a : Answer) (y : Pass) : Type 0 where
   pub answers : answers_of x mine ≡ a ∷ []
   pub blocked : blocked_of x mine ≡ 0
 
--- How far the fast path of a lock has led in k steps: to a place outside the section, where the last step was blocked or where
--- the general way goes on; into the section; or out of it again. It was not turned away before
+-- How far the fast path of a lock has got in k steps: to a blocked step in the line; to a stage outside the section from
+-- where the machine goes on; into the section; or out of it again. It wasn't on its way out of a ruined lock before.
 pub record Enters (x : Pass) (r : Reached) (k : ℕ) (y : Pass) : Type 0 where
   pub blocked : (t : Stage) → r ≡ Reaches.Blocked t → (spot_now y ≡ free_spot (place_of x.setup.layout.procs x.by t) (spot_now x).mended) × Unanswered x k 1 y × Begun Lock x.setup.layout.procs (spot_now y) × (is_waiting (spot_now y).lock ≡ true)
   pub stands : (t : Stage) → r ≡ Reaches.Stands t → (spot_now y ≡ free_spot (place_of x.setup.layout.procs x.by t) (spot_now x).mended) × Unanswered x k 0 y × Begun Lock x.setup.layout.procs (spot_now y)

@@ -1,4 +1,4 @@
--- What may end a lab early, and of which worker the fault is told.
+-- What may end a lab early, and which worker's fault it answers.
 use Rattle.std.specs.Prelude.{◌≡◌, ℕ, ◌*◌, ◌<◌, ◌≤◌, ◌⊎◌, List, ◌∷◌, ◌++◌, Some, All}
 use Rattle.redomail.specs.declared.reply.Reply.{Reply}
 use Rattle.redomail.specs.declared.reply.Reply.TheVariants.{Full, Closed}
@@ -26,7 +26,7 @@ use Rattle.execution.specs.Runs.{own}
 use Rattle.robust.specs.LabRuns.{IsLabRun}
 use Rattle.robust.specs.Sending.{HasShown}
 
--- the fault is that of the first of these workers that has ended early
+-- the fault is that of the first of these workers that ended early
 pub record IsFirstFault (ended : List Done) (cause : LabFault) : Type 0 where
   pub front : List Done
   pub done : Done
@@ -36,26 +36,26 @@ pub record IsFirstFault (ended : List Done) (cause : LabFault) : Type 0 where
   pub below : done.member.pass.by < done.member.pass.setup.layout.procs
   pub cause_is : fault_by done.member.pass.by done.ending ≡ Some cause
 
--- at one point of the run that the member has seen, what the reply of an append with this number tells of the mailbox held
+-- at one point of the run that the member has seen, what the reply of an append with this number says of the mailbox held
 pub record RefusedAt (x : Seated) (seq : ℕ) (reply : Reply) : Type 0 where
   pub front : List TakenStep
   pub later : List TakenStep
   pub seen : x.pass.seen ≡ front ++ later
   pub tells : ReplyTells x.pass.setup.layout x.pass.by seq reply (judged_by x.pass.setup front).mail
 
--- one of these entries of a process was answered that no number is left: it read the limit in its doorway
+-- one of these entries of a process was answered NumbersSpent: it read the limit in its doorway
 abbrev pub WasSpent : Setup → List TakenStep → Type 0
 WasSpent z es = (front : List Answer) × (back : List Answer) × (answers_from z at_rest es ≡ front ++ SpentAnswer ∷ back)
 
--- How a worker ends: its last message is shown; or it was answered that no number is left, or has read that the lock is ruined; or one
+-- How a worker ends: its last message is shown; or it was answered NumbersSpent, or has read that the lock is ruined; or one
 -- of its messages was answered Full or Closed.
 abbrev pub EndsSo : Spec → Seated → Ending → Type 0
 EndsSo s x AllSent = HasShown s.messages x
 EndsSo s x (Fault why) = ((why ≡ fault.NumbersSpent) × WasSpent x.pass.setup (own_of x.pass)) ⊎ ((why ≡ fault.NotRecoverable) × HasReadRuin (own_of x.pass))
 EndsSo s x (Refused reply) = ((reply ≡ Full) ⊎ (reply ≡ Closed)) × ((seq : ℕ) × (1 ≤ seq) × (seq ≤ s.messages) × RefusedAt x seq reply)
 
--- What may end a lab early: want of memory; a worker that was answered that no number is left, in a run of such workers; or, in one,
--- a mailbox that was full when one of its messages was to be stored, and has less room than messages.
+-- What may end a lab early: out of memory; a worker that was answered NumbersSpent in a run of such workers; or a mailbox
+-- that was full when one of the messages was to be stored, in such a run, with less room than there are messages.
 abbrev pub EndsLab : Spec → LabFault → Type 0
 EndsLab s BadSpec = ⊥
 EndsLab s OutOfMemory = Unit {0}

@@ -1,4 +1,4 @@
--- The runs that a lab leads to.
+-- The runs of a lab.
 use Rattle.std.specs.Prelude.{◌≡◌, ℕ, ◌<◌, List}
 use Rattle.redomail.specs.declared.message.Message.{Message}
 use Rattle.execution.specs.declared.entry.TakenStep.{TakenStep}

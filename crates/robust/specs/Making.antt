@@ -1,4 +1,4 @@
--- What the making of a running lock gives, and what it refuses.
+-- What the making of a running lock gives, and what it refuses (the specification's limits).
 use Rattle.std.specs.Prelude.{ℕ, ◌^◌, ◌&&◌, nat_lt, nat_le, if◌then◌else◌, List, map, Option, Some, None}
 use Rattle.atomic_table.specs.Seated.{TableId}
 use Rattle.rmecore.specs.declared.refusal.Refusal.{Refusal}
@@ -8,7 +8,7 @@ use Rattle.execution.specs.Rule.{count_from}
 use Rattle.execution.specs.Pass.{fresh}
 use Rattle.execution.specs.Running.{Seated}
 
--- why a lock of these sizes isn't made. Want of memory is no such cause
+-- why a lock of these sizes isn't made, if so. Out of memory is no such cause
 abbrev pub making_refusal : ℕ → ℕ → ℕ → ℕ → Option Refusal
 making_refusal procs limit cap width =
     if nat_lt 0 procs && nat_le procs 64

@@ -1,4 +1,4 @@
--- What a process owes to its next step.
+-- The pending events of a process: what its next step carries.
 use Rattle.std.specs.Prelude.{◌≡◌, Bool, true, false, List, [], ◌∷◌, Option, Some, None}
 use Rattle.rmecore.specs.declared.kind.Kind.{Kind}
 use Rattle.rmecore.specs.declared.word.Word.{Word}
@@ -14,18 +14,18 @@ abbrev pub head_of : {A : Type 0} → List A → Option A
 head_of [] = None
 head_of (x ∷ xs) = Some x
 
--- whether it crashed since its last step
+-- whether it has crashed since its last step
 abbrev pub has_crashed : Owed → Bool
 has_crashed o = is_there o.crashed.items
 
--- the call that it started since then
+-- the call that it has started since then
 abbrev pub started : Owed → Option Call
 started o = head_of o.start.items
 
--- a step of this kind at this word, which carries what is owed
+-- a step of this kind at this word, which carries the pending events
 abbrev pub step_of : Owed → Kind → Word → Step
 step_of o kind word = record { crashed = has_crashed o; start = started o; kind = kind; word = word }
 
--- neither a crash nor a start
+-- nothing is pending: neither a crash nor a start
 abbrev pub OwesNothing : Owed → Type 0
 OwesNothing o = (has_crashed o ≡ false) × (started o ≡ None)

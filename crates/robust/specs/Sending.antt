@@ -11,12 +11,12 @@ use Rattle.one_lock.specs.Lab.{words_sent}
 use Rattle.execution.specs.Pass.{own_of}
 use Rattle.execution.specs.Running.{Seated}
 
--- what holds of the call that a step starts, if it does
+-- P holds of the call that a step starts, if it starts one
 abbrev pub OfStart : (Call → Type 0) → Option Call → Type 0
 OfStart P None = Unit {0}
 OfStart P (Some call) = P call
 
--- a call of worker p: it locks, mends and unlocks, and appends one of its first k messages
+-- a call of worker p: it locks, mends, unlocks, or appends one of its first k messages
 abbrev pub IsSending : ℕ → ℕ → ℕ → Call → Type 0
 IsSending width k p (Append seq value) = (seq ≤ k) × (value ≡ words_sent p seq width)
 IsSending width k p Lock = Unit {0}
@@ -24,11 +24,11 @@ IsSending width k p Consistent = Unit {0}
 IsSending width k p Unlock = Unit {0}
 IsSending width k p _ = ⊥
 
--- all calls that these entries start are such
+-- all calls that these entries start are calls of worker p
 abbrev pub AreSending : ℕ → ℕ → ℕ → List TakenStep → Type 0
 AreSending width k p es = All (λ (e : TakenStep). OfStart (IsSending width k p) e.step.start) es
 
--- the member has started no other calls than these, of its own worker
+-- the member has started no other calls than those of its own worker
 abbrev pub SendsOnly : ℕ → ℕ → Seated → Type 0
 SendsOnly width k x = AreSending width k x.pass.by (own_of x.pass)
 
@@ -36,7 +36,7 @@ SendsOnly width k x = AreSending width k x.pass.by (own_of x.pass)
 abbrev pub HasShown : ℕ → Seated → Type 0
 HasShown seq x = IsAmong x.pass.by seq (shown_by x.pass.setup x.pass.seen)
 
--- the member has appended just its worker's first k messages, and the last of them is shown
+-- the member has appended only its worker's first k messages, and the last of them is shown
 abbrev pub HasSent : ℕ → ℕ → Seated → Type 0
 HasSent width k x = SendsOnly width k x × HasShown k x
 

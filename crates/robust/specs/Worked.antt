@@ -22,7 +22,7 @@ seat_promised promise = seat_of promise.0.value
 abbrev pub sizes_of : Spec → Setup
 sizes_of s = record { layout = record { procs = s.procs; cap = s.cap; width = s.width }; limit = s.limit }
 
--- A worker that has ended has appended nothing but messages of its own, has ended as workers do, and has started its calls in
--- order.
+-- A worker that has ended has appended only messages of its own, has ended in one of a worker's ways, and has started its
+-- calls in order.
 abbrev pub HasWorked : Spec → Done → Type 0
 HasWorked s done = SendsOnly s.width s.messages done.member × EndsSo s done.member done.ending × AreInOrder None (own_of done.member.pass)

@@ -1,10 +1,10 @@
--- What a member keeps, whatever it does.
+-- What a member keeps, whatever call it makes.
 use Rattle.std.specs.Prelude.{ℕ, List, map}
 use Rattle.atomic_table.specs.Seated.{TableId}
 use Rattle.execution.specs.declared.setup.Setup.{Setup}
 use Rattle.execution.specs.Running.{Seated}
 
--- which seat it is: at which table, with its sizes, and of which process
+-- which seat it is: its table, the sizes, and the process
 abbrev pub seat_of : Seated → TableId × Setup × ℕ
 seat_of x = (x.pass.table, x.pass.setup, x.pass.by)
 

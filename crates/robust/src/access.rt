@@ -1,5 +1,5 @@
-//! The walk of a process over the words of one atomic table: each load and store through its seat, and the short ways of a
-//! lock, an unlock and an append, as loops over the words.
+//! How a process accesses the words of one atomic table: each load and store through its seat, and the fast paths of a lock,
+//! an unlock and an append, which are loops over the words.
 
 pub mod fast_append;
 pub mod fast_path;

@@ -1,4 +1,4 @@
-//! The making of a running lock.
+//! How a running lock is made.
 ghost use Rattle.std.specs.Prelude.{◌≡◌, ℕ, ◌<◌, ◌≤◌, ◌^◌, ◌⊎◌, Some, None, IfOk, IfErr, OnOk};
 ghost use Rattle.redomail.specs.Layout.{size};
 ghost use Rattle.rmeworld.specs.Stand.{IsSize};
@@ -20,8 +20,12 @@ use crate::access::walker::data_words;
 pub struct Arena;
 
 impl Arena {
-    /// All members of a new table: member p belongs to process p, and all passes are empty. The limits are those of the
-    /// whole house: 1 to 64 processes, numbers up to 2^62, 1 to 65,536 messages of 1 to 8 words.
+    /// Makes a new table and one member for each process: member p belongs to process p, and all views are empty. `procs` is
+    /// 1 to 64 processes, `limit` the greatest number, 1 to 2^62, `cap` the room for 1 to 65,536 messages, and `width` their
+    /// 1 to 8 words.
+    ///
+    /// `BadProcs`, `BadLimit`, `BadCap` or `BadWidth`: that size is outside its limits, and the first such one is named.
+    /// `OutOfMemory`: nothing was made.
     pub fn new<R>(
         _rt: &R,
         alloc: Global,
@@ -43,7 +47,7 @@ impl Arena {
     }
 }
 
-/// Refuses sizes outside the limits, with the first cause.
+/// Refuses sizes outside the limits. The first bad one is named.
 fn check(procs: u64, limit: u64, cap: u64, width: u64) -> Result<(), Refusal>
     ensures accepted { OnOk result (making_refusal procs limit cap width ≡ None) }
     ensures refused { IfErr result (λ e. making_refusal procs limit cap width ≡ Some e) }
@@ -63,6 +67,7 @@ fn check(procs: u64, limit: u64, cap: u64, width: u64) -> Result<(), Refusal>
     Ok(())
 }
 
+/// A new table of zeros with these sizes, and a member for each process. `AllocError`: out of memory.
 fn made(alloc: Global, setup: Setup) -> Result<Vec<Member>, AllocError>
     requires size { IsSize setup.layout }
     requires limited { (1 ≤ setup.limit) × (setup.limit ≤ 2 ^ 62) }

@@ -1,5 +1,5 @@
-//! The calls of a process over the words of a table: its seat and its machine, step by step, with a plan of crashes that is
-//! asked before each step.
+//! The calls of a process over the words of a table: its seat and its machine, step by step. A crash plan is asked before
+//! each step.
 
 mod drive;
 mod led;

@@ -1,4 +1,4 @@
-//! All members of an arena become one again, and the words are read.
+//! Gathering: all members of an arena become one again, and its words are read.
 ghost use Rattle.std.specs.Prelude.{◌≡◌, ℕ, ◌<◌, ◌≤◌, ◌∷◌, ◌++◌, vec_capacity, map, length, true, false, [], All, IfOk, IfErr};
 ghost use Rattle.std.specs.Arc.{arc_value};
 ghost use Rattle.redomail.specs.Layout.{size};
@@ -21,12 +21,14 @@ use crate::access::table;
 use crate::access::table::{Board, RunSeat};
 use crate::access::walker::{Walker, data_words, index};
 
-/// The words of an arena, once all its members are back: those at the end of the one run of which each member's pass is a
-/// beginning. The caller gives members of one arena, in any order. With a fault the members are handed back as they were:
-/// `NotAll` where one is missing, `OutOfMemory` where there was no room for the words.
+/// The words of an arena as an image, once all its members are back: the words at the end of the one run of which each
+/// member's view is a prefix. The caller gives members of one arena, in any order.
 ///
-/// The first member's seat joins the others' seats into its own, a glance before each joining, and then reads each word by a
-/// glance: nobody else is left to step. All memory is taken before it joins the first.
+/// With a fault the members are handed back as they were. `NotAll`: a member of the arena is missing. `OutOfMemory`: there
+/// was no room for the words.
+///
+/// The first member's seat joins the others' seats into its own, with a glance before each joining, and then reads each word
+/// by a glance. No other member is left that could step. All memory is taken before the first joining.
 pub fn gather(alloc: Global, mut members: Vec<Member>) -> Result<Image, (Vec<Member>, GatherFault)>
     requires arena { OneArena members.items }
     ensures gathered { IfOk result (Gathers members.items) }
@@ -84,8 +86,8 @@ fn look(table: &Board, seat: &mut RunSeat, setup: &Setup, word: Word) -> u64
     table::glance(table, seat, word, at)
 }
 
-/// The seat answers for the other's process too. It takes a glance first, which tells that all passes that were joined into
-/// it are beginnings of one run.
+/// Joins the other seat into this one, which then answers for the other's process too. It takes a glance first: the glance
+/// shows that all views joined so far are prefixes of one run.
 fn absorb(table: &Board, seat: &mut RunSeat, setup: &Setup, other: Walker)
     requires table { (seat.old.table_id ≡ table.now.shared.table_id) × (seat.old.table_id.words ≡ word_count setup.now) × (other.table ≡ seat.old.table_id) }
     requires setup { seat.old.me.0.view.setup ≡ setup.now }
@@ -99,7 +101,7 @@ fn absorb(table: &Board, seat: &mut RunSeat, setup: &Setup, other: Walker)
     table::take_in(table, seat, theirs);
 }
 
-/// One seat for all members.
+/// Joins the seats of all others into the first member's seat.
 fn join_all(mut others: Vec<Member>, first: Member, setup: &Setup) -> (Arc<Board, Global>, RunSeat)
     requires arena { OneArena (first ∷ others.items) }
     requires setup { setup.now ≡ first.pass.setup }

@@ -1,4 +1,5 @@
-//! The laboratory over the running lock. Its sizes, gates, faults and what it sends are those of the plain reference's.
+//! The laboratory over the running lock. Its sizes, gates, faults and messages are those of the plain reference,
+//! `one_lock::lab`.
 
 mod running;
 mod worker;

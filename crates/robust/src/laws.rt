@@ -6,11 +6,11 @@ ghost use Rattle.execution.specs.Ruins.{NobodyRuins};
 ghost use Rattle.execution.specs.Tabled.{CallsKeepTheTable};
 ghost use Rattle.execution.specs.WholeSteps.{StoredAppendSteps};
 
-/// The headline, for any number of processes, limit and room, and any list of entries that is a run, crashes and all: its
-/// deeds are legal by the judge's whole table; so no two are inside, one that crashed inside is the next to enter, whose
-/// doorway was finished before another began enters first unless it withdrew, and each sender's messages stand once, in
-/// its order, none after closing. The words at its end are lawful, and each append that was answered Stored or Already is
-/// shown.
+/// The headline. For any number of processes, any limit and room, and any list of entries that is a run, with or without
+/// crashes, the deeds are legal: the judge allows each of them. So no two processes are inside; one that crashed inside is
+/// the next to enter; one whose doorway was finished before another's super-passage began enters first unless it withdrew;
+/// and each sender's messages are in the mailbox once, in order, none after closing. The words at the end of the run are
+/// lawful, and each append that was answered Stored or Already is shown.
 pub fn every_run_is_sound()
     ensures { EveryRunIsSound }
 {
@@ -18,7 +18,7 @@ pub fn every_run_is_sound()
     judge::laws::legal_histories_are_plain();
 }
 
-/// A load tells the word as it stands in the run's world right before it.
+/// A load finds its word's value in the global state right before it.
 #[tactic(auto, using(execution::proofs::Runs::last_reads))]
 pub fn loads_tell()
     ensures { LoadsTell }
@@ -36,20 +36,20 @@ pub fn entries_stand_in_runs()
     ensures { EntriesStandInRuns }
 {}
 
-/// Each call of a member takes just the own steps of the table beside its blocked ones, whatever the others do meanwhile; and
-/// while it has no answer it has taken fewer than such a call takes at most.
+/// Each call of a member takes just the own steps of the specification's table and its blocked steps, whatever the others do
+/// meanwhile. While it has no answer it has taken fewer than the most that such a call takes.
 pub fn calls_keep_the_table()
     ensures { CallsKeepTheTable }
 {}
 
-/// The own steps of an append that stores, from lock words that are all 0, come to 3n + 18 + 2W beside its blocked readings.
+/// The own steps of an append that stores, from lock words that are all 0, are 3n + 18 + 2W and its blocked readings.
 #[tactic(auto, using(execution::proofs::WholeSteps::stored_append_steps))]
 pub fn steps_of_a_stored_append()
     ensures { StoredAppendSteps }
 {}
 
-/// In a run whose processes all start their calls as the workers of a lab do, an unlock only behind a mending or an append,
-/// nobody ruins the lock, however often they crash.
+/// In a run whose processes all start their calls as the workers of a lab do, with an unlock only after a mending or an
+/// append, nobody ruins the lock, however often they crash.
 pub fn nobody_ruins()
     ensures { NobodyRuins }
 {

@@ -1,4 +1,4 @@
-//! The running lock: members that step over the words of one atomic table, each with a pass, a beginning of one run.
+//! The running lock: members that step over the words of one atomic table. Each has a view, a prefix of one run.
 #![tactic(auto)]
 
 pub mod access;

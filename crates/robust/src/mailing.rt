@@ -1,5 +1,5 @@
-//! The whole mailbox calls of a member: each locks, mends where the owner died, does its task and unlocks. Its one answer is
-//! the task's reply.
+//! The whole mailbox calls of a member. Each locks, mends where the owner died, does its task and unlocks, and its one
+//! answer is the task's reply.
 ghost use Rattle.std.specs.Prelude.{◌≡◌, ◌≢◌, ◌⊎◌, ℕ, ◌+◌, ◌≤◌, length, Ok, Err, IfOk, IfErr, OnOk};
 ghost use Rattle.redomail.specs.Mailbox.{IsAmong};
 ghost use Rattle.execution.specs.Running.{began};
@@ -21,17 +21,17 @@ use execution::LockFault;
 use std::sync::Wait;
 
 impl Member {
-    /// Stores a message with this number, from 1, unless the process is blocked once more than it was given turns
-    /// (docs/mailbox.md, Append; its lock is docs/model.md, Lock). Where it answers Stored, the message is shown; where Already,
-    /// the one that was stored under this number before. Full, Closed and OutOfOrder tell what held of the mailbox at one
-    /// moment of the call. The first two stay so; after OutOfOrder send the number that comes next of this sender.
+    /// Stores a message with this sequence number, from 1, unless the process is blocked once more than `turns` times
+    /// (docs/mailbox.md, Append; its lock is docs/model.md, Lock). After Stored the message is shown; after Already, the
+    /// message that was stored under this number before. Full, Closed and OutOfOrder are what held of the mailbox at one
+    /// moment of the call. The first two stay so. After OutOfOrder, send this sender's next number.
     ///
-    /// `BadWidth`: the value has not as many words as the arena's values; send one that has. `AlreadyIn`: the process is in the
+    /// `BadWidth`: the value's width isn't the arena's; send a value of that width. `AlreadyIn`: the process is in the
     /// section; unlock first. `Crashed`: the message may be stored or not; send it again with the same number, which answers
-    /// Already where it is. `NotYet`: the process still waits, with its place kept; send again to wait on, or `withdraw`.
-    /// `NumbersSpent`: another held the last number, this call has stored nothing; send again once the other has left.
-    /// `NotRecoverable` (POSIX: ENOTRECOVERABLE): the lock is ruined, this call has stored nothing, and nobody will store any
-    /// more; `read_from` still reads.
+    /// Already if it is stored. `NotYet`: the process still waits and keeps its place; send again to wait on, or `withdraw`.
+    /// `NumbersSpent`: another process held the last number, and this call has stored nothing; send again once that process
+    /// has left. `NotRecoverable` (POSIX: ENOTRECOVERABLE): the lock is ruined for good, and this call has stored nothing;
+    /// `read_from` still reads.
     pub fn append_within<C: CrashPlan>(
         &mut self,
         seq: u64,
@@ -61,15 +61,15 @@ impl Member {
             .mail_within(plan, &Call::Append { seq, value }, turns)
     }
 
-    /// Closes the mailbox, unless the process is blocked once more than it was given turns (docs/mailbox.md, Close; its lock is
-    /// docs/model.md, Lock). It answers ClosedNow, or AlreadyClosed where it was. From then on each sender's next message is
-    /// answered Closed.
+    /// Closes the mailbox, unless the process is blocked once more than `turns` times (docs/mailbox.md, Close; its lock is
+    /// docs/model.md, Lock). It answers ClosedNow, or AlreadyClosed where it was closed before. From then on each sender's
+    /// next message is answered Closed.
     ///
-    /// `AlreadyIn`: the process is in the section; unlock first. `Crashed`: the mailbox may be closed or not; close it again,
-    /// which answers AlreadyClosed where it is. `NotYet`: the process still waits, with its place kept; close again to wait on,
-    /// or `withdraw`. `NumbersSpent`: another held the last number, this call has closed nothing; close again once the other has
-    /// left. `NotRecoverable` (POSIX: ENOTRECOVERABLE): the lock is ruined, this call has closed nothing, and nobody will store
-    /// any more; `read_from` still reads.
+    /// `AlreadyIn`: the process is in the section; unlock first. `Crashed`: the mailbox may be closed or not; close it
+    /// again, which answers AlreadyClosed if it is closed. `NotYet`: the process still waits and keeps its place; close
+    /// again to wait on, or `withdraw`. `NumbersSpent`: another process held the last number, and this call has closed
+    /// nothing; close again once that process has left. `NotRecoverable` (POSIX: ENOTRECOVERABLE): the lock is ruined for
+    /// good, and this call has closed nothing; `read_from` still reads.
     pub fn close_within<C: CrashPlan>(
         &mut self,
         plan: &mut C,
@@ -87,8 +87,8 @@ impl Member {
         self.runner.mail_within(plan, &Call::Close, turns)
     }
 
-    /// Stores a message with this number, from 1, and waits for as long as it has to (docs/mailbox.md, Append). Its answers are
-    /// those of `append_within`.
+    /// Stores a message with this sequence number, from 1, and waits as long as it has to (docs/mailbox.md, Append). Its
+    /// answers are those of `append_within`.
     ///
     /// `BadWidth`, `AlreadyIn`, `Crashed`, `NumbersSpent` and `NotRecoverable` as at `append_within`; never `NotYet`.
     pub fn append<R: Wait, C: CrashPlan>(
@@ -117,7 +117,7 @@ impl Member {
         self.runner.mail(rt, plan, &Call::Append { seq, value })
     }
 
-    /// Closes the mailbox, and waits for as long as it has to (docs/mailbox.md, Close).
+    /// Closes the mailbox, and waits as long as it has to (docs/mailbox.md, Close).
     ///
     /// `AlreadyIn`, `Crashed`, `NumbersSpent` and `NotRecoverable` as at `close_within`; never `NotYet`.
     pub fn close<R: Wait, C: CrashPlan>(&mut self, rt: &R, plan: &mut C) -> Result<Reply, LockFault>

@@ -26,13 +26,13 @@ use std::sync::Wait;
 use crate::call::runner::Runner;
 use crate::access::walker::Walker;
 
-/// A process of the running lock. It owns a seat at the table and may move to a thread. Contracts see it as its pass, a
-/// beginning of the one run, with the own steps of its last call.
+/// A process of the running lock. It owns a seat at the table and may move to a thread. Contracts see it as its view, a
+/// prefix of the one run, with the own steps of its last call.
 ///
-/// A call that is refused (`AlreadyIn`, `NotOwner`, `NotInconsistent`, `BadIndex`, `BadWidth`) has done nothing and asked
-/// nothing. After `Crashed` the process has lost its private memory, and its words tell the next `lock`, `lock_within`,
-/// `recover` or whole mailbox call where it stood; till then the others are refused, but for `read_from`. An append that crashed is
-/// sent again with the same number: it answers `Already` where the message was stored.
+/// A call that is refused (`AlreadyIn`, `NotOwner`, `NotInconsistent`, `BadIndex`, `BadWidth`) has taken no step and asked
+/// nothing. After `Crashed` the process has lost its private memory. The next `lock`, `lock_within`, `recover` or whole
+/// mailbox call finds its place again from its lock words. Until then every other call but `read_from` is refused. An append
+/// that crashed is sent again with the same number: it answers `Already` if the message was stored.
 #[derive(Drop)]
 pub struct Member {
     pub(crate) runner: Runner,
@@ -59,7 +59,7 @@ impl Member {
         }
     }
 
-    /// Its walker.
+    /// Gives its port back.
     pub(crate) fn into_walker(self) -> Walker
         ensures { result ≡ self.pass }
     {
@@ -74,8 +74,8 @@ impl Member {
         self.runner.setup()
     }
 
-    /// Which process it is. The run that its pass begins is sound: no two are inside, one that crashed inside is the next to
-    /// enter, first come first served, and each sender's messages stand once, in order.
+    /// Which process it is, from 0. The run of which its view is a prefix is sound: no two are inside, one that crashed
+    /// inside is the next to enter, first come, first served, and each sender's messages are there once, in order.
     pub fn number(&self) -> u64
         ensures is { result ≡ self.now.pass.by }
         ensures pass { IsPass self.now.pass }
@@ -85,20 +85,20 @@ impl Member {
         self.runner.by()
     }
 
-    /// The own steps of the last call that was started, held at the greatest u64; 0 before any call (docs/model.md, Own steps
-    /// of a call). A whole mailbox call is one call; a refused call and `read_from` leave it as it was.
+    /// The own steps of the last call that was started, at most the greatest u64; 0 before any call (docs/model.md, Own
+    /// steps of a call). A whole mailbox call is one call. A refused call and `read_from` leave the number as it was.
     pub fn steps(&self) -> u64
         ensures { result ≡ self.now.steps }
     {
         self.runner.steps()
     }
 
-    /// The messages shown from a place on, read from anywhere, also while a lock still waits or after a crash. They are those of
-    /// one moment, the reading of count, so no older than anything that the caller has seen. Where there is no room for
-    /// them, only count has been read. It is no call of the process: `steps` answers as before (docs/mailbox.md, Entries below
-    /// count).
+    /// The messages shown, from `place` on. It reads from anywhere, also while a lock still waits or after a crash. The
+    /// messages are those of one moment, the reading of count, so they are no older than anything that the caller has seen.
+    /// It is no call of the process: `steps` answers as before (docs/mailbox.md, Entries below count).
     ///
-    /// `AllocError`: there was no room for all of them. Ask again from a later place, or once there is memory.
+    /// `AllocError`: there was no room for all of them, and only count was read. Ask again from a later place, or once there
+    /// is memory.
     pub fn read_from(&mut self, alloc: Global, place: u64) -> Result<Vec<Message>, AllocError>
         ensures messages { IfOk result (λ v. ReadsFrom self.old place v.items self.new) }
         ensures no_room { OnErr result (ReadsCount self.old place self.new) }
@@ -107,11 +107,11 @@ impl Member {
         self.runner.read_from(alloc, place)
     }
 
-    /// Leaves the section (POSIX: `pthread_mutex_unlock`; docs/model.md, Unlock). A holder that came in again and has not mended
-    /// ruins the lock for good, as there an unlock without `pthread_mutex_consistent` does.
+    /// Leaves the section (POSIX: `pthread_mutex_unlock`; docs/model.md, Unlock). A holder that entered again after a crash
+    /// and hasn't mended ruins the lock for good, as an unlock without `pthread_mutex_consistent` does.
     ///
-    /// `NotOwner` (POSIX: EPERM): the process isn't in the section, or crashed there; lock first. `Crashed`: it may have left
-    /// or not; a `recover` tells (`Inside`, `Left` or `Idle`), and a lock goes on from either.
+    /// `NotOwner` (POSIX: EPERM): the process isn't in the section, or crashed there; lock first. `Crashed`: it may have
+    /// left or not; a `recover` answers which (`Inside`, `Left` or `Idle`), and a lock goes on from either.
     pub fn unlock<C: CrashPlan>(&mut self, plan: &mut C) -> Result<(), LockFault>
         ensures accepted { OnOk result (refusal_now self.old Call.Unlock ≡ None) }
         ensures served { OnOk result ((mine : List TakenStep) × Served (began self.old Call.Unlock) Call.Unlock (Answer.Unlocked ∷ []) 0 self.new mine × Calm (length mine + 1) (C.asked plan.old) (C.asked plan.new) (C.fallen plan.old) (C.fallen plan.new)) }
@@ -130,11 +130,11 @@ impl Member {
         }
     }
 
-    /// Gives up the place in the line, after a call that answered NotYet (docs/model.md, Withdraw). A later lock comes behind
+    /// Gives up the place in the line, after a call that answered NotYet (docs/model.md, Withdraw). A later lock is after
     /// those that have a number then.
     ///
-    /// `NotOwner`: the process doesn't wait: its last call didn't answer NotYet; there is nothing to give up. `Crashed`: the
-    /// place may be held still; a lock waits on with it, a `recover` tells (`Waiting` or `Idle`).
+    /// `NotOwner`: the process doesn't wait, since its last call didn't answer NotYet; there is nothing to give up.
+    /// `Crashed`: the place may still be held; a lock waits on with it, and a `recover` answers which (`Waiting` or `Idle`).
     pub fn withdraw<C: CrashPlan>(&mut self, plan: &mut C) -> Result<(), LockFault>
         ensures accepted { OnOk result (refusal_now self.old Call.Withdraw ≡ None) }
         ensures served { OnOk result ((mine : List TakenStep) × Served (began self.old Call.Withdraw) Call.Withdraw (Answer.Withdrawn ∷ []) 0 self.new mine × Calm (length mine + 1) (C.asked plan.old) (C.asked plan.new) (C.fallen plan.old) (C.fallen plan.new)) }
@@ -149,11 +149,12 @@ impl Member {
         }
     }
 
-    /// Reads a word of the board, 0 to 3, as a holder: what the run's last `put` there has put, 0 where there is none. That
-    /// `put` is the caller's own where it has made one since it entered, crashes between or not (docs/mailbox.md, BoardGet).
+    /// Reads a word of the board, 0 to 3, as a holder: the value of the run's last `put` there, or 0 where there is none. If
+    /// the caller has put there since it entered, crashes between or not, that last `put` is its own (docs/mailbox.md,
+    /// BoardGet).
     ///
-    /// `NotOwner`: the process isn't in the section, or crashed there; lock first. `BadIndex`: there is no such word; take one
-    /// from 0 to 3. `Crashed`: lock again, which answers `OwnerDied`, or `NotRecoverable` where the lock is ruined.
+    /// `NotOwner`: the process isn't in the section, or crashed there; lock first. `BadIndex`: there is no such word; take
+    /// one from 0 to 3. `Crashed`: lock again, which answers `OwnerDied`, or `NotRecoverable` where the lock is ruined.
     pub fn get<C: CrashPlan>(&mut self, i: u64, plan: &mut C) -> Result<u64, LockFault>
         ensures accepted { OnOk result (refusal_now self.old (Call.Get i) ≡ None) }
         ensures served { IfOk result (λ v. (mine : List TakenStep) × Served (began self.old (Call.Get i)) (Call.Get i) (Answer.Mail (Reply.Word v) ∷ []) 0 self.new mine × Calm (length mine + 1) (C.asked plan.old) (C.asked plan.new) (C.fallen plan.old) (C.fallen plan.new)) }
@@ -164,6 +165,7 @@ impl Member {
         ensures table { IfOk result (λ v. table_steps self.old.pass (Call.Get i) (Answer.Mail (Reply.Word v)) ≡ Some self.new.steps) }
         ensures few { refusal_now self.old (Call.Get i) ≡ None → self.new.steps ≤ most_steps self.old.pass.setup.layout (Call.Get i) }
     {
+        // For the proof alone: its value is read.
         let _by = self.runner.by();
         match self.runner.call(plan, &Call::Get(i))? {
             Answer::Mail(Reply::Word(value)) => Ok(value),
@@ -173,8 +175,8 @@ impl Member {
 
     /// Writes a word of the board, 0 to 3, as a holder (docs/mailbox.md, BoardPut).
     ///
-    /// `NotOwner`: the process isn't in the section, or crashed there; lock first. `BadIndex`: there is no such word; take one
-    /// from 0 to 3. `Crashed`: the word may be written or not; lock again, which answers `OwnerDied`, read it, and write it
+    /// `NotOwner`: the process isn't in the section, or crashed there; lock first. `BadIndex`: there is no such word; take
+    /// one from 0 to 3. `Crashed`: the word may be written or not; lock again, which answers `OwnerDied`, and write it
     /// again; or it answers `NotRecoverable`, where the lock is ruined.
     pub fn put<C: CrashPlan>(&mut self, i: u64, value: u64, plan: &mut C) -> Result<(), LockFault>
         ensures accepted { OnOk result (refusal_now self.old (Call.Put i value) ≡ None) }
@@ -191,12 +193,13 @@ impl Member {
         }
     }
 
-    /// Mends what a crash inside has left, as a holder that came in again (POSIX: `pthread_mutex_consistent`; docs/model.md,
-    /// Consistent). Answers whether an append was cut off behind its commit; its message is shown from then on.
+    /// Mends what a crash inside has left, as a holder that entered again (POSIX: `pthread_mutex_consistent`; docs/model.md,
+    /// Consistent). True: an append was cut off after its commit, and its message is shown from now on. False: there was
+    /// none.
     ///
-    /// `NotInconsistent` (POSIX: EINVAL): the process is in the section with nothing to mend, and goes on; or it isn't there, or
-    /// crashed there: lock first. `Crashed`: lock again, which answers `OwnerDied`, and mend then; or it answers
-    /// `NotRecoverable`. `NotRecoverable`: the lock is ruined, and the process is inside still: unlock.
+    /// `NotInconsistent` (POSIX: EINVAL): the process is in the section with nothing to mend, and goes on; or it isn't
+    /// there, or crashed there: lock first. `Crashed`: lock again, which answers `OwnerDied`, and mend then; or it answers
+    /// `NotRecoverable`. `NotRecoverable`: the lock is ruined, and the process is still inside: unlock.
     pub fn consistent<C: CrashPlan>(&mut self, plan: &mut C) -> Result<bool, LockFault>
         ensures accepted { OnOk result (refusal_now self.old Call.Consistent ≡ None) }
         ensures served { IfOk result (λ mended. (mine : List TakenStep) × Served (began self.old Call.Consistent) Call.Consistent (Answer.Mail (Reply.Mended mended) ∷ []) 0 self.new mine × Calm (length mine + 1) (C.asked plan.old) (C.asked plan.new) (C.fallen plan.old) (C.fallen plan.new)) }
@@ -213,11 +216,11 @@ impl Member {
         }
     }
 
-    /// Finds out where a crash has left the process, and goes no further than it must: it never waits (docs/model.md,
-    /// Recover). Found inside, the process is a holder that has to mend, or ruins the lock at its unlock. Found waiting or in
-    /// its doorway, it holds nothing, and its next lock goes on from there. Found idle or left, it is at rest.
+    /// Finds out where a crash has left the process, with as few steps as possible: it never waits (docs/model.md, Recover).
+    /// Found inside, the process is a holder that has to mend: its unlock ruins the lock otherwise. Found waiting or in its
+    /// doorway, it holds nothing, and its next lock goes on from there. Found idle or left, it is at rest.
     ///
-    /// `AlreadyIn`: the process is in the section; there is nothing to find out. `Crashed`: recover, or lock, again.
+    /// `AlreadyIn`: the process is in the section; there is nothing to find out. `Crashed`: recover or lock again.
     pub fn recover<C: CrashPlan>(&mut self, plan: &mut C) -> Result<Found, LockFault>
         ensures accepted { OnOk result (refusal_now (ready self.old) Call.Recover ≡ None) }
         ensures served { IfOk result (λ found. AnsweredIn (began (ready self.old) Call.Recover) Call.Recover (Answer.Found found ∷ []) 0 self.new (C.asked plan.old) (C.asked plan.new) (C.fallen plan.old) (C.fallen plan.new)) }
@@ -233,14 +236,14 @@ impl Member {
         }
     }
 
-    /// Enters the section, also after a crash, unless it is blocked once more than it was given turns (POSIX:
-    /// `pthread_mutex_timedlock`, with turns for time; docs/model.md, Lock). `OwnerDied` (POSIX: EOWNERDEAD) says that this
-    /// process itself crashed inside: call `consistent` before the unlock.
+    /// Enters the section, also after a crash, unless it is blocked once more than `turns` times (POSIX:
+    /// `pthread_mutex_timedlock`, with turns in place of time; docs/model.md, Lock). `OwnerDied` (POSIX: EOWNERDEAD): this
+    /// process itself crashed inside; call `consistent` before the unlock.
     ///
-    /// `AlreadyIn`: the process is in the section, and goes on there. `Crashed`: lock again. `NotYet`: it still waits, with its
-    /// place kept; lock again to wait on, or `withdraw`. `NumbersSpent`: another held the last number, the process is at rest;
-    /// lock again once the other has left. `NotRecoverable` (POSIX: ENOTRECOVERABLE): the lock is ruined and the process has
-    /// left; so it is answered from now on, and `read_from` still reads its messages.
+    /// `AlreadyIn`: the process is in the section, and goes on there. `Crashed`: lock again. `NotYet`: it still waits and
+    /// keeps its place; lock again to wait on, or `withdraw`. `NumbersSpent`: another process held the last number, and this
+    /// one is at rest; lock again once that process has left. `NotRecoverable` (POSIX: ENOTRECOVERABLE): the lock is ruined
+    /// and the process has left; each later lock answers the same, and `read_from` still reads the messages.
     pub fn lock_within<C: CrashPlan>(
         &mut self,
         plan: &mut C,
@@ -263,8 +266,8 @@ impl Member {
         }
     }
 
-    /// Enters the section, also after a crash, and waits for as long as it has to (POSIX: `pthread_mutex_lock`; docs/model.md,
-    /// Lock). `OwnerDied` (POSIX: EOWNERDEAD) says that this process itself crashed inside: call `consistent` before the unlock.
+    /// Enters the section, also after a crash, and waits as long as it has to (POSIX: `pthread_mutex_lock`; docs/model.md,
+    /// Lock). `OwnerDied` (POSIX: EOWNERDEAD): this process itself crashed inside; call `consistent` before the unlock.
     ///
     /// `AlreadyIn`, `Crashed`, `NumbersSpent` and `NotRecoverable` as at `lock_within`; never `NotYet`.
     pub fn lock<R: Wait, C: CrashPlan>(&mut self, rt: &R, plan: &mut C) -> Result<Entry, LockFault>
@@ -281,7 +284,7 @@ impl Member {
     }
 }
 
-/// What the answer of a lock is to its caller.
+/// The result of a lock, from its answer.
 fn entered(answer: Answer) -> Result<Entry, LockFault>
     requires { Fits Call.Lock answer }
     ensures inside { IfOk result (λ entry. answer ≡ answer_of entry) }

@@ -1,5 +1,5 @@
-//! The fast path of an append by a holder with nothing to mend, for plans that never fall: its gets and puts over the words
-//! alone, proved to be the run of its steps. The machine stands behind them where it stood before, and hears nothing of them.
+//! The fast path of an append by a holder with nothing to mend, for plans that never fall: its gets and puts as plain loads
+//! and stores, proved to be the run of its steps. The machine isn't used, and is in the same state afterwards.
 ghost use Rattle.std.specs.Prelude.{◌≡◌, ◌≢◌, ℕ, ◌+◌, ◌*◌, ◌<◌, ◌≤◌, List, ◌∷◌, None, true, length, drop, slice_index, IfSome};
 ghost use Rattle.rmecore.specs.Place.{Inside};
 ghost use Rattle.redomail.specs.Layout.{size};
@@ -19,7 +19,7 @@ use redomail::layout::{ARMED, CLOSED, COUNT, RECORD};
 use rmecore::{Body, Kind, Word};
 use execution::Setup;
 
-/// The words that an append asks for: whether the mailbox is closed, count, and the sender's last number.
+/// The words that an append reads first: whether the mailbox is closed, count, and the sender's last number.
 #[derive(Clone, Copy)]
 struct Heads {
     closed: u64,
@@ -27,7 +27,7 @@ struct Heads {
     last: u64,
 }
 
-/// A message on its way to its place, with the sizes of its arena and its sender.
+/// A message to be stored at place `at`, with the sizes of its arena and its sender.
 #[derive(Clone, Copy)]
 struct NewEntry {
     setup: Setup,
@@ -38,7 +38,7 @@ struct NewEntry {
 }
 
 impl NewEntry {
-    /// A word of the row that begins with `first`: then come the number and the words of the value.
+    /// Word j of a row that begins with `first`: then come the sequence number and the words of the value.
     fn word(&self, first: u64, j: u64) -> u64
         ensures { result ≡ slice_index (first ∷ self.now.seq ∷ self.now.value) j }
     {
@@ -50,7 +50,7 @@ impl NewEntry {
     }
 }
 
-/// Asks for the three words.
+/// Reads the three words.
 fn read_heads(walker: &mut Walker, seq: u64, value: &Body) -> Heads
     requires at { spot_now walker.old ≡ append_begun walker.old seq value.now }
     ensures at { spot_now walker.new ≡ at_append seq value.now (decided walker.old.setup.layout walker.old.by seq value.now result.closed result.count result.last) }
@@ -59,6 +59,7 @@ fn read_heads(walker: &mut Walker, seq: u64, value: &Body) -> Heads
     ensures clear { IsClear walker.new }
     ensures same { IsSame walker.old walker.new }
 {
+    // For the proof alone: its value is read.
     let _ = seq;
     let _ = value;
     let layout = walker.setup().layout;
@@ -73,7 +74,7 @@ fn read_heads(walker: &mut Walker, seq: u64, value: &Body) -> Heads
     }
 }
 
-/// What an append answers once it knows the three words; none where it stores its message.
+/// The reply of an append that stores nothing, from the three words. None: it stores its message.
 fn answered(cap: u64, seq: u64, heads: &Heads) -> Option<Reply>
     ensures answers { IfSome result (λ reply. (l : LayoutOf) (p : ℕ) (value : List ℕ) → l.cap ≡ cap → decided l p seq value heads.now.closed heads.now.count heads.now.last ≡ Done reply) }
     ensures stores { result ≡ None → (l : LayoutOf) (p : ℕ) (value : List ℕ) → l.cap ≡ cap → decided l p seq value heads.now.closed heads.now.count heads.now.last ≡ puts (store_steps l p (record_of heads.now.count seq value)) (Done Stored) }
@@ -95,7 +96,7 @@ fn answered(cap: u64, seq: u64, heads: &Heads) -> Option<Reply>
     }
 }
 
-/// One put of a storing, but the last.
+/// One put of a storing append, but not the last.
 fn put(walker: &mut Walker, entry: &NewEntry, step: u64, i: u64, v: u64)
     requires clear { IsClear walker.old }
     requires of { IsOf walker.old entry.now }
@@ -108,12 +109,13 @@ fn put(walker: &mut Walker, entry: &NewEntry, step: u64, i: u64, v: u64)
     ensures clear { IsClear walker.new }
     ensures of { IsOf walker.new entry.now }
 {
+    // For the proof alone: its value is read.
     let _ = step;
     let _ = entry;
     walker.store(Kind::Put, Word::Data(i), v);
 }
 
-/// The puts of a row: a first word, the number, and the words of the value.
+/// The puts of a row: a first word, the sequence number, and the words of the value.
 fn put_row(walker: &mut Walker, entry: &NewEntry, step: u64, start: u64, first: u64)
     requires clear { IsClear walker.old }
     requires of { IsOf walker.old entry.now }
@@ -133,8 +135,8 @@ fn put_row(walker: &mut Walker, entry: &NewEntry, step: u64, start: u64, first: 
     }
 }
 
-/// All puts of a storing: the record, the commit that arms it, the entry at its place, the sender's last number, count, and the
-/// record is armed no more.
+/// All puts of a storing append: the record, the commit (armed := 1), the entry at its place, the sender's last number,
+/// count, and armed := 0.
 fn store(walker: &mut Walker, entry: &NewEntry)
     requires clear { IsClear walker.old }
     requires of { IsOf walker.old entry.now }
@@ -145,6 +147,7 @@ fn store(walker: &mut Walker, entry: &NewEntry)
     ensures ends { EndsIn walker.old (8 + 2 * length entry.now.value) (Mail Stored) walker.new }
     ensures of { IsOf walker.new entry.now }
 {
+    // For the proof alone: its value is read.
     let _pass = walker.by();
     let layout = entry.setup.layout;
     let row = 2 + entry.value.width();
@@ -162,7 +165,7 @@ fn store(walker: &mut Walker, entry: &NewEntry)
     walker.store(Kind::Put, Word::Data(ARMED), 0);
 }
 
-/// The steps of an append, right behind its start. Tells how many they were.
+/// The steps of an append, right after its start. Answers its reply and the number of steps.
 pub fn append(walker: &mut Walker, seq: u64, value: &Body) -> (Reply, u64)
     requires wide { length value.now ≡ walker.old.setup.layout.width }
     requires at { spot_now walker.old ≡ append_begun walker.old seq value.now }

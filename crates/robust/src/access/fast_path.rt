@@ -1,5 +1,5 @@
-//! The fast path of a lock and of an unlock, for plans that never fall: loops over the words alone, proved to be the run of
-//! their steps. The machine is told its place once, behind them. A wait in the line stands in `in_line.rt`.
+//! The fast paths of a lock and of an unlock, for plans that never fall: loops over the words alone, proved to be the run of
+//! their steps. The machine's state is set once, afterwards. The wait in the line is in `in_line.rt`.
 ghost use Rattle.std.specs.Prelude.{◌≡◌, ◌≢◌, ℕ, ◌+◌, ◌<◌, ◌≤◌, max, [], ◌∷◌, true, false, ◌==◌, ◌||◌, None, IfSome, if◌then◌else◌};
 ghost use Rattle.rmecore.specs.Place.{Rest, Reread, Opening, Door, Shutting, Wait, Leaving, Unmarking, others, relocked};
 ghost use Rattle.rmecore.specs.declared.core_call.CoreCall.TheVariants.{Lock, Unlock};
@@ -33,6 +33,7 @@ fn read_number(walker: &mut Walker, choosing: u64) -> u64
     requires at { spot_now walker.old ≡ free_spot (Reread Lock (choosing ∷ [])) (spot_now walker.old).mended }
     ensures way { Way walker.old 1 walker.new (Reread Lock (choosing ∷ result ∷ [])) }
 {
+    // For the proof alone: its value is read.
     let _ = choosing;
     let own = walker.by();
     walker.load(Kind::Reread, Word::Number(own))
@@ -58,7 +59,7 @@ fn open(walker: &mut Walker)
     walker.store(Kind::Open, Word::Choosing(own), 1);
 }
 
-/// Takes the number behind the greatest.
+/// Takes the number after the greatest.
 fn take(walker: &mut Walker, greatest: u64)
     requires clear { IsClear walker.old }
     requires below { greatest < walker.old.setup.limit }
@@ -69,12 +70,13 @@ fn take(walker: &mut Walker, greatest: u64)
     walker.store(Kind::Take, Word::Number(own), greatest + 1);
 }
 
-/// Closes the doorway behind a number.
+/// Closes the doorway after taking a number.
 fn shut(walker: &mut Walker, number: u64)
     requires clear { IsClear walker.old }
     requires at { spot_now walker.old ≡ free_spot (Shutting Lock number) (spot_now walker.old).mended }
     ensures way { Way walker.old 1 walker.new (Wait number (others walker.old.setup.layout.procs walker.old.by) None) }
 {
+    // For the proof alone: its value is read.
     let _ = number;
     let own = walker.by();
     walker.store(Kind::Shut, Word::Choosing(own), 0);
@@ -87,7 +89,8 @@ fn greater(a: u64, b: u64) -> u64
     if a < b { b } else { a }
 }
 
-/// Reads the numbers of all others, in the doorway. Tells the greatest, and how many steps that were.
+/// Reads the numbers of all others, in the doorway. Answers the greatest, and the number of steps.
+// Inline: one path of each lock.
 #[inline(always)]
 fn peek_others(walker: &mut Walker) -> (u64, u64)
     requires clear { IsClear walker.old }
@@ -109,8 +112,9 @@ fn peek_others(walker: &mut Walker) -> (u64, u64)
     (greatest, taken)
 }
 
-/// Rereads the own words, as far as they are 0: with none there all three are. Else it tells where it stands then, and how many
-/// steps that were.
+/// Rereads the own words while they are 0. None: all three are 0, after three steps. Otherwise the stage that follows from
+/// the word read last, and the number of steps.
+// Inline: one path of each lock.
 #[inline(always)]
 fn reread_own(walker: &mut Walker) -> Option<(Stage, u64)>
     requires at { spot_now walker.old ≡ free_spot (Reread Lock []) (spot_now walker.old).mended }
@@ -119,6 +123,7 @@ fn reread_own(walker: &mut Walker) -> Option<(Stage, u64)>
     ensures begun { IfSome result (λ r. Begun CallOf.Lock walker.old.setup.layout.procs (spot_now walker.new)) }
     ensures rests { result ≡ None → Way walker.old 3 walker.new Opening }
 {
+    // For the proof alone: its value is read.
     let _pass = walker.by();
     let call = CoreCall::Lock;
     let choosing = read_choosing(walker);
@@ -143,8 +148,9 @@ fn reread_own(walker: &mut Walker) -> Option<(Stage, u64)>
     None
 }
 
-/// From right behind the start of a lock into the line, as far as the process's words are all 0 and a number is left. Tells
-/// where it stands then, and how many steps that were.
+/// From right after the start of a lock into the line, while the process's words are all 0 and a number is left. Answers the
+/// stage that it has reached, and the number of steps.
+// Inline: one path of each lock.
 #[inline(always)]
 fn through_doorway(walker: &mut Walker) -> (Stage, u64)
     requires at { spot_now walker.old ≡ free_spot (Reread Lock []) (spot_now walker.old).mended }
@@ -185,23 +191,26 @@ fn mark(walker: &mut Walker, number: u64)
     ensures clear { IsClear walker.new }
     ensures same { IsSame walker.old walker.new }
 {
+    // For the proof alone: its value is read.
     let _ = number;
     let own = walker.by();
     walker.store(Kind::Mark, Word::Inside(own), 1);
 }
 
-/// Asks whether the lock is ruined.
+/// Reads whether the lock is ruined: 1 if it is.
 fn check(walker: &mut Walker) -> u64
     requires clear { IsClear walker.old }
     requires at { spot_now walker.old ≡ checking_spot walker.old }
     ensures advances { Advances walker.old Gets (DataAt 0) result walker.new }
     ensures at { spot_now walker.new ≡ checked_spot (result == 1) }
 {
+    // For the proof alone: its value is read.
     let _pass = walker.by();
     walker.load(Kind::Get, Word::Data(0))
 }
 
-/// Enters past all others, and asks whether the lock is ruined: whether it is.
+/// Enters past all others, and reads whether the lock is ruined. True: it is.
+// Inline: one path of each lock.
 #[inline(always)]
 fn come_in(walker: &mut Walker, number: u64) -> bool
     requires at { spot_now walker.old ≡ free_spot (Wait number [] None) (spot_now walker.old).mended }
@@ -214,8 +223,9 @@ fn come_in(walker: &mut Walker, number: u64) -> bool
     check(walker) == 1
 }
 
-/// How far the fast path of a lock has led: to a place outside the section, where the last step was blocked or where the
-/// general way goes on; into the section; or out again, since the lock is ruined.
+/// How far the fast path of a lock has got: to a blocked step in the line (`Blocked`); to a stage outside the section from
+/// where the machine goes on (`Stands`); into the section (`Clean`); or out of it again, since the lock is ruined
+/// (`Ruined`).
 #[derive(Clone, Copy)]
 pub enum Reached {
     Blocked(Stage),
@@ -224,7 +234,7 @@ pub enum Reached {
     Ruined,
 }
 
-/// How far an entry has led, from whether the lock was ruined.
+/// How far an entry has got, by whether the lock is ruined.
 fn entered(is_ruined: bool) -> Reached
     ensures { result ≡ (if is_ruined then Reached.Ruined else Reached.Clean) }
 {
@@ -235,7 +245,8 @@ fn entered(is_ruined: bool) -> Reached
     }
 }
 
-/// From a place in the line into the section, as far as nothing is in the way. Tells how many steps that were.
+/// From a place in the line into the section, unless a step is blocked. Also answers the number of steps.
+// Inline: one path of each lock.
 #[inline(always)]
 fn enter_from_line(walker: &mut Walker, number: u64, next: u64, looked: bool) -> (Reached, u64)
     requires next { next ≤ 64 }
@@ -244,6 +255,7 @@ fn enter_from_line(walker: &mut Walker, number: u64, next: u64, looked: bool) ->
     ensures enters { Enters walker.old result.0 result.1 walker.new }
     ensures few { result.1 ≤ 133 }
 {
+    // For the proof alone: its value is read.
     let _pass = walker.by();
     let passed = wait_on(walker, number, next, looked);
     if passed.is_blocked {
@@ -258,7 +270,8 @@ fn enter_from_line(walker: &mut Walker, number: u64, next: u64, looked: bool) ->
     (entered(is_ruined), passed.taken + 2)
 }
 
-/// From right behind the start of a lock into the section, as far as nothing is in the way. Tells how many steps that were.
+/// From right after the start of a lock into the section, unless a step is blocked. Also answers the number of steps.
+// Inline: one path of each lock.
 #[inline(always)]
 fn enter(walker: &mut Walker) -> (Reached, u64)
     requires at { spot_now walker.old ≡ free_spot (Reread Lock []) (spot_now walker.old).mended }
@@ -278,7 +291,9 @@ fn enter(walker: &mut Walker) -> (Reached, u64)
     }
 }
 
-/// The fast path of a lock from where it stands, if it has one from there: from its start, and from behind a blocked reading.
+/// The fast path of a lock from this stage. None: there is no fast path from it. There is one from the start and from a
+/// blocked reading.
+// Inline: one path of each lock.
 #[inline(always)]
 pub fn go_in(walker: &mut Walker, stage: Stage) -> Option<(Reached, u64)>
     requires under { IsUnder CallOf.Lock (spot_now walker.old) }
@@ -302,7 +317,7 @@ pub fn go_in(walker: &mut Walker, stage: Stage) -> Option<(Reached, u64)>
     }
 }
 
-/// Gives up the own number, right behind the start of an unlock.
+/// Gives up the own number, right after the start of an unlock.
 fn drop_number(walker: &mut Walker)
     requires at { spot_now walker.old ≡ free_spot Leaving (spot_now walker.old).mended }
     ensures way { Way walker.old 1 walker.new (Unmarking Unlock) }
@@ -311,7 +326,7 @@ fn drop_number(walker: &mut Walker)
     walker.store(Kind::Drop, Word::Number(own), 0);
 }
 
-/// Takes the own mark away.
+/// Resets the own inside word.
 fn unmark(walker: &mut Walker)
     requires clear { IsClear walker.old }
     requires at { spot_now walker.old ≡ free_spot (Unmarking Unlock) (spot_now walker.old).mended }
@@ -322,7 +337,7 @@ fn unmark(walker: &mut Walker)
     walker.store(Kind::Mark, Word::Inside(own), 0);
 }
 
-/// From right behind the start of an unlock out of the section, in two steps.
+/// From right after the start of an unlock out of the section, in two steps.
 pub fn leave(walker: &mut Walker)
     requires at { spot_now walker.old ≡ free_spot Leaving (spot_now walker.old).mended }
     ensures at { spot_now walker.new ≡ free_spot Rest (spot_now walker.old).mended }

@@ -1,5 +1,5 @@
-//! A process in the line: it looks at the others and weighs their numbers, by loops over the words alone, proved to be the run
-//! of their steps.
+//! A process in the line: it looks at the others and weighs their numbers. These are loops over the words alone, proved to
+//! be the run of their steps.
 ghost use Rattle.std.specs.Prelude.{◌≡◌, ◌≢◌, ◌+◌, ◌<◌, ◌≤◌, [], true, false, ◌==◌, ◌||◌, None, if◌then◌else◌};
 ghost use Rattle.rmecore.specs.Place.{Wait, is_before};
 ghost use Rattle.execution.specs.Pass.{spot_now};
@@ -8,8 +8,8 @@ ghost use Rattle.robust.specs.FastPath.{free_spot, IsSame, Unanswered, waits_at}
 use crate::access::walker::Walker;
 use rmecore::{Kind, Word};
 
-/// How far a wait has come: from which index on nobody was passed, whether the first of those was looked at, how many steps
-/// that took, and whether the last of them was blocked.
+/// How far a wait has got: the first index that was not passed, whether that process was looked at, the number of steps, and
+/// whether the last step was blocked.
 #[derive(Clone, Copy)]
 pub struct Passed {
     pub next: u64,
@@ -18,14 +18,15 @@ pub struct Passed {
     pub is_blocked: bool,
 }
 
-/// Whether a waiter with this number goes past process `j`, whose number was read.
+/// Whether a waiter with this number passes process `j`, whose number was read: it does if that is 0 or its own pair is
+/// smaller (Lamport's Bakery).
 fn passes(number: u64, own: u64, value: u64, j: u64) -> bool
     ensures { result ≡ ((value == 0) || is_before number own value j) }
 {
     value == 0 || (number, own) < (value, j)
 }
 
-/// Looks at process `j`: whether it is in no doorway.
+/// Looks at process `j`. True: it is in no doorway.
 fn look(walker: &mut Walker, number: u64, j: u64) -> bool
     requires other { (j < walker.old.setup.layout.procs) × (j ≢ walker.old.by) }
     requires at { spot_now walker.old ≡ waits_at walker.old number j false }
@@ -33,12 +34,13 @@ fn look(walker: &mut Walker, number: u64, j: u64) -> bool
     ensures unanswered { Unanswered walker.old 1 (if result then 0 else 1) walker.new }
     ensures same { IsSame walker.old walker.new }
 {
+    // For the proof alone: its value is read.
     let _pass = walker.by();
     let value = walker.load(Kind::Look, Word::Choosing(j));
     value == 0
 }
 
-/// Weighs the number of process `j`: whether the waiter goes past it.
+/// Weighs the number of process `j`. True: the waiter passes it.
 fn weigh(walker: &mut Walker, number: u64, j: u64) -> bool
     requires other { (j < walker.old.setup.layout.procs) × (j ≢ walker.old.by) }
     requires at { spot_now walker.old ≡ waits_at walker.old number j true }
@@ -52,7 +54,8 @@ fn weigh(walker: &mut Walker, number: u64, j: u64) -> bool
     passes(number, own, value, j)
 }
 
-/// Looks at the others from an index on and weighs their numbers, up to the last or to a blocked reading.
+/// Looks at the others from an index on and weighs their numbers, up to the last one or to a blocked reading.
+// Inline: the loop of each wait.
 #[inline(always)]
 pub fn pass_others(walker: &mut Walker, number: u64, from: u64) -> Passed
     requires from { from ≤ 64 }
@@ -96,7 +99,8 @@ pub fn pass_others(walker: &mut Walker, number: u64, from: u64) -> Passed
     }
 }
 
-/// Goes on in the line: process `next` is looked at, or weighed where it was looked at, and then the others behind it.
+/// Waits on in the line: process `next` is looked at, or weighed if it was looked at before, and then the others after it.
+// Inline: the loop of each wait.
 #[inline(always)]
 pub fn wait_on(walker: &mut Walker, number: u64, next: u64, looked: bool) -> Passed
     requires next { next ≤ 64 }
@@ -108,6 +112,7 @@ pub fn wait_on(walker: &mut Walker, number: u64, next: u64, looked: bool) -> Pas
     ensures few { result.taken ≤ 131 }
     ensures same { IsSame walker.old walker.new }
 {
+    // For the proof alone: its value is read.
     let _pass = walker.by();
     if !looked {
         return pass_others(walker, number, next);

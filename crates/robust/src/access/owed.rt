@@ -1,11 +1,11 @@
-//! What a process owes to its next step. Proofs alone read it: it has no bytes.
+//! The pending events of a process: what its next step carries. Only proofs read them; they take no bytes at run time.
 ghost use Rattle.std.specs.Prelude.{◌≡◌, true, Some, None};
 ghost use Rattle.robust.specs.Owed.{has_crashed, OwesNothing, started};
 
 use histories::Log;
 use rmeworld::Call;
 
-/// Whether the process crashed since its last step, and the call that it started since then: no item, or one.
+/// Whether the process has crashed since its last step, and the call that it has started since then: no item, or one.
 #[derive(Drop)]
 pub struct Owed {
     pub crashed: Log<bool>,
@@ -13,7 +13,7 @@ pub struct Owed {
 }
 
 impl Owed {
-    /// The step carries neither a crash nor a start.
+    /// Nothing is pending: the next step carries neither a crash nor a start.
     pub fn nothing() -> Owed
         ensures { OwesNothing result }
     {
@@ -23,7 +23,7 @@ impl Owed {
         }
     }
 
-    /// The process crashes.
+    /// The pending events right after a crash.
     pub fn crash() -> Owed
         ensures { (has_crashed result ≡ true) × (started result ≡ None) }
     {

@@ -1,4 +1,4 @@
-//! The shared table, which no other file names: its rule, what a step tells, and each load and store.
+//! The shared table, which no other file names: its rule, what the caller learns from a step, and each load and store.
 ghost use Rattle.std.specs.Prelude.{◌≡◌, ℕ, ◌<◌, []};
 ghost use Rattle.atomic_table.specs.Table.{Splits, Joins};
 ghost use Rattle.execution.specs.Pass.{glanced};
@@ -13,7 +13,8 @@ use execution::entry::Known;
 use std::alloc::Global;
 use std::marker::{Brand, PhantomData};
 
-/// There is one run, whose words are the table's, and each seat's pass is a beginning of it. The key is the sizes.
+/// The rule of the table: there is one run, its words are the table's, and each seat's view is a prefix of it. The key is
+/// the sizes.
 pub struct OneRun;
 
 impl TableRule<(), Known, Setup> for OneRun {
@@ -24,20 +25,20 @@ impl TableRule<(), Known, Setup> for OneRun {
     ghost first = { opening_known };
 }
 
-/// The table: three lock words a process, then the data words.
+/// The table: three lock words for each process, then the data words.
 pub type Board = Table<(), Known, Setup, OneRun, Global>;
 
-/// A seat at the table.
+/// A seat at the table. What it knows is in `Known`.
 pub type RunSeat = Seat<(), Known>;
 
-/// Names the step that a load or a store is.
+/// Gives a name to the step that a load or a store is. Only contracts use it.
 trait StepName {
     ghost use Rattle.std.specs.Prelude.{ℕ};
     ghost use Rattle.execution.specs.declared.entry.Step.{Step};
 
     ghost step: { Step };
 
-    /// The value of a step at a word that there is not.
+    /// The value of a step at a word past the table's end.
     ghost value: { ℕ };
 }
 
@@ -49,7 +50,7 @@ impl StepName for Brand {
     ghost value = { 0 };
 }
 
-/// Tells that the run has grown by the step that D names.
+/// What a load or store shows: the run has grown by the step that D names.
 struct Does<D> {
     of: PhantomData<D>,
 }
@@ -61,7 +62,7 @@ impl<D: StepName> Play<(), Known> for Does<D> {
     ghost then = { λ step before found after. Did D.step before.0 found after.0 × (after.1 ≡ before.1) };
 }
 
-/// Tells that the run has grown by a step at a word that there is not.
+/// What a step at a word past the table's end shows: the run has grown by the step that D names.
 struct Passes<D> {
     of: PhantomData<D>,
 }
@@ -73,7 +74,7 @@ impl<D: StepName> Play<(), Known> for Passes<D> {
     ghost then = { λ step before found after. Did D.step before.0 D.value after.0 × (after.1 ≡ before.1) };
 }
 
-/// The first process of a seat gets a seat of its own.
+/// Split: the first process of a seat gets a seat of its own.
 struct Cut;
 
 impl Split<Known> for Cut {
@@ -84,7 +85,7 @@ impl Split<Known> for Cut {
     ghost right = { first_alone };
 }
 
-/// One seat answers for the processes of both.
+/// Join: one seat answers for the processes of both.
 struct Glue;
 
 impl Join<Known> for Glue {
@@ -110,6 +111,7 @@ fn load_named<D: StepName>(
     ensures same { (seat.new.table_id ≡ seat.old.table_id) × (seat.new.id ≡ seat.old.id) × (seat.new.me.1 ≡ seat.old.me.1) }
     ensures did { Did (step_of owed.now kind word) seat.old.me.0 result seat.new.me.0 }
 {
+    // For the proof alone: its value is read.
     let _ = owed;
     let _ = (kind, word);
     table.shared.load::<Does<D>>(seat, at as usize)
@@ -131,6 +133,7 @@ fn store_named<D: StepName>(
     ensures same { (seat.new.table_id ≡ seat.old.table_id) × (seat.new.id ≡ seat.old.id) × (seat.new.me.1 ≡ seat.old.me.1) }
     ensures did { Did (step_of owed.now kind word) seat.old.me.0 new seat.new.me.0 }
 {
+    // For the proof alone: its value is read.
     let _ = owed;
     let _ = (kind, word);
     table.shared.store::<Does<D>>(seat, at as usize, new);
@@ -152,12 +155,13 @@ fn pass_named<D: StepName>(
     ensures same { (seat.new.table_id ≡ seat.old.table_id) × (seat.new.id ≡ seat.old.id) × (seat.new.me.1 ≡ seat.old.me.1) }
     ensures did { Did (step_of owed.now kind word) seat.old.me.0 value seat.new.me.0 }
 {
+    // For the proof alone: its value is read.
     let _ = owed;
     let _ = (kind, word, value);
     table.shared.load::<Passes<D>>(seat, 0);
 }
 
-/// A step at a data word that there is not. The pass grows by this step, and no word changes.
+/// A step at a data word past the table's end. The view grows by this step, and no word changes.
 pub fn pass(table: &Board, seat: &mut RunSeat, owed: &Owed, kind: Kind, word: Word, value: u64)
     requires table { seat.old.table_id ≡ table.now.shared.table_id }
     requires some { 0 < table.now.shared.table_id.words }
@@ -168,7 +172,7 @@ pub fn pass(table: &Board, seat: &mut RunSeat, owed: &Owed, kind: Kind, word: Wo
     pass_named::<Brand>(table, seat, owed, kind, word, value);
 }
 
-/// One load. The pass grows by this step.
+/// One load of word `at`. The view grows by this step.
 pub fn load(table: &Board, seat: &mut RunSeat, owed: &Owed, kind: Kind, word: Word, at: u64) -> u64
     requires table { seat.old.table_id ≡ table.now.shared.table_id }
     requires word { at < table.now.shared.table_id.words }
@@ -179,7 +183,7 @@ pub fn load(table: &Board, seat: &mut RunSeat, owed: &Owed, kind: Kind, word: Wo
     load_named::<Brand>(table, seat, owed, kind, word, at)
 }
 
-/// One load of a word for no call. What the process owes stays owed.
+/// One load of word `at` that belongs to no call. Pending events stay pending.
 pub fn glance(table: &Board, seat: &mut RunSeat, word: Word, at: u64) -> u64
     requires table { seat.old.table_id ≡ table.now.shared.table_id }
     requires word { at < table.now.shared.table_id.words }
@@ -191,7 +195,7 @@ pub fn glance(table: &Board, seat: &mut RunSeat, word: Word, at: u64) -> u64
     load_named::<Brand>(table, seat, &owed, Kind::Glance, word, at)
 }
 
-/// One store. The pass grows by this step.
+/// One store into word `at`. The view grows by this step.
 pub fn store(
     table: &Board,
     seat: &mut RunSeat,
@@ -210,7 +214,7 @@ pub fn store(
     store_named::<Brand>(table, seat, owed, kind, word, at, new);
 }
 
-/// The first process of a seat gets a seat of its own.
+/// Gives the first process of a seat a seat of its own, which is answered.
 pub fn cut_off(table: &Board, seat: &mut RunSeat) -> RunSeat
     requires { (seat.old.table_id ≡ table.now.shared.table_id) × (0 < table.now.shared.table_id.words) × Splits (Kept table.now.shared.key) seat.old.id seat.old.me.0 (without_first seat.old.me.0) (first_alone seat.old.me.0) }
     ensures { (seat.new.table_id ≡ seat.old.table_id) × (seat.new.me ≡ (without_first seat.old.me.0, seat.old.me.1)) × (result.table_id ≡ seat.old.table_id) × (result.me ≡ (first_alone seat.old.me.0, [])) }
@@ -218,7 +222,7 @@ pub fn cut_off(table: &Board, seat: &mut RunSeat) -> RunSeat
     table.shared.split_seat::<Cut>(seat)
 }
 
-/// A seat answers for the processes of another seat too.
+/// Joins the other seat into this one, which then answers for the processes of both.
 pub fn take_in(table: &Board, seat: &mut RunSeat, other: RunSeat)
     requires { (seat.old.table_id ≡ table.now.shared.table_id) × (other.table_id ≡ table.now.shared.table_id) × (other.me.1 ≡ []) × (0 < table.now.shared.table_id.words) × Joins (Kept table.now.shared.key) seat.old.id seat.old.me.0 other.id other.me.0 (joined seat.old.me.0 other.me.0) spent_known }
     ensures { (seat.new.table_id ≡ seat.old.table_id) × (seat.new.me ≡ (joined seat.old.me.0 other.me.0, seat.old.me.1)) }

@@ -1,4 +1,4 @@
-//! A process's seat at the table, with its pass. Each method takes at most one step.
+//! The port of a process: its seat at the table, with its view. Each method takes at most one step.
 ghost use Rattle.std.specs.Prelude.{◌≡◌, ℕ, ◌<◌, ◌≤◌, ◌+◌, ◌^◌, true, false, [], Some, None, IsSome, IfOk, OnOk};
 ghost use Rattle.std.specs.Arc.{arc_value};
 ghost use Rattle.rmecore.specs.World.{is_store};
@@ -19,7 +19,7 @@ use std::alloc::{AllocError, Global};
 use std::marker::Model;
 use std::sync::Arc;
 
-/// A seat at the table. Contracts see it as its pass.
+/// A process's access to the table, through its seat. Contracts see it as its view.
 #[derive(Drop)]
 pub struct Walker {
     board: Arc<Board, Global>,
@@ -42,7 +42,7 @@ impl Model for Walker {
     ghost invariant = { λ w. record { table : w.seat.table_id ≡ (arc_value w.board).shared.table_id; seat : w.seat.me ≡ (alone w.setup w.by w.seat.me.0.view.seen, []); pass : IsPass (record { table = w.seat.table_id; setup = w.setup; by = w.by; fallen = has_crashed w.owed; start = started w.owed; seen = w.seat.me.0.view.seen }) } };
 }
 
-/// How many data words there are.
+/// How many data words a mailbox of these sizes has.
 #[tactic(auto, using(execution::proofs::Running::size_is))]
 pub fn data_words(layout: &Layout) -> u64
     requires { IsSize layout.now }
@@ -51,7 +51,7 @@ pub fn data_words(layout: &Layout) -> u64
     10 + layout.width + layout.procs + (2 + layout.width) * layout.cap
 }
 
-/// Where a word of the world stands in the table.
+/// The index of a word in the table.
 pub fn index(setup: &Setup, word: Word) -> u64
     requires size { IsSize setup.now.layout }
     requires table { InTable setup.now word }
@@ -67,7 +67,7 @@ pub fn index(setup: &Setup, word: Word) -> u64
 }
 
 impl Walker {
-    /// The seat of the next process is cut off.
+    /// Cuts the seat of process `by` off the seat of all later ones. `AllocError`: out of memory.
     pub fn first(
         board: &Arc<Board, Global>,
         seat: &mut RunSeat,
@@ -100,7 +100,7 @@ impl Walker {
         self.by
     }
 
-    /// How many processes there are.
+    /// The number of processes.
     pub fn procs(&self) -> u64
         ensures is { result ≡ self.now.setup.layout.procs }
         ensures pass { IsPass self.now }
@@ -124,7 +124,7 @@ impl Walker {
         self.setup
     }
 
-    /// One load, which carries the crash and the start that are owed.
+    /// One load, which carries the pending crash and start.
     pub fn load(&mut self, kind: Kind, word: Word) -> u64
         requires table { InTable self.old.setup word }
         requires kind { is_store kind ≡ false }
@@ -137,7 +137,7 @@ impl Walker {
         found
     }
 
-    /// One store, which carries the crash and the start that are owed.
+    /// One store, which carries the pending crash and start.
     pub fn store(&mut self, kind: Kind, word: Word, new: u64)
         requires table { InTable self.old.setup word }
         requires kind { is_store kind ≡ true }
@@ -149,7 +149,7 @@ impl Walker {
         self.owed = Owed::nothing();
     }
 
-    /// A step at a data word that there is not: no word changes, and a load reads 0. It loads a word for nothing.
+    /// A step at a data word past the table's end: no word changes, and a load reads 0. It loads word 0 and drops the value.
     pub fn pass(&mut self, kind: Kind, word: Word, value: u64)
         requires beyond { IsBeyond self.old.setup word }
         requires zero { is_store kind ≡ false → value ≡ 0 }
@@ -160,7 +160,7 @@ impl Walker {
         self.owed = Owed::nothing();
     }
 
-    /// Reads any word, wherever the process stands. What is owed stays owed.
+    /// Reads any word, at any stage of a call. Pending events stay pending.
     pub fn glance(&mut self, word: Word) -> u64
         requires { InTable self.old.setup word }
         ensures { Looks self.old word result self.new }
@@ -169,7 +169,7 @@ impl Walker {
         table::glance(&self.board, &mut self.seat, word, at)
     }
 
-    /// The process loses its private memory. The words stay.
+    /// The process loses its private memory. The words stay as they are.
     pub fn crash(&mut self)
         ensures { self.new ≡ record self.old { fallen = true; start = None } }
     {

@@ -1,4 +1,4 @@
-//! A call under way, step by step, with a plan of crashes that is asked before each step.
+//! A call under way, step by step. A crash plan is asked before each step.
 ghost use Rattle.std.specs.Prelude.{◌≡◌, ◌≢◌, ℕ, ◌+◌, ◌≤◌, List, [], ◌∷◌, length, Some, None, true, false, IfOk, IfErr, OnOk, OnErr};
 ghost use Rattle.rmeworld.specs.declared.call.Call.TheVariants.{Lock};
 ghost use Rattle.rmeworld.specs.OwnSteps.{most_steps};
@@ -19,11 +19,11 @@ use rmecore::Refusal;
 use rmeworld::{Answer, Call};
 use execution::LockFault;
 
-/// More steps than any call takes beside blocked ones.
+/// More steps than any call takes, blocked ones not counted.
 const MOST_STEPS: u64 = 256;
 
 impl Runner {
-    /// Takes the steps of the call that is under way, up to its answer or to a blocked reading.
+    /// Takes the steps of the call under way, up to its answer or to a blocked reading (`None`).
     pub fn run<C: CrashPlan>(
         &mut self,
         plan: &mut C,
@@ -95,7 +95,7 @@ impl Runner {
     }
 }
 
-/// The fault that a refused start is.
+/// The fault that a refused start answers.
 fn fault_for(call: &Call, refusal: Refusal) -> LockFault
     ensures { result ≡ fault_of call.now refusal }
 {

@@ -1,4 +1,4 @@
-//! What the fast path of a lock has led to, for who called it and for the machine of the process.
+//! What the fast path of a lock has led to, for its caller and for the machine of the process.
 ghost use Rattle.std.specs.Prelude.{◌≡◌, true, false};
 ghost use Rattle.rmeworld.specs.Stand.{spot_of as standing_at};
 ghost use Rattle.rmeworld.specs.declared.errand.Errand.TheVariants as Errand;
@@ -8,8 +8,8 @@ ghost use Rattle.robust.specs.FastCalls.{told_by};
 use rmecore::Stage;
 use rmeworld::{Answer, Process};
 
-/// What the fast path of a lock has led to, for who called it: a blocked reading, an entry with nothing to mend, or neither, and
-/// the general way goes on.
+/// What the fast path of a lock has led to, for its caller: a blocked reading, an entry with nothing to mend, or neither.
+/// After `Further` the machine takes the other steps.
 #[derive(Clone, Copy)]
 pub enum Led {
     Blocked,
@@ -17,7 +17,8 @@ pub enum Led {
     Further,
 }
 
-/// What a call of the lock is told: nothing yet, where it was blocked.
+/// What the fast path answers: none, where the machine goes on; an inner none, where it was blocked; or the answer of the
+/// lock.
 pub fn told(led: Led) -> Option<Option<Answer>>
     ensures { result ≡ told_by led }
 {
@@ -28,7 +29,7 @@ pub fn told(led: Led) -> Option<Option<Answer>>
     }
 }
 
-/// The process is turned away from a ruined lock.
+/// Puts the machine of a process that found the lock ruined on its way out.
 pub fn bar(process: &mut Process)
     requires free { process.old.errand ≡ Errand.Free }
     requires barred { process.old.barred ≡ false }

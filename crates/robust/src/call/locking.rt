@@ -1,4 +1,4 @@
-//! A lock that may be blocked, and calls that set out from anywhere outside the section.
+//! A lock that may be blocked, and calls that may start anywhere outside the section.
 ghost use Rattle.std.specs.Prelude.{◌≡◌, ◌⊎◌, ℕ, ◌≤◌, ◌+◌, List, length, Some, None, true, false, IfOk, IfErr, IfSome, OnOk, OnErr};
 ghost use Rattle.rmecore.specs.declared.refusal.Refusal.{Refusal as RefusalOf};
 ghost use Rattle.rmeworld.specs.declared.call.Call.TheVariants.{Lock, Recover, Withdraw};
@@ -19,8 +19,8 @@ use execution::LockFault;
 use std::sync::Wait;
 
 impl Runner {
-    /// Starts a lock or a recovery, unless the process is in the section. Where a lock still waits, its process crashes
-    /// first: it has given up its call, and its words stay.
+    /// Starts a lock or a recovery, unless the process is in the section (`AlreadyIn`). A process whose lock still waits
+    /// crashes first: it gives up that call, and its words stay.
     pub fn set_out(&mut self, call: &Call) -> Result<(), LockFault>
         requires idle { self.old.pass.start ≡ None }
         requires comes { (call.now ≡ Lock) ⊎ (call.now ≡ Recover) }
@@ -43,6 +43,7 @@ impl Runner {
     }
 
     /// Starts a lock, as `set_out` does.
+    // Inline: once in each lock.
     #[inline(always)]
     pub fn set_out_lock(&mut self) -> Result<(), LockFault>
         requires idle { self.old.pass.start ≡ None }
@@ -57,9 +58,9 @@ impl Runner {
         self.set_out(&Call::Lock)
     }
 
-    /// Takes the steps of a lock up to its answer, or until it has been blocked once more than it was given turns. Between
-    /// two blocked readings it rests. With no answer the process still waits in the line. The asking before the answer is left
-    /// to the caller.
+    /// Takes the steps of a lock up to its answer, or until it has been blocked once more than `turns` times. Between two
+    /// blocked readings it backs off. None: the process still waits in the line. The plan is not yet asked for the answer:
+    /// the caller does that.
     pub fn take_turns<C: CrashPlan>(
         &mut self,
         plan: &mut C,
@@ -90,8 +91,9 @@ impl Runner {
         }
     }
 
-    /// Takes the steps of a lock up to its answer, however often it is blocked. The asking before the answer is left to the
-    /// caller.
+    /// Takes the steps of a lock up to its answer, however often it is blocked. The plan is not yet asked for the answer:
+    /// the caller does that.
+    // Inline: once in each lock.
     #[inline(always)]
     pub fn take_all<R: Wait, C: CrashPlan>(
         &mut self,
@@ -116,7 +118,7 @@ impl Runner {
         unreachable!()
     }
 
-    /// The same as `take_turns`, with the asking before the answer.
+    /// The same as `take_turns`, and the plan is asked once more, before the answer.
     pub fn wait_turns<C: CrashPlan>(
         &mut self,
         plan: &mut C,
@@ -139,7 +141,7 @@ impl Runner {
         Ok(answer)
     }
 
-    /// The same as `take_all`, with the asking before the answer.
+    /// The same as `take_all`, and the plan is asked once more, before the answer.
     pub fn wait<R: Wait, C: CrashPlan>(&mut self, rt: &R, plan: &mut C) -> Result<Answer, LockFault>
         requires begun { Begun Lock self.old.pass.setup.layout.procs (spot_now self.old.pass) }
         requires pass { IsPass self.old.pass }

@@ -1,4 +1,4 @@
-//! The mailbox read from outside the section: count first, and then the entries below it, which never change.
+//! The mailbox read from outside the section: count first, then the entries below it, which never change.
 ghost use Rattle.std.specs.Prelude.{◌≡◌, ℕ, ◌+◌, ◌*◌, ◌-◌, ◌<◌, length, drop, IfOk, OnOk, OnErr};
 ghost use Rattle.redomail.specs.Layout.{place_at};
 ghost use Rattle.redomail.specs.Shape.{entry as entry_of, entries as entries_of};
@@ -11,15 +11,16 @@ use redomail::layout::COUNT;
 use rmecore::Word;
 use std::alloc::{AllocError, Global};
 
-/// The most words of an entry: its sender, its number, and eight of its value.
+/// The most words of an entry: its sender, its sequence number, and eight of its value.
 const MOST_WORDS: usize = 10;
 
 impl Runner {
-    /// The messages shown from a place on, at the reading of count.
+    /// The messages shown, from a place on, at the reading of count. `AllocError`: out of memory, and only count was read.
     pub fn read_from(&mut self, alloc: Global, place: u64) -> Result<Vec<Message>, AllocError>
         ensures messages { IfOk result (λ v. ReadsFrom self.old place v.items self.new) }
         ensures no_room { OnErr result (ReadsCount self.old place self.new) }
     {
+        // For the proof alone: its value is read.
         let _setup = self.setup();
         let count = self.glance(Word::Data(COUNT));
         if place >= count {
@@ -28,7 +29,7 @@ impl Runner {
         self.entries(alloc, place, count)
     }
 
-    /// The messages from a place on, below the count that stands.
+    /// The messages from a place on, below this count.
     fn entries(&mut self, alloc: Global, place: u64, count: u64) -> Result<Vec<Message>, AllocError>
         requires count { count ≡ cells_of self.old.pass.setup self.old.pass.seen 2 }
         requires below { place < count }
@@ -36,6 +37,7 @@ impl Runner {
         ensures glances { OnOk result (Glances self.old (entry_words self.old.pass.setup.layout place (count - place)) self.new) }
         ensures err { OnErr result (self.new ≡ self.old) }
     {
+        // For the proof alone: its value is read.
         let _setup = self.setup();
         let mut messages = Vec::with_capacity(alloc, (count - place) as usize)?;
         for a in place..count {

@@ -1,4 +1,4 @@
-//! A process at work: its seat and its machine, one step at a time.
+//! The driver of a process's calls: its port and its machine, one step at a time.
 ghost use Rattle.std.specs.Prelude.{◌≡◌, ℕ, List, [], ◌∷◌, length, IfSome, ◌<◌, ◌≤◌, ◌^◌, true, false, Some, None, IsSome, is_none, IfErr, OnOk, OnErr, IsTrue};
 ghost use Rattle.rmecore.specs.Machine.{kind_of, word_of, carried};
 ghost use Rattle.rmecore.specs.Simulated.{one_more};
@@ -32,7 +32,7 @@ use crate::access::fast_append::append;
 use crate::access::fast_path::{Reached, go_in, leave};
 use crate::access::walker::data_words;
 
-/// A process with its seat, its machine, and how many own steps its last call has taken, held at the greatest u64.
+/// A process with its port, its machine, and the own steps of its last call, at most the greatest u64.
 #[derive(Drop)]
 pub struct Runner {
     walker: Walker,
@@ -50,7 +50,7 @@ impl Model for Runner {
     ghost invariant = { λ r. IsRunBy r.walker r.process };
 }
 
-/// Whether the table has the word. It has each lock word, and the data words below their number.
+/// Whether the table has the word. It has each lock word, and the data words up to its end.
 fn in_table(setup: &Setup, word: Word) -> bool
     requires size { IsSize setup.now.layout }
     requires within { InWords setup.now.layout.procs word }
@@ -63,7 +63,7 @@ fn in_table(setup: &Setup, word: Word) -> bool
     }
 }
 
-/// One load of the machine.
+/// One load of the machine. Past the table's end it reads 0.
 fn read(walker: &mut Walker, kind: Kind, word: Word) -> u64
     requires within { InWords walker.old.setup.layout.procs word }
     requires kind { is_store kind ≡ false }
@@ -99,7 +99,7 @@ fn perform(walker: &mut Walker, access: Access) -> u64
     }
 }
 
-/// So many askings of a plan that never falls.
+/// Counts the askings of a plan that never falls, in place of asking.
 fn count_calm<C: CrashPlan>(plan: &mut C, askings: u64)
     requires { C.calm plan.old ≡ true }
     ensures asked { C.asked plan.new ≡ so_many_more askings (C.asked plan.old) }
@@ -111,7 +111,7 @@ fn count_calm<C: CrashPlan>(plan: &mut C, askings: u64)
 impl Runner {
     ghost use Rattle.execution.specs.Running.{Seated, TakesStep, fell, began, behind};
 
-    /// A process at rest, with this seat.
+    /// A process at rest, with this port.
     pub fn new(walker: Walker) -> Runner
         requires { walker ≡ fresh walker.table walker.setup walker.by }
         ensures { result ≡ record { pass = walker; steps = 0 } }
@@ -156,7 +156,7 @@ impl Runner {
         self.process.crash();
     }
 
-    /// Asks the plan once. Where it falls, the process crashes.
+    /// Asks the plan once. If it falls, the process crashes.
     pub fn ask<C: CrashPlan>(&mut self, plan: &mut C) -> Result<(), LockFault>
         ensures asked { C.asked plan.new ≡ one_more (C.asked plan.old) }
         ensures goes_on { OnOk result ((self.new ≡ self.old) × (C.fallen plan.new ≡ C.fallen plan.old)) }
@@ -188,8 +188,10 @@ impl Runner {
         self.process.feed(value)
     }
 
-    /// The fast path of a lock that has just been started or was blocked, where the plan never falls: its steps up to its answer
-    /// or to a blocked reading, or as far as nothing is in the way. The askings before them are counted behind them.
+    /// The fast path of a lock that has just been started or was blocked, where the plan never falls: its steps up to its
+    /// answer or to a blocked reading, or as far as they go without the machine. The askings before them are counted
+    /// afterwards.
+    // Inline: once in each lock.
     #[inline(always)]
     fn fast_lock<C: CrashPlan>(&mut self, plan: &mut C) -> Led
         requires begun { Begun Lock self.old.pass.setup.layout.procs (spot_now self.old.pass) }
@@ -249,7 +251,9 @@ impl Runner {
         matches!(self.process.stage(), Some(Stage::ReadingChoosing { .. }))
     }
 
-    /// The same as `fast_lock`, for a lock that was blocked: a copy of its own, so that an uncontended lock pays nothing for it.
+    /// The same as `fast_lock`, for a lock that was blocked: a copy of its own, so that an uncontended lock pays nothing for
+    /// it.
+    // Apart: keeps an uncontended lock small.
     #[inline(never)]
     fn fast_lock_later<C: CrashPlan>(&mut self, plan: &mut C) -> Led
         requires begun { Begun Lock self.old.pass.setup.layout.procs (spot_now self.old.pass) }
@@ -268,8 +272,8 @@ impl Runner {
         self.process.is_clean()
     }
 
-    /// An unlock of a holder with nothing to mend, where the plan never falls: two stores. The askings before them and before
-    /// the answer are counted behind them.
+    /// An unlock of a holder with nothing to mend, where the plan never falls: two stores. The askings before them and
+    /// before the answer are counted afterwards.
     pub fn fast_unlock<C: CrashPlan>(&mut self, plan: &mut C)
         requires idle { self.old.pass.start ≡ None }
         requires clean { spot_now self.old.pass ≡ free_spot Inside true }
@@ -285,7 +289,8 @@ impl Runner {
         count_calm(plan, 3);
     }
 
-    /// The two stores of an unlock of a holder with nothing to mend. They are not counted yet.
+    /// The two stores of an unlock of a holder with nothing to mend. The caller counts them.
+    // Inline: two stores of each unlock.
     #[inline(always)]
     fn go_out(&mut self)
         requires idle { self.old.pass.start ≡ None }
@@ -296,13 +301,14 @@ impl Runner {
         ensures steps { self.new.steps ≡ self.old.steps }
     {
         self.walker.begin(Call::Unlock);
+        // For the proof alone: its value is read.
         let _pass = self.walker.by();
         leave(&mut self.walker);
         self.process.seam_stand(Stage::Rest);
     }
 
-    /// Whether a call behind another one has a fast path: an append or an unlock of a holder with nothing to mend, where the
-    /// plan never falls.
+    /// Whether the fast path takes a call that follows another one: an append or an unlock of a holder with nothing to mend,
+    /// where the plan never falls.
     pub fn has_fast_way<C: CrashPlan>(&self, plan: &C, call: &Call) -> bool
         ensures clean { result ≡ true → spot_now self.now.pass ≡ free_spot Inside true }
         ensures calm { result ≡ true → C.calm plan.now ≡ true }
@@ -314,7 +320,7 @@ impl Runner {
         }
     }
 
-    /// The fast path of an append: its gets and puts. The machine stands where it stood.
+    /// The fast path of an append: its gets and puts. The machine's state stays the same.
     fn fast_append<C: CrashPlan>(&mut self, plan: &mut C, seq: u64, value: &Body) -> Answer
         requires idle { self.old.pass.start ≡ None }
         requires accepted { refusal_now self.old (Append seq value.now) ≡ None }
@@ -325,6 +331,7 @@ impl Runner {
         ensures leaves { Fits (Append seq value.now) result × Leaves (Append seq value.now) result (spot_now self.new.pass) }
     {
         self.walker.begin(Call::Append { seq, value: *value });
+        // For the proof alone: its value is read.
         let _pass = self.walker.by();
         let (reply, taken) = append(&mut self.walker, seq, value);
         self.steps = self.steps.saturating_add(taken);
@@ -332,7 +339,7 @@ impl Runner {
         Answer::Mail(reply)
     }
 
-    /// The fast path of an unlock behind another call: two stores.
+    /// The fast path of an unlock after another call: two stores.
     fn fast_leave<C: CrashPlan>(&mut self, plan: &mut C) -> Answer
         requires idle { self.old.pass.start ≡ None }
         requires clean { spot_now self.old.pass ≡ free_spot Inside true }
@@ -347,7 +354,7 @@ impl Runner {
         Answer::Unlocked
     }
 
-    /// The fast path of a call behind another one. The askings before its steps are counted behind them.
+    /// The fast path of a call after another one. The askings before its steps are counted afterwards.
     pub fn fast_call<C: CrashPlan>(&mut self, plan: &mut C, call: &Call) -> Answer
         requires idle { self.old.pass.start ≡ None }
         requires accepted { refusal_now self.old call.now ≡ None }
@@ -365,7 +372,7 @@ impl Runner {
         }
     }
 
-    /// Starts a lock, where the process is neither inside nor in a call. Elsewhere nothing changes.
+    /// Starts a lock, if the process is neither inside nor in a call. Otherwise it answers false, and nothing changes.
     pub fn start_lock(&mut self) -> bool
         requires idle { self.old.pass.start ≡ None }
         ensures started { result ≡ true → (self.new ≡ began self.old Lock) × Begun Lock self.new.pass.setup.layout.procs (spot_now self.new.pass) × IsPass self.new.pass × (refusal_now self.old Lock ≡ None) }
@@ -375,12 +382,13 @@ impl Runner {
             return false;
         }
         self.walker.begin(Call::Lock);
+        // For the proof alone: its value is read.
         let _pass = self.walker.by();
         self.steps = 0;
         true
     }
 
-    /// Starts a call behind another one, whose steps go on being counted, unless it is refused.
+    /// Starts a call after another one, unless it is refused. The steps of both are counted together.
     pub fn begin_behind(&mut self, call: &Call) -> Result<(), Refusal>
         requires { self.old.pass.start ≡ None }
         ensures accepted { OnOk result ((start_refusal self.old.pass.setup.layout (spot_now self.old.pass) call.now ≡ None) × (self.new ≡ behind self.old call.now)) }
@@ -391,6 +399,7 @@ impl Runner {
     {
         self.process.start(*call)?;
         self.walker.begin(*call);
+        // For the proof alone: its value is read.
         let _by = self.walker.by();
         Ok(())
     }
@@ -418,7 +427,7 @@ impl Runner {
         self.walker.glance(word)
     }
 
-    /// The seat.
+    /// Gives the port back.
     pub fn into_walker(self) -> Walker
         ensures { result ≡ self.pass }
     {

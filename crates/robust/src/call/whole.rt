@@ -1,4 +1,4 @@
-//! What a whole mailbox call does behind the start of its lock.
+//! What a whole mailbox call does after the start of its lock.
 ghost use Rattle.std.specs.Prelude.{◌≡◌, ◌≢◌, ℕ, ◌+◌, ◌≤◌, List, [], ◌∷◌, Ok, Err, Some, None, true, false, IfOk, IfErr, IfSome, OnOk, OnErr};
 ghost use Rattle.redomail.specs.declared.reply.Reply.{Reply as ReplyOf};
 ghost use Rattle.rmeworld.specs.declared.call.Call.{Call as CallOf};
@@ -22,8 +22,8 @@ use execution::{Entry, LockFault};
 use std::sync::Wait;
 
 impl Runner {
-    /// Starts a call that is never blocked behind another one, and takes its steps up to its answer. The asking before the
-    /// answer is left to the caller.
+    /// Starts a call after another one, one that is never blocked, and takes its steps up to its answer. The plan is not yet
+    /// asked for the answer: the caller does that.
     fn follow<C: CrashPlan>(&mut self, plan: &mut C, call: &Call) -> Result<Answer, LockFault>
         requires idle { self.old.pass.start ≡ None }
         requires accepted { refusal_now self.old call.now ≡ None }
@@ -67,7 +67,7 @@ impl Runner {
         }
     }
 
-    /// Mends, does a task of the mailbox and leaves. Where the mending finds the lock ruined it leaves at once.
+    /// Mends, does a task of the mailbox and leaves. If the mending finds the lock ruined, it leaves at once.
     fn mend_and_work<C: CrashPlan>(
         &mut self,
         plan: &mut C,
@@ -96,7 +96,8 @@ impl Runner {
         }
     }
 
-    /// What comes behind the answer of the lock, or behind its turns, up to the asking before the answer.
+    /// The rest of the call once the lock has its answer, or has used up its turns (`None`). The plan is not yet asked for
+    /// the answer.
     fn come<C: CrashPlan>(
         &mut self,
         plan: &mut C,
@@ -132,7 +133,7 @@ impl Runner {
         }
     }
 
-    /// What comes behind the answer of the lock, or behind its turns, with the asking before the answer.
+    /// The same as `come`, and the plan is asked once more, before the answer.
     fn finish<C: CrashPlan>(
         &mut self,
         plan: &mut C,
@@ -156,7 +157,7 @@ impl Runner {
         }
     }
 
-    /// A whole mailbox call, which gives up once it is blocked more often than it was given turns.
+    /// A whole mailbox call, which gives up once it has been blocked more than `turns` times (`NotYet`).
     #[tactic(auto, using(execution::proofs::WholeCalls::whole_replied, execution::proofs::WholeCalls::whole_fails, execution::proofs::WholeCalls::cut_fails, execution::proofs::WholeCalls::goes_idle, execution::proofs::WholeCalls::task_fits, execution::proofs::Chained::lock_idle))]
     pub fn mail_within<C: CrashPlan>(
         &mut self,

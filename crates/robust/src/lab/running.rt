@@ -32,9 +32,12 @@ use std::thread;
 use std::thread::{PromisedHandle, Scope, Threads};
 
 /// Runs a worker for each process of a new arena, all at the same time, each on a thread of its own. Worker p appends its
-/// messages with the numbers from 1 on; it calls again after each crash that its gate lets fall, and tells its gate of each
-/// answer. It returns when all workers have ended, with the messages that stand then: of each worker its own, once and in
+/// messages with the numbers from 1 on. It calls again after each crash of its gate's plan, and reports each answer to its
+/// gate. It returns when all workers have ended, with the messages in the mailbox then: of each worker its own, once and in
 /// order, and no others.
+///
+/// `BadSpec`: a size is outside its limits, or the number of gates isn't that of the processes. `OutOfMemory`: memory or a
+/// thread was refused. `Member` and `Reply`: that worker ended early, with this fault or this reply.
 pub fn run_lab<G: Gate + Send + Drop, R: Threads + Wait + Sync>(
     rt: &R,
     alloc: Global,
@@ -100,8 +103,8 @@ fn made<R>(rt: &R, alloc: Global, spec: Spec) -> Result<Vec<Member>, LabFault>
     }
 }
 
-/// Runs all workers, each in a thread of its own, and answers them once all have ended. Where a thread can't be made it
-/// returns too once those that run have ended.
+/// Runs all workers, each in a thread of its own, and answers them once all have ended. If a thread can't be made, it too
+/// returns once those that run have ended.
 fn work_all<G: Gate + Send + Drop, R: Threads + Wait + Sync>(
     rt: &R,
     alloc: Global,
@@ -179,7 +182,7 @@ fn join_all<R: Threads>(
     Ok(all)
 }
 
-/// What ended the least worker that has ended early.
+/// What ended the worker with the least number of those that ended early.
 fn first_fault(ended: &[Done]) -> Option<LabFault>
     ensures first { IfSome result (IsFirstFault ended.now) }
     ensures none { result ≡ None → All (λ done. done.ending ≡ Ending.AllSent) ended.now }

@@ -29,7 +29,7 @@ pub struct Done {
     pub ending: Ending,
 }
 
-/// That a worker of a lab with these sizes hands back the member that it was given, with its messages sent.
+/// The promise of a worker's thread: it hands back the member that it was given, with its messages sent.
 #[derive(Drop)]
 pub struct HandsBack(pub Snapshot<Member>, pub Spec);
 
@@ -41,7 +41,7 @@ impl Promise<Done> for HandsBack {
     ghost kept_by = { λ promise done. (seat_of done.member ≡ seat_of promise.0.value) × HasWorked promise.1 done };
 }
 
-/// Sends the messages of a worker, numbered from 1, each again until it is answered. An answer is told to the gate.
+/// Sends the messages of a worker, numbered from 1, each again until it is answered. Each answer is reported to the gate.
 pub fn work<G: Gate + Drop, R: Wait>(rt: &R, mut member: Member, mut gate: G, spec: Spec) -> Done
     requires some { 1 ≤ spec.messages }
     requires most { spec.messages ≤ 4096 }
@@ -71,7 +71,7 @@ pub fn work<G: Gate + Drop, R: Wait>(rt: &R, mut member: Member, mut gate: G, sp
     Done { member, ending }
 }
 
-/// Sends one message until it is answered. Last of all the gate hears of the answer.
+/// Sends one message until it is answered. Then the answer is reported to the gate.
 fn send<G: Gate, R: Wait>(
     rt: &R,
     member: &mut Member,

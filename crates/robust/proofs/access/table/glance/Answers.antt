@@ -6,7 +6,7 @@ use Rattle.execution.specs.declared.entry.Step.{Step}
 use Rattle.robust.specs.declared.access.owed.Owed.{Owed}
 use Rattle.robust.proofs.access.table.glance.Goals as goal
 
--- a step that owes nothing, as a glance
+-- a step with nothing pending is a glance's
 is_glanced : (o : Owed) (word : Word) → OwesNothing o → step_of o Glance word ≡ glanced word
 is_glanced o word n = λ i. record { crashed = n.0 i; start = n.1 i; kind = Glance; word = word }
 

@@ -40,13 +40,13 @@ pub step_gives : (named : Option Setup) (p : ℕ) (o : Opening) (s new after : W
 step_gives named p o s new after n (Ok turn) told are opens is accepted moved answer blocked = gives named p o turn.answer turn.blocked s new after n told are opens is accepted moved answer blocked
 step_gives named p o s new after n (Err e) told are opens is accepted moved answer blocked = tt
 
--- how many turns are left after so many blocked steps
+-- the turns that are left after k blocked steps
 abbrev pub AreLeft : Option ℕ → ℕ → Option ℕ → Type 0
 AreLeft None k left = left ≡ None
 AreLeft (Some turns) k left = (m : ℕ) × (left ≡ Some m) × (m + k ≡ turns)
 
--- The next step of a call is opened so. The steps before it gave no answer; they went from one count of own steps to another,
--- and left so many turns.
+-- The opening of a call's next step, after steps that gave no answer. They went from one count of own steps to another, and
+-- these turns are left.
 pub record IsUnderWay (named : Option Setup) (p : ℕ) (standing : MemberState) (call : Call) (turns left : Option ℕ) (from to : ℕ) (o : Opening) : Type 0 where
   pub before : List Bool
   pub taken : HasTaken named p (first_of standing call) before

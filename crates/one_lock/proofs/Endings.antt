@@ -56,7 +56,7 @@ mapped_from : {D : Type 0} (f : D → Ending) (o : Option D) (e : Ending) → op
 mapped_from f None e is = absurd (let none : Option Ending = None in let same : none ≡ Some e = is in cc)
 mapped_from f (Some d) e is = (d, refl, (let same : Some (f d) ≡ Some e = is in cc))
 
--- workers that were handed back, told by where the members of a new arena stand
+-- workers that were handed back, by the states of the members of a new arena
 pub each_may : {D : Type 0} (named : Option Setup) (s : Spec) (f : D → Ending) (g : D → Seat) (l : Layout) (n : ℕ) (ds looked : List D) → looked ≡ ds → All (λ d. MayEnd named s (g d).process (f d)) ds → map (λ d. place_of (g d)) ds ≡ map place_of (new_seats l n) → EachMay named s (map f looked)
 each_may {D = D} named s f g l n ds looked is may places p e at =
     let P : D → Type 0 = λ d. MayEnd named s (g d).process (f d) in
@@ -93,7 +93,7 @@ ended_by named m new to NotInconsistent goes wait crash told s = absurd (true≢
 ended_by named m new to BadIndex goes wait crash told s = absurd (true≢false (sym wait))
 ended_by named m new to BadWidth goes wait crash told s = absurd (true≢false (sym wait))
 
--- what is told of worker p where one has ended so, for which memory was not wanted
+-- the fault of worker p, if it has ended this way and not out of memory
 told_early : (s : Spec) (p : ℕ) (e : Ending) (fault : LabFault) → p < s.procs → MayEnd (Some (setup_of s)) s p e → (e ≡ Fault OutOfMemory → ⊥) → fault_by p e ≡ Some fault → MayEndLab s fault
 told_early s p AllSent fault below may unwanted told = absurd (let none : Option LabFault = None in let e : none ≡ Some fault = told in cc)
 told_early s p (Fault why) fault below (inl spent) unwanted told =
@@ -114,7 +114,7 @@ of_least es s fault count may none least =
     told_early s least.p least.ending fault (subst (λ (k : ℕ). least.p < k) count within) (may least.p least.ending least.at)
     (λ wants. none (subst (Contains es) (is ∙ wants) (Contains-get_or es least.p least.ending within))) least.told
 
--- what the workers of a lab may have told early
+-- the faults that the workers of a lab may end it with
 pub may_end_lab : (es : List Ending) (s : Spec) (fault : LabFault) → length es ≡ s.procs → EachMay (Some (setup_of s)) s es → (WantedMemory es → fault ≡ WantsMemory) → fault ≢ BadSpec → (fault ≢ WantsMemory → IsOfLeast es fault) → MayEndLab s fault
 may_end_lab es s BadSpec count may wanted sized least = absurd (sized refl)
 may_end_lab es s WantsMemory count may wanted sized least = tt

@@ -1,4 +1,4 @@
--- What proof files of this crate cite from modules that two or more of them share, passed on from one place. Declares nothing.
+-- Names that two or more proof files of the laboratory cite, passed on from one place. Declares nothing.
 pub use Rattle.std.proofs.lemmas.Bool.{true≢false, cases_lt}
 pub use Rattle.std.proofs.lemmas.List.{get_or-map, length-map, take_all, map-append, get_or_append_left}
 pub use Rattle.std.proofs.lemmas.List.Elements.{All-more, All-contains, All-get_or, Contains-get_or, All-nil, All-cons, All-head, All-tail, All-push}

@@ -1,4 +1,4 @@
--- Where the members of an arena stand that its workers were given, and hand back.
+-- The processes of the members that a lab's workers were given, and hand back.
 use Rattle.std.proofs.Common.{◌≡◌, ℕ, zero, suc, ◌<◌, List, [], ◌∷◌, ◌++◌, map, length, get_or, All, refl, sym, ap, ◌∙◌, subst, inl, inr, arith}
 use Rattle.one_lock.proofs.LabCommon.{cases_lt, length-map, map-append, get_or_append_left, All-nil, All-cons, All-head, All-tail, All-push, Layout, Seat, new_seats, place_of, CanSend}
 use Rattle.std.proofs.Math.Seq.{get_or-append_seam}

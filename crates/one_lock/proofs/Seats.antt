@@ -5,7 +5,7 @@ use Rattle.std.proofs.lemmas.List.{map-append}
 use Rattle.std.proofs.lemmas.List.Elements.{All-nil, All-push}
 use Rattle.one_lock.specs.declared.member_state.MemberState.TheVariants.{Out}
 
--- the members are of an arena of so many processes
+-- the members are of an arena with this many processes
 abbrev pub FitAll : ℕ → List Seat → Type 0
 FitAll n members = All (λ (m : Seat). m.layout.procs ≡ n) members
 
@@ -21,7 +21,7 @@ pub new_count : (l : Layout) (n : ℕ) → length (new_seats l n) ≡ n
 new_count l zero = refl
 new_count l (suc n) = length_more (new_seats l n) (record { process = n; layout = l; standing = Out; steps = 0; counted = 0 }) ∙ ap suc (new_count l n)
 
--- the members of a new arena, told by how many parts its ledger has
+-- the members of a new arena, by the number of parts of its ledger
 pub new_arena : (l : Layout) (n : ℕ) (ms : List Seat) → ms ≡ new_seats l l.procs → l.procs ≡ n → FitAll n ms
 new_arena l n ms made e = subst (λ (xs : List Seat). FitAll n xs) (sym made) (subst (λ (k : ℕ). FitAll k (new_seats l l.procs)) e (new_fit l l.procs))
 

@@ -1,4 +1,4 @@
--- What is known of the world under the lock stays known at each happening.
+-- What is known of the world under the mutex stays known after each event.
 use Rattle.std.proofs.Common.{◌≡◌, ℕ, ◌+◌, List, [], ◌∷◌, ◌++◌, refl, sym, ap, ◌∙◌, subst, arith, Option, Some, None}
 use Rattle.one_lock.proofs.Common.{Happening, Begins, Falls, Moves, Glances, WorldState, scene_of, Takes, new_world, Setup, IsTold, AreSizes, steps_of}
 use Rattle.rmeworld.specs.World.{at_first, Can, onward, Story, last_scene, event_deeds, deeds}
@@ -41,7 +41,7 @@ told_first s is =
       counted = refl;
     }
 
--- no happening changes the sizes
+-- no event changes the sizes
 pub still_sized : (named : Option Setup) (s : WorldState) (e : Happening) (new : WorldState) → Takes s e new → AreSizes named s.layout s.limit → AreSizes named new.layout new.limit
 still_sized None s e new takes are = tt
 still_sized (Some named) s e new takes are = (takes.layout ∙ are.0, takes.limit ∙ are.1)

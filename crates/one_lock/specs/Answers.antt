@@ -1,4 +1,4 @@
--- What a member's call is answered: what the world under the lock answers its process.
+-- What a member's call answers: what the world under the mutex answers its process.
 use Rattle.std.specs.Prelude.{◌≡◌, ◌≢◌, ◌↔◌, ◌+◌, ◌≤◌, ℕ, zero, suc, Bool, true, false, ◌⊎◌, Option, Some, None, IsNone, IsTrue, List, [], ◌∷◌, length, Result, Ok, Err}
 use Rattle.rmecore.specs.Simulated.{tally_at}
 use Rattle.rmecore.specs.declared.refusal.Refusal.{Refusal}
@@ -32,21 +32,21 @@ abbrev pub start_by : Option Call → ℕ → WorldState → WorldState
 start_by None p s = s
 start_by (Some call) p s = started s p call
 
--- the world once what comes before a step of p has come
+-- the world after the crash and the start before a step of p
 abbrev pub opened : Opening → ℕ → WorldState → WorldState
 opened o p s = start_by o.call p (crash_by o.crash p s)
 
--- why what comes before a step of p may be refused: want of memory, its crash, or its call
+-- why the crash and the start before a step of p may be refused: out of memory, or the cause of the crash or of the start
 abbrev pub RefusesToOpen : ℕ → Opening → WorldState → Refusal → Type 0
 RefusesToOpen p o s e =
     (e ≡ WantsMemory) ⊎ ((o.crash ≡ true) × (crash_refusal s p ≡ Some e))
     ⊎ ((call : Call) × (o.call ≡ Some call) × (start_refusal (crash_by o.crash p s) p call ≡ Some e))
 
--- why a step of p that is opened so may be refused: all that, or the step itself
+-- why a step of p with this opening may be refused: one of those causes, or the step's own
 abbrev pub Refuses : ℕ → Opening → WorldState → Refusal → Type 0
 Refuses p o s e = RefusesToOpen p o s e ⊎ (advance_refusal (opened o p s) p ≡ Some e)
 
--- why a crash, or a call, that comes before a step of p is refused; none where there is none
+-- why a crash, or a start, before a step of p is refused; none where there is no crash or no start
 abbrev pub refusal_of_crash : Bool → ℕ → WorldState → Option Refusal
 refusal_of_crash true p s = crash_refusal s p
 refusal_of_crash false p s = None
@@ -55,16 +55,16 @@ abbrev pub refusal_of_start : Option Call → ℕ → WorldState → Option Refu
 refusal_of_start None p s = None
 refusal_of_start (Some call) p s = start_refusal s p call
 
--- nothing that comes before a step of p is refused: not its crash, and not its call
+-- neither the crash nor the start before a step of p is refused
 abbrev pub Opens : ℕ → Opening → WorldState → Type 0
 Opens p o s = (refusal_of_crash o.crash p s ≡ None) × (refusal_of_start o.call p (crash_by o.crash p s) ≡ None)
 
--- the next step of p is a look or a weigh that has to be taken again: one more of its steps is blocked
+-- the next step of p is a look or a weigh that has to be taken again: the count of its blocked steps grows
 abbrev pub IsBlocked : ℕ → WorldState → Type 0
 IsBlocked p s = (tally_at (advanced s p).tallies p).blocked ≢ (tally_at s.tallies p).blocked
 
--- Some run from all words 0 ends in a world with the sizes that are named, in which a step of p, opened so, is refused nothing, gives this answer, and is
--- blocked or not.
+-- Some run from all words 0 ends in a world with the sizes that are named. A step of p with this opening isn't refused
+-- there, gives this answer, and is blocked or not.
 pub record Gives (named : Option Setup) (p : ℕ) (o : Opening) (answer : Option Answer) (blocked : Bool) : Type 0 where
   pub world : WorldState
   pub steps : ℕ
@@ -75,19 +75,19 @@ pub record Gives (named : Option Setup) (p : ℕ) (o : Opening) (answer : Option
   pub given : (stepped (opened o p world) p).answer ≡ answer
   pub held : IsTrue blocked ↔ IsBlocked p (opened o p world)
 
--- what comes before a call's first step, and before its later ones
+-- the opening of a call's first step, and of its later ones
 abbrev pub first_of : MemberState → Call → Opening
 first_of standing call = record { crash = is_lost standing; call = Some call }
 
 abbrev pub further : Opening
 further = record { crash = false; call = None }
 
--- what comes before the step after these, each told by whether it was blocked
+-- the opening of the step after these, each given by whether it was blocked
 abbrev pub opening_after : Opening → List Bool → Opening
 opening_after first [] = first
 opening_after first (b ∷ bs) = further
 
--- p took these steps of a call, the last one first, and none of them gave an answer
+-- p took these steps of a call, the last one first, and none of them had an answer
 abbrev pub HasTaken : Option Setup → ℕ → Opening → List Bool → Type 0
 HasTaken named p first [] = Unit {0}
 HasTaken named p first (b ∷ bs) = HasTaken named p first bs × Gives named p (opening_after first bs) None b
@@ -97,19 +97,20 @@ count_blocked [] = 0
 count_blocked (true ∷ bs) = suc (count_blocked bs)
 count_blocked (false ∷ bs) = count_blocked bs
 
--- as many turns as these are enough for so many blocked steps; no number of turns is enough for any
+-- the turns are enough for k blocked steps; without a limit they always are
 abbrev pub Suffice : Option ℕ → ℕ → Type 0
 Suffice None k = Unit {0}
 Suffice (Some turns) k = k ≤ turns
 
--- the turns that are left once one of them is taken; of none, none
+-- the turns that are left after one of them, if there is one
 abbrev pub spent : Option ℕ → Option ℕ
 spent None = None
 spent (Some zero) = Some zero
 spent (Some (suc turns)) = Some turns
 
--- A call of p took a member's own steps from one count to another. Its last step gave this answer, those before it gave none,
--- and no more of those were blocked than it had turns. Without an answer just as many were blocked, and the last was too.
+-- A call of p took a member's own steps from one count to another. Its last step gave this answer, the steps before it gave
+-- none, and no more of them were blocked than the call had turns. Without an answer exactly as many were blocked, and the
+-- last step too.
 pub record IsAnswered (named : Option Setup) (p : ℕ) (standing : MemberState) (call : Call) (turns : Option ℕ) (from to : ℕ) (answer : Option Answer) : Type 0 where
   pub before : List Bool
   pub blocked : Bool
@@ -119,12 +120,12 @@ pub record IsAnswered (named : Option Setup) (p : ℕ) (standing : MemberState) 
   pub few : Suffice turns (count_blocked before)
   pub gives_up : IsNone answer → (blocked ≡ true) × (turns ≡ Some (count_blocked before))
 
--- The result of a member's call is what its process was answered, or the call was cut off.
+-- The result of a member's call is the one of its process's answer, or the call was cut off.
 pub record Answered {T : Type 0} (named : Option Setup) (by : Option Answer → Result T LockFault) (old : Seat) (call : Call) (turns : Option ℕ) (new : Seat) (result : Result T LockFault) : Type 0 where
   pub told : (result ≡ Err Crashed) ⊎ ((result ≡ Err OutOfMemory) ⊎ ((answer : Option Answer) × (IsAnswered named old.process old.standing call turns old.steps new.steps answer × (result ≡ by answer))))
 
--- by what its process was answered: a lock, which has waited as often as it may where there is no answer; a recovery; a
--- mending; a reading of the board; what answers nothing; and a task
+-- the results of a lock (without an answer it has used up its turns), a recovery, a mending, a reading of the board, a call
+-- without a result, and a task, by the answer of the process
 abbrev pub entry_by : Option Answer → Result Entry LockFault
 entry_by None = Err NotYet
 entry_by (Some Clean) = Ok CleanEntry
@@ -148,7 +149,7 @@ abbrev pub reply_by : Option Answer → Reply
 reply_by (Some (Mail reply)) = reply
 reply_by _ = Done
 
--- A task of a process that is in and has mended was given an answer, and answers so.
+-- A task of a process that is in and has mended was given an answer, and this is its reply.
 pub record IsReply (named : Option Setup) (p : ℕ) (call : Call) (reply : Reply) : Type 0 where
   pub answer : Answer
   pub from : ℕ
@@ -156,7 +157,7 @@ pub record IsReply (named : Option Setup) (p : ℕ) (call : Call) (reply : Reply
   pub answered : IsAnswered named p Mended call None from to (Some answer)
   pub is : reply ≡ reply_by (Some answer)
 
--- A whole call of the mailbox that ends for what its lock was answered, and so took no step but the lock's, up to this count.
+-- A whole mailbox call that ends with what its lock was answered, after the lock's steps alone, up to this count.
 abbrev pub EndsAtLock : Option Setup → Seat → Option ℕ → ℕ → LockFault → Type 0
 EndsAtLock named old turns to NotYet = IsAnswered named old.process old.standing Lock turns old.steps to None
 EndsAtLock named old turns to SpentFault = IsAnswered named old.process old.standing Lock turns old.steps to (Some NumbersSpent)

@@ -1,11 +1,11 @@
--- How a worker of a laboratory ended, and which fault is told of it.
+-- How a worker of a laboratory ended, and the fault that the lab answers.
 use Rattle.std.specs.Prelude.{ℕ, Option, Some, None}
 use Rattle.one_lock.specs.declared.lab.lab_fault.LabFault.{LabFault}
 use Rattle.one_lock.specs.declared.lab.lab_fault.LabFault.TheVariants.{Member, Reply}
 use Rattle.one_lock.specs.declared.lab.ending.Ending.{Ending}
 use Rattle.one_lock.specs.declared.lab.ending.Ending.TheVariants.{AllSent, Fault, Refused}
 
--- what is told of worker p, by how it ended
+-- the fault of worker p, by how it ended
 abbrev pub fault_by : ℕ → Ending → Option LabFault
 fault_by p AllSent = None
 fault_by p (Fault fault) = Some (Member p fault)

@@ -1,4 +1,4 @@
--- The laboratory: which sizes it refuses, what its workers send, and what it leaves.
+-- The laboratory: the sizes that it refuses (the specification's limits), what its workers send, and its result.
 use Rattle.std.specs.Prelude.{◌≡◌, ◌≢◌, ℕ, zero, suc, ◌+◌, ◌*◌, ◌<◌, ◌^◌, ◌⊎◌, List, [], ◌∷◌, ◌++◌, length, filter}
 use Rattle.redomail.specs.declared.message.Message.{Message}
 use Rattle.redomail.specs.Mailbox.{message, is_by}
@@ -36,7 +36,7 @@ messages_sent width p (suc k) = messages_sent width p k ++ message_sent width p 
 abbrev pub messages_by : ℕ → List Message → List Message
 messages_by p messages = filter (is_by p) messages
 
--- These are the messages of all workers: of each its own, once and in order, and there are no others.
+-- These are the messages of all workers: of each its own, once and in order, and no others.
 pub record AreAllSent (s : Spec) (messages : List Message) : Type 0 where
   pub each : (p : ℕ) → p < s.procs → messages_by p messages ≡ messages_sent s.width p s.messages
   pub total : length messages ≡ s.procs * s.messages

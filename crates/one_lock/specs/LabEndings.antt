@@ -1,4 +1,4 @@
--- How the workers of a laboratory ended, by process from 0 on, and which fault is told of it.
+-- How the workers of a laboratory ended, by process from 0 on, and the fault that the lab answers.
 use Rattle.std.specs.Prelude.{◌≡◌, ◌≢◌, ◌<◌, ◌≤◌, ◌⊎◌, ℕ, List, All, Contains, take, slice_get, Option, Some, None}
 use Rattle.one_lock.specs.declared.lab.lab_fault.LabFault.{LabFault}
 use Rattle.one_lock.specs.declared.lab.lab_fault.LabFault.TheVariants.{BadSpec, OutOfMemory as WantsMemory, Member, Reply}
@@ -20,11 +20,11 @@ use Rattle.one_lock.specs.Lab.{setup_of, words_sent}
 abbrev pub HaveAllSent : List Ending → Type 0
 HaveAllSent endings = All (λ ending. ending ≡ AllSent) endings
 
--- a worker ended for want of memory
+-- a worker ended out of memory
 abbrev pub WantedMemory : List Ending → Type 0
 WantedMemory endings = Contains endings (Fault OutOfMemory)
 
--- This is told of worker p, the least one that ended early: those before it have sent all.
+-- This is the fault of worker p, the one with the least number of those that ended early: those before it have sent all.
 pub record IsOfLeast (endings : List Ending) (fault : LabFault) : Type 0 where
   pub p : ℕ
   pub ending : Ending
@@ -32,25 +32,25 @@ pub record IsOfLeast (endings : List Ending) (fault : LabFault) : Type 0 where
   pub before : HaveAllSent (take p endings)
   pub told : fault_by p ending ≡ Some fault
 
--- A lock of p, with no end of turns, was answered that no number is left: its last step read the limit in its doorway, in a
--- world with the sizes that are named.
+-- A lock of p without a limit of turns was answered NumbersSpent: its last step read the limit in its doorway, in a world
+-- with the sizes that are named.
 pub record WasSpent (named : Option Setup) (p : ℕ) : Type 0 where
   pub standing : MemberState
   pub from : ℕ
   pub to : ℕ
   pub answered : IsAnswered named p standing Lock None from to (Some SpentAnswer)
 
--- The append of worker p's message with this number was answered so, in a world with the sizes that are named.
+-- The append of worker p's message with this number was given this reply, in a world with the sizes that are named.
 abbrev pub IsReplyTo : Option Setup → ℕ → ℕ → ℕ → ReplyOf → Type 0
 IsReplyTo named width p seq reply = IsReply named p (Append seq (words_sent p seq width)) reply
 
--- worker p's message with this number was answered so that it is shown
+-- worker p's message with this number was given a reply after which it is shown
 pub record WasSent (named : Option Setup) (width p seq : ℕ) : Type 0 where
   pub reply : ReplyOf
   pub answered : IsReplyTo named width p seq reply
   pub shows : (reply ≡ Stored) ⊎ (reply ≡ Already)
 
--- a message of worker p was answered by this reply, which doesn't show it
+-- a message of worker p was given this reply, after which it isn't shown
 pub record WasRefused (named : Option Setup) (width p : ℕ) (reply : ReplyOf) : Type 0 where
   pub seq : ℕ
   pub answered : IsReplyTo named width p seq reply
@@ -61,8 +61,8 @@ pub record WasRefused (named : Option Setup) (width p : ℕ) (reply : ReplyOf) :
 abbrev pub WereSent : Option Setup → ℕ → ℕ → ℕ → Type 0
 WereSent named width p k = (seq : ℕ) → 1 ≤ seq → seq ≤ k → WasSent named width p seq
 
--- How worker p may end: all its messages were sent; or a lock of it was answered that no number is left; or it is told that the
--- lock is ruined, or wants memory; or one of its messages was answered by a reply that doesn't show it.
+-- How worker p may end: all its messages were sent; or a lock of it was answered NumbersSpent; or it was answered
+-- NotRecoverable or OutOfMemory; or one of its messages was given a reply after which it isn't shown.
 abbrev pub MayEnd : Option Setup → Spec → ℕ → Ending → Type 0
 MayEnd named s p AllSent = WereSent named s.width p s.messages
 MayEnd named s p (Fault why) = ((why ≡ NumbersSpent) × WasSpent named p) ⊎ (why ≡ NotRecoverable) ⊎ (why ≡ OutOfMemory)

@@ -1,4 +1,4 @@
--- A member of an arena over one world: what contracts see of it, what its calls may answer, and where they leave it.
+-- A member of an arena over one world: what contracts see of it, what its calls may answer, and its state after them.
 use Rattle.std.specs.Prelude.{◌≡◌, ℕ, Bool, true, false, not, ◌+◌, ◌-◌, ◌^◌, ◌<◌, ◌≤◌, min, zero, suc, List, [], ◌∷◌, ◌++◌, length, Result, Ok, Err}
 use Rattle.rmecore.specs.Simulated.{one_more}
 use Rattle.rmecore.specs.declared.found.Found.{Found}
@@ -13,8 +13,8 @@ use Rattle.execution.specs.declared.entry_kind.Entry.TheVariants.{Clean, OwnerDi
 use Rattle.one_lock.specs.declared.member_state.MemberState.{MemberState}
 use Rattle.one_lock.specs.declared.member_state.MemberState.TheVariants.{Out, Lost, Mended, Unmended}
 
--- a member: its process, the sizes of its arena, where it stands between its calls, its own steps so far, its share of the
--- ledger, and how many it has counted of the last call that was started, held at the greatest u64
+-- a member: its process, the sizes of its arena, its state between its calls, its own steps so far (its share of the
+-- ledger), and those of the last call that was started, at most the greatest u64
 pub record Seat : Type 0 where
   pub process : ℕ
   pub layout : Layout
@@ -22,7 +22,7 @@ pub record Seat : Type 0 where
   pub steps : ℕ
   pub counted : ℕ
 
--- the members of a new arena: as many at rest, from process 0 on
+-- the members of a new arena, all at rest, from process 0 on
 abbrev pub new_seats : Layout → ℕ → List Seat
 new_seats l zero = []
 new_seats l (suc n) = new_seats l n ++ record { process = n; layout = l; standing = Out; steps = 0; counted = 0 } ∷ []
@@ -36,7 +36,7 @@ abbrev pub is_lost : MemberState → Bool
 is_lost Lost = true
 is_lost _ = false
 
--- the calls that a process may start where its member stands
+-- the calls that a process may start in its member's state
 abbrev pub may_start : MemberState → Call → Bool
 may_start standing Lock = not (is_in standing)
 may_start standing Recover = not (is_in standing)
@@ -49,26 +49,26 @@ may_start _ Close = false
 may_start standing Withdraw = false
 may_start standing _ = is_in standing
 
--- no call changes whose member it is, nor takes back a step
+-- no call changes the member's process, or takes back a step
 abbrev pub Goes : Seat → Seat → Type 0
 Goes old new = (new.process ≡ old.process) × (new.layout ≡ old.layout) × (old.steps ≤ new.steps)
 
--- as many askings as own steps, from a to b; and one more. They are counted up to 2^64 - 1
+-- the plan was asked once for each own step, from a askings to b; then once more. Askings are counted up to 2^64 - 1
 abbrev pub AskedEach : Seat → Seat → ℕ → ℕ → Type 0
 AskedEach old new a b = b < 2 ^ 64 - 1 → b + old.steps ≡ a + new.steps
 
 abbrev pub AskedOnceMore : Seat → Seat → ℕ → ℕ → Type 0
 AskedOnceMore old new a b = b < 2 ^ 64 - 1 → b + old.steps ≡ a + new.steps + 1
 
--- a call that was started has counted what it added to the member's share; and a part of it has gone on counting. Counts
--- are held at the greatest u64
+-- a call that was started has counted what it added to the member's share; a part of a call has counted on. Both up to the
+-- greatest u64
 abbrev pub Counts : Seat → Seat → Type 0
 Counts old new = new.counted ≡ min (new.steps - old.steps) (2 ^ 64 - 1)
 
 abbrev pub CountsOn : Seat → Seat → Type 0
 CountsOn old new = new.counted ≡ min (old.counted + (new.steps - old.steps)) (2 ^ 64 - 1)
 
--- the falls after a call, from those before it: it ends with the first asking that fell
+-- the falls after a call, from those before it: the first asking that falls ends it
 abbrev pub falls_with : LockFault → ℕ → ℕ
 falls_with Crashed f = one_more f
 falls_with _ f = f
@@ -77,7 +77,7 @@ abbrev pub falls_by : {T : Type 0} → Result T LockFault → ℕ → ℕ
 falls_by (Ok a) f = f
 falls_by (Err e) f = falls_with e f
 
--- the faults of the calls that lock, each with its cause before the first asking aside
+-- the faults of the calls that lock, but for those before the first asking
 abbrev pub of_lock : LockFault → Bool
 of_lock Crashed = true
 of_lock NotYet = true
@@ -86,12 +86,12 @@ of_lock NotRecoverable = true
 of_lock OutOfMemory = true
 of_lock _ = false
 
--- those of a call that waits as long as it has to
+-- the faults of a call that waits as long as it has to
 abbrev pub of_wait : LockFault → Bool
 of_wait NotYet = false
 of_wait e = of_lock e
 
--- those of a call that only steps
+-- the faults of a call that is never blocked
 abbrev pub of_steps : LockFault → Bool
 of_steps Crashed = true
 of_steps OutOfMemory = true
@@ -101,7 +101,7 @@ abbrev pub of_consistent : LockFault → Bool
 of_consistent NotRecoverable = true
 of_consistent e = of_steps e
 
--- where a fault leaves the member: out of the line, or without its private memory
+-- the state of the member after a fault: out of the section, or without its private memory
 abbrev pub fallen_to : LockFault → MemberState
 fallen_to NumbersSpent = Out
 fallen_to NotRecoverable = Out
@@ -126,16 +126,16 @@ stands_mended (Ok b) = Mended
 stands_mended (Err NotRecoverable) = Unmended
 stands_mended (Err e) = Lost
 
--- a call on the board leaves the member as it stood
+-- a call on the board leaves the member's state as it was
 abbrev pub stands_still : {T : Type 0} → MemberState → Result T LockFault → MemberState
 stands_still s (Ok a) = s
 stands_still s (Err e) = Lost
 
--- all members of an arena of so many processes. No two of them are one process's
+-- all members of an arena with this many processes. No two of them belong to one process
 abbrev pub AreAll : ℕ → List Seat → Type 0
 AreAll procs members = (0 < procs) × (length members ≡ procs)
 
--- the own steps of these members together
+-- the sum of these members' own steps
 abbrev pub steps_taken : List Seat → ℕ
 steps_taken [] = 0
 steps_taken (m ∷ ms) = m.steps + steps_taken ms

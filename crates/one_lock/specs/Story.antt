@@ -1,4 +1,4 @@
--- One world under one lock: what is known whenever the lock is free.
+-- One world under one mutex: what is known whenever the mutex is free.
 use Rattle.std.specs.Prelude.{◌≡◌, ℕ, suc, List, [], ◌∷◌, Option, Some, None}
 use Rattle.rmeworld.specs.Spot.{Happening, Begins, Falls, Moves, Glances}
 use Rattle.rmeworld.specs.World.{at_first, Story, last_scene, deeds}
@@ -8,7 +8,7 @@ use Rattle.rmeworld.specs.declared.image.Image.{Image}
 use Rattle.redomail.specs.declared.layout.Layout.{Layout}
 use Rattle.execution.specs.declared.setup.Setup.{Setup}
 
--- how many of the happenings are steps, loads or stores of one word
+-- how many of the events are steps: loads or stores of one word
 abbrev pub steps_of : List Happening → ℕ
 steps_of [] = 0
 steps_of (Begins p call ∷ es) = steps_of es
@@ -16,8 +16,8 @@ steps_of (Falls p ∷ es) = steps_of es
 steps_of (Moves p kind word v ∷ es) = suc (steps_of es)
 steps_of (Glances p word v ∷ es) = suc (steps_of es)
 
--- The history under one lock: some run from all words 0 has this many steps, has the history as its deeds and ends in the
--- world that is held.
+-- The specification's "History clause": some run from all words 0 has this many steps, has the history as its deeds, and
+-- ends in the world under the mutex.
 pub record IsTold (s : WorldState) (steps : ℕ) : Type 0 where
   pub story : List Happening
   pub told : Story s.layout s.limit at_first story
@@ -25,16 +25,16 @@ pub record IsTold (s : WorldState) (steps : ℕ) : Type 0 where
   pub done : deeds s.layout s.limit at_first story ≡ s.history
   pub counted : steps_of story ≡ steps
 
--- what contracts see of the state under the lock: the world, and the total of the ledger's book
+-- what contracts see of the state under the mutex: the world, and the total of the ledger's book
 pub record Held : Type 0 where
   pub world : WorldState
   pub total : ℕ
 
--- a world has the sizes that are named; of none that are named nothing is said
+-- a world has the sizes that are named; if none are named, any world does
 abbrev pub AreSizes : Option Setup → Layout → ℕ → Type 0
 AreSizes None layout limit = Unit {0}
 AreSizes (Some named) layout limit = (layout ≡ named.layout) × (limit ≡ named.limit)
 
--- some run of so many steps, from all words 0, ends in a world with these sizes and words
+-- some run of this many steps, from all words 0, ends in a world with these sizes and words
 abbrev pub IsLeftBy : ℕ → Image → Type 0
 IsLeftBy steps image = (s : WorldState) × IsTold s steps × (image ≡ image_of s)

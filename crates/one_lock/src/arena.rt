@@ -1,4 +1,4 @@
-//! The making of members, and taking them back.
+//! How members are made.
 
 ghost use Rattle.std.specs.Prelude.{◌≡◌, ◌≤◌, IfOk, IfErr, OnOk, None, All};
 ghost use Rattle.rmecore.specs.Simulated.{cause};
@@ -20,8 +20,8 @@ use std::sync::{Arc, Mutex};
 pub struct Arena;
 
 impl Arena {
-    /// One member for each process, over a new world. The blank is of the ledger that counts the steps, with one part for
-    /// each process.
+    /// One member for each process, over a new world with these sizes. The blank belongs to the ledger that counts the
+    /// steps, and has one part for each process. The first bad size is refused; `OutOfMemory`: nothing was made.
     pub fn new<L: Ledger, R>(
         _rt: &R,
         alloc: Global,
@@ -43,7 +43,7 @@ impl Arena {
         Arena::of_sizes::<L, AnySizes>(alloc, procs, limit, cap, width, blank)
     }
 
-    /// The same, of members whose type may name the sizes.
+    /// The same as `new`, for members whose type may name the sizes.
     pub fn of_sizes<L: Ledger, S: Sizes>(
         alloc: Global,
         procs: u64,

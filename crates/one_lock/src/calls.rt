@@ -1,7 +1,7 @@
-//! The calls of a member. Each takes the world's lock once for each of its steps, and promises only if it returns.
+//! The calls of a member. Each takes the world's mutex once for each of its steps. Contracts hold if the call returns.
 //!
-//! Each plan is asked before each step and once before the answer, while no lock is held. The first asking that falls ends
-//! the call. A call that is refused for where the member stands or for what it is given takes no step and asks nothing.
+//! Each plan is asked before each step and once before the answer, while the mutex is not held. The first asking that falls
+//! ends the call. A call that is refused for the member's state or its arguments takes no step and asks nothing.
 
 ghost use Rattle.std.specs.Prelude.{◌≡◌, ◌≢◌, ◌<◌, ◌≤◌, ◌⊎◌, ◌↔◌, ℕ, Ok, Some, None, IfOk, IfErr, IsErrOf, OnOk, OnErr, IsNone, IsSome, true, false, length};
 ghost use Rattle.one_lock.specs.Answers.{Answered, IsReply, EndsAtLock, entry_by, found_by, mended_by, word_by, reply_by};
@@ -18,10 +18,10 @@ use execution::{Entry, LockFault};
 use std::sync::Wait;
 use std::sync::ledger::Ledger;
 
-/// How many words the board has.
+/// The number of board words.
 const BOARD: u64 = 4;
 
-/// What a lock answers, and where it leaves the member. With no answer it has waited as often as it may.
+/// The result of a lock from its answer, and the member's state after it. None: the lock has used up its turns.
 fn entered(answer: Option<Answer>) -> (Result<Entry, LockFault>, MemberState)
     ensures told { result.0 ≡ entry_by answer }
     ensures stands { result.1 ≡ stands_entered result.0 }
@@ -39,7 +39,7 @@ fn entered(answer: Option<Answer>) -> (Result<Entry, LockFault>, MemberState)
     }
 }
 
-/// What a recovery answers, and where it leaves the member.
+/// The result of a recovery from its answer, and the member's state after it.
 fn found(answer: Option<Answer>) -> (Result<Found, LockFault>, MemberState)
     ensures told { result.0 ≡ found_by answer }
     ensures stands { result.1 ≡ stands_found result.0 }
@@ -55,7 +55,7 @@ fn found(answer: Option<Answer>) -> (Result<Found, LockFault>, MemberState)
     }
 }
 
-/// What `consistent` answers, and where it leaves the member.
+/// The result of `consistent` from its answer, and the member's state after it.
 fn mended(answer: Option<Answer>) -> (Result<bool, LockFault>, MemberState)
     ensures told { result.0 ≡ mended_by answer }
     ensures stands { result.1 ≡ stands_mended result.0 }
@@ -68,7 +68,7 @@ fn mended(answer: Option<Answer>) -> (Result<bool, LockFault>, MemberState)
     }
 }
 
-/// What a task answers.
+/// The reply of a task.
 fn replied(answer: Option<Answer>) -> Reply
     ensures { result ≡ reply_by answer }
 {
@@ -78,7 +78,7 @@ fn replied(answer: Option<Answer>) -> Reply
     }
 }
 
-/// The word of the board that a call read.
+/// The board word that a call read.
 fn word_read(answer: Option<Answer>) -> u64
     ensures { Ok result ≡ word_by answer }
 {
@@ -89,8 +89,8 @@ fn word_read(answer: Option<Answer>) -> u64
 }
 
 impl<L: Ledger, S: Sizes> Member<L, S> {
-    /// Enters the section, also after a crash. After a crash inside the answer is `OwnerDied`. `NotYet` after one blocked
-    /// reading more than `turns`; the next lock waits on with the same number.
+    /// Enters the section, also after a crash. `OwnerDied`: the process crashed inside. `NotYet`: it was blocked once more
+    /// than `turns` times; the next lock waits on with the same number.
     pub fn lock_within<R: Wait, P: CrashPlan>(
         &mut self,
         rt: &R,
@@ -110,7 +110,7 @@ impl<L: Ledger, S: Sizes> Member<L, S> {
         self.lock_by(rt, plan, Some(turns))
     }
 
-    /// Enters the section, and waits for as long as it has to.
+    /// Enters the section, and waits as long as it has to.
     pub fn lock<R: Wait, P: CrashPlan>(&mut self, rt: &R, plan: &mut P) -> Result<Entry, LockFault>
         ensures refused { IsErrOf result LockFault.AlreadyIn ↔ (is_in self.old.standing ≡ true) }
         ensures unasked { is_in self.old.standing ≡ true → (self.new ≡ self.old) × (P.asked plan.new ≡ P.asked plan.old) }
@@ -125,7 +125,7 @@ impl<L: Ledger, S: Sizes> Member<L, S> {
         self.lock_by(rt, plan, None)
     }
 
-    /// A lock, with as many turns as it is given, or with no end of them.
+    /// A lock with this many turns, or without a limit of them.
     #[tactic(auto, using(crate::proofs::Answered::cut_off, crate::proofs::Answered::as_told))]
     fn lock_by<R: Wait, P: CrashPlan>(
         &mut self,
@@ -151,8 +151,8 @@ impl<L: Ledger, S: Sizes> Member<L, S> {
         self.conclude(plan, entry, standing)
     }
 
-    /// Finds out where a crash has left the process, and goes no further than it must. One that died inside is inside again,
-    /// and has to mend.
+    /// Finds out where a crash has left the process, with as few steps as possible. A process that crashed inside is inside
+    /// again, and has to mend.
     #[tactic(auto, using(crate::proofs::Answered::cut_off, crate::proofs::Answered::as_told))]
     pub fn recover<R: Wait, P: CrashPlan>(
         &mut self,
@@ -176,8 +176,8 @@ impl<L: Ledger, S: Sizes> Member<L, S> {
         self.conclude(plan, found, standing)
     }
 
-    /// Mends what a crash inside has left, and answers whether there was something to mend (POSIX: pthread_mutex_consistent).
-    /// After `NotRecoverable` the member is still inside and has not mended.
+    /// Mends what a crash inside has left (POSIX: pthread_mutex_consistent). True: an append was cut off after its commit.
+    /// `NotRecoverable`: the lock is ruined; the member is still inside and has not mended.
     #[tactic(auto, using(crate::proofs::Answered::cut_off, crate::proofs::Answered::as_told))]
     pub fn consistent<R: Wait, P: CrashPlan>(
         &mut self,
@@ -201,7 +201,7 @@ impl<L: Ledger, S: Sizes> Member<L, S> {
         self.conclude(plan, repaired, standing)
     }
 
-    /// Leaves the section. One that has not mended ruins the lock.
+    /// Leaves the section. A holder that has to mend and hasn't ruins the lock.
     #[tactic(auto, using(crate::proofs::Answered::cut_off, crate::proofs::Answered::as_told))]
     pub fn unlock<R: Wait, P: CrashPlan>(&mut self, rt: &R, plan: &mut P) -> Result<(), LockFault>
         ensures refused { IsErrOf result LockFault.NotOwner ↔ (is_in self.old.standing ≡ false) }
@@ -221,7 +221,7 @@ impl<L: Ledger, S: Sizes> Member<L, S> {
         self.conclude(plan, Ok(()), MemberState::Out)
     }
 
-    /// Reads a word of the board, 0 to 3.
+    /// Reads a word of the board, 0 to 3. `BadIndex`: there is no such word.
     #[tactic(auto, using(crate::proofs::Answered::cut_off, crate::proofs::Answered::as_told))]
     pub fn get<R: Wait, P: CrashPlan>(
         &mut self,
@@ -252,7 +252,7 @@ impl<L: Ledger, S: Sizes> Member<L, S> {
         self.conclude(plan, Ok(word), standing)
     }
 
-    /// Writes a word of the board, 0 to 3.
+    /// Writes a word of the board, 0 to 3. `BadIndex`: there is no such word.
     #[tactic(auto, using(crate::proofs::Answered::cut_off, crate::proofs::Answered::as_told))]
     pub fn put<R: Wait, P: CrashPlan>(
         &mut self,
@@ -284,8 +284,8 @@ impl<L: Ledger, S: Sizes> Member<L, S> {
         self.conclude(plan, Ok(()), standing)
     }
 
-    /// Locks, mends where the owner died, stores a message with this number, and unlocks. Its one answer is that of the
-    /// storing.
+    /// Locks, mends where the owner died, stores a message with this sequence number, and unlocks. Its one answer is the
+    /// reply of the append.
     pub fn append_within<R: Wait, P: CrashPlan>(
         &mut self,
         rt: &R,
@@ -310,7 +310,7 @@ impl<L: Ledger, S: Sizes> Member<L, S> {
         self.append_by(rt, seq, value, plan, Some(turns))
     }
 
-    /// The same, and waits for as long as it has to.
+    /// The same as `append_within`, but it waits as long as it has to.
     pub fn append<R: Wait, P: CrashPlan>(
         &mut self,
         rt: &R,
@@ -334,7 +334,7 @@ impl<L: Ledger, S: Sizes> Member<L, S> {
         self.append_by(rt, seq, value, plan, None)
     }
 
-    /// A message stored by one call, with as many turns as it is given, or with no end of them.
+    /// An append with this many turns, or without a limit of them.
     fn append_by<R: Wait, P: CrashPlan>(
         &mut self,
         rt: &R,
@@ -363,7 +363,7 @@ impl<L: Ledger, S: Sizes> Member<L, S> {
         self.mail_by(rt, plan, Call::Append { seq, value }, turns)
     }
 
-    /// Locks, mends where the owner died, closes the mailbox, and unlocks. Its one answer is that of the closing.
+    /// Locks, mends where the owner died, closes the mailbox, and unlocks. Its one answer is the reply of the close.
     pub fn close_within<R: Wait, P: CrashPlan>(
         &mut self,
         rt: &R,
@@ -384,7 +384,7 @@ impl<L: Ledger, S: Sizes> Member<L, S> {
         self.mail_by(rt, plan, Call::Close, Some(turns))
     }
 
-    /// The same, and waits for as long as it has to.
+    /// The same as `close_within`, but it waits as long as it has to.
     pub fn close<R: Wait, P: CrashPlan>(&mut self, rt: &R, plan: &mut P) -> Result<Reply, LockFault>
         ensures refused { IsErrOf result LockFault.AlreadyIn ↔ (is_in self.old.standing ≡ true) }
         ensures unasked { is_in self.old.standing ≡ true → (self.new ≡ self.old) × (P.asked plan.new ≡ P.asked plan.old) }
@@ -400,8 +400,8 @@ impl<L: Ledger, S: Sizes> Member<L, S> {
         self.mail_by(rt, plan, Call::Close, None)
     }
 
-    /// A whole call of the mailbox: a lock, `consistent` where the entry is `OwnerDied`, the task and an unlock. It is asked
-    /// once before its one answer.
+    /// A whole mailbox call: a lock, `consistent` where the entry is `OwnerDied`, the task and an unlock. The plan is asked
+    /// once before the one answer.
     #[tactic(auto, using(crate::proofs::Answered::cut_at_lock, crate::proofs::Answered::locked_out, crate::proofs::Answered::came_in))]
     fn mail_by<R: Wait, P: CrashPlan>(
         &mut self,
@@ -437,8 +437,8 @@ impl<L: Ledger, S: Sizes> Member<L, S> {
         }
     }
 
-    /// What a call of the mailbox does once it is in, up to the asking before its answer. A lock that can't be mended is left
-    /// as it is.
+    /// What a mailbox call does once it is in, up to the asking before its answer. If the lock is ruined, it leaves without
+    /// the task.
     #[tactic(auto, using(crate::proofs::Answered::replied_by))]
     fn work<R: Wait, P: CrashPlan>(
         &mut self,

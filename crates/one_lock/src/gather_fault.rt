@@ -2,7 +2,7 @@
 
 use thiserror::Error;
 
-/// Why the members of an arena were not gathered. They are handed back with it.
+/// Why the members of an arena were not gathered. `gather` hands them back with it.
 #[derive(Clone, Copy, Debug, PartialEq, Eq, Error)]
 pub enum GatherFault {
     #[error("some members of the arena are missing")]

@@ -12,9 +12,11 @@ use rmeworld::Image;
 use std::sync::ledger::{Ledger, Share};
 use std::sync::{Arc, Wait};
 
-/// Takes all members of an arena back, and tells what outlives them. The shares of all members, merged, are the whole ledger:
-/// the world has come by as many steps as they took together. After a fault the members are handed back, and nothing was
-/// merged. `OutOfMemory`: there was no room for the image; they may be gathered again.
+/// Takes all members of an arena back, and answers the image of its words. The shares of all members, merged, are the whole
+/// ledger: the run of the world has as many steps as they took together.
+///
+/// After a fault the members are handed back and nothing was merged. `NotAll`: some are missing. `OutOfMemory`: there was no
+/// room for the image; they may be gathered again.
 pub fn gather<L: Ledger, S: Sizes, R: Wait>(
     rt: &R,
     members: Vec<Member<L, S>>,

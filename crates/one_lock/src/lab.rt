@@ -1,5 +1,5 @@
-//! What the laboratories share. In each, workers send numbered messages through one mailbox while their plans let them
-//! crash.
+//! The laboratory: workers send numbered messages through one mailbox while their plans let them crash. Its sizes, gates and
+//! faults are shared by the lab over the running lock.
 
 mod crew;
 pub mod ending;

@@ -1,7 +1,8 @@
-//! The plain reference of the running lock: one world behind one lock, one step of the world a hold.
+//! The plain reference of the running lock: one simulated world under one mutex. Each step of the world takes the mutex
+//! once.
 //!
-//! It answers as the running lock does, and asks its plans as often. Whenever its lock is free, some run has as many steps
-//! as the ledger's book counts, has the stored history as its deeds and ends in the world that is held.
+//! It answers as the running lock does, and asks its plans as often. Whenever its mutex is free, some run has as many steps
+//! as the ledger's book counts, has the stored history as its deeds, and ends in the world under the mutex.
 #![tactic(auto)]
 
 pub mod arena;

@@ -1,4 +1,4 @@
-//! A process's way to the world.
+//! A member: a process's access to the world.
 
 ghost use Rattle.std.specs.Prelude.{◌≡◌, ℕ, ◌<◌, ◌≤◌, ◌+◌, ◌↔◌, IfOk, IfErr, OnOk, OnErr, Some, IsNone, IsSome, IsTrue, true, false};
 ghost use Rattle.rmecore.specs.Simulated.{one_more};
@@ -18,8 +18,8 @@ use std::marker::Model;
 use std::sync::ledger::{Ledger, Share};
 use std::sync::{Arc, Mutex, Wait};
 
-/// One process's way to the world. It may move to a thread. Its share of the ledger counts its own steps, and takes no
-/// bytes; those of its last call it counts itself.
+/// The access of one process to the world. It may move to a thread. Its share of the ledger counts its own steps and takes
+/// no bytes. The steps of its last call are a number of their own.
 #[derive(Drop)]
 pub struct Member<L: Ledger, S: Sizes = AnySizes> {
     pub(super) process: u64,
@@ -41,7 +41,7 @@ impl<L: Ledger, S: Sizes> Model for Member<L, S> {
     ghost invariant = { λ m. (m.share.parts ≡ 1) × (m.process < 64) };
 }
 
-/// Takes one of the turns that are left. Was there none?
+/// Takes one of the turns that are left. True: there was none. With no limit of turns it is never true.
 fn is_spent(left: &mut Option<u64>) -> bool
     ensures none { IsTrue result ↔ (left.old ≡ Some 0) }
     ensures less { result ≡ false → left.new ≡ spent left.old }
@@ -86,16 +86,16 @@ impl<L: Ledger, S: Sizes> Member<L, S> {
         self.process
     }
 
-    /// Where it stands between its calls.
+    /// Its state between its calls.
     pub fn standing(&self) -> MemberState
         ensures { result ≡ self.now.standing }
     {
         self.standing
     }
 
-    /// The own steps of the last call that was started: what it added to the member's share, held at the greatest u64. A step
-    /// that the world refused for want of memory is none, and a call that is answered without an asking was not started.
-    /// Before any call 0.
+    /// The own steps of the last call that was started: what it added to the member's share, at most the greatest u64; 0
+    /// before any call. A step that the world refused, out of memory, isn't counted. A call that is refused before any
+    /// asking isn't started.
     pub fn steps(&self) -> u64
         ensures { result ≡ self.now.counted }
     {
@@ -111,7 +111,7 @@ impl<L: Ledger, S: Sizes> Member<L, S> {
         share
     }
 
-    /// Asks the plan. Where it falls, the process has lost its private memory.
+    /// Asks the plan. If it falls, the process has lost its private memory.
     fn ask<P: CrashPlan>(&mut self, plan: &mut P) -> Result<(), LockFault>
         ensures asked { P.asked plan.new ≡ one_more (P.asked plan.old) }
         ensures fallen { P.fallen plan.new ≡ falls_by result (P.fallen plan.old) }
@@ -126,8 +126,8 @@ impl<L: Ledger, S: Sizes> Member<L, S> {
         Ok(())
     }
 
-    /// One step of its process: it asks the plan, and then takes the lock for one step of the world. A step that the world
-    /// refuses leaves the member lost; its process can do what the member asks for, so that memory was wanting.
+    /// One step of its process: it asks the plan, then takes the mutex for one step of the world. The process may take each
+    /// step that the member asks for, so the world refuses only out of memory. The member's private memory is lost then.
     fn step<R: Wait, P: CrashPlan>(
         &mut self,
         rt: &R,
@@ -158,7 +158,7 @@ impl<L: Ledger, S: Sizes> Member<L, S> {
         }
     }
 
-    /// Starts a call, and pursues it. Its own steps are counted from nothing.
+    /// Starts a call and takes its steps, as `pursue` does. Its own steps are counted from 0.
     pub(super) fn begin<R: Wait, P: CrashPlan>(
         &mut self,
         rt: &R,
@@ -182,8 +182,9 @@ impl<L: Ledger, S: Sizes> Member<L, S> {
         self.pursue(rt, plan, call, turns)
     }
 
-    /// Takes a call that its process may start to its answer, or until one blocked reading more than it has turns; with no
-    /// turns it waits as long as it has to. Its own steps are counted on. The asking before the answer is left to the caller.
+    /// Takes the steps of a call that its process may start, up to its answer or until it has been blocked once more than
+    /// its turns; without turns it waits as long as it has to. Its own steps are counted on. The plan is not yet asked for
+    /// the answer: the caller does that.
     #[tactic(auto, using(crate::proofs::Answered::begins, crate::proofs::Answered::answered_by, crate::proofs::Answered::given_up))]
     pub(super) fn pursue<R: Wait, P: CrashPlan>(
         &mut self,
@@ -229,7 +230,7 @@ impl<L: Ledger, S: Sizes> Member<L, S> {
         unreachable!()
     }
 
-    /// The last asking of a call, before its answer; and where the answer leaves the member.
+    /// The last asking of a call, before its answer, and the state that the answer leaves the member in.
     pub(super) fn conclude<P: CrashPlan, T: Copy>(
         &mut self,
         plan: &mut P,

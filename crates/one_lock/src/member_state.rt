@@ -1,12 +1,12 @@
-//! Where a member stands between its calls.
+//! The state of a member between its calls.
 
-/// Where a member stands between its calls.
+/// The state of a member between its calls.
 #[derive(Clone, Copy, Debug, PartialEq, Eq)]
 pub enum MemberState {
     /// Out of the section, with its private memory.
     Out,
-    /// Without its private memory, as after a crash, or without a use for it, as after `NotYet`: the next call that takes
-    /// a step takes its process's crash first.
+    /// Without its private memory, as after a crash, or with no use for it, as after `NotYet`. The next call that takes a
+    /// step has its process crash first.
     Lost,
     /// In the section.
     Mended,

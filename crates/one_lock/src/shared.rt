@@ -1,4 +1,4 @@
-//! What lies under the lock.
+//! The state under the mutex.
 
 ghost use Rattle.std.specs.Prelude.{◌≡◌, ◌≢◌, ◌<◌, ◌+◌, ◌⊎◌, ◌↔◌, Some, None, IfOk, IfErr, OnOk, OnErr, IsTrue};
 ghost use Rattle.rmecore.specs.Simulated.{tally_at};
@@ -33,12 +33,12 @@ impl<L: Ledger, S: Sizes> Model for Shared<L, S> {
     ghost invariant = { λ s. IsTold s.world s.book.total × AreSizes S.named s.world.layout s.world.limit };
 }
 
-/// What a step tells the member that took it.
+/// The result of a step, for the member that took it.
 #[derive(Clone, Copy, Debug)]
 pub struct Turn {
-    /// Where the step ends its call.
+    /// The answer of the call, if the step ended it.
     pub answer: Option<Answer>,
-    /// A look or a weigh that has to be taken again.
+    /// Whether it was a look or a weigh that has to be taken again.
     pub blocked: bool,
 }
 
@@ -59,7 +59,8 @@ impl<L: Ledger, S: Sizes> Shared<L, S> {
         }
     }
 
-    /// One step of a process, with what comes before it. The book and the share grow by one.
+    /// One step of a process, after its crash or start if `opening` has one. The book and the share grow by one. An error is
+    /// the world's refusal: nothing was counted.
     pub fn step(&mut self, share: &mut Share<L>, p: u64, opening: Opening) -> Result<Turn, Refusal>
         requires { 0 < share.old.parts }
         ensures book { OnOk result (self.new.total ≡ self.old.total + 1) }
@@ -74,15 +75,16 @@ impl<L: Ledger, S: Sizes> Shared<L, S> {
         self.advance(share, p)
     }
 
-    /// What is known whenever the lock is free: the world is one that some run has come to, and has the sizes that are named.
+    /// What is known whenever the mutex is free: the world is the end of some run, and has the sizes that are named.
     fn told(&self)
         ensures run { IsTold self.now.world self.now.total }
         ensures sizes { AreSizes S.named self.now.world.layout self.now.world.limit }
     {
+        // For the proof alone: its value is read.
         let _ = &self.world;
     }
 
-    /// What comes before a step.
+    /// The crash and the start before a step.
     fn open(&mut self, p: u64, opening: Opening) -> Result<(), Refusal>
         ensures ok { OnOk result (self.new.world ≡ opened opening p self.old.world) }
         ensures opens { OnOk result (Opens p opening self.old.world) }
@@ -98,7 +100,7 @@ impl<L: Ledger, S: Sizes> Shared<L, S> {
         Ok(())
     }
 
-    /// One step of the world, counted.
+    /// One step of the world, which the book counts.
     fn advance(&mut self, share: &mut Share<L>, p: u64) -> Result<Turn, Refusal>
         requires { 0 < share.old.parts }
         ensures accepted { OnOk result (advance_refusal self.old.world p ≡ None) }
@@ -148,7 +150,7 @@ impl<L: Ledger, S: Sizes> Shared<L, S> {
         Ok(())
     }
 
-    /// The words that stand. They are what the steps counted so far have left.
+    /// The image of the world's words after the steps counted so far. `OutOfMemory`: there was no room for it.
     pub fn image(&self) -> Result<Image, Refusal>
         ensures ok { IfOk result (λ image. image ≡ image_of self.now.world) }
         ensures left { IfOk result (λ image. IsLeftBy self.now.total image) }
@@ -158,7 +160,7 @@ impl<L: Ledger, S: Sizes> Shared<L, S> {
         self.world.image()
     }
 
-    /// Nothing changes. Who has all shares has taken all steps.
+    /// Changes nothing. It shows that the holder of all shares has taken all steps.
     pub fn audit(&mut self, all: &mut Share<L>)
         requires { all.old.parts ≡ L.parts }
         ensures same { self.new ≡ self.old }

@@ -5,8 +5,8 @@ ghost use Rattle.execution.specs.declared.setup.Setup.{Setup};
 
 use std::marker::Brand;
 
-/// Which sizes the world has that an arena's members step in. A member's type names them where it is made so, and then each
-/// step that its contract speaks of is a step of a world with these sizes.
+/// The sizes of the world in which an arena's members step. A member's type may name them. Then each step that its contract
+/// speaks of is a step of a world with these sizes.
 pub trait Sizes {
     ghost named: { Option Setup };
 }

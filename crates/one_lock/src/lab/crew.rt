@@ -30,7 +30,7 @@ pub struct Done<L: Ledger, S: Sizes> {
     pub ending: Ending,
 }
 
-/// That a worker of a lab with these sizes hands back the member that it was given, and has ended as workers do.
+/// The promise of a worker's thread: it hands back the member that it was given, and has ended in one of a worker's ways.
 #[derive(Drop)]
 pub struct HandsBack<L: Ledger, S: Sizes>(pub Snapshot<Member<L, S>>, pub Spec);
 
@@ -42,7 +42,7 @@ impl<L: Ledger, S: Sizes> Promise<Done<L, S>> for HandsBack<L, S> {
     ghost kept_by = { λ promise done. (place_of done.member ≡ place_of promise.0.value) × MayEnd S.named promise.1 done.member.process done.ending };
 }
 
-/// Sends the messages of a worker, numbered from 1, each again until it is answered. An answer is told to the gate.
+/// Sends the messages of a worker, numbered from 1, each again until it is answered. Each answer is reported to the gate.
 fn work<L: Ledger, S: Sizes, G: Gate + Drop, R: Wait>(
     rt: &R,
     mut member: Member<L, S>,
@@ -76,7 +76,7 @@ fn work<L: Ledger, S: Sizes, G: Gate + Drop, R: Wait>(
     Done { member, ending }
 }
 
-/// Sends one message until it is answered. Last of all the gate hears of the answer.
+/// Sends one message until it is answered. Then the answer is reported to the gate.
 #[tactic(auto, using(crate::proofs::Endings::ended_by))]
 fn send<L: Ledger, S: Sizes, G: Gate, R: Wait>(
     rt: &R,
@@ -108,8 +108,8 @@ fn send<L: Ledger, S: Sizes, G: Gate, R: Wait>(
     unreachable!()
 }
 
-/// Runs all workers, each in a thread of its own, and answers them once all have ended. Where a thread can't be made it
-/// returns too once those that run have ended.
+/// Runs all workers, each in a thread of its own, and answers them once all have ended. If a thread can't be made, it too
+/// returns once those that run have ended.
 pub fn work_all<
     L: Ledger + Send + Sync,
     S: Sizes + Send + Sync,
@@ -199,8 +199,8 @@ fn join_all<L: Ledger, S: Sizes, R: Threads>(
     Ok(all)
 }
 
-/// The fault that is told of how these workers ended, if any ended early: want of memory of any of them, else what ended the
-/// least.
+/// The fault that these workers ended with, if any ended early: out of memory if any of them did, otherwise that of the one
+/// with the least number.
 pub fn first_fault<L: Ledger, S: Sizes>(ended: &[Done<L, S>]) -> Option<LabFault>
     ensures none { IsNone result ↔ HaveAllSent (map (λ d. d.ending) ended.now) }
     ensures memory { (result ≡ Some LabFault.OutOfMemory) ↔ WantedMemory (map (λ d. d.ending) ended.now) }
@@ -213,7 +213,7 @@ pub fn first_fault<L: Ledger, S: Sizes>(ended: &[Done<L, S>]) -> Option<LabFault
     least_fault(ended)
 }
 
-/// Whether one of these workers ended for want of memory.
+/// Whether one of these workers ended out of memory.
 #[tactic(auto, using(crate::proofs::Endings::one_wanted))]
 fn want_memory<L: Ledger, S: Sizes>(ended: &[Done<L, S>]) -> bool
     ensures { IsTrue result ↔ WantedMemory (map (λ d. d.ending) ended.now) }
@@ -226,7 +226,7 @@ fn want_memory<L: Ledger, S: Sizes>(ended: &[Done<L, S>]) -> bool
     false
 }
 
-/// What ended the least worker that has ended early.
+/// What ended the worker with the least number of those that ended early.
 fn least_fault<L: Ledger, S: Sizes>(ended: &[Done<L, S>]) -> Option<LabFault>
     ensures none { IsNone result → HaveAllSent (map (λ d. d.ending) ended.now) }
     ensures least { IfSome result (λ fault. IsOfLeast (map (λ d. d.ending) ended.now) fault) }

@@ -1,16 +1,17 @@
-//! What a worker of the lab asks and tells.
+//! What a worker of the lab asks and reports.
 
 ghost use Rattle.std.specs.Prelude.{◌≡◌, ⊤, ℕ};
 
 use crash_plans::{CrashPlan, Never, Seeded};
 
-/// A worker's plan of crashes, which also hears of the worker's answers. A test can hold a worker at an asking by one.
+/// A worker's crash plan, which also gets a report of each of the worker's answers. With a gate a test can hold a worker at
+/// an asking.
 pub trait Gate: CrashPlan {
-    /// That the gate, as it was, has heard of the answer of the call with this number, and stands so now.
+    /// The relation of a gate before and after the report of an answer to the call with this number.
     ghost heard: { Self → ℕ → Self → Type 0 } = { λ _ _ _. ⊤ };
 
-    /// The worker's call with this number was answered. It is told once for each answer, also for the one that ends the
-    /// worker, and it is no asking.
+    /// Reports that the worker's call with this number was answered. It is called once for each answer, also for the one
+    /// that ends the worker. It isn't an asking.
     fn answered(&mut self, call: u64)
         ensures asked { Self.asked self.new ≡ Self.asked self.old }
         ensures fallen { Self.fallen self.new ≡ Self.fallen self.old }

@@ -4,13 +4,14 @@ use redomail::Reply;
 use execution::LockFault;
 use thiserror::Error;
 
-/// Why a lab has no result. `BadSpec` and `OutOfMemory` come first, then what ended the least worker that has ended early.
+/// Why a lab has no result. `BadSpec` and `OutOfMemory` come first, then the fault of the worker with the least number of
+/// those that ended early.
 #[derive(Clone, Copy, Debug, PartialEq, Eq, Error)]
 pub enum LabFault {
-    /// A size outside its limits, or not one gate for each worker. Nothing was run.
+    /// A size is outside its limits, or the number of gates isn't that of the workers. Nothing was run.
     #[error("bad spec")]
     BadSpec,
-    /// Also where a thread could not be made.
+    /// Memory was refused, or a thread could not be made.
     #[error("out of memory")]
     OutOfMemory,
     /// The fault that ended worker p.

@@ -1,8 +1,8 @@
-//! What a lab leaves.
+//! The result of a lab.
 
 use redomail::Message;
 
-/// What a lab leaves: the messages shown, by rising place.
+/// The result of a lab: the messages shown, by rising place.
 #[derive(Debug, Drop)]
 pub struct LabResult {
     pub messages: Vec<Message>,

@@ -20,9 +20,9 @@ use std::sync::ledger::{Blank, Ledger};
 use std::thread::Threads;
 
 /// Runs a worker for each process of a new arena, all at the same time, each on a thread of its own. Worker p appends its
-/// messages with the numbers from 1 on; it calls again after each crash that its gate lets fall, and tells its gate of each
-/// answer. It returns when all workers have ended, with the messages that stand then. A step whose deed could not be stored
-/// is want of memory.
+/// messages with the numbers from 1 on. It calls again after each crash of its gate's plan, and reports each answer to its
+/// gate. It returns when all workers have ended, with the messages in the mailbox then. A step whose deed could not be
+/// stored ends its worker out of memory.
 pub fn run_lab<G: Gate + Send + Drop, R: Threads + Wait + Sync>(
     rt: &R,
     alloc: Global,

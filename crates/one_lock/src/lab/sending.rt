@@ -1,4 +1,4 @@
-//! What the workers of a lab send, and what they make of an answer.
+//! What the workers of a lab send, and how they take an answer.
 
 ghost use Rattle.std.specs.Prelude.{◌≡◌, ◌<◌, ◌≤◌, ◌⊎◌, ◌↔◌, IsTrue, length};
 ghost use Rattle.one_lock.specs.Lab.{words_sent};
@@ -7,7 +7,7 @@ use redomail::Reply;
 use rmecore::Body;
 use execution::LockFault;
 
-/// The value of worker p's message with this number, of so many words: word j is 1,000,000 * p + seq + j.
+/// The value of worker p's message with this sequence number, `width` words wide: word j is 1,000,000 * p + seq + j.
 pub fn value_sent(p: u64, seq: u64, width: u64) -> Body
     requires process { p < 64 }
     requires number { seq ≤ 4096 }
@@ -26,14 +26,14 @@ pub fn value_sent(p: u64, seq: u64, width: u64) -> Body
     value
 }
 
-/// Is the message shown by this reply?
+/// Is the message shown after this reply?
 pub fn is_sent(reply: Reply) -> bool
     ensures { IsTrue result ↔ (reply ≡ Reply.Stored) ⊎ (reply ≡ Reply.Already) }
 {
     matches!(reply, Reply::Stored | Reply::Already)
 }
 
-/// Has the process crashed, and calls again?
+/// Has the process crashed, so that the worker calls again?
 pub fn is_crash(fault: LockFault) -> bool
     ensures { IsTrue result ↔ (fault ≡ LockFault.Crashed) }
 {

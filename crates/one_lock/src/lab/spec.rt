@@ -6,11 +6,12 @@ ghost use Rattle.one_lock.specs.Lab.{IsOutside, IsBadSpec};
 use rmecore::simulated::{MOST_LIMIT, MOST_PROCS};
 use rmeworld::image::rules::{MOST_CAP, MOST_WIDTH};
 
-/// How many messages a worker sends at most.
+/// The most messages that a worker sends.
 pub const MOST_MESSAGES: u64 = 4_096;
 
-/// The sizes of a lab: so many workers (1 to 64), each of which sends so many messages (1 to 4,096), over an arena with this
-/// limit (1 to 2^62), a mailbox of so many places (1 to 65,536), and values of so many words (1 to 8).
+/// The sizes of a lab: `procs` workers (1 to 64), each of which sends `messages` messages (1 to 4,096), over an arena with
+/// this greatest number (1 to 2^62), a mailbox with room for `cap` messages (1 to 65,536), and values of `width` words (1 to
+/// 8).
 #[derive(Clone, Copy, Debug, PartialEq, Eq)]
 pub struct Spec {
     pub procs: u64,

@@ -14,7 +14,7 @@ use Rattle.cli.specs.declared.explain.topic.Topic.TheVariants.{Fault, Refused, R
 use Rattle.cli.specs.declared.explain.topic.TheConstants.{TOPICS}
 use Rattle.cli.specs.Names.{name_of}
 
--- the one at this place of the list has not this name
+-- the topic at this place of the list doesn't have this name
 passed : (name : List ℕ) → All (λ t. name_of t ≢ name) TOPICS → (i : ℕ) → i < 74 → name_of (get_or TOPICS i (Fault lines.NoHeader)) ≢ name
 passed name all i below = All-get_or (λ t. name_of t ≢ name) TOPICS i (Fault lines.NoHeader) below all
 

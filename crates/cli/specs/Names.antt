@@ -1,4 +1,4 @@
--- The names of what is explained, as faults, reports and pages spell them.
+-- The names of the topics, as faults, reports and pages spell them.
 use Rattle.std.specs.Prelude.{ℕ, Option, Some, None, List, [], ◌∷◌, codes}
 use Rattle.std.specs.Fmt.{decimal}
 use Rattle.std.specs.List.{join_with_byte}
@@ -17,7 +17,7 @@ use Rattle.cli.specs.declared.explain.rule.Rule.TheVariants as rules
 use Rattle.cli.specs.declared.explain.topic.Topic.{Topic}
 use Rattle.cli.specs.declared.explain.topic.Topic.TheVariants.{Fault, Refused, Rule as OfRule, Against, Answer as OfAnswer, Step}
 
--- the rules of an image, in the order of the page on texts
+-- the number of an image's rule, in the order of docs/texts.md
 abbrev pub number_of_rule : Rule → ℕ
 number_of_rule rules.Form = 1
 number_of_rule rules.Version = 2
@@ -29,12 +29,12 @@ number_of_rule rules.Heads = 7
 number_of_rule rules.List = 8
 number_of_rule rules.Record = 9
 
--- want of memory has no number
+-- out of memory has no number
 abbrev pub words_of_refusal : Option ℕ → List (List ℕ)
 words_of_refusal (Some number) = codes "refused" ∷ decimal number ∷ []
 words_of_refusal None = codes "out" ∷ codes "of" ∷ codes "memory" ∷ []
 
--- the words of an answer line behind the process; the word of the board that was read is no part of the name
+-- the words of an answer line after the process. The board word that was read isn't part of the name
 abbrev pub words_without : Reply → List (List ℕ)
 words_without (replies.Word v) = codes "word" ∷ []
 words_without reply = words_of_reply reply
@@ -62,7 +62,7 @@ words_of (OfAnswer (answers.Mail reply)) = codes "answer" ∷ words_without repl
 words_of (OfAnswer answer) = codes "answer" ∷ words_of_answer answer
 words_of (Step kind) = codes "step" ∷ word_of_kind kind ∷ []
 
--- with a space between two words
+-- the topic's name: its words with a space between two
 abbrev pub name_of : Topic → List ℕ
 name_of topic = join_with_byte 32 (words_of topic)
 

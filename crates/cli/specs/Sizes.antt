@@ -1,4 +1,4 @@
--- The ranges of the numbers that the program is asked for.
+-- The ranges of the program's numbers (the specification's "Limits").
 use Rattle.std.specs.Prelude.{◌≤◌}
 use Rattle.cli.specs.declared.arguments.order.Command.{Command}
 use Rattle.cli.specs.declared.arguments.order.Command.TheVariants.{Replay, Run, Hunt, Explore, Judge, Draw, Shrink, Explain}
@@ -8,7 +8,7 @@ use Rattle.cli.specs.declared.arguments.order.RunOrder.{RunOrder}
 abbrev pub HuntFits : HuntOrder → Type 0
 HuntFits order = ((1 ≤ order.rounds) × (order.rounds ≤ 10000)) × (1 ≤ order.steps) × (order.steps ≤ 10000)
 
--- so many processes, messages of each, crashes of 1,000 askings, and words of a message
+-- the processes, the messages of each, the crashes in 1,000 askings, and the words of a message
 abbrev pub RunFits : RunOrder → Type 0
 RunFits order = ((1 ≤ order.procs) × (order.procs ≤ 16)) × ((1 ≤ order.messages) × (order.messages ≤ 4096)) × (order.crash ≤ 50) × (1 ≤ order.width) × (order.width ≤ 8)
 

@@ -1,4 +1,4 @@
--- What is written of a topic.
+-- The text that `explain` writes.
 use Rattle.std.specs.Prelude.{◌≡◌, ℕ, List, [], ◌∷◌, ◌++◌, codes}
 use Rattle.std.specs.List.{flat_map}
 use Rattle.schedule.specs.Tapes.{Tape, Writes}
@@ -6,15 +6,15 @@ use Rattle.cli.specs.declared.explain.meaning.Meaning.{Meaning}
 use Rattle.cli.specs.declared.explain.topic.Topic.{Topic}
 use Rattle.cli.specs.Names.{name_of}
 
--- a line of the name and what it means, and a line of the page
+-- a line with the name and its meaning, and a line with the page
 abbrev pub meaning_text : Meaning → List ℕ
 meaning_text meaning =
     meaning.name.now ++ codes ": " ++ meaning.text.now ++ 10 ∷ codes "See " ++ meaning.page.now ++ codes "." ++ 10 ∷ []
 
--- the meaning of a topic, under its name, was written
+-- the meaning of a topic was written, under its name
 abbrev pub TellsTopic : Topic → Tape → Tape → Type 0
 TellsTopic topic before now = (meaning : Meaning) × (meaning.name.now ≡ name_of topic) × Writes before now (meaning_text meaning)
 
--- a line for each name
+-- one line for each name
 abbrev pub list_of : List Topic → List ℕ
 list_of topics = flat_map (λ topic. name_of topic ++ 10 ∷ []) topics

@@ -1,4 +1,4 @@
-//! What `rmelab` can be asked to do: the orders, and the words of a command line that spell them.
+//! The arguments of `rmelab`'s commands, and the words of a command line that spell them.
 
 mod argument;
 pub mod order;

@@ -1,4 +1,4 @@
-//! What the numbers and names of reports, faults and steps mean.
+//! The meanings of the numbers and names in reports, faults and steps.
 
 mod answers;
 pub mod meaning;

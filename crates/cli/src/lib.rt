@@ -1,4 +1,4 @@
-//! The command line of `rmelab`: what it can be asked to do, the words that spell it, and what names and numbers mean.
+//! The command line of `rmelab`: its commands, the words that spell them, and what the names and numbers of its output mean.
 #![tactic(auto)]
 
 pub mod arguments;

@@ -23,14 +23,14 @@ pub enum Form {
 pub struct Argument<'a> {
     form: Form,
     name: &'a str,
-    /// What stands for its value in the help.
+    /// The name of its value in the help.
     value: &'a str,
     help: &'a str,
     required: bool,
 }
 
 impl<'a> Argument<'a> {
-    /// One that can be left out.
+    /// An argument that can be left out.
     pub fn new(form: Form, name: &'a str, value: &'a str, help: &'a str) -> Argument<'a> {
         Argument {
             form,
@@ -41,7 +41,7 @@ impl<'a> Argument<'a> {
         }
     }
 
-    /// The same, that can't be left out.
+    /// The same argument, but it can't be left out.
     pub fn required(self) -> Argument<'a> {
         Argument {
             required: true,
@@ -81,7 +81,7 @@ impl<'a> Argument<'a> {
         Argument::text("image", "FILE", help)
     }
 
-    /// An option with a value, as `clap` has it.
+    /// An option with a value, as a `clap` argument.
     fn option(self, alloc: Global) -> Arg<'a> {
         Arg::new(alloc, self.name)
             .long(self.name)
@@ -91,7 +91,7 @@ impl<'a> Argument<'a> {
             .action(ArgAction::Set)
     }
 
-    /// The argument as `clap` has it.
+    /// The `clap` argument.
     pub fn arg(self, alloc: Global) -> Arg<'a> {
         match self.form {
             Form::Flag => Arg::new(alloc, self.name)

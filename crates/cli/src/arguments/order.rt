@@ -1,4 +1,4 @@
-//! What the program is asked to do.
+//! The arguments of each command.
 
 ghost use Rattle.std.specs.Prelude.{◌≡◌, option_copied};
 
@@ -6,50 +6,50 @@ use crashlab::Variant;
 use diagram::Style;
 use crate::explain::topic::Topic;
 
-/// `replay`: a schedule is run, and its report is printed.
+/// `replay`: runs a schedule and prints its report.
 #[derive(Debug, Drop, PartialEq, Eq)]
 pub struct ReplayOrder {
     /// Print one JSON object of the report's lines.
     pub json: bool,
-    /// Tell each step.
+    /// Print a line for each step.
     pub each: bool,
     pub variant: Variant,
-    /// The file of the image that the world begins with.
+    /// The file of the image that the world starts from.
     pub image: Option<String>,
-    /// The file that the last image is written to.
+    /// The file to which the last image is written.
     pub save: Option<String>,
-    /// The schedule's file; none is standard input.
+    /// The schedule's file; without one, standard input.
     pub file: Option<String>,
 }
 
-/// `run`: senders send through the running lock, each on a thread of its own, and crash as they go.
+/// `run`: senders send through the running lock, each on a thread of its own, and crash at random.
 #[derive(Clone, Copy, Debug, PartialEq, Eq)]
 pub struct RunOrder {
-    /// How many senders there are.
+    /// The number of senders.
     pub procs: u64,
-    /// How many messages each of them sends.
+    /// The number of messages that each sender sends.
     pub messages: u64,
-    /// How many of 1,000 askings fall.
+    /// How many in 1,000 askings of the crash plan fall.
     pub crash: u64,
-    /// The seed of the first sender's crashes; each further one has the next number.
+    /// The seed of the first sender's crashes; each further sender has the next number.
     pub seed: u64,
-    /// How many words a message has.
+    /// The number of words of a message.
     pub width: u64,
 }
 
-/// `hunt`: schedules are drawn until one goes wrong.
+/// `hunt`: draws schedules until one goes wrong.
 #[derive(Clone, Copy, Debug, PartialEq, Eq)]
 pub struct HuntOrder {
     pub variant: Variant,
     pub seed: u64,
     pub rounds: u64,
-    /// How many moves a round has.
+    /// The number of moves of a round.
     pub steps: u64,
-    /// Make the schedule found least.
+    /// Shrink the schedule that was found.
     pub shrink: bool,
 }
 
-/// Which calls a search starts.
+/// The calls that a search starts.
 #[derive(Clone, Copy, Debug, PartialEq, Eq)]
 pub struct Alphabet {
     pub lock: bool,
@@ -62,61 +62,61 @@ pub struct Alphabet {
     pub close: bool,
 }
 
-/// `explore`: all schedules up to a bound are tried, the shorter before the longer.
+/// `explore`: tries all schedules up to a bound, the shorter before the longer.
 #[derive(Clone, Copy, Debug, PartialEq, Eq)]
 pub struct ExploreOrder {
     pub variant: Variant,
     pub procs: u64,
     pub calls: Alphabet,
-    /// How many crashes a schedule may have.
+    /// The most crashes of a schedule.
     pub crashes: u64,
-    /// How many moves a schedule may have.
+    /// The most moves of a schedule.
     pub moves: u64,
-    /// How many states may be kept.
+    /// The most states that are kept.
     pub states: u64,
     pub limit: u64,
     pub cap: u64,
     pub width: u64,
 }
 
-/// `draw`: a schedule is run, and its run is drawn.
+/// `draw`: runs a schedule and draws its run.
 #[derive(Debug, Drop, PartialEq, Eq)]
 pub struct DrawOrder {
     pub style: Style,
     pub variant: Variant,
-    /// The file of the image that the world begins with.
+    /// The file of the image that the world starts from.
     pub image: Option<String>,
-    /// The schedule's file; none is standard input.
+    /// The schedule's file; without one, standard input.
     pub file: Option<String>,
 }
 
-/// `shrink`: a schedule that goes wrong on a variant is made least.
+/// `shrink`: shrinks a schedule that goes wrong on a variant.
 #[derive(Debug, Drop, PartialEq, Eq)]
 pub struct ShrinkOrder {
     pub variant: Variant,
-    /// The schedule's file; none is standard input.
+    /// The schedule's file; without one, standard input.
     pub file: Option<String>,
 }
 
-/// What the program is asked to do.
+/// A command with its arguments.
 #[derive(Debug, Drop, PartialEq, Eq)]
 pub enum Command {
     Replay(ReplayOrder),
     Run(RunOrder),
     Hunt(HuntOrder),
     Explore(ExploreOrder),
-    /// The verdict of a trace in a file, or on standard input.
+    /// Prints the verdict of a trace in a file, or on standard input.
     Judge(Option<String>),
     Draw(DrawOrder),
     Shrink(ShrinkOrder),
-    /// What this topic means; without one, the names of all topics.
+    /// Prints what this topic means; without one, the names of all topics.
     Explain(Option<Topic>),
 }
 
 impl Command {
     ghost use Rattle.cli.specs.FilesNamed.{image_of, input_of, save_of};
 
-    /// The file that the command reads; none is standard input.
+    /// The file that the command reads; without one, it reads standard input.
     pub fn input_file(&self) -> Option<&String>
         ensures { option_copied result ≡ input_of self.now }
     {
@@ -129,7 +129,7 @@ impl Command {
         }
     }
 
-    /// The file of the image that the command begins with.
+    /// The file of the image that the command starts from.
     pub fn image_file(&self) -> Option<&String>
         ensures { option_copied result ≡ image_of self.now }
     {
@@ -140,7 +140,7 @@ impl Command {
         }
     }
 
-    /// The file that the command saves an image to.
+    /// The file to which the command saves an image.
     pub fn save_file(&self) -> Option<&String>
         ensures { option_copied result ≡ save_of self.now }
     {

@@ -1,4 +1,4 @@
-//! The program's words, as `clap` reads them: its commands, their options and their help.
+//! The command line for `clap`: its commands, their options and their help.
 
 use crate::arguments::argument::{Argument, Form};
 use clap::Command as Parser;
@@ -58,10 +58,10 @@ const EXPLAIN_HELP: &str =
 all that is explained, one a line.\nExit status: 0 where the words are a name, 2 where they are none, 3 after a fault of a device or \
 of memory.\n\nExample: rmelab explain fault 5";
 
-/// What `--version` tells.
+/// What `--version` prints.
 const VERSION: &str = "0.1.0";
 
-/// A command that takes these arguments.
+/// A command with these arguments.
 fn command<'a>(
     alloc: Global,
     name: &'a str,
@@ -176,7 +176,7 @@ fn head<'a>(alloc: Global) -> Parser<'a> {
         .subcommand_required(true)
 }
 
-/// A parser with one command more.
+/// The parser with one more command.
 fn with<'a>(
     whole: Parser<'a>,
     part: Result<Parser<'a>, AllocError>,

@@ -1,4 +1,4 @@
-//! The words of the command line, read.
+//! Reads the words of the command line.
 
 ghost use Rattle.std.specs.Prelude.{◌≡◌, ◌↔◌, IfOk, IsOk, OnErr, IsErrOf};
 ghost use Rattle.cli.specs.declared.explain.topic.Topic.{Topic as AnyTopic};
@@ -18,18 +18,18 @@ use std::alloc::{AllocError, Global};
 use std::io;
 use std::rt::Env;
 
-/// Why the words are no command, in the order in which it is found.
+/// Why the words are no command. The first cause that is found is answered.
 #[derive(Debug, Drop)]
 pub enum WordsFault {
-    /// The help or the version that is asked for, to be printed; the status is 0.
+    /// The help or the version that was asked for. It is printed; the exit status is 0.
     Help { text: String },
-    /// What `clap` says against them, or that they name no topic, to be told; the status is 2.
+    /// The error text of `clap`, or that the words name no topic. It is printed to standard error; the exit status is 2.
     Refused { text: String },
-    /// No such variant, or one other than `right` together with an image.
+    /// There is no such variant, or it isn't `right` and an image is given.
     BadVariant,
     /// A number of `run` or `hunt` outside its range.
     BadSize,
-    /// A word is no text.
+    /// A word isn't UTF-8 text.
     Unreadable,
     OutOfMemory,
 }
@@ -40,7 +40,7 @@ impl From<AllocError> for WordsFault {
     }
 }
 
-/// The words that the process was given, of which the first is the program's name.
+/// The words that the process was started with. The first one is the program's name.
 pub fn words_given<R: Env + Alloc<A = Global>>(rt: &R) -> Result<Vec<String>, WordsFault> {
     match std::env::args(rt) {
         Ok(words) => Ok(words.collect(rt.alloc())?),
@@ -51,7 +51,7 @@ pub fn words_given<R: Env + Alloc<A = Global>>(rt: &R) -> Result<Vec<String>, Wo
     }
 }
 
-/// The variant of this name.
+/// The variant with this name.
 fn variant_named(name: &str) -> Option<Variant> {
     match name {
         "right" => Some(Variant::Right),
@@ -80,13 +80,13 @@ fn number_of(matches: &ArgMatches<'_>, name: &str) -> u64 {
     matches.get_one::<u64>(name).unwrap_or(0)
 }
 
-/// The variant that is asked for, or the one of this name.
+/// The variant that is asked for, or the one with the name `without`.
 fn variant_of(matches: &ArgMatches<'_>, without: &str) -> Result<Variant, WordsFault> {
     let name = matches.get_str("variant").unwrap_or(without);
     variant_named(name).ok_or(WordsFault::BadVariant)
 }
 
-/// The variant that is asked for, `right` without one. Only `right` goes together with an image.
+/// The variant that is asked for; without one, `right`. Only `right` goes with an image.
 fn variant_beside_image(matches: &ArgMatches<'_>) -> Result<Variant, WordsFault> {
     let variant = variant_of(matches, "right")?;
     if variant != Variant::Right && matches.get_str("image").is_some() {
@@ -123,7 +123,7 @@ fn draw_words(alloc: Global, matches: &ArgMatches<'_>) -> Result<DrawOrder, Word
     })
 }
 
-/// The order of a hunt, where its numbers are in their ranges.
+/// The arguments of a hunt, if its numbers are in their ranges.
 fn hunt_of(order: HuntOrder) -> Result<HuntOrder, WordsFault>
     ensures fits { IsOk result ↔ HuntFits order }
     ensures same { IfOk result (λ sized. sized ≡ order) }
@@ -156,7 +156,7 @@ fn shrink_words(alloc: Global, matches: &ArgMatches<'_>) -> Result<ShrinkOrder, 
     })
 }
 
-/// The calls of this list, with commas between them.
+/// The calls of this list, which has commas between them.
 fn alphabet_of(list: &str) -> Result<Alphabet, WordsFault> {
     let mut calls = Alphabet {
         lock: false,
@@ -182,7 +182,7 @@ fn alphabet_of(list: &str) -> Result<Alphabet, WordsFault> {
     Ok(calls)
 }
 
-/// The number of this name, or another without it.
+/// The number with this name, or `without` if it is left out.
 fn number_or(matches: &ArgMatches<'_>, name: &str, without: u64) -> u64 {
     matches.get_one::<u64>(name).unwrap_or(without)
 }
@@ -201,7 +201,7 @@ fn explore_words(matches: &ArgMatches<'_>) -> Result<ExploreOrder, WordsFault> {
     })
 }
 
-/// The order of a run, where its numbers are in their ranges.
+/// The arguments of a run, if its numbers are in their ranges.
 fn run_of(order: RunOrder) -> Result<RunOrder, WordsFault>
     ensures fits { IsOk result ↔ RunFits order }
     ensures same { IfOk result (λ sized. sized ≡ order) }
@@ -230,14 +230,14 @@ fn run_words(matches: &ArgMatches<'_>) -> Result<RunOrder, WordsFault>
     })
 }
 
-/// What is told of words that name no topic.
+/// The error text for words that name no topic.
 fn unnamed(alloc: Global, name: &str) -> Result<String, AllocError> {
     format!(in alloc;
         "error: '{name}' names nothing that is explained\n\nFor more information, try 'rmelab explain'.\n"
     )
 }
 
-/// The topic of this name.
+/// The topic with this name.
 fn topic_of(alloc: Global, name: &str) -> Result<Topic, WordsFault>
     ensures named { IfOk result (λ topic. name_of topic ≡ name.now) }
     ensures found { (topic : AnyTopic) → name_of topic ≡ name.now → IsOk result }
@@ -250,7 +250,7 @@ fn topic_of(alloc: Global, name: &str) -> Result<Topic, WordsFault>
     }
 }
 
-/// The topic that the words name, one space between two; none without words.
+/// The topic that the words name, joined by spaces; none without words.
 fn explain_words(alloc: Global, matches: &ArgMatches<'_>) -> Result<Option<Topic>, WordsFault> {
     match matches.get_strs("WORDS") {
         Some(words) => {
@@ -289,8 +289,8 @@ fn refused(alloc: Global, error: &Error) -> Result<WordsFault, AllocError> {
     }
 }
 
-/// Reads the words of a command line, of which the first is the program's name. What `clap` refuses is found first, then
-/// a bad variant, then a bad size. Words of `explain` that name no topic are refused as `clap` refuses words.
+/// Reads the words of a command line. The first word is the program's name. A refusal by `clap` is found first, then a bad
+/// variant, then a bad size. Words of `explain` that name no topic are refused in the same way as by `clap`.
 pub fn read_words(alloc: Global, words: &[String]) -> Result<Command, WordsFault>
     ensures sized { IfOk result IsSized }
 {

@@ -1,4 +1,4 @@
-//! What the answers of calls mean.
+//! The meanings of the answers of calls.
 
 ghost use Rattle.std.specs.Prelude.{◌≡◌};
 ghost use Rattle.cli.specs.declared.explain.topic.Topic.TheVariants.{Answer as OfAnswer};
@@ -114,7 +114,7 @@ fn of_task(name: &'static str, text: &'static str) -> Meaning
     }
 }
 
-/// What a call is answered.
+/// The meaning of a call's answer.
 pub fn of_answer(answer: Answer) -> Meaning
     ensures { result.name.now ≡ name_of (OfAnswer answer) }
 {
@@ -130,7 +130,7 @@ pub fn of_answer(answer: Answer) -> Meaning
     }
 }
 
-/// What `recover` finds.
+/// The meaning of what `recover` finds.
 fn of_found(found: Found) -> Meaning
     ensures { result.name.now ≡ name_of_found found }
 {
@@ -143,7 +143,7 @@ fn of_found(found: Found) -> Meaning
     }
 }
 
-/// What a task answers.
+/// The meaning of a task's reply.
 fn of_reply(reply: Reply) -> Meaning
     ensures { result.name.now ≡ name_of_reply reply }
 {
@@ -162,7 +162,7 @@ fn of_reply(reply: Reply) -> Meaning
     }
 }
 
-/// What `consistent` has found to mend.
+/// The meaning of what `consistent` has mended.
 fn of_mending(mended: bool) -> Meaning
     ensures { result.name.now ≡ name_of_reply (Reply.Mended mended) }
 {
@@ -173,7 +173,7 @@ fn of_mending(mended: bool) -> Meaning
     }
 }
 
-/// Whether a lock finds itself ruined.
+/// The meaning of whether the lock is ruined.
 fn of_check(ruined: bool) -> Meaning
     ensures { result.name.now ≡ name_of_reply (Reply.Ruined ruined) }
 {

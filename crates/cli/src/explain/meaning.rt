@@ -1,4 +1,4 @@
-//! What a topic means.
+//! The meaning of a topic.
 
 ghost use Rattle.std.specs.Prelude.{◌≡◌};
 ghost use Rattle.cli.specs.Names.{name_of};
@@ -9,10 +9,10 @@ use crate::explain::steps::of_kind;
 use crate::explain::texts::{of_judge_fault, of_line_fault, of_rule};
 use crate::explain::topic::Topic;
 
-/// What a topic means, for a reader who has met its name.
+/// The meaning of a topic, for a reader who has met its name.
 #[derive(Clone, Copy, Debug, PartialEq, Eq)]
 pub struct Meaning {
-    /// The words that name it.
+    /// The topic's name.
     pub name: &'static str,
     /// Two sentences.
     pub text: &'static str,
@@ -20,7 +20,7 @@ pub struct Meaning {
     pub page: &'static str,
 }
 
-/// What a topic means. Topics of one name mean the same.
+/// The meaning of a topic. Topics with the same name have the same meaning.
 pub fn meaning_of(topic: Topic) -> Meaning
     ensures { result.name.now ≡ name_of topic }
 {

@@ -1,4 +1,4 @@
-//! What the refusals of calls mean.
+//! The meanings of the refusals of calls.
 
 ghost use Rattle.std.specs.Prelude.{◌≡◌};
 ghost use Rattle.cli.specs.declared.explain.topic.Topic.TheVariants.{Refused as OfRefused};
@@ -70,7 +70,7 @@ fn of_call(name: &'static str, text: &'static str) -> Meaning
     }
 }
 
-/// Why a call was refused.
+/// The meaning of a refusal.
 #[tactic(auto, unfolding(crate::proofs::Common::digits))]
 pub fn of_refusal(refusal: Refusal) -> Meaning
     ensures { result.name.now ≡ name_of (OfRefused refusal) }

@@ -1,8 +1,8 @@
-//! The rules of an image.
+//! The rules of an image (docs/texts.md, Image).
 
 ghost use Rattle.std.specs.Prelude.{◌≡◌, ◌≤◌};
 
-/// A rule that an image keeps, in the order in which they are asked.
+/// A rule that an image has to keep, in the order in which they are checked.
 #[derive(Clone, Copy, Debug, PartialEq, Eq)]
 pub enum Rule {
     Form,
@@ -19,7 +19,7 @@ pub enum Rule {
 impl Rule {
     ghost use Rattle.cli.specs.Names.{number_of_rule};
 
-    /// Its number, from 1 to 9.
+    /// The rule's number, from 1 to 9.
     pub fn number(self) -> u64
         ensures told { result ≡ number_of_rule self }
         ensures few { result ≤ 9 }

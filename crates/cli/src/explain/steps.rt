@@ -1,4 +1,4 @@
-//! What the kinds of steps mean.
+//! The meanings of the kinds of steps.
 
 ghost use Rattle.std.specs.Prelude.{◌≡◌};
 ghost use Rattle.cli.specs.declared.explain.topic.Topic.TheVariants.{Step as OfStep};
@@ -56,7 +56,7 @@ fn of_step(name: &'static str, text: &'static str) -> Meaning
     }
 }
 
-/// What a step is for.
+/// The meaning of a kind of step.
 pub fn of_kind(kind: Kind) -> Meaning
     ensures { result.name.now ≡ name_of (OfStep kind) }
 {

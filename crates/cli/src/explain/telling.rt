@@ -1,4 +1,4 @@
-//! What topics mean, written to a sink.
+//! Writes the meanings of topics to a sink.
 
 ghost use Rattle.std.specs.Prelude.{◌≡◌, ◌+◌, ◌-◌, ◌^◌, min, OnOk, OnErr};
 ghost use Rattle.schedule.specs.Tapes.{Writes};
@@ -10,7 +10,7 @@ use crate::explain::topic::{TOPICS, Topic};
 use schedule::texts::device::write_all;
 use schedule::{Failed, Sink};
 
-/// Writes a name, its two sentences, and the page that defines it.
+/// Writes the name, its two sentences, and the page that defines it.
 fn tell<W: Sink>(meaning: &Meaning, w: &mut W) -> Result<(), Failed>
     ensures told { OnOk result (Writes (W.tape w.old) (W.tape w.new) (meaning_text meaning.now)) }
     ensures failed { OnErr result ((W.tape w.new).failures ≡ min ((W.tape w.old).failures + 1) (2 ^ 64 - 1)) }
@@ -23,7 +23,7 @@ fn tell<W: Sink>(meaning: &Meaning, w: &mut W) -> Result<(), Failed>
     write_all(w, b".\n")
 }
 
-/// Writes what a topic means.
+/// Writes the meaning of a topic. `Failed`: the sink has failed.
 pub fn tell_topic<W: Sink>(topic: Topic, w: &mut W) -> Result<(), Failed>
     ensures told { OnOk result (TellsTopic topic (W.tape w.old) (W.tape w.new)) }
     ensures failed { OnErr result ((W.tape w.new).failures ≡ min ((W.tape w.old).failures + 1) (2 ^ 64 - 1)) }
@@ -32,7 +32,7 @@ pub fn tell_topic<W: Sink>(topic: Topic, w: &mut W) -> Result<(), Failed>
     tell(&meaning, w)
 }
 
-/// Writes the name of each of these topics, one a line.
+/// Writes the name of each of these topics, one on a line.
 fn tell_names<W: Sink>(topics: &[Topic], w: &mut W) -> Result<(), Failed>
     ensures told { OnOk result (Writes (W.tape w.old) (W.tape w.new) (list_of topics.now)) }
     ensures failed { OnErr result ((W.tape w.new).failures ≡ min ((W.tape w.old).failures + 1) (2 ^ 64 - 1)) }
@@ -44,7 +44,7 @@ fn tell_names<W: Sink>(topics: &[Topic], w: &mut W) -> Result<(), Failed>
     Ok(())
 }
 
-/// Writes the names of all that there is to explain, one a line.
+/// Writes the names of all topics, one on a line. `Failed`: the sink has failed.
 pub fn tell_all_names<W: Sink>(w: &mut W) -> Result<(), Failed>
     ensures told { OnOk result (Writes (W.tape w.old) (W.tape w.new) (list_of all_topics)) }
     ensures failed { OnErr result ((W.tape w.new).failures ≡ min ((W.tape w.old).failures + 1) (2 ^ 64 - 1)) }

@@ -1,4 +1,4 @@
-//! What the faults of texts, the rules of images and the faults of judges mean.
+//! The meanings of the faults of texts, the rules of images and the faults of judges.
 
 ghost use Rattle.std.specs.Prelude.{◌≡◌};
 ghost use Rattle.cli.specs.declared.explain.topic.Topic.TheVariants.{Fault as OfFault, Rule as OfRule, Against as OfAgainst};
@@ -123,7 +123,7 @@ fn of_judge(name: &'static str, text: &'static str) -> Meaning
     }
 }
 
-/// What is wrong with a line of a schedule or a trace.
+/// The meaning of a fault of a line of a schedule or a trace.
 #[tactic(auto, unfolding(crate::proofs::Common::digits))]
 pub fn of_line_fault(fault: LineFault) -> Meaning
     ensures { result.name.now ≡ name_of (OfFault fault) }
@@ -138,7 +138,7 @@ pub fn of_line_fault(fault: LineFault) -> Meaning
     }
 }
 
-/// What a rule asks of an image.
+/// The meaning of a rule of an image.
 #[tactic(auto, unfolding(crate::proofs::Common::digits))]
 pub fn of_rule(rule: Rule) -> Meaning
     ensures { result.name.now ≡ name_of (OfRule rule) }
@@ -156,7 +156,7 @@ pub fn of_rule(rule: Rule) -> Meaning
     }
 }
 
-/// Why a judge refuses a deed.
+/// The meaning of the fault for which a judge refuses a deed.
 #[tactic(auto, unfolding(crate::proofs::Common::digits))]
 pub fn of_judge_fault(fault: Fault) -> Meaning
     ensures { result.name.now ≡ name_of (OfAgainst fault) }

@@ -1,4 +1,4 @@
-//! What there is to explain, by its name.
+//! The topics that can be explained, by name.
 
 ghost use Rattle.std.specs.Prelude.{◌≡◌, ◌≢◌, ◌↔◌, All, IfSome, IsNone, true};
 ghost use Rattle.cli.specs.Names.{name_of};
@@ -10,21 +10,24 @@ use redomail::Reply;
 use rmecore::{Fault, Found, Kind, Refusal};
 use rmeworld::Answer;
 
-/// What there is to explain. A number or a process beside it is no part of its name.
+/// A topic that can be explained. A number or a process beside it isn't part of its name.
 #[derive(Clone, Copy, Debug, PartialEq, Eq)]
 pub enum Topic {
-    /// Of a line of a text.
+    /// A fault of a line of a text.
     Fault(LineFault),
+    /// A refusal of a call.
     Refused(Refusal),
-    /// Of an image.
+    /// A rule of an image.
     Rule(Rule),
-    /// Of a judge.
+    /// A fault that a judge finds.
     Against(Fault),
+    /// An answer of a call.
     Answer(Answer),
+    /// A kind of step.
     Step(Kind),
 }
 
-/// All that there is to explain: one topic for each name.
+/// All topics that can be explained: one for each name.
 pub const TOPICS: [Topic; 74] = [
     Topic::Fault(LineFault::NoHeader),
     Topic::Fault(LineFault::BadWord),
@@ -102,14 +105,14 @@ pub const TOPICS: [Topic; 74] = [
     Topic::Step(Kind::Glance),
 ];
 
-/// Whether a topic has this name.
+/// Whether the topic has this name.
 fn has_name(topic: Topic, name: &str) -> bool
     ensures { result ≡ true ↔ name_of topic ≡ name.now }
 {
     meaning_of(topic).name == name
 }
 
-/// The first of these topics that has this name.
+/// The first of these topics with this name.
 fn among(topics: &[Topic], name: &str) -> Option<Topic>
     ensures some { IfSome result (λ topic. name_of topic ≡ name.now) }
     ensures none { IsNone result → All (λ topic. name_of topic ≢ name.now) topics.now }
@@ -122,7 +125,7 @@ fn among(topics: &[Topic], name: &str) -> Option<Topic>
     None
 }
 
-/// The topic of this name, where there is one.
+/// The topic with this name, if there is one.
 pub fn topic_named(name: &str) -> Option<Topic>
     ensures some { IfSome result (λ topic. name_of topic ≡ name.now) }
     ensures none { IsNone result → (topic : Topic) → name_of topic ≢ name.now }

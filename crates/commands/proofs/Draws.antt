@@ -1,4 +1,4 @@
--- Where the schedule can't be read, nothing is told of its run.
+-- If the schedule can't be read, nothing is written of its run.
 use Rattle.std.proofs.Common.{◌≡◌, ◌≤◌, ◌⊎◌, ℕ, List, Option, Err, refl, inl, inr, arith}
 use Rattle.crashlab.specs.declared.variant.Variant.{Variant}
 use Rattle.commands.specs.declared.schedules.fault.Fault.{Fault}

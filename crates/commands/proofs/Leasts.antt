@@ -1,4 +1,4 @@
--- Schedules that are made least and written.
+-- Schedules that are shrunk and written.
 use Rattle.std.proofs.Common.{true, Some, Result, Ok, Err, OnOk}
 use Rattle.crashlab.specs.declared.variant.Variant.{Variant}
 use Rattle.schedule.specs.Tapes.{Tape, Writes}

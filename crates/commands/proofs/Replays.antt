@@ -1,4 +1,4 @@
--- A replay that comes to its verdict has failed to write nothing.
+-- A replay that reaches its verdict has had no failed write.
 use Rattle.std.proofs.Common.{◌≡◌, Ok, Err, Some, None, Option, Result, ℕ, inl, inr}
 use Rattle.rmecore.specs.declared.refusal.Refusal.{Refusal}
 use Rattle.schedule.specs.declared.lines.fault.LineFault.{LineFault}

@@ -1,4 +1,4 @@
--- The sizes of a run that fits are those of a lab.
+-- The sizes of a run in range are those of a lab.
 use Rattle.std.proofs.Common.{◌≡◌, ℕ, ◌-◌, ◌*◌, ◌^◌, ◌≤◌, min, refl, inl, inr, arith}
 use Rattle.std.proofs.Math.Nat.{min-eq_left, one-le-mul}
 use Rattle.std.proofs.lemmas.Nat.{mul-le}
@@ -7,7 +7,7 @@ use Rattle.cli.specs.declared.arguments.order.RunOrder.{RunOrder}
 use Rattle.commands.specs.Commands.{lab_for}
 use Rattle.cli.specs.Sizes.{RunFits}
 
--- room for each message is within a mailbox's room
+-- room for each message isn't more than a mailbox may have
 room_fits : (p m : ℕ) → p ≤ 16 → m ≤ 4096 → min (p * m) (2 ^ 64 - 1) ≡ p * m
 room_fits p m few some =
     let most = mul-le p m 16 4096 few some in

@@ -1,4 +1,4 @@
--- How a command ends: what its status, or its fault, says of what was read, what it has written, and what is to be saved.
+-- How a command ends: what its exit status, or its fault, says of what was read, written and is to be saved.
 use Rattle.std.specs.Prelude.{◌≡◌, ◌≢◌, ◌⊎◌, ℕ, ◌+◌, ◌-◌, ◌*◌, ◌^◌, ◌≤◌, min, Bool, true, false, List, [], ◌∷◌, codes, length, Option, Some, None, Result, Ok, Err}
 use Rattle.crashlab.specs.declared.variant.Variant.{Variant}
 use Rattle.crashlab.specs.declared.variant.Variant.TheVariants.{Right}
@@ -31,12 +31,12 @@ use Rattle.commands.specs.Shrinks.{ShrinkEnds}
 use Rattle.commands.specs.Statuses.{outcome, outcome_told, status_ended}
 use Rattle.commands.specs.Explores.{ExploreEnds}
 
--- what is printed of a trace: the line of its verdict, or nothing after a fault
+-- what is printed for a trace: the line of its verdict, or nothing after a fault
 abbrev pub line_told : Result Verdict ReplayFault → List ℕ
 line_told (Ok verdict) = verdict_line verdict
 line_told (Err fault) = []
 
--- a trace was read to its end: the outcome is that of the answer to its text, whose line was written
+-- a trace was read to its end: the result is that of its text, whose line was written
 pub record TellsTrace (old new : Reading) (before now : Tape) (end : Result Ending Fault) : Type 0 where
   pub text : List ℕ
   pub read : WasRead old new text
@@ -46,12 +46,12 @@ pub record TellsTrace (old new : Reading) (before now : Tape) (end : Result Endi
 abbrev pub JudgeEnds : Reading → Reading → Tape → Tape → Result Ending Fault → Type 0
 JudgeEnds old new before now end = (IsBroken end ⊎ TellsTrace old new before now end) × TellsReads old new end
 
--- the schedule that was found is written, or the least one that it is made
+-- the schedule that was found is written, or a shrunk one
 abbrev pub TellsFound : Bool → Variant → Scheduled → Tape → Tape → Type 0
 TellsFound false variant found before now = Writes before now (spelling found)
 TellsFound true variant found before now = (least : Scheduled) × Shrinks variant found (Some least) × Writes before now (spelling least)
 
--- a schedule of at most as many moves as asked for finds a wrong variant out, and was written
+-- a wrong variant fails on a schedule with at most the moves asked for, and the schedule was written
 pub record TellsFind (order : HuntOrder) (before now : Tape) : Type 0 where
   pub wrong : order.variant ≢ Right
   pub schedule : Scheduled
@@ -66,7 +66,7 @@ HuntEnds order before now end =
     ⊎ (outcome end ≡ Err BadSize) × (HuntFits order → ⊥)
     ⊎ IsBroken end
 
--- the lab that a run is made in: room for each message, and numbers enough
+-- the sizes of a run's lab: room for each message, and the greatest limit of numbers
 abbrev pub lab_for : RunOrder → Spec
 lab_for order =
     record {
@@ -77,20 +77,20 @@ lab_for order =
       width = order.width;
     }
 
--- 2 tells sizes out of their ranges
+-- status 2 means sizes outside their ranges
 abbrev pub RunEnds : RunOrder → Result Ending Fault → Type 0
 RunEnds order end = status_ended end ≡ 2 → RunFits order → ⊥
 
--- the meaning of a topic was written, or the names of all
+-- the meaning of a topic was written, or the names of all topics
 abbrev pub Explains : Option Topic → Tape → Tape → Type 0
 Explains (Some topic) before now = TellsTopic topic before now
 Explains None before now = Writes before now (list_of TOPICS)
 
--- only a failed write keeps it from being told
+-- only a failed write keeps it from being written
 abbrev pub ExplainEnds : Option Topic → Tape → Tape → Result Ending Fault → Type 0
 ExplainEnds topic before now end = (outcome end ≡ Ok 0) × Explains topic before now ⊎ (outcome end ≡ Err Write) × (now.failures ≡ min (before.failures + 1) (2 ^ 64 - 1))
 
--- by the command, and the text of the image that is given; by how far its input was read and what it has written, before and now
+-- by the command and the text of its image; by what was read of the input and written, before and after
 abbrev pub CommandEnds : Command → Option (List ℕ) → Reading → Reading → Tape → Tape → Result Ending Fault → Type 0
 CommandEnds (Replay order) image old new before now end = ReplayEnds order image old new before now end
 CommandEnds (Run order) image old new before now end = RunEnds order end

@@ -8,7 +8,7 @@ use Rattle.cli.specs.declared.arguments.order.DrawOrder.{DrawOrder}
 use Rattle.commands.specs.Statuses.{status_ended}
 use Rattle.commands.specs.Tellings.{Drawn, TellsRead}
 
--- nothing finds the right lock out
+-- no verdict is against the right lock
 abbrev pub DrawEnds : DrawOrder → Option (List ℕ) → Reading → Reading → Tape → Tape → Result Ending Fault → Type 0
 DrawEnds order image old new before now end =
     (status_ended end ≡ 1 → order.variant ≢ Right) × TellsRead order.variant (Drawn order.style) image old new before now end

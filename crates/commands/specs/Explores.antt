@@ -22,17 +22,17 @@ use Rattle.cli.specs.declared.arguments.order.ExploreOrder.{ExploreOrder}
 use Rattle.commands.specs.Endings.{FailsToWrite}
 use Rattle.commands.specs.Statuses.{outcome}
 
--- these, where they are asked for
+-- these calls, if they are asked for
 abbrev pub asked : Bool → List Call → List Call
 asked true calls = calls
 asked false calls = []
 
--- an append for each number up to n, with the number as each word of its value
+-- an append for each number up to n; each word of its value is the number
 abbrev pub appends : ℕ → ℕ → List Call
 appends width zero = []
 appends width (suc n) = appends width n ++ call.Append (suc n) (take width (replicate 8 (suc n))) ∷ []
 
--- the calls that are started
+-- the calls that the search starts
 abbrev pub calls_of : ExploreOrder → List Call
 calls_of order =
     asked order.calls.lock (call.Lock ∷ [])
@@ -50,7 +50,7 @@ layout_of order = record { procs = order.procs; cap = order.cap; width = order.w
 abbrev pub schedule_of : ExploreOrder → List Move → Scheduled
 schedule_of order path = record { procs = order.procs; limit = order.limit; cap = order.cap; width = order.width; lines = map line_by path }
 
--- a schedule of fewest moves that finds a wrong variant out was written
+-- a schedule of fewest moves on which a wrong variant fails was written
 pub record TellsLeast (order : ExploreOrder) (before now : Tape) : Type 0 where
   pub wrong : order.variant ≢ Right
   pub path : List Move
@@ -65,19 +65,19 @@ within_line moves = line_of (codes "nothing" ∷ codes "found" ∷ codes "within
 abbrev pub all_line : ℕ → List ℕ
 all_line states = line_of (codes "nothing" ∷ codes "found:" ∷ codes "all" ∷ decimal states ∷ codes "states" ∷ [])
 
--- no schedule of at most as many moves as asked for finds it out, and this was told
+-- the variant fails on no schedule of at most this many moves, and that was written
 pub record TellsNoneWithin (order : ExploreOrder) (before now : Tape) : Type 0 where
   pub none : NoneOfAtMost order.variant (layout_of order) order.limit order.crashes (calls_of order) order.moves
   pub text : Writes before now (within_line order.moves)
 
--- no schedule of any length finds it out, and this was told, with the number of states
+-- the variant fails on no schedule of any length, and that was written, with the number of states
 pub record TellsNone (order : ExploreOrder) (before now : Tape) : Type 0 where
   pub none : NoneIsFound order.variant (layout_of order) order.limit order.crashes (calls_of order)
   pub states : ℕ
   pub number : IsNumberOfStates (rules scene_words) (first_scene order.variant (layout_of order) order.limit order.crashes (calls_of order)) states
   pub text : Writes before now (all_line states)
 
--- no world has these sizes, or no value as many words
+-- no world has these sizes, or no value has this width
 abbrev pub IsNoSize : ExploreOrder → Type 0
 IsNoSize order = (new_refusal (layout_of order) order.limit ≡ None → ⊥) ⊎ ((1 ≤ order.width) × (order.width ≤ 8) → ⊥)
 

@@ -1,4 +1,4 @@
--- The fault of a command for that of what it calls.
+-- The fault of a command for the fault of a call that it makes.
 use Rattle.one_lock.specs.declared.lab.lab_fault.LabFault.{LabFault}
 use Rattle.one_lock.specs.declared.lab.lab_fault.LabFault.TheVariants as of_lab
 use Rattle.commands.specs.declared.schedules.fault.Fault.{Fault}
@@ -6,7 +6,7 @@ use Rattle.commands.specs.declared.schedules.fault.Fault.TheVariants.{BadSize, R
 use Rattle.commands.specs.declared.folder.FileFault.{FileFault}
 use Rattle.commands.specs.declared.folder.FileFault.TheVariants as of_file
 
--- for that of a file that is opened, or written
+-- the fault for a file that wasn't opened, or wasn't written
 abbrev pub fault_of_opening : FileFault → Fault
 fault_of_opening of_file.Failed = Read
 fault_of_opening of_file.OutOfMemory = OutOfMemory
@@ -15,7 +15,7 @@ abbrev pub fault_of_saving : FileFault → Fault
 fault_of_saving of_file.Failed = Write
 fault_of_saving of_file.OutOfMemory = OutOfMemory
 
--- for that of a lab
+-- the fault of a lab
 abbrev pub fault_of_lab : LabFault → Fault
 fault_of_lab of_lab.BadSpec = BadSize
 fault_of_lab of_lab.OutOfMemory = OutOfMemory

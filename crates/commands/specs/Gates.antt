@@ -1,4 +1,4 @@
--- The crashes of a run's senders.
+-- The crash plans of a run's senders.
 use Rattle.std.specs.Prelude.{ℕ, ◌+◌, ◌%◌, ◌^◌, List, map}
 use Rattle.std.specs.List.{range_with_len}
 use Rattle.rand_core.specs.Pcg32Seed.{pcg32_seed}
@@ -6,7 +6,7 @@ use Rattle.rand_pcg.specs.Pcg.{pcg32_of_seed}
 use Rattle.crash_plans.specs.Plans.{Drawing, unasked}
 use Rattle.cli.specs.declared.arguments.order.RunOrder.{RunOrder}
 
--- those of sender p are drawn from the seed and p, modulo 2^64
+-- the crashes of sender p are drawn from the seed and p, modulo 2^64
 abbrev pub gate_of : RunOrder → ℕ → Drawing
 gate_of order p = record { generator = pcg32_of_seed (pcg32_seed 16 ((order.seed + p) % 2 ^ 64)); per_mille = order.crash; count = unasked }
 

@@ -6,7 +6,7 @@ use Rattle.commands.specs.declared.schedules.fault.Fault.TheVariants.{Text, Refu
 use Rattle.schedule.specs.Words.{line_of}
 use Rattle.schedule.specs.Tapes.{Begins, Tape, Writes}
 
--- what is told of a line of the input
+-- the words for a fault of a line of the input
 abbrev pub words_of_place : ℕ → List ℕ → ℕ → List (List ℕ)
 words_of_place line cause number = codes "line" ∷ (decimal line ++ codes ":") ∷ cause ∷ decimal number ∷ []
 
@@ -25,6 +25,6 @@ words_of_fault (Member p) = codes "member" ∷ decimal p ∷ codes "failed" ∷ 
 abbrev pub fault_line : Fault → List ℕ
 fault_line fault = line_of (codes "rmelab:" ∷ words_of_fault fault)
 
--- the line was written, or the device has failed behind a beginning of it
+-- the line was written, or the device has failed after a prefix of it
 abbrev pub IsTold : Tape → Tape → List ℕ → Type 0
 IsTold before now line = Writes before now line ⊎ (Begins before.taken now.taken line × (now.failures ≡ min (before.failures + 1) (2 ^ 64 - 1)))

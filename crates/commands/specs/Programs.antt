@@ -1,4 +1,4 @@
--- What the program does with files, and when it speaks on standard error.
+-- What the program does with files, and when it writes to standard error.
 use Rattle.std.specs.Prelude.{◌≡◌, ◌≤◌, ◌⊎◌, ℕ, List, ◌++◌, [], true, false, String, string_bytes, Vec, Option, None, is_some, option_to_list, Result, Ok, Err, OnOk}
 use Rattle.std.specs.declared.alloc.Global.{Global}
 use Rattle.commands.specs.declared.schedules.ending.Ending.{Ending}
@@ -17,25 +17,25 @@ use Rattle.commands.specs.Statuses.{status_ended, status_of}
 
 -- ---- files
 
--- the names of the files that were opened, and of those that were written with what was written
+-- the names of the files that were opened, the names of those that were written, and what was written
 pub record Used : Type 0 where
   pub opened : List (String Global)
   pub saved : List (String Global)
   pub texts : List (Vec ℕ Global)
 
--- the image is opened, then the file that is read, and no other
+-- the image is opened, then the file to be read, and no other
 abbrev pub opens_all : Command → List (String Global) → List (String Global)
 opens_all order before = (before ++ option_to_list (image_of order)) ++ option_to_list (input_of order)
 
--- where the image can't be had, the file that is read is not opened
+-- if the image can't be read, the file to be read isn't opened
 abbrev pub OpensSome : Command → List (String Global) → List (String Global) → Type 0
 OpensSome order before now = (now ≡ opens_all order before) ⊎ (now ≡ before ++ option_to_list (image_of order))
 
--- the file that the image is saved to is written, and no other
+-- the file for the last image is written, and no other
 abbrev pub saves_all : Command → List (String Global) → List (String Global)
 saves_all order before = before ++ option_to_list (save_of order)
 
--- these bytes are written to the file that the order names, or nothing is to no file
+-- these bytes are written to the file that the command names; without an image nothing is written
 pub record SavesAll (order : Command) (before now : Used) (save : Option (Vec ℕ Global)) : Type 0 where
   pub names : now.saved ≡ saves_all order before.saved
   pub texts : now.texts ≡ before.texts ++ option_to_list save
@@ -44,34 +44,34 @@ pub record SavesNone (before now : Used) : Type 0 where
   pub names : now.saved ≡ before.saved
   pub texts : now.texts ≡ before.texts
 
--- after a fault nothing was saved, but where the saving itself has failed, and then no write and no flush had
+-- after a fault nothing was saved, unless saving itself has failed; then no write and no flush had failed before
 abbrev pub Saves : Command → Used → Used → Tape → Tape → Result Ending Fault → Type 0
 Saves order before now blank written (Ok ending) = SavesAll order before now ending.save
 Saves order before now blank written (Err fault) =
     SavesNone before now ⊎ (status_of fault ≡ 3) × (now.saved ≡ saves_all order before.saved) × (written.failures ≡ blank.failures)
 
--- ---- what is read, written and told
+-- ---- what is read and written
 
--- the command ends so, beside the text of an image where the order names one
+-- the command ends like this, with the text of an image if the command names one
 abbrev pub EndsBeside : Command → Reading → Reading → Tape → Tape → Result Ending Fault → Type 0
 EndsBeside order old new before now end =
     (image : Option (List ℕ)) × (is_some image ≡ is_some (image_of order)) × CommandEnds order image old new before now end
 
--- a device or memory can fail besides
+-- a device or memory may fail as well
 abbrev pub EndsOnInput : Command → Reading → Reading → Tape → Tape → Result Ending Fault → Type 0
 EndsOnInput order old new before now end = IsBroken end ⊎ EndsBeside order old new before now end
 
--- what it read of a file says as much of its end as what is read of standard input
+-- the contract on a file is the one on standard input
 abbrev pub EndsOnFile : Command → Tape → Tape → Result Ending Fault → Type 0
 EndsOnFile order before now end =
     IsBroken end ⊎ ((last : Reading) × EndsBeside order (record { given = []; ended = false; failures = 0 }) last before now end)
 
--- where there is no fault, no write and no flush has failed
+-- without a fault, no write and no flush has failed
 abbrev pub IsWhole : Tape → Tape → Result Ending Fault → Type 0
 IsWhole before now (Ok ending) = (ending.status ≤ 1) × (now.failures ≡ before.failures)
 IsWhole before now (Err fault) = Unit {0}
 
--- what is done for an order: standard input is read where no file is named, and only there
+-- what is done for a command: standard input is read if and only if no file is named
 pub record Does (order : Command) (before now : Used) (old new : Reading) (blank written : Tape) (end : Result Ending Fault) : Type 0 where
   pub opens_all : OnOk end (now.opened ≡ opens_all order before.opened)
   pub opens_some : OpensSome order before.opened now.opened
@@ -86,7 +86,7 @@ abbrev pub Tells : Tape → Tape → Result Ending Fault → Type 0
 Tells said says (Ok ending) = says ≡ said
 Tells said says (Err fault) = IsTold said says (fault_line fault)
 
--- the fault is told where there is one, and the status is that of the end
+-- the line of a fault is written if there is one, and the status is that of the result
 pub record Closes (said says : Tape) (end : Result Ending Fault) (status : ℕ) : Type 0 where
   pub status_is : status ≡ status_ended end
   pub tells : Tells said says end
@@ -97,12 +97,12 @@ Obeys order before now old new blank written said says status =
 
 -- ---- words that are no command
 
--- the help is printed, or it is told that it can't be
+-- the help is printed, or the fault that it can't be is written
 abbrev pub Helps : List ℕ → Tape → Tape → Tape → Tape → ℕ → Type 0
 Helps text blank written said says status =
     (Writes blank written text × (says ≡ said) × (status ≡ 0)) ⊎ (IsTold said says (fault_line Write) × (status ≡ 3))
 
--- what is wrong with the words is told
+-- the error text for the words is written
 abbrev pub Scolds : List ℕ → Tape → Tape → ℕ → Type 0
 Scolds text said says status = IsTold said says text × (status ≡ 2)
 
@@ -114,7 +114,7 @@ Answers words.BadVariant blank written said says status = IsTold said says (faul
 Answers words.BadSize blank written said says status = IsTold said says (fault_line BadSize) × (status ≡ 2)
 Answers words.OutOfMemory blank written said says status = IsTold said says (fault_line OutOfMemory) × (status ≡ 3)
 
--- a command is obeyed, or the words are answered and nothing else is done
+-- a command is carried out, or only the fault of the words is reported
 abbrev pub IsProgram : Used → Used → Reading → Reading → Tape → Tape → Tape → Tape → ℕ → Type 0
 IsProgram before now old new blank written said says status =
     ((order : Command) × IsSized order × Obeys order before now old new blank written said says status)

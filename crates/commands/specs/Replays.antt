@@ -21,28 +21,28 @@ use Rattle.commands.specs.Endings.{IsEnded, TellsReads}
 use Rattle.commands.specs.Statuses.{outcome, outcome_told, status_after, status_ended}
 use Rattle.commands.specs.Tellings.{Replayed, TellsRead}
 
--- just the report of a schedule on the right lock is asked for
+-- only the report of a schedule on the right lock is asked for
 abbrev pub IsPlainReplay : ReplayOrder → Option (List ℕ) → Type 0
 IsPlainReplay order image = (image ≡ None) × (order.variant ≡ Right) × (order.json ≡ false) × (order.each ≡ false) × (order.save ≡ None)
 
--- something is asked for beside, and no JSON
+-- something else is asked for besides the report, and no JSON
 abbrev pub IsTold : ReplayOrder → Option (List ℕ) → Type 0
 IsTold order image = (order.json ≡ false) × (IsPlainReplay order image → ⊥)
 
--- the report of the schedule that was read was written, or why not is told
+-- the report of the schedule that was read was written, or the command answers why not
 abbrev pub TellsReplay : Reading → Reading → Tape → Tape → Result Ending Fault → Type 0
 TellsReplay old new before now end =
     (answer : Result Verdict ReplayFault) × ReplaysSource old new before now answer × (outcome end ≡ outcome_told answer)
 
--- the right lock is asked for, from its beginning
+-- the right lock is asked for, from the beginning
 abbrev pub IsNew : ReplayOrder → Option (List ℕ) → Type 0
 IsNew order image = (image ≡ None) × (order.variant ≡ Right)
 
--- these bytes are the image that the run of a schedule on a new world leaves
+-- these bytes are the image after the run of a schedule on a new world
 abbrev pub IsLast : Scheduled → List ℕ → Type 0
 IsLast schedule bytes = bytes ≡ image_line (image_of (world_run schedule).left)
 
--- what is to be saved, if anything, is the last image of the schedule that was read
+-- the image to be saved, if any, is the last image of the schedule that was read
 pub record SavesLast (old new : Reading) (save : Option (Vec ℕ Global)) : Type 0 where
   pub text : List ℕ
   pub read : WasRead old new text
@@ -50,19 +50,19 @@ pub record SavesLast (old new : Reading) (save : Option (Vec ℕ Global)) : Type
   pub spelled : schedule_at text ≡ Ok schedule
   pub last : IfSome save (λ image. IsLast schedule image.items)
 
--- a schedule was played to its verdict, from a state of the judge table on
+-- a schedule was played up to its verdict, from this state of the judge on
 pub record IsPlayed {S : Type 0} (start : State) (run : Part S (ℕ × Refusal)) (left : S) (before now : ℕ) (verdict : Verdict) : Type 0 where
   pub verdict_is : verdict ≡ verdict_on start (deeds_of run.told)
   pub left_is : left ≡ run.left
   pub whole : now ≡ before
 
--- and the command is ended: what is to be saved is the image of the machine as the run leaves it
+-- the command has ended: the image to be saved is that of the machine after the run
 pub record IsReplayed {S : Type 0} (start : State) (run : Part S (ℕ × Refusal)) (picture_of : S → Image) (saves : Bool) (before now : ℕ) (ending : Ending) : Type 0 where
   pub status_is : ending.status ≡ status_after (verdict_on start (deeds_of run.told))
   pub last : IfSome ending.save (λ text. text.items ≡ image_line (picture_of run.left))
   pub ended : IsEnded saves before now ending
 
--- whatever is asked for beside, nothing finds the right lock out, and no failed read is taken for the end of the text
+-- whatever else is asked for, no verdict is against the right lock, and a failed read isn't taken for the end of the text
 abbrev pub ReplayEnds : ReplayOrder → Option (List ℕ) → Reading → Reading → Tape → Tape → Result Ending Fault → Type 0
 ReplayEnds order image old new before now end =
     (status_ended end ≡ 1 → order.variant ≢ Right) × (IsPlainReplay order image → TellsReplay old new before now end)

@@ -1,4 +1,4 @@
--- Why a schedule is not played: its text, its header, or the image that it begins with.
+-- Why a schedule isn't played: its text, its header, or the image that it starts from.
 use Rattle.std.specs.Prelude.{◌≡◌, ◌⊎◌, ◌≤◌, ℕ, Bool, List, length, Option, Some, None, Err}
 use Rattle.rmecore.specs.declared.refusal.Refusal.{Refusal}
 use Rattle.rmecore.specs.Refused.{number_of}
@@ -17,32 +17,32 @@ use Rattle.commands.specs.Statuses.{fault_of_header, fault_of_image}
 use Rattle.schedule.specs.Wholes.{WasRead, layout_of}
 use Rattle.schedule.specs.Tapes.{Reading}
 
--- the text that was read is no schedule
+-- the text that was read isn't a schedule
 unfoldable pub IsWrongText : Reading → Reading → Fault → Type 0
 IsWrongText old new fault =
     (text : List ℕ) × WasRead old new text × (line : ℕ) × (why : LineFault) × (schedule_at text ≡ Err (line, why)) × (fault ≡ Text line (number_of_line why))
 
--- the image that a text spells. A text spells no two images
+-- the image that a text spells. No text spells two images
 abbrev pub IsImageOf : List ℕ → Image → Type 0
 IsImageOf text image = (wide : Bool) × Spells text wide image × (image.version ≡ version_of wide)
 
--- the image of the text that is given, or none where none is
+-- the image of the text that is given, or none if no text is
 abbrev pub IsPicture : Option (List ℕ) → Option Image → Type 0
 IsPicture None None = Unit {0}
 IsPicture (Some text) (Some image) = IsImageOf text image
 IsPicture _ _ = ⊥
 
--- the text that is given is no image
+-- the text that is given isn't an image
 abbrev pub IsWrongImage : Option (List ℕ) → Fault → Type 0
 IsWrongImage None fault = ⊥
 IsWrongImage (Some text) fault = (refusal : Refusal) × IsNoImage text refusal × (fault ≡ fault_of_image refusal)
 
--- no world has the header's sizes, or there was no memory for it
+-- no world has the header's sizes, or it was out of memory
 abbrev pub IsUnmade : Scheduled → Fault → Type 0
 IsUnmade schedule fault =
     (refusal : Refusal) × (new_refusal (layout_of schedule) schedule.limit ≡ cause refusal) × (fault ≡ fault_of_header (number_of refusal))
 
--- the schedule's header names the image's sizes, and its width or a greater one
+-- the schedule's header names the image's sizes, and a width that isn't smaller
 abbrev pub CanFit : Image → Scheduled → Type 0
 CanFit image schedule =
     (length image.lock ≡ schedule.procs) × (image.limit ≡ schedule.limit) × (image.cap ≡ schedule.cap) × (image.width ≤ schedule.width)
@@ -52,11 +52,11 @@ abbrev pub IsFitting : Image → Scheduled → Type 0
 IsFitting image schedule =
     (length image.lock ≡ schedule.procs) × (image.limit ≡ schedule.limit) × (image.cap ≡ schedule.cap) × (image.width ≡ schedule.width)
 
--- the image itself where its values have this many words, or else with values of so many
+-- the image itself if its values have this width, or the image widened to it
 abbrev pub IsMadeFit : ℕ → Image → Image → Type 0
 IsMadeFit width image fitted = ((image.width ≡ width) × (fitted ≡ image)) ⊎ IsWider width image fitted
 
--- the header names other sizes than the image's, or the image can't be widened
+-- the header names other sizes than the image has, or the image can't be widened
 abbrev pub IsMisfit : Image → Scheduled → Fault → Type 0
 IsMisfit image schedule fault =
     ((CanFit image schedule → ⊥) × (fault ≡ Refused 1 9))

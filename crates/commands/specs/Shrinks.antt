@@ -1,4 +1,4 @@
--- How making a schedule least ends.
+-- How the command `shrink` ends.
 use Rattle.std.specs.Prelude.{◌≡◌, ◌⊎◌, ℕ, List, Option, Some, None, Result, Ok, Err}
 use Rattle.crashlab.specs.declared.variant.Variant.{Variant}
 use Rattle.schedule.specs.declared.replays.replay_fault.ReplayFault.TheVariants as faults_of_replay
@@ -15,7 +15,7 @@ use Rattle.cli.specs.declared.arguments.order.ShrinkOrder.{ShrinkOrder}
 use Rattle.commands.specs.Settings.{IsWrongText}
 use Rattle.commands.specs.Statuses.{outcome, status_ended}
 
--- what is written of the schedule that it was made, or that nothing was wrong with it
+-- the text that is written: the shrunk schedule, or the line of a fine verdict
 abbrev pub shrunk_text : Option Scheduled → List ℕ
 shrunk_text (Some least) = spelling least
 shrunk_text None = verdict_line Fine
@@ -24,14 +24,14 @@ abbrev pub shrunk_status : Option Scheduled → ℕ
 shrunk_status (Some least) = 1
 shrunk_status None = 0
 
--- it was written what shrinking answers
+-- what shrinking answers was written
 pub record TellsShrunk (variant : Variant) (schedule : Scheduled) (before now : Tape) (end : Result Ending Fault) : Type 0 where
   pub answer : Option Scheduled
   pub shrinks : Shrinks variant schedule answer
   pub written : Writes before now (shrunk_text answer)
   pub status : outcome end ≡ Ok (shrunk_status answer)
 
--- the line that the variant's world refuses is told, and nothing is written
+-- the fault is the line that the variant's world refuses, and nothing is written
 pub record TellsRefused (variant : Variant) (schedule : Scheduled) (before now : Tape) (end : Result Ending Fault) : Type 0 where
   pub line : ℕ
   pub number : ℕ
@@ -44,7 +44,7 @@ abbrev pub ShrinksSchedule : Variant → Scheduled → Tape → Tape → Result 
 ShrinksSchedule variant schedule before now end =
     TellsShrunk variant schedule before now end ⊎ (TellsRefused variant schedule before now end ⊎ (status_ended end ≡ 3))
 
--- the schedule that was read is made least
+-- the schedule that was read is shrunk
 pub record ShrinksText (variant : Variant) (old new : Reading) (before now : Tape) (end : Result Ending Fault) : Type 0 where
   pub text : List ℕ
   pub read : WasRead old new text
@@ -52,7 +52,7 @@ pub record ShrinksText (variant : Variant) (old new : Reading) (before now : Tap
   pub spelled : schedule_at text ≡ Ok schedule
   pub shrunk : ShrinksSchedule variant schedule before now end
 
--- the text is no schedule, and nothing is written
+-- the text isn't a schedule, and nothing is written
 pub record TellsText (old new : Reading) (before now : Tape) (end : Result Ending Fault) : Type 0 where
   pub fault : Fault
   pub wrong : IsWrongText old new fault

@@ -1,5 +1,5 @@
--- Exit statuses: 0 is fine, 1 a verdict against, 2 a fault of the input, 3 one of a device, of memory or of a member, or too many
--- states in a search.
+-- Exit statuses: 0 is fine, 1 a verdict against, 2 a fault of the input, 3 a fault of a device, of memory or of a member, or
+-- too many states in a search.
 use Rattle.std.specs.Prelude.{ℕ, Option, Some, None, Result, Ok, Err}
 use Rattle.schedule.specs.declared.texts.fault.TextFault.{TextFault}
 use Rattle.schedule.specs.declared.texts.fault.TextFault.TheVariants as of_text
@@ -27,7 +27,7 @@ abbrev pub status_after : Verdict → ℕ
 status_after Fine = 0
 status_after (Against at fault) = 1
 
--- the program's fault for that of a replay, or of the judging of a trace
+-- the program's fault for a fault of a replay, or of the judging of a trace
 abbrev pub fault_of_replay : ReplayFault → Fault
 fault_of_replay (of_replay.Text line number) = Text line number
 fault_of_replay (of_replay.Refused line number) = Refused line number
@@ -35,42 +35,42 @@ fault_of_replay of_replay.Read = Read
 fault_of_replay of_replay.Write = Write
 fault_of_replay of_replay.OutOfMemory = OutOfMemory
 
--- for that of a replay to a page in memory, which takes no more only for want of memory
+-- the same for a replay to a page in memory: the page refuses a write only when it is out of memory
 abbrev pub fault_on_page : ReplayFault → Fault
 fault_on_page of_replay.Write = OutOfMemory
 fault_on_page fault = fault_of_replay fault
 
--- for the refusal of a header, by its number: it is told at line 1
+-- the fault for the refusal of a header, by the refusal's number: it names line 1
 abbrev pub fault_of_header : Option ℕ → Fault
 fault_of_header None = OutOfMemory
 fault_of_header (Some number) = Refused 1 number
 
--- for the refusal of an image's text
+-- the fault for the refusal of an image's text
 abbrev pub fault_of_image : Refusal → Fault
 fault_of_image (BadImage rule) = Image rule
 fault_of_image _ = OutOfMemory
 
--- for that of a text
+-- the fault for the fault of a text
 abbrev pub fault_of_text : TextFault → Fault
 fault_of_text (of_text.At line fault) = Text line (number_of_line fault)
 fault_of_text of_text.OutOfMemory = OutOfMemory
 
--- the status of a command that has ended so
+-- the exit status of a command with this result
 abbrev pub status_ended : Result Ending Fault → ℕ
 status_ended (Ok ending) = ending.status
 status_ended (Err fault) = status_of fault
 
--- the program's answer for that of a replay
+-- the program's result for the result of a replay
 abbrev pub answer_told : Result Verdict ReplayFault → Result Verdict Fault
 answer_told (Ok verdict) = Ok verdict
 answer_told (Err fault) = Err (fault_of_replay fault)
 
--- a status, or the fault that is told
+-- the exit status, or the fault
 abbrev pub outcome : Result Ending Fault → Result ℕ Fault
 outcome (Ok ending) = Ok ending.status
 outcome (Err fault) = Err fault
 
--- that of a replay, or of the judging of a trace
+-- the exit status, or the fault, of a replay or of the judging of a trace
 abbrev pub outcome_told : Result Verdict ReplayFault → Result ℕ Fault
 outcome_told (Ok verdict) = Ok (status_after verdict)
 outcome_told (Err fault) = Err (fault_of_replay fault)

@@ -1,4 +1,4 @@
--- What is told of a schedule's run, on the machine that is asked for: a drawing, the run step by step, or its report.
+-- What is written of a schedule's run, on the machine that is asked for: a drawing, the run step by step, or its report.
 use Rattle.std.specs.Prelude.{◌≡◌, ◌≢◌, ◌⊎◌, ℕ, ◌+◌, ◌-◌, ◌^◌, min, Bool, true, false, List, Option, Some, None, Result, Ok, Err}
 use Rattle.std.proofs.Math.ListN.{replicate}
 use Rattle.crashlab.specs.declared.variant.Variant.{Variant}
@@ -39,23 +39,23 @@ use Rattle.schedule.specs.Wholes.{Silent, WasRead, layout_of}
 
 -- ---- one run
 
--- as a drawing, or as a replay: each step is told, or the report alone
+-- a drawing, or a replay: with a line for each step, or the report alone
 pub data Manner : Type 0 where
   Drawn : Style → Manner
   Replayed : Bool → Manner
 
--- the status of a run that is drawn whole is that of its verdict; where a line was refused, that is told
+-- the status of a run that is drawn to its end is that of its verdict; if a line was refused, that is the fault
 abbrev pub ending_of : End → Result Ending Fault
 ending_of (ends.Judged verdict) = Ok (record { status = status_after verdict; save = None })
 ending_of (ends.Refused line number verdict) = Err (faults.Refused line number)
 
--- the text of a drawing was written, or a beginning of it where the device or memory has failed
+-- the text of a drawing was written, or a prefix of it if the device or memory has failed
 abbrev pub IsWritten : Tape → Tape → List ℕ → End → Result Ending Fault → Type 0
 IsWritten before now text last (Err faults.Write) = Begins before.taken now.taken text × (now.failures ≡ min (before.failures + 1) (2 ^ 64 - 1))
 IsWritten before now text last (Err faults.OutOfMemory) = Begins before.taken now.taken text × (now.failures ≡ before.failures)
 IsWritten before now text last end = Writes before now text × (end ≡ ending_of last)
 
--- what is drawn are rows that show just the steps and crashes of the schedule's run on a machine, and how it ends
+-- the rows of the drawing show exactly the steps and crashes of the schedule's run on a machine, and how it ends
 pub record DrawsRun {S : Type 0} (b : Behaviour S) (start : State) (s : S) (first : Phase) (style : Style) (schedule : Scheduled) (before now : Tape) (end : Result Ending Fault) : Type 0 where
   pub rows : List Row
   pub last : End
@@ -63,19 +63,19 @@ pub record DrawsRun {S : Type 0} (b : Behaviour S) (start : State) (s : S) (firs
   pub ends_as : EndsAs start (run_on b 2 s schedule.lines) last
   pub written : IsWritten before now (spelled (sheet_of style (head_of schedule) rows last) first rows last) last end
 
--- what telling each step of the run answers, or its report alone
+-- the result of a replay that writes each step, or the report alone
 abbrev pub AnswersRun : {S : Type 0} → Bool → Behaviour S → (S → Image) → State → S → Phase → Scheduled → Tape → Tape → Result Verdict ReplayFault → Type 0
 AnswersRun true b picture_of start s first schedule before now answer =
     Follows before now start picture_of (run_on b 2 s schedule.lines) (followed (sizes_of (head_of schedule)) (replicate schedule.procs first) (events_on b s schedule.lines)) answer
 AnswersRun false b picture_of start s first schedule before now answer = Replays before now start picture_of (run_on b 2 s schedule.lines) answer
 
--- the run was told, and the command ends as that does; or memory for the image that is to be saved is wanted
+-- the run was written, and the command has that result; or there was no memory for the image to be saved
 pub record ReplaysRun {S : Type 0} (each : Bool) (b : Behaviour S) (picture_of : S → Image) (start : State) (s : S) (first : Phase) (schedule : Scheduled) (before now : Tape) (end : Result Ending Fault) : Type 0 where
   pub answer : Result Verdict ReplayFault
   pub answers : AnswersRun each b picture_of start s first schedule before now answer
   pub ends_so : (outcome end ≡ outcome_told answer) ⊎ (end ≡ Err faults.OutOfMemory)
 
--- nothing is told, for want of memory
+-- nothing is written: out of memory
 pub record Wants (before now : Tape) (end : Result Ending Fault) : Type 0 where
   pub silent : Silent before now
   pub memory : end ≡ Err faults.OutOfMemory
@@ -86,7 +86,7 @@ Tells (Replayed each) b picture_of start s first schedule before now end = Repla
 
 -- ---- the machine that is asked for
 
--- nothing is told but a fault of this kind
+-- nothing is written, and the fault is of this kind
 abbrev pub Refuses : Tape → Tape → (Fault → Type 0) → Result Ending Fault → Type 0
 Refuses before now Is end = Silent before now × ((fault : Fault) × (end ≡ Err fault) × Is fault)
 
@@ -96,13 +96,13 @@ TellsNew manner schedule before now end =
     Refuses before now (IsUnmade schedule) end
     ⊎ Tells manner world_behaviour image_of (empty schedule.procs schedule.cap) (new_world (layout_of schedule) schedule.limit) Rest schedule before now end
 
--- on one of a variant
+-- on a new world of a variant
 abbrev pub TellsVariant : Variant → Manner → Scheduled → Tape → Tape → Result Ending Fault → Type 0
 TellsVariant variant manner schedule before now end =
     Refuses before now (IsUnmade schedule) end
     ⊎ Tells manner variants.variant_behaviour variants.image_of (empty schedule.procs schedule.cap) (variants.new_world variant (layout_of schedule) schedule.limit) Rest schedule before now end
 
--- on the world of an image, all processes dead, before a judge that starts where the image stands
+-- on the world of an image, all processes dead, with a judge that starts in the state of the image
 pub record TellsOn (image : Image) (manner : Manner) (schedule : Scheduled) (before now : Tape) (end : Result Ending Fault) : Type 0 where
   pub lawful : IsLawfulImage image
   pub fits : IsFitting image schedule
@@ -110,13 +110,13 @@ pub record TellsOn (image : Image) (manner : Manner) (schedule : Scheduled) (bef
   pub begins : IsStartOf image start
   pub tells : Tells manner world_behaviour image_of (state_of start) (image_world image) Dead schedule before now end
 
--- on that of this image, where it fits the header, or once it is as wide
+-- on the world of this image if it fits the header, or of the widened image
 abbrev pub TellsImage : Image → Manner → Scheduled → Tape → Tape → Result Ending Fault → Type 0
 TellsImage image manner schedule before now end =
     Refuses before now (IsMisfit image schedule) end
     ⊎ (Wants before now end ⊎ ((fitted : Image) × IsMadeFit schedule.width image fitted × TellsOn fitted manner schedule before now end))
 
--- an image goes with the right lock alone
+-- an image goes with the right lock only
 abbrev pub TellsSchedule : Variant → Option Image → Manner → Scheduled → Tape → Tape → Result Ending Fault → Type 0
 TellsSchedule variant (Some image) manner schedule before now end = TellsImage image manner schedule before now end
 TellsSchedule variant None manner schedule before now end =
@@ -124,7 +124,7 @@ TellsSchedule variant None manner schedule before now end =
 
 -- ---- the whole
 
--- the run of the schedule that was read is told, on the image that its text spells where one is given
+-- the run of the schedule that was read is written, on the image of the text that is given, if one is
 pub record TellsText (variant : Variant) (manner : Manner) (image : Option (List ℕ)) (old new : Reading) (before now : Tape) (end : Result Ending Fault) : Type 0 where
   pub text : List ℕ
   pub read : WasRead old new text
@@ -134,12 +134,12 @@ pub record TellsText (variant : Variant) (manner : Manner) (image : Option (List
   pub pictured : IsPicture image picture
   pub told : TellsSchedule variant picture manner schedule before now end
 
--- what is wrong with what is read: the image, or the text; or a device or memory fails
+-- what is wrong with what was read: the image or the text; or a device or memory has failed
 abbrev pub IsUnread : Option (List ℕ) → Reading → Reading → Fault → Type 0
 IsUnread image old new fault =
     (status_of fault ≡ 3) ⊎ (IsWrongImage image fault ⊎ IsWrongText old new fault)
 
--- the run is told, or a fault of what was to be read
+-- the run is written, or the fault of what was to be read is answered
 abbrev pub TellsRead : Variant → Manner → Option (List ℕ) → Reading → Reading → Tape → Tape → Result Ending Fault → Type 0
 TellsRead variant manner image old new before now end =
     Refuses before now (IsUnread image old new) end ⊎ TellsText variant manner image old new before now end

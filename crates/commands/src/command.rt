@@ -31,7 +31,7 @@ use std::sync::Wait;
 use std::thread::Threads;
 use schedule::{judge_trace, put_verdict};
 
-/// The verdict line of a trace.
+/// Writes the verdict line of a trace.
 fn judge_order<R: Source, W: Sink>(alloc: Global, r: &mut R, w: &mut W) -> Result<Ending, Fault>
     ensures ends { JudgeEnds (R.reading r.old) (R.reading r.new) (W.tape w.old) (W.tape w.new) result }
     ensures ended { IfOk result (IsEnded false (W.tape w.old).failures (W.tape w.new).failures) }
@@ -48,7 +48,7 @@ fn judge_order<R: Source, W: Sink>(alloc: Global, r: &mut R, w: &mut W) -> Resul
     })
 }
 
-/// Makes the schedule that a hunt has found least, and writes it.
+/// Shrinks the schedule that a hunt has found, and writes it.
 fn write_least<W: Sink>(
     alloc: Global,
     variant: Variant,
@@ -63,7 +63,7 @@ fn write_least<W: Sink>(
     write_lines(alloc, &least, w)
 }
 
-/// Writes the schedule that a hunt has found, or the least one that it is made.
+/// Writes the schedule that a hunt has found, shrunk if that is asked for.
 fn write_found<W: Sink>(
     alloc: Global,
     order: &HuntOrder,
@@ -81,7 +81,7 @@ fn write_found<W: Sink>(
     }
 }
 
-/// The schedule that a hunt finds, or that it finds none. How the hunt comes on is shown on the screen.
+/// Runs `hunt`: writes the schedule that was found, or that there is none. Progress is shown on the screen.
 pub fn hunt_order<S: Screen, W: Sink>(
     alloc: Global,
     order: &HuntOrder,
@@ -119,7 +119,7 @@ pub fn hunt_order<S: Screen, W: Sink>(
     }
 }
 
-/// What a topic means, or the names of all topics.
+/// Writes what a topic means, or the names of all topics.
 fn explain_order<W: Sink>(topic: Option<Topic>, w: &mut W) -> Result<Ending, Fault>
     ensures ends { ExplainEnds topic (W.tape w.old) (W.tape w.new) result }
     ensures ended { IfOk result (IsEnded false (W.tape w.old).failures (W.tape w.new).failures) }
@@ -137,8 +137,8 @@ fn explain_order<W: Sink>(topic: Option<Topic>, w: &mut W) -> Result<Ending, Fau
     }
 }
 
-/// Does what a command says, or says why not: it reads the schedule or the trace from `r`, and writes what it prints to
-/// `w`. The image is the text of the file that `--image` names. How a search or a hunt comes on is shown on the screen.
+/// Carries out a command. It reads the schedule or the trace from `r`, and writes to `w`. `image` is the text of the file
+/// that `--image` names. The progress of a search or a hunt is shown on the screen. A fault says why there is no verdict.
 pub fn ended<T: Threads + Wait + Sync, S: Screen, R: Source, W: Sink>(
     rt: &T,
     alloc: Global,
@@ -163,7 +163,7 @@ pub fn ended<T: Threads + Wait + Sync, S: Screen, R: Source, W: Sink>(
     }
 }
 
-/// Does what a command says over a reader, a writer for what is printed, and one for the one line of a fault.
+/// Carries out a command over a reader, a writer, and a second writer for the one line of a fault.
 pub fn command<T: Threads + Wait + Sync, S: Screen, R: Source, W: Sink, E: Sink>(
     rt: &T,
     alloc: Global,

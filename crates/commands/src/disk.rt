@@ -1,4 +1,4 @@
-//! The files of the system as a folder.
+//! The files of the system, as a `Folder`.
 
 ghost use Rattle.std.specs.Prelude.{◌≡◌, []};
 
@@ -9,7 +9,7 @@ use std::io::ErrorKind;
 use std::rt::Files;
 use std::{fs, io};
 
-/// The files that a handle opens, by their paths.
+/// The system's files by path. It logs each open and each save for contracts.
 #[derive(Drop)]
 pub struct Disk<'a, R> {
     files: &'a R,
@@ -19,7 +19,7 @@ pub struct Disk<'a, R> {
 }
 
 impl<'a, R> Disk<'a, R> {
-    /// Of which no file is opened or written yet.
+    /// No file has been opened or written yet.
     pub fn new(files: &'a R) -> Disk<'a, R>
         ensures opened { result.opened.items ≡ [] }
         ensures saved { result.saved.items ≡ [] }
@@ -34,7 +34,7 @@ impl<'a, R> Disk<'a, R> {
     }
 }
 
-/// Want of memory, or a failure of the device.
+/// Out of memory, or a failure of the device.
 fn file_fault(error: &io::Error) -> FileFault {
     match error.kind() {
         ErrorKind::OutOfMemory => FileFault::OutOfMemory,

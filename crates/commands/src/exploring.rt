@@ -24,7 +24,7 @@ use crate::schedules::line::line_around;
 use crate::schedules::shrunk::write_lines;
 use std::alloc::{AllocError, Global};
 
-/// Lists a call, where it is asked for.
+/// Adds a call to the list, if it is asked for.
 fn put_call(calls: &mut Vec<Call>, is_asked: bool, call: Call) -> Result<(), AllocError>
     ensures { OnOk result (calls.new.items ≡ calls.old.items ++ asked is_asked (call ∷ [])) }
 {
@@ -34,7 +34,7 @@ fn put_call(calls: &mut Vec<Call>, is_asked: bool, call: Call) -> Result<(), All
     Ok(())
 }
 
-/// The append with this number, whose value has so many words, each of them the number.
+/// The append with this number. Its value has `width` words, and each is the number. None: no value has that width.
 fn append_of(seq: u64, width: u64) -> Option<Call>
     ensures same { IfSome result (λ call. call ≡ Call.Append seq (take width (replicate 8 seq))) }
     ensures wide { IsSome result ↔ ((1 ≤ width) × (width ≤ 8)) }
@@ -49,7 +49,7 @@ fn append_of(seq: u64, width: u64) -> Option<Call>
     }
 }
 
-/// Lists the appends of each number from 1 to the capacity.
+/// Adds the appends with each number from 1 to the capacity.
 fn put_appends(calls: &mut Vec<Call>, order: &ExploreOrder) -> Result<(), Fault>
     ensures listed { OnOk result (calls.new.items ≡ calls.old.items ++ appends_of order.now.width order.now.cap) }
     ensures failed { IfErr result (λ fault. fault ≡ Fault.OutOfMemory) }
@@ -63,7 +63,7 @@ fn put_appends(calls: &mut Vec<Call>, order: &ExploreOrder) -> Result<(), Fault>
     Ok(())
 }
 
-/// The calls that are started, always in this order.
+/// The calls that the search starts, always in this order.
 fn calls_of(alloc: Global, order: &ExploreOrder) -> Result<Vec<Call>, Fault>
     ensures listed { IfOk result (λ calls. calls.items ≡ calls_asked order.now) }
     ensures failed { IfErr result (λ fault. fault ≡ Fault.OutOfMemory) }
@@ -110,7 +110,7 @@ fn schedule_of(alloc: Global, order: &ExploreOrder, path: &[Move]) -> Result<Sch
     Ok(schedule)
 }
 
-/// Tells that nothing was found, and how far was looked.
+/// Writes that nothing was found, and how far the search got.
 fn tell_none<W: Sink>(before: &str, number: u64, after: &str, w: &mut W) -> Result<Ending, Fault>
     requires { (length before.now ≤ 21) × (length after.now ≤ 20) }
     ensures told { OnOk result (Writes (W.tape w.old) (W.tape w.new) (before.now ++ decimal number ++ after.now)) }
@@ -128,7 +128,7 @@ fn tell_none<W: Sink>(before: &str, number: u64, after: &str, w: &mut W) -> Resu
     })
 }
 
-/// Tells that no schedule of at most so many moves is found.
+/// Writes that nothing was found within this many moves.
 fn tell_within<W: Sink>(moves: u64, w: &mut W) -> Result<Ending, Fault>
     ensures told { OnOk result (Writes (W.tape w.old) (W.tape w.new) (within_line moves)) }
     ensures status { IfOk result (λ ending. ending.status ≡ 0) }
@@ -138,7 +138,7 @@ fn tell_within<W: Sink>(moves: u64, w: &mut W) -> Result<Ending, Fault>
     tell_none("nothing found within ", moves, " moves\n", w)
 }
 
-/// Tells that none is found among so many states, which are all.
+/// Writes that nothing was found in this many states, which are all.
 fn tell_all<W: Sink>(states: u64, w: &mut W) -> Result<Ending, Fault>
     ensures told { OnOk result (Writes (W.tape w.old) (W.tape w.new) (all_line states)) }
     ensures status { IfOk result (λ ending. ending.status ≡ 0) }
@@ -148,7 +148,8 @@ fn tell_all<W: Sink>(states: u64, w: &mut W) -> Result<Ending, Fault>
     tell_none("nothing found: all ", states, " states\n", w)
 }
 
-/// The schedule of fewest moves that is found, or that there is none. How the search comes on is shown on the screen.
+/// Runs `explore`: writes the schedule of fewest moves that was found, or that there is none. Progress is shown on the
+/// screen.
 pub fn explore_order<S: Screen, W: Sink>(
     alloc: Global,
     order: &ExploreOrder,

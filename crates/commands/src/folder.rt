@@ -8,12 +8,12 @@ use schedule::Source;
 /// Why a file was not opened or written.
 #[derive(Clone, Copy, Debug, PartialEq, Eq)]
 pub enum FileFault {
-    /// There is none, or its device failed.
+    /// There is no such file, or its device failed.
     Failed,
     OutOfMemory,
 }
 
-/// A folder of files by their names.
+/// A folder of files by name.
 pub trait Folder {
     /// A file that is open to be read.
     type Opened: Source + Drop;
@@ -21,14 +21,14 @@ pub trait Folder {
     /// what it was asked for
     ghost used: { Self → Used };
 
-    /// Opens a file, of which nothing is read yet.
+    /// Opens a file to be read from its start.
     fn open(&mut self, name: &String) -> Result<Self::Opened, FileFault>
         ensures opened { (used self.new).opened ≡ (used self.old).opened ++ name.now ∷ [] }
         ensures saved { (used self.new).saved ≡ (used self.old).saved }
         ensures texts { (used self.new).texts ≡ (used self.old).texts }
         ensures unread { IfOk result (λ file. Self.Opened.reading file ≡ record { given = []; ended = false; failures = 0 }) };
 
-    /// Writes a whole file, in place of the one of this name.
+    /// Writes a whole file, in place of the file with this name if there is one.
     fn save(&mut self, name: &String, text: &Vec<u8>) -> Result<(), FileFault>
         ensures opened { (used self.new).opened ≡ (used self.old).opened }
         ensures saved { (used self.new).saved ≡ (used self.old).saved ++ name.now ∷ [] }

@@ -1,4 +1,4 @@
-//! The commands of `rmelab`, and the whole program over words, a folder of files, a reader and two writers.
+//! The commands of `rmelab`, and the whole program over its words, a folder of files, a reader and two writers.
 #![tactic(auto)]
 
 pub mod command;

@@ -28,7 +28,7 @@ use std::sync::Wait;
 use std::thread::Threads;
 use schedule::replays::pieces::read_all;
 
-/// The fault of a file that was not opened.
+/// The command's fault for a file that wasn't opened.
 fn unopened(fault: FileFault) -> Fault
     ensures told { result ≡ fault_of_opening fault }
     ensures status { status_of result ≡ 3 }
@@ -39,7 +39,7 @@ fn unopened(fault: FileFault) -> Fault
     }
 }
 
-/// The fault of a file that was not written.
+/// The command's fault for a file that wasn't written.
 fn unsaved(fault: FileFault) -> Fault
     ensures told { result ≡ fault_of_saving fault }
     ensures status { status_of result ≡ 3 }
@@ -50,7 +50,7 @@ fn unsaved(fault: FileFault) -> Fault
     }
 }
 
-/// All bytes of a file.
+/// Reads a whole file.
 fn file_text<F: Folder>(alloc: Global, folder: &mut F, name: &String) -> Result<Vec<u8>, Fault>
     ensures opened { (F.used folder.new).opened ≡ (F.used folder.old).opened ++ name.now ∷ [] }
     ensures saved { (F.used folder.new).saved ≡ (F.used folder.old).saved }
@@ -61,7 +61,7 @@ fn file_text<F: Folder>(alloc: Global, folder: &mut F, name: &String) -> Result<
     Ok(read_all(alloc, &mut file)?)
 }
 
-/// The text of the image that the order names, if it names one.
+/// The text of the image that the command names, if it names one.
 fn image_text<F: Folder>(
     alloc: Global,
     order: &Command,
@@ -79,7 +79,7 @@ fn image_text<F: Folder>(
     }
 }
 
-/// Does what the order says over the file of this name.
+/// Carries out the command with the file of this name as its input.
 fn ended_on_file<T: Threads + Wait + Sync, F: Folder, S: Screen, W: Sink>(
     rt: &T,
     alloc: Global,
@@ -101,7 +101,7 @@ fn ended_on_file<T: Threads + Wait + Sync, F: Folder, S: Screen, W: Sink>(
     ended(rt, alloc, order, image, screen, &mut file, out)
 }
 
-/// Does what the order says: the image is read first; the input is read where no file is named.
+/// Carries out the command. The image is read first. The input is read if no file is named.
 fn ordered<T: Threads + Wait + Sync, F: Folder, S: Screen, R: Source, W: Sink>(
     rt: &T,
     alloc: Global,
@@ -136,7 +136,7 @@ fn ordered<T: Threads + Wait + Sync, F: Folder, S: Screen, R: Source, W: Sink>(
     }
 }
 
-/// Saves the image, where the order names a file for it.
+/// Saves the image, if the command names a file for it.
 fn save<F: Folder>(folder: &mut F, order: &Command, ending: &Ending) -> Result<(), Fault>
     requires { is_some ending.now.save ≡ is_some (save_of order.now) }
     ensures opened { (F.used folder.new).opened ≡ (F.used folder.old).opened }
@@ -149,7 +149,7 @@ fn save<F: Folder>(folder: &mut F, order: &Command, ending: &Ending) -> Result<(
     }
 }
 
-/// Hands on what is printed.
+/// Flushes the output.
 #[tactic(auto, using(crate::proofs::Tapes::same_tape))]
 fn handed_on<W: Sink>(out: &mut W) -> Result<(), Fault>
     ensures same { OnOk result (W.tape out.new ≡ W.tape out.old) }
@@ -161,8 +161,7 @@ fn handed_on<W: Sink>(out: &mut W) -> Result<(), Fault>
     Ok(())
 }
 
-/// Does what the order says, hands on what is printed, and then saves the image. Where the output can't be handed on, that
-/// is the fault.
+/// Carries out the command, flushes the output, and then saves the image. If the flush fails, that is the fault.
 fn carried_out<T: Threads + Wait + Sync, F: Folder, S: Screen, R: Source, W: Sink>(
     rt: &T,
     alloc: Global,
@@ -181,7 +180,7 @@ fn carried_out<T: Threads + Wait + Sync, F: Folder, S: Screen, R: Source, W: Sin
     Ok(ending)
 }
 
-/// The exit status of this end. The one line of a fault goes to `err`.
+/// The exit status of this result. The one line of a fault is written to `err`.
 pub fn closed<E: Sink>(end: Result<Ending, Fault>, err: &mut E) -> u8
     ensures { Closes (E.tape err.old) (E.tape err.new) end result }
 {
@@ -191,8 +190,8 @@ pub fn closed<E: Sink>(end: Result<Ending, Fault>, err: &mut E) -> u8
     }
 }
 
-/// Does what the order says, and answers the exit status. The one line of a fault goes to `err`; how a search or a hunt comes
-/// on is shown on the screen.
+/// Carries out the command, and answers the exit status. The one line of a fault is written to `err`, the progress of a
+/// search or a hunt to the screen.
 pub fn obey<T: Threads + Wait + Sync, F: Folder, S: Screen, R: Source, W: Sink, E: Sink>(
     rt: &T,
     alloc: Global,
@@ -209,7 +208,7 @@ pub fn obey<T: Threads + Wait + Sync, F: Folder, S: Screen, R: Source, W: Sink, 
     closed(end, err)
 }
 
-/// Writes a text, and hands it on.
+/// Writes a text, and flushes it.
 fn printed<W: Sink>(text: &str, out: &mut W) -> Result<(), Failed>
     ensures { OnOk result (Writes (W.tape out.old) (W.tape out.new) text.now) }
 {
@@ -217,7 +216,7 @@ fn printed<W: Sink>(text: &str, out: &mut W) -> Result<(), Failed>
     out.flush()
 }
 
-/// Prints the help that is asked for.
+/// Prints the help that was asked for, and answers the exit status.
 fn helped<W: Sink, E: Sink>(text: &str, out: &mut W, err: &mut E) -> u8
     ensures { Helps text.now (W.tape out.old) (W.tape out.new) (E.tape err.old) (E.tape err.new) result }
 {
@@ -227,7 +226,7 @@ fn helped<W: Sink, E: Sink>(text: &str, out: &mut W, err: &mut E) -> u8
     }
 }
 
-/// Tells what is wrong with the words.
+/// Prints the error text for the words, and answers exit status 2. A failed write is ignored.
 fn scolded<E: Sink>(text: &str, err: &mut E) -> u8
     ensures { Scolds text.now (E.tape err.old) (E.tape err.new) result }
 {
@@ -235,11 +234,11 @@ fn scolded<E: Sink>(text: &str, err: &mut E) -> u8
     2
 }
 
-/// What `clap` says of words that are no text.
+/// The error text of `clap` for words that aren't UTF-8 text.
 const UNREADABLE: &str =
     "error: invalid UTF-8 was detected in one or more arguments\n\nFor more information, try '--help'.\n";
 
-/// Answers words that are no command.
+/// Reports words that are no command, and answers the exit status.
 fn answered<W: Sink, E: Sink>(fault: &WordsFault, out: &mut W, err: &mut E) -> u8
     ensures { Answers fault.now (W.tape out.old) (W.tape out.new) (E.tape err.old) (E.tape err.new) result }
 {
@@ -253,7 +252,7 @@ fn answered<W: Sink, E: Sink>(fault: &WordsFault, out: &mut W, err: &mut E) -> u
     }
 }
 
-/// The order that the words say, where they can be read.
+/// The command that the words spell.
 fn order_of(alloc: Global, words: Result<Vec<String>, WordsFault>) -> Result<Command, WordsFault>
     ensures { IfOk result IsSized }
 {
@@ -261,7 +260,7 @@ fn order_of(alloc: Global, words: Result<Vec<String>, WordsFault>) -> Result<Com
     read_words(alloc, &words)
 }
 
-/// Does what the words say, and answers the exit status.
+/// Carries out the command that the words spell, and answers the exit status.
 pub fn program<T: Threads + Wait + Sync, F: Folder, S: Screen, R: Source, W: Sink, E: Sink>(
     rt: &T,
     alloc: Global,
@@ -280,7 +279,7 @@ pub fn program<T: Threads + Wait + Sync, F: Folder, S: Screen, R: Source, W: Sin
     }
 }
 
-/// The whole program, over the devices of a process. The status is the one that the process ends with.
+/// The whole program, over the devices of a process. It answers the exit status of the process.
 pub fn run_program<T: Threads + Wait + Sync, F: Folder, S: Screen>(
     rt: &T,
     alloc: Global,

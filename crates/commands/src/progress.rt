@@ -1,4 +1,4 @@
-//! How a search or a hunt comes on: one line on a terminal, while it works.
+//! The progress of a search or a hunt: one line on a terminal while it works.
 
 mod line;
 pub mod meter;

@@ -22,10 +22,10 @@ use std::alloc::{AllocError, Global};
 use std::sync::Wait;
 use std::thread::Threads;
 
-/// The greatest limit that a lock can have.
+/// The greatest limit of a lock's numbers.
 const MOST: u64 = 1 << 62;
 
-/// The sizes of the lab that a run is made in: room for each message, and numbers enough.
+/// The sizes of a run's lab: room for each message, and the greatest limit.
 fn spec_of(order: &RunOrder) -> Spec
     ensures { result ≡ lab_for order.now }
 {
@@ -38,7 +38,7 @@ fn spec_of(order: &RunOrder) -> Spec
     }
 }
 
-/// The crashes of each sender.
+/// The crash plan of each sender.
 #[tactic(auto, using(crate::proofs::Gates::gates_more))]
 pub fn gates_of(alloc: Global, order: &RunOrder) -> Result<Vec<Seeded>, AllocError>
     ensures each { IfOk result (λ gates. gates.items ≡ gates_for order.now) }
@@ -51,7 +51,7 @@ pub fn gates_of(alloc: Global, order: &RunOrder) -> Result<Vec<Seeded>, AllocErr
     Ok(gates)
 }
 
-/// One line for each sender, and one for all of them.
+/// One line for each sender, and a last line with the total.
 pub fn lines_of(alloc: Global, tallies: &IndexMap<u64, Tally>) -> Result<String, AllocError> {
     let mut text = String::new(alloc);
     let mut total = 0u64;
@@ -69,7 +69,7 @@ pub fn lines_of(alloc: Global, tallies: &IndexMap<u64, Tally>) -> Result<String,
     Ok(text)
 }
 
-/// 0 where each message stands once and in its order, else 1.
+/// The exit status: 0 if each message came once and in order, otherwise 1.
 pub fn status_of_tallies(tallies: &IndexMap<u64, Tally>) -> u8
     ensures either { (result ≡ 0) ⊎ (result ≡ 1) }
     ensures fine { (result ≡ 0) ↔ All (λ e. IsFine e.1) tallies.now.entries }
@@ -82,7 +82,7 @@ pub fn status_of_tallies(tallies: &IndexMap<u64, Tally>) -> u8
     0
 }
 
-/// The fault of a lab that came to no end.
+/// The command's fault for the fault of a lab.
 fn unrun(fault: LabFault) -> Fault
     ensures { result ≡ fault_of_lab fault }
 {
@@ -93,7 +93,7 @@ fn unrun(fault: LabFault) -> Fault
     }
 }
 
-/// The senders send all they have, each on a thread of its own, and what stands in the mailbox is counted.
+/// Runs the lab, in which each sender sends its messages on a thread of its own, and counts the messages in the mailbox.
 #[tactic(auto, using(crate::proofs::Runs::fits_lab))]
 fn counted<T: Threads + Wait + Sync>(
     rt: &T,
@@ -123,7 +123,7 @@ fn write_lines<W: Sink>(
     Ok(())
 }
 
-/// Runs `run`: what came through is counted and told.
+/// Runs `run`: the messages in the mailbox are counted, and the counts written.
 pub fn run_order<T: Threads + Wait + Sync, W: Sink>(
     rt: &T,
     alloc: Global,

@@ -1,5 +1,4 @@
-//! The commands over a schedule that is read: it is replayed, drawn, or made least. And how any command ends, and what is told
-//! of a fault.
+//! The commands that read a schedule: `replay`, `draw` and `shrink`. And how any command ends, and the line of a fault.
 
 pub mod drawn;
 pub mod ending;

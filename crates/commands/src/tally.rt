@@ -1,4 +1,4 @@
-//! What stands in a mailbox, counted sender by sender.
+//! The messages of a mailbox, counted for each sender.
 
 ghost use Rattle.std.specs.Prelude.{◌≡◌, ◌↔◌, true};
 ghost use Rattle.rmecore.specs.Simulated.{one_more};
@@ -8,8 +8,8 @@ use indexmap::{IndexMap, IndexSet};
 use redomail::Message;
 use std::alloc::{AllocError, Global};
 
-/// How the messages of one sender stand: how many, how many of them with a number that came before, the last number, and
-/// whether the numbers never fall.
+/// The count of one sender's messages: how many there are, how many of them have a number that came before, the last number,
+/// and whether the numbers never fall.
 #[derive(Clone, Copy, Debug, PartialEq, Eq)]
 pub struct Tally {
     pub messages: u64,
@@ -19,7 +19,7 @@ pub struct Tally {
 }
 
 impl Tally {
-    /// Of a sender that has sent nothing.
+    /// The tally of a sender without messages.
     pub fn new() -> Tally
         ensures { result ≡ record { messages = 0; twice = 0; last = 0; ordered = true } }
     {
@@ -31,7 +31,7 @@ impl Tally {
         }
     }
 
-    /// With one message more, whose number came before or did not.
+    /// With one more message. `again`: its number came before.
     pub fn with(self, seq: u64, again: bool) -> Tally
         ensures messages { result.messages ≡ one_more self.messages }
         ensures twice { result.twice ≡ and_again again self.twice }
@@ -51,7 +51,7 @@ impl Tally {
         }
     }
 
-    /// Whether each number stands once, and in its order.
+    /// Whether each number came once, and in order.
     pub fn is_fine(&self) -> bool
         ensures { result ≡ true ↔ IsFine self.now }
     {
@@ -59,7 +59,7 @@ impl Tally {
     }
 }
 
-/// The tallies of senders that have sent nothing.
+/// The tallies of senders without messages.
 fn no_tallies(alloc: Global, procs: u64) -> Result<IndexMap<u64, Tally>, AllocError> {
     let mut tallies = IndexMap::new(alloc);
     for sender in 0..procs {
@@ -68,7 +68,7 @@ fn no_tallies(alloc: Global, procs: u64) -> Result<IndexMap<u64, Tally>, AllocEr
     Ok(tallies)
 }
 
-/// Counts one message, where its sender has a tally.
+/// Counts one message, if its sender has a tally.
 fn count(
     tallies: &mut IndexMap<u64, Tally>,
     met: &mut IndexSet<(u64, u64)>,

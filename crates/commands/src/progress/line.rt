@@ -1,4 +1,4 @@
-//! The line that is shown, in memory of its own.
+//! The progress line, in a buffer of fixed size.
 
 ghost use Rattle.std.specs.Prelude.{◌≡◌, ◌+◌, ◌≤◌, ◌++◌, length};
 ghost use Rattle.std.specs.Fmt.{decimal};
@@ -8,7 +8,7 @@ use crate::progress::work::Work;
 use arrayvec::ArrayString;
 use itoa::Buffer;
 
-/// Puts a number and then a text at the end of a line.
+/// Appends a number and then a text to a line.
 fn put(line: &mut ArrayString<128>, number: u64, text: &str)
     requires { length line.old.bytes + length text.now + 20 ≤ 128 }
     ensures bytes { line.new.bytes ≡ line.old.bytes ++ decimal number ++ text.now }
@@ -18,7 +18,7 @@ fn put(line: &mut ArrayString<128>, number: u64, text: &str)
     line.push_str(text);
 }
 
-/// How a search comes on.
+/// The progress line of a search.
 fn search_line(moves: u64, states: u64, speed: u64) -> ArrayString<128>
     ensures { result.bytes ≡ line_of_search moves states speed }
 {
@@ -31,7 +31,7 @@ fn search_line(moves: u64, states: u64, speed: u64) -> ArrayString<128>
     line
 }
 
-/// How a hunt comes on.
+/// The progress line of a hunt.
 fn hunt_line(rounds: u64, moves: u64, speed: u64) -> ArrayString<128>
     ensures { result.bytes ≡ line_of_hunt rounds moves speed }
 {
@@ -44,7 +44,7 @@ fn hunt_line(rounds: u64, moves: u64, speed: u64) -> ArrayString<128>
     line
 }
 
-/// How it comes on: how far, how much is done, and how much a second.
+/// The progress line: how far the work has got, how much is done, and how much a second.
 pub(crate) fn line_of(work: Work, far: u64, done: u64, speed: u64) -> ArrayString<128>
     ensures { result.bytes ≡ line_shown work far done speed }
 {

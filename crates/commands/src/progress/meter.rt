@@ -1,4 +1,4 @@
-//! Who shows how a search or a hunt comes on.
+//! The progress of a search or a hunt, shown once a second.
 
 ghost use Rattle.std.specs.Prelude.{◌≡◌, ◌*◌, ◌/◌, ◌^◌, ◌-◌, min, max};
 
@@ -7,27 +7,27 @@ use crate::progress::screen::Screen;
 use crate::progress::work::Work;
 use explorer::Watch;
 
-/// It asks the clock at one of so many times that it is told.
+/// The clock is read at one in this many reports of progress.
 const SELDOM: u64 = 64;
 
-/// The milliseconds between one line and the next.
+/// The milliseconds between two lines.
 const PAUSE: u64 = 1_000;
 
-/// Shows a line a second, the first of them after a second.
+/// Shows a line once a second, the first one after a second.
 #[derive(Drop)]
 pub struct Meter<'a, S> {
     screen: &'a mut S,
     work: Work,
-    /// The milliseconds at which the work began, where anything is shown.
+    /// The clock's milliseconds when the work began; none if nothing is shown.
     began: Option<u64>,
-    /// Those at which the last line was shown, or the work began.
+    /// The clock's milliseconds when the last line was shown, or when the work began.
     last: u64,
     told: u64,
     is_written: bool,
 }
 
 impl<'a, S: Screen> Meter<'a, S> {
-    /// The work begins.
+    /// Starts the clock of this work.
     pub fn new(screen: &'a mut S, work: Work) -> Meter<'a, S> {
         let began = screen.millis();
         Meter {
@@ -40,14 +40,14 @@ impl<'a, S: Screen> Meter<'a, S> {
         }
     }
 
-    /// The work is done, and no line stays.
+    /// Ends the work: the line is cleared.
     pub fn end(self) {
         if self.is_written {
             self.screen.show("\r\x1b[K");
         }
     }
 
-    /// Shows the line, where a second has gone by since the last.
+    /// Shows the line, if a second has passed since the last one.
     fn show(&mut self, began: u64, far: u64, done: u64) {
         let Some(now) = self.screen.millis() else {
             return;
@@ -75,7 +75,7 @@ impl<'a, S: Screen> Watch for Meter<'a, S> {
     }
 }
 
-/// How many come to a second, where so many take so many milliseconds.
+/// How many per second, if `done` took this many milliseconds. A time of 0 counts as 1 ms.
 fn per_second(done: u64, millis: u64) -> u64
     ensures { result ≡ min (done * 1000) (2 ^ 64 - 1) / max millis 1 }
 {

@@ -1,25 +1,25 @@
-//! Where it is shown how a command comes on.
+//! Where progress is shown.
 
 ghost use Rattle.std.specs.Prelude.{◌≡◌, Bool, true, false, not, None};
 
 use std::io::Write;
 use std::time::Clock;
 
-/// Where it is shown how a command comes on: one line, which the next overwrites.
+/// Where progress is shown: one line, which the next line overwrites.
 pub trait Screen {
-    /// whether nothing is shown
+    /// nothing is shown
     ghost is_dark: { Self → Bool };
 
-    /// The milliseconds of a clock, where anything is shown and the clock can be read.
+    /// The milliseconds of a monotonic clock; none if nothing is shown or the clock can't be read.
     fn millis(&self) -> Option<u64>
         ensures { is_dark self.now ≡ true → result ≡ None };
 
-    /// Shows a text. One that can't be shown is lost.
+    /// Shows a text. A text that can't be shown is dropped.
     fn show(&mut self, text: &str)
         ensures { is_dark self.new ≡ is_dark self.old };
 }
 
-/// Nothing is shown.
+/// Shows nothing.
 #[derive(Clone, Copy, Debug, PartialEq, Eq)]
 pub struct NoScreen;
 
@@ -33,7 +33,7 @@ impl Screen for NoScreen {
     fn show(&mut self, _text: &str) {}
 }
 
-/// A writer that may be a terminal, beside a clock. Nothing is written to it where it is none.
+/// A writer that may be a terminal, with a clock. If it isn't a terminal, nothing is written.
 #[derive(Drop)]
 pub struct Terminal<'a, C, E> {
     clock: &'a C,
@@ -42,7 +42,7 @@ pub struct Terminal<'a, C, E> {
 }
 
 impl<'a, C, E> Terminal<'a, C, E> {
-    /// A writer, and whether it is a terminal.
+    /// `is_terminal`: whether the writer is a terminal.
     pub fn new(clock: &'a C, errors: E, is_terminal: bool) -> Terminal<'a, C, E>
         ensures errors { result.errors ≡ errors }
         ensures is_terminal { result.is_terminal ≡ is_terminal }

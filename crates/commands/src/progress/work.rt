@@ -1,6 +1,6 @@
-//! What comes on.
+//! The kinds of work that show their progress.
 
-/// What comes on: by it the line is worded.
+/// The work whose progress is shown. Each has a line of its own wording.
 #[derive(Clone, Copy, Debug, PartialEq, Eq)]
 pub enum Work {
     Search,

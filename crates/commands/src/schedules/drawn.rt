@@ -31,7 +31,7 @@ use schedule::{Schedule, Sink, Source};
 use std::alloc::Global;
 use schedule::replays::laws::worlds_are_never_found_out;
 
-/// How the command ends where all was drawn.
+/// How the command ends after the whole drawing.
 fn ending_of(end: End) -> Result<Ending, Fault>
     ensures { result ≡ ending_for end }
 {
@@ -44,7 +44,7 @@ fn ending_of(end: End) -> Result<Ending, Fault>
     }
 }
 
-/// Writes a drawing, and says how the command ends.
+/// Writes a drawing. The result is how the command ends.
 fn write_drawn<W: Sink>(
     alloc: Global,
     drawing: &Drawing,
@@ -125,7 +125,7 @@ fn draw_variant<W: Sink>(
     )
 }
 
-/// The run of the schedule on the world of an image, before a judge that begins where the image stands.
+/// The run of the schedule on the world of an image, with a judge that starts in the state of the image.
 fn draw_started<W: Sink>(
     alloc: Global,
     image: &Image,
@@ -155,7 +155,7 @@ fn draw_started<W: Sink>(
     )
 }
 
-/// The run of the schedule on a world that goes on from an image.
+/// The run of the schedule on a world that starts from an image.
 fn draw_image<W: Sink>(
     alloc: Global,
     image: Image,
@@ -193,7 +193,7 @@ fn draw_schedule<W: Sink>(
     }
 }
 
-/// Runs `draw`: the image is read first, then the schedule; then its run is drawn, and judged.
+/// Runs `draw`: reads the image first, then the schedule; then it draws the run and judges it.
 pub fn draw_order<R: Source, W: Sink>(
     alloc: Global,
     order: &DrawOrder,

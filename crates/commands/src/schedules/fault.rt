@@ -1,4 +1,4 @@
-//! Why a command came to no verdict.
+//! Why a command has no verdict.
 
 ghost use Rattle.std.specs.Prelude.{◌≡◌, ◌≤◌};
 ghost use Rattle.commands.specs.declared.schedules.fault.Fault.TheVariants.{OutOfMemory};
@@ -11,33 +11,35 @@ use std::error::Error;
 use std::fmt;
 use schedule::ReplayFault;
 
-/// Why a command came to no verdict. Its text is the one line on standard error.
+/// Why a command has no verdict. Its text is the one line on standard error.
 #[derive(Clone, Copy, PartialEq, Eq)]
 pub enum Fault {
-    /// The text has no reading; lines count from 1.
+    /// This line of the text can't be read; lines count from 1. The number is that of the line's fault.
     Text { line: u64, number: u64 },
-    /// The world refuses the line, for the cause with this number.
+    /// The world refuses this line. The number is that of the refusal.
     Refused { line: u64, number: u64 },
     /// The image breaks this rule.
     Image { rule: u64 },
-    /// No such variant, or one other than `right` together with an image.
+    /// There is no such variant, or it isn't `right` and an image is given.
     BadVariant,
-    /// A number outside its range.
+    /// A number is outside its range.
     BadSize,
+    /// Reading from a device failed.
     Read,
+    /// Writing to a device failed.
     Write,
     OutOfMemory,
     /// This sender of a run could not go on.
     Member { p: u64 },
-    /// A search has come to more states than it may keep.
+    /// A search has reached more states than it may keep.
     TooManyStates,
 }
 
 impl Fault {
     ghost use Rattle.commands.specs.Statuses.{status_of};
 
-    /// The exit status: 2 for a fault of the input, 3 for one of a device, of memory or of a member, and for too many states
-    /// in a search.
+    /// The exit status: 2 for a fault of the input; 3 for a fault of a device, of memory or of a member, and for too many
+    /// states in a search.
     pub fn status(self) -> u8
         ensures told { result ≡ status_of self }
         ensures least { 2 ≤ result }

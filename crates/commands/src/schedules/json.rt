@@ -3,7 +3,7 @@
 use serde_json::{Map, Value};
 use std::alloc::{AllocError, Global};
 
-/// The characters of a report: each byte is the one with its number.
+/// The characters of a report: each byte is the character with its number.
 fn characters_of(alloc: Global, report: &[u8]) -> Result<String, AllocError> {
     let mut text = String::new(alloc);
     for byte in report {

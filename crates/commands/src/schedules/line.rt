@@ -1,4 +1,4 @@
-//! The one line of a fault, in memory of its own: it is told where there is no other.
+//! The one line of a fault, in a buffer of fixed size: it needs no memory.
 
 ghost use Rattle.std.specs.Prelude.{◌≡◌, ◌+◌, ◌≤◌, ◌++◌, ◌∷◌, [], codes, length};
 ghost use Rattle.std.specs.Fmt.{decimal};
@@ -11,7 +11,7 @@ use itoa::Buffer;
 use schedule::Sink;
 use schedule::texts::device::write_all;
 
-/// Puts a text and then a number at the end of a line.
+/// Appends a text and then a number to a line.
 fn put(line: &mut ArrayString<128>, text: &str, number: u64)
     requires { length line.old.bytes + length text.now + 20 ≤ 128 }
     ensures bytes { line.new.bytes ≡ line.old.bytes ++ text.now ++ decimal number }
@@ -21,7 +21,7 @@ fn put(line: &mut ArrayString<128>, text: &str, number: u64)
     line.push_str(Buffer::new().format(number));
 }
 
-/// What is told of a line of the input.
+/// The line for a fault of an input line.
 fn line_of_place(at: u64, cause: &str, number: u64) -> ArrayString<128>
     requires { length cause.now ≤ 20 }
     ensures { result.bytes ≡ codes "rmelab: line " ++ decimal at ++ cause.now ++ decimal number ++ 10 ∷ [] }
@@ -71,7 +71,8 @@ pub fn line_of(fault: Fault) -> ArrayString<128>
     }
 }
 
-/// Writes the one line of a fault, and answers its exit status. It wants no memory. A line that can't be written is lost.
+/// Writes the one line of a fault to `e`, and answers its exit status. It needs no memory. A failed write is ignored: the
+/// exit status still says that there was a fault.
 pub fn told<E: Sink>(fault: Fault, e: &mut E) -> u8
     ensures status { result ≡ status_of fault }
     ensures least { 2 ≤ result }

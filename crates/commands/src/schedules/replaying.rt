@@ -34,7 +34,7 @@ use std::alloc::Global;
 use schedule::replays::laws::worlds_are_never_found_out;
 use schedule::{ReplayFault, Verdict, replay, replay_on};
 
-/// The fault of a replay to a page in memory: where the page takes no more, memory is wanted.
+/// The fault of a replay to a page in memory: the page refuses a write only when it is out of memory.
 fn on_page(fault: ReplayFault) -> Fault
     ensures { result ≡ fault_on_page fault }
 {
@@ -44,7 +44,7 @@ fn on_page(fault: ReplayFault) -> Fault
     }
 }
 
-/// Plays the schedule, and writes its report, or tells each step.
+/// Plays the schedule, and writes its report, or a line for each step.
 fn report<M: Machine, W: Sink>(
     alloc: Global,
     machine: &mut M,
@@ -63,7 +63,7 @@ fn report<M: Machine, W: Sink>(
     replay_on(alloc, machine, judge, schedule, w)
 }
 
-/// Plays the schedule to a page in memory, and writes its lines as one JSON object.
+/// Plays the schedule to a page in memory, and writes the page's lines as one JSON object.
 fn play_object<M: Machine, W: Sink>(
     alloc: Global,
     machine: &mut M,
@@ -84,7 +84,7 @@ fn play_object<M: Machine, W: Sink>(
     }
 }
 
-/// Plays the schedule, to the writer or, as JSON, to a page first.
+/// Plays the schedule, and writes to `w`, as text or as JSON.
 fn play<M: Machine, W: Sink>(
     alloc: Global,
     machine: &mut M,
@@ -106,7 +106,7 @@ fn play<M: Machine, W: Sink>(
     }
 }
 
-/// The last image as text, where it is to be saved.
+/// The text of the last image, if it is to be saved.
 fn saved<M: Machine>(alloc: Global, machine: &M, save: bool) -> Result<Option<Vec<u8>>, Fault>
     ensures asked { IfOk result (λ text. is_some text ≡ save) }
     ensures memory { IfErr result (λ fault. fault ≡ Fault.OutOfMemory) }
@@ -124,7 +124,7 @@ fn saved<M: Machine>(alloc: Global, machine: &M, save: bool) -> Result<Option<Ve
     }
 }
 
-/// Plays the schedule on a machine, and says how the command ends.
+/// Plays the schedule on a machine. The result is how the command ends.
 fn replay_machine<M: Machine, W: Sink>(
     alloc: Global,
     machine: &mut M,
@@ -145,7 +145,7 @@ fn replay_machine<M: Machine, W: Sink>(
     })
 }
 
-/// The schedule on a new world of the right lock.
+/// Plays the schedule on a new world of the right lock.
 fn replay_new<W: Sink>(
     alloc: Global,
     schedule: &Schedule,
@@ -171,7 +171,7 @@ fn replay_new<W: Sink>(
     )
 }
 
-/// The schedule on a world that goes on from an image.
+/// Plays the schedule on a world that starts from an image.
 fn replay_image<W: Sink>(
     alloc: Global,
     image: Image,
@@ -189,7 +189,7 @@ fn replay_image<W: Sink>(
     replay_started(alloc, &image, &start, schedule, order, w)
 }
 
-/// The schedule on the world of an image, before a judge that begins where the image stands.
+/// Plays the schedule on the world of an image, with a judge that starts in the state of the image.
 fn replay_started<W: Sink>(
     alloc: Global,
     image: &Image,
@@ -219,7 +219,7 @@ fn replay_started<W: Sink>(
     )
 }
 
-/// The schedule on a new world of a variant of the lock.
+/// Plays the schedule on a new world of a variant of the lock.
 fn replay_variant<W: Sink>(
     alloc: Global,
     schedule: &Schedule,
@@ -242,7 +242,7 @@ fn replay_variant<W: Sink>(
     )
 }
 
-/// The schedule on the machine that is asked for.
+/// Plays the schedule on the machine that is asked for.
 fn replay_schedule<W: Sink>(
     alloc: Global,
     order: &ReplayOrder,
@@ -263,7 +263,7 @@ fn replay_schedule<W: Sink>(
     }
 }
 
-/// Replays on a new world of the right lock, to the writer.
+/// Replays on a new world of the right lock, straight from the reader to the writer.
 #[tactic(auto, using(crate::proofs::Replays::replayed_whole))]
 fn replay_plain<R: Source, W: Sink>(alloc: Global, r: &mut R, w: &mut W) -> Result<Ending, Fault>
     ensures tells { TellsReplay (R.reading r.old) (R.reading r.new) (W.tape w.old) (W.tape w.new) result }
@@ -278,7 +278,7 @@ fn replay_plain<R: Source, W: Sink>(alloc: Global, r: &mut R, w: &mut W) -> Resu
     })
 }
 
-/// Runs `replay`: the image is read first, then the schedule; then it is played to its verdict.
+/// Runs `replay`: reads the image first, then the schedule; then it plays the schedule to its verdict.
 pub fn replay_order<R: Source, W: Sink>(
     alloc: Global,
     order: &ReplayOrder,

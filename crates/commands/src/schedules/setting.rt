@@ -1,4 +1,4 @@
-//! What a schedule is played on, and the judge that hears it.
+//! What a schedule is played on: a world, an image, and the judge of its deeds.
 
 ghost use Rattle.std.specs.Prelude.{◌≡◌, ◌⊎◌, ◌≤◌, ℕ, List, [], Ok, Err, None, IfErr, IfOk, IfSome, OnOk, is_some, option_copied, true};
 ghost use Rattle.judge.specs.Stands.{StandsAfter};
@@ -26,7 +26,7 @@ use schedule::{Schedule, Source, read_schedule};
 use std::alloc::Global;
 use schedule::replays::pieces::read_all;
 
-/// What the first line of a schedule is refused with, where the world or the image can't be had.
+/// The fault for a header whose world or image is refused: it names line 1.
 fn refused_header(refusal: Refusal) -> Fault
     ensures { result ≡ fault_of_header (number_of refusal) }
 {
@@ -36,7 +36,7 @@ fn refused_header(refusal: Refusal) -> Fault
     }
 }
 
-/// The rule that an image breaks, or want of memory.
+/// The fault for an image that is refused: the rule that it breaks, or out of memory.
 fn refused_image(refusal: Refusal) -> Fault
     ensures told { result ≡ fault_of_image refusal }
     ensures rule { (result ≡ Fault.OutOfMemory) ⊎ ((rule : ℕ) × (result ≡ Fault.Image rule)) }
@@ -47,7 +47,7 @@ fn refused_image(refusal: Refusal) -> Fault
     }
 }
 
-/// The image that this text spells, where there is one.
+/// The image that this text spells, if there is a text. A text that isn't an image is a fault.
 pub fn image_read(alloc: Global, text: Option<&[u8]>) -> Result<Option<Image>, Fault>
     ensures lawful { IfOk result (λ image. IfSome image IsLawfulImage) }
     ensures given { IfOk result (λ image. is_some image ≡ is_some text.entry) }
@@ -64,7 +64,7 @@ pub fn image_read(alloc: Global, text: Option<&[u8]>) -> Result<Option<Image>, F
     }
 }
 
-/// The schedule that the reader gives.
+/// Reads the whole text from the reader, and the schedule from it.
 #[tactic(auto, unfolding(crate::specs::Settings::IsWrongText))]
 pub fn schedule_read<R: Source>(alloc: Global, r: &mut R) -> Result<Schedule, Fault>
     ensures read { IfOk result (λ schedule. (text : List ℕ) × WasRead (R.reading r.old) (R.reading r.new) text × (schedule_at text ≡ Ok schedule)) }
@@ -76,7 +76,7 @@ pub fn schedule_read<R: Source>(alloc: Global, r: &mut R) -> Result<Schedule, Fa
     Ok(read_schedule(alloc, &text)?)
 }
 
-/// The image with values as wide as the schedule says.
+/// The image with values as wide as the schedule's.
 fn widened(alloc: Global, image: &Image, schedule: &Schedule) -> Result<Image, Fault>
     ensures wider { IfOk result (IsWider schedule.now.width image.now) }
     ensures lawful { IfOk result IsLawfulImage }
@@ -88,7 +88,7 @@ fn widened(alloc: Global, image: &Image, schedule: &Schedule) -> Result<Image, F
     }
 }
 
-/// The image, as wide as the schedule says. The header has to name the image's other sizes.
+/// The image, widened to the schedule's width if needed. Other sizes must be equal: otherwise line 1 is refused with 9.
 pub fn fitting(alloc: Global, image: Image, schedule: &Schedule) -> Result<Image, Fault>
     requires lawful { IsLawfulImage image }
     ensures lawful { IfOk result IsLawfulImage }
@@ -145,7 +145,7 @@ pub fn variant_world(
     }
 }
 
-/// A judge of a new lock with the schedule's sizes. Sizes that a world has are a judge's too.
+/// A judge for a new lock with the schedule's sizes. It only fails out of memory, since a world of these sizes was made.
 pub fn new_judge(alloc: Global, schedule: &Schedule) -> Result<Judge, Fault>
     ensures made { IfOk result (λ judge. StandsAfter (empty schedule.now.procs schedule.now.cap) [] judge) }
     ensures memory { IfErr result (λ fault. fault ≡ Fault.OutOfMemory) }
@@ -157,7 +157,7 @@ pub fn new_judge(alloc: Global, schedule: &Schedule) -> Result<Judge, Fault>
     }
 }
 
-/// The world of a lawful image, every process crashed.
+/// The world of a lawful image, with every process crashed.
 pub fn image_world(alloc: Global, image: &Image) -> Result<World, Fault>
     requires { IsLawfulImage image.now }
     ensures made { IfOk result (λ world. world ≡ world_of_image image.now) }
@@ -169,7 +169,7 @@ pub fn image_world(alloc: Global, image: &Image) -> Result<World, Fault>
     }
 }
 
-/// Where a judge has to start from before the world of a lawful image.
+/// The start of the judge for the world of a lawful image.
 pub fn start_at(alloc: Global, image: &Image) -> Result<Start, Fault>
     requires { IsLawfulImage image.now }
     ensures begins { IfOk result (IsStartOf image.now) }
@@ -182,7 +182,7 @@ pub fn start_at(alloc: Global, image: &Image) -> Result<Start, Fault>
     }
 }
 
-/// A judge from this start on.
+/// A judge that starts there.
 pub fn started_judge(alloc: Global, start: &Start) -> Result<Judge, Fault>
     requires { IsStart start.now }
     ensures made { IfOk result (λ judge. StandsAfter (state_of start.now) [] judge) }

@@ -19,7 +19,7 @@ use crashlab::shrink;
 use std::alloc::Global;
 use schedule::{Verdict, put_verdict};
 
-/// Writes a schedule as its text.
+/// Writes the text of a schedule.
 pub fn write_lines<W: Sink>(alloc: Global, schedule: &Schedule, w: &mut W) -> Result<(), Fault>
     ensures written { OnOk result (Writes (W.tape w.old) (W.tape w.new) (spelling schedule.now)) }
     ensures failed { IfErr result (λ fault. status_of fault ≡ 3) }
@@ -45,7 +45,7 @@ fn write_fine<W: Sink>(alloc: Global, w: &mut W) -> Result<(), Fault>
     Ok(())
 }
 
-/// Makes the schedule least, or says that its verdict is fine.
+/// Shrinks the schedule and writes it, or writes the line of a fine verdict.
 fn shrink_schedule<W: Sink>(
     alloc: Global,
     variant: Variant,
@@ -73,7 +73,7 @@ fn shrink_schedule<W: Sink>(
     }
 }
 
-/// Runs `shrink`: the schedule is read, played on the variant, and made least where its verdict is against.
+/// Runs `shrink`: reads the schedule, plays it on the variant, and shrinks it if the verdict is against.
 pub fn shrink_order<R: Source, W: Sink>(
     alloc: Global,
     order: &ShrinkOrder,

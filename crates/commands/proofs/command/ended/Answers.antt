@@ -28,7 +28,7 @@ returns-in-Draw-clause-ends g c =
     (sym c.in-Draw.is)
     (c.draw_order.ensures.ends, c.draw_order.ensures.reads)
 
--- a schedule is made least as `shrink_order` says
+-- shrinking ends as `shrink_order` says
 pub returns-in-Shrink-clause-ends : goal.returns-in-Shrink-clause-ends
 returns-in-Shrink-clause-ends g c =
     subst

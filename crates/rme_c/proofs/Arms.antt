@@ -1,4 +1,4 @@
--- The steps of chores, one by one.
+-- The steps of scripts, one by one.
 use Rattle.std.proofs.Common.{◌≡◌, ℕ, zero, suc, ◌+◌, ◌-◌, ◌*◌, ◌<◌, ◌≤◌, true, false, nat_lt, is_none, List, [], ◌∷◌, ◌++◌, length, take, replicate, slice_set, Some, None, refl, sym, ap, ◌∙◌, subst, arith, length-take, length-set, length-append}
 use Rattle.rme_c.proofs.Common.{lt-ltb, le-ltb, Inside, Layout, Reply, left_at, FitsStage, IsLayout, Pending, record_of, Mending, next_access, Told, Chore, Position, Lock, Within, RmeProcess, padded}
 use Rattle.rme_c.proofs.Common.{job_of, why_of, layout_of, stand_at, Fits, IsStep}
@@ -13,7 +13,7 @@ use Rattle.rme_c.specs.declared.chore.Chore.TheVariants as chore
 use Rattle.rme_c.proofs.Jobs.{storing, reading, wants}
 use Rattle.rme_c.proofs.Chores.{goes, ends}
 
--- the words of a record's value, once one more was read
+-- the words of a record's value, after one more was read
 set_zeros : (read m : ℕ) (words : List ℕ) (v : ℕ) → read + suc m ≡ length words → slice_set (take read words ++ replicate (suc m) 0) read v ≡ take (read + 1) (slice_set words read v) ++ replicate m 0
 set_zeros zero m [] v h = absurd (omega arith)
 set_zeros zero m (w ∷ words) v h = refl
@@ -53,7 +53,7 @@ module _ (p : RmeProcess) (eight : length p.value ≡ 8) where
   wide : IsLayout l → length (take l.width p.value) ≡ l.width
   wide lawful = let most = lawful.most in omega (arith, length-take l.width p.value, eight, most)
 
-  -- a chore has a step left
+  -- a script has a step left
   pub has_chore : (c : Chore) → Fits p (Within c) → is_none (next_access (stand_at p (Within c))) ≡ false
   has_chore (chore.Value at seq read) h = wants p.limit p.index Place.Inside Mending _ (reading l p.index at seq read (padded read p.value) h.1.1.1)
   has_chore (chore.Redo at seq step) h = let wide = wide h.1.1.0 in let within = h.1.1.1 in wants p.limit p.index Place.Inside Mending _ (storing l p.index _ step (Mended true) (omega (arith, wide, within)))

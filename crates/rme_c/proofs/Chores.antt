@@ -1,4 +1,4 @@
--- A step of a chore, in the numbers of C.
+-- A step of a script, in the numbers of C.
 use Rattle.std.proofs.Common.{◌≡◌, ℕ, ◌==◌, false, not, None, sym, ap, ◌∙◌, subst}
 use Rattle.rme_c.proofs.Common.{Stage, place_of, Reply, Pending, left, fed, Done, tail, Free as IsFree, Doing as Does, Why, by_script, by_reply, HasStep, end_place, end_mended, end_barred, Stand}
 use Rattle.rme_c.proofs.Common.{stepped_by, job_left, Told, Chore, Position, Lock, Within, RmeProcess, errand_of, layout_of, stand_at, Fits, IsStep}
@@ -21,7 +21,7 @@ module _ (p q : RmeProcess) (c : Chore) (w : Why) (job next : Pending) (v : ℕ)
       subst (λ (x : Stand). IsTold x v (by_script w s.mended (left next))) (sym at_job)
       (subst (λ e. IsTold (record s { errand = Does w job }) v (by_script w s.mended e)) (sym follows) (is_told s w job v has))
 
-  -- it goes on with another chore
+  -- it goes on with another script state
   pub goes : (d : Chore) (r : Position × Told) → r ≡ (Within d, record { answer = None; blocked = false })
       → q ≡ record p { value = q.value } → errand_of (layout_of p) p.index q.value d ≡ Does w next → HasStep (left next) → Fits q (Within d) → IsStep p (Within c) v q r.0 r.1
   goes d r is same errand more fits =

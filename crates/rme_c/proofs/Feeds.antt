@@ -1,4 +1,4 @@
--- A step where no call is under way, and what a step tells.
+-- A step where no call is under way, and the code of a step.
 use Rattle.std.proofs.Common.{◌≡◌, ℕ, ◌+◌, ◌<◌, ◌≤◌, ◌==◌, not, Bool, true, false, if◌then◌else◌, is_none, length, Option, Some, None, refl, sym, ap, ◌∙◌, subst, arith}
 use Rattle.rme_c.proofs.Common.{Access, Stage, place_of, after_access, progress, Place, all_allowed, Check, held, begun, Answer, Free as IsFree, Doing as Does, Checking, by_lock, is_entry}
 use Rattle.rme_c.proofs.Common.{mended_done, checks_done, mended_entered, next_access, Stand, standing, stepped, lock_moved, outcome, lock_outcome, Told, Position, Lock, Within, Lost, RmeProcess}
@@ -81,7 +81,7 @@ fits_landing : (p : RmeProcess) (q : RmePosition) (from to : Stage) (checks : Bo
 fits_landing p q from to true h = (h.0, (h.1, tt))
 fits_landing p q from to false h = h
 
--- a step of the lock's part, by its landing
+-- a step of the lock's part, by what it leaves
 module _ (p : RmeProcess) (t : Stage) (v : ℕ) (r : Landing) (q : RmeProcess) (b a : RmeAccess) where
   abbrev now : Stand
   now = stand_at p (Lock t)
@@ -129,7 +129,7 @@ module _ (p : RmeProcess) (t : Stage) (v : ℕ) (r : Landing) (q : RmeProcess) (
         steps = rw (busy_at p (Lock t) here busy) (ap (λ (z : RmeProcess). z.steps) is.process);
       }
 
--- a step that is taken, written down as numbers, and told
+-- a step that is taken, encoded as numbers, with its code
 pub step_fed : (p : RmeProcess) (x : Position) (v : ℕ) (m q : RmeProcess) (y : Position) (t : Told) (b a : RmeAccess) (code n : ℕ) (o : Option Access)
     → position_of p ≡ x → is_none (next_access (stand_at p x)) ≡ false → IsStep p x v m y t
     → position_of q ≡ y → stand_at q y ≡ stand_at m y → (code < 64 → a ≡ shown n t.answer o) → (64 ≤ code → a ≡ b) → code < 256 → n ≡ p.procs → o ≡ next_access (stand_at q y)

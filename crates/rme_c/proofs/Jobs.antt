@@ -6,14 +6,14 @@ use Rattle.redomail.specs.declared.record.Record.{Record}
 use Rattle.redomail.specs.declared.stage.Stage.TheVariants as stage
 use Rattle.rmeworld.specs.Spot.{Doing}
 
--- what a script's step answers, and that it is never blocked
+-- what a script's step answers: it is never blocked
 told : (limit p : ℕ) (s : Place) (b c : Bool) (why : Why) (e : Script Reply) (v : ℕ) → HasStep e
     → IfSome (access_by limit p s (Doing why e)) (λ a. (answer_by s b c (Doing why e) (kind_of a) (carried a v) ≡ by_script why b (tail e v)) × (blocked_by p s (Doing why e) (kind_of a) (carried a v) ≡ false))
 told limit p s b c why (Asks i rest) v h = (refl, refl)
 told limit p s b c why (Writes i x rest) v h = (refl, refl)
 told limit p s b c why (Done reply) v h = absurd h
 
--- a script that has a step left wants something
+-- a script that has a step left has a next access
 pub wants : (limit p : ℕ) (s : Place) (why : Why) (e : Script Reply) → HasStep e → is_none (access_by limit p s (Doing why e)) ≡ false
 wants limit p s why (Asks i rest) h = refl
 wants limit p s why (Writes i x rest) h = refl
@@ -24,7 +24,7 @@ has_access limit p s why (Asks i rest) h = cc
 has_access limit p s why (Writes i x rest) h = cc
 has_access limit p s why (Done reply) h = absurd h
 
--- a step of a job is this for its call
+-- the outcome of a job's step for its call
 abbrev pub Told : Stand → ℕ → Option Answer → Type 0
 Told s v answer = ((outcome s (next_access s) v).answer ≡ answer) × ((outcome s (next_access s) v).progress.blocked ≡ false)
 

@@ -35,7 +35,7 @@ wait_wants limit p k [] true = refl
 wait_wants limit p k (j ∷ js) true = refl
 wait_wants limit p k _ _ = refl
 
--- the first of those that are left stands for where the scan stands
+-- the first of the processes that are left has the scan's index
 pub above_again : (n p i j : ℕ) → (i ≢ p → j ≡ i) → (i ≡ p → j ≡ i + 1) → p < n → above n p j ≡ above n p i
 above_again n p i j other own below =
     elim (cases_eq i p) [
@@ -47,11 +47,11 @@ empty : (js : List ℕ) → first js ≡ None → js ≡ []
 empty [] e = refl
 empty (j ∷ js) e = cc
 
--- where nobody is left the end of the processes stands for where the scan stands
+-- where none is left the number of processes is the scan's index
 pub above_none : (n p i : ℕ) → first (above n p i) ≡ None → above n p n ≡ above n p i
 above_none n p i e = above_past n p n (omega arith) ∙ sym (empty (above n p i) e)
 
--- no step comes next just where no call is under way
+-- there is no next step exactly where no call is under way
 pub idle_access : (limit n p : ℕ) (t : Stage) → is_idle (place_of n p t) ≡ is_none (access limit p (place_of n p t))
 idle_access limit n p (AtDoor i m) = sym (door_wants limit p m (above n p i))
 idle_access limit n p (AtWait k i looked) = sym (wait_wants limit p k (above n p i) looked)

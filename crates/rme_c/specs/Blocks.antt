@@ -1,4 +1,4 @@
--- A block of words that was copied, as an image.
+-- A block of words that was copied, as an image (the specification's "Image").
 use Rattle.std.specs.Prelude.{ℕ, ◌+◌, ◌*◌, ◌==◌, ◌&&◌, Bool, is_none, List, length, map, drop, slice_index}
 use Rattle.std.specs.List.{range_with_len}
 use Rattle.rmecore.specs.declared.own.Own.{Own}
@@ -7,11 +7,11 @@ use Rattle.redomail.specs.Layout.{size}
 use Rattle.rmeworld.specs.declared.image.Image.{Image}
 use Rattle.rme_c.specs.Starts.{size_cause}
 
--- the words are a block's of a world with these sizes
+-- the words are a block of a world with these sizes
 abbrev pub is_block : Layout → ℕ → List ℕ → Bool
 is_block l limit words = is_none (size_cause l limit 0) && (length words == 3 * l.procs + size l)
 
--- the lock words of a process: three stand together
+-- the lock words of a process: three consecutive words
 abbrev pub own_in : List ℕ → ℕ → Own
 own_in words p = record { choosing = slice_index words (3 * p); number = slice_index words (3 * p + 1); inside = slice_index words (3 * p + 2) }
 

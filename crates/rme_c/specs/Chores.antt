@@ -1,4 +1,4 @@
--- What a chore of a process in C is: the errand that the world's machine has, with the words of the message beside it.
+-- The script state of a process in C, as the one of the world's machine, with the words of the message beside it.
 use Rattle.std.specs.Prelude.{ℕ, ◌+◌, ◌-◌, ◌*◌, ◌<◌, List, ◌++◌, take, replicate, true}
 use Rattle.redomail.specs.declared.layout.Layout.{Layout}
 use Rattle.redomail.specs.declared.reply.Reply.TheVariants.{Stored, Mended}
@@ -15,11 +15,11 @@ use Rattle.rmeworld.specs.declared.why.Why.TheVariants as why
 use Rattle.rme_c.specs.declared.chore.Chore.{Chore}
 use Rattle.rme_c.specs.declared.chore.Chore.TheVariants as chore
 
--- the words of a record's value that were read, with zeros behind them
+-- the words of a record's value that were read, with zeros after them
 abbrev pub padded : ℕ → List ℕ → List ℕ
 padded read words = take read words ++ replicate (8 - read) 0
 
--- how far the job of a chore has come
+-- the stage of the script's job
 abbrev pub job_stage : Layout → List ℕ → Chore → Stage
 job_stage l words chore.Asking = stage.AskUsable
 job_stage l words chore.Checking = stage.AskRuined
@@ -38,7 +38,7 @@ job_stage l words chore.Close = stage.PutClosed
 job_stage l words (chore.Getting i) = stage.GetBoard i
 job_stage l words (chore.Putting i v) = stage.PutBoard i v
 
--- what its script is for
+-- the purpose of the script
 abbrev pub why_of : Layout → List ℕ → Chore → Why
 why_of l words chore.Asking = why.Mending
 why_of l words chore.Checking = why.Checking
@@ -63,7 +63,7 @@ job_of l p words c = record { layout = l; sender = p; stage = job_stage l words 
 abbrev pub errand_of : Layout → ℕ → List ℕ → Chore → Errand
 errand_of l p words c = errand.Doing (why_of l words c) (job_of l p words c)
 
--- what a chore needs of the sizes, and of what it knows
+-- what a script state needs of the sizes and of its own numbers
 abbrev pub FitsChore : Layout → Chore → Type 0
 FitsChore l chore.Checking = Unit {0}
 FitsChore l chore.Ruining = Unit {0}

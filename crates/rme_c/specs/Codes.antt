@@ -1,4 +1,4 @@
--- The numbers that stand for accesses, answers and refusals on the side of C.
+-- The codes of accesses, answers and refusals for C.
 use Rattle.std.specs.Prelude.{ℕ, ◌+◌, ◌*◌, Bool, Option, Some, None, true, false, unwrap_or}
 use Rattle.rmecore.specs.declared.access.Access.{Access}
 use Rattle.rmecore.specs.declared.access.Access.TheVariants.{Load, Store}
@@ -17,7 +17,7 @@ use Rattle.rmeworld.specs.declared.outcome.Outcome.{Outcome}
 use Rattle.rmeworld.specs.Stand.{Stand, next_access, outcome, stepped}
 use Rattle.rme_c.specs.declared.process.RmeAccess.{RmeAccess}
 
--- where a word stands in the block of n processes: three lock words each, then the data words
+-- the index of a word in the block of n processes: three lock words for each, then the data words
 abbrev pub place : ℕ → Word → ℕ
 place n (word.Choosing p) = 3 * p
 place n (word.Number p) = 3 * p + 1
@@ -60,17 +60,17 @@ answer_code answer.Withdrawn = 22
 answer_code (answer.Found f) = found_code f
 answer_code (answer.Mail r) = reply_code r
 
--- the board word that is answered
+-- the board word that was read
 abbrev pub answer_word : Answer → ℕ
 answer_word (answer.Mail (reply.Word v)) = v
 answer_word _ = 0
 
--- 0 where nothing is refused, else the number of the refusal. Want of memory has 16
+-- 0: nothing is refused; otherwise the number of the refusal, which is 16 for out of memory
 abbrev pub refusal_code : Option Refusal → ℕ
 refusal_code None = 0
 refusal_code (Some r) = unwrap_or (number_of r) 16
 
--- where a call goes on: 64 and the place of the lock word that it loads next, else 0
+-- the code of a call that goes on: 64 and the index of the lock word that it loads next, otherwise 0
 abbrev pub goes_as : Option Access → ℕ
 goes_as None = 0
 goes_as (Some (Load kind (word.Choosing p))) = 64 + 3 * p
@@ -79,8 +79,7 @@ goes_as (Some (Load kind (word.Inside p))) = 64 + (3 * p + 2)
 goes_as (Some (Load kind (word.Data i))) = 0
 goes_as (Some (Store kind word v)) = 0
 
--- what a step was, with the access that comes next: an answer, 16 where it was blocked, how its call goes on, and 7 where there
--- was no step
+-- the code of a step with its next access: an answer, 16 if it was blocked, how its call goes on, or 7 if there was no step
 abbrev pub told_as : Option Answer → Bool → Option Access → ℕ
 told_as (Some a) blocked next = answer_code a
 told_as None true next = 16
@@ -93,7 +92,7 @@ told_by (Some a) o next = told_as o.answer o.progress.blocked next
 abbrev pub told : Stand → ℕ → ℕ
 told s v = told_by (next_access s) (outcome s (next_access s) v) (next_access (stepped s v))
 
--- what is shown behind a step: the next access, or the board word that is answered
+-- what `next` is after a step: the next access, or the board word that was read
 abbrev pub shown : ℕ → Option Answer → Option Access → RmeAccess
 shown n (Some a) next = record { store = 0; place = 0; value = answer_word a }
 shown n None (Some a) = wanted n a

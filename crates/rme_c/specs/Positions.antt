@@ -1,4 +1,4 @@
--- What the numbers of a process in C stand for.
+-- The position that the numbers of a process in C encode.
 use Rattle.std.specs.Prelude.{ℕ, ◌+◌, ◌*◌, ◌<◌, ◌≤◌, Bool, true, false, not, ◌&&◌, ◌==◌, nat_lt, nat_le, if◌then◌else◌, List, Option, Some, None}
 use Rattle.rmecore.specs.declared.core_call.CoreCall.{CoreCall}
 use Rattle.rmecore.specs.declared.core_call.CoreCall.TheVariants.{Lock, Recover, Unlock, Withdraw}
@@ -18,11 +18,11 @@ use Rattle.rme_c.specs.declared.process.RmePosition.{RmePosition}
 use Rattle.rme_c.specs.declared.process.RmeProcess.{RmeProcess}
 use Rattle.rme_c.specs.Chores.{FitsChore, errand_of}
 
--- the call of the lock's part
+-- the call of the lock's part with this number
 abbrev pub call_of : ℕ → CoreCall
 call_of n = if n == 0 then Lock else if n == 1 then Recover else if n == 2 then Unlock else Withdraw
 
--- the stage of the lock's part
+-- the stage of the lock's part with these numbers
 abbrev pub stage_of : RmePosition → Option Stage
 stage_of q =
     if q.at == 0 then Some stage.Rest
@@ -41,11 +41,11 @@ stage_of q =
     else if q.at == 13 then Some (stage.Unmarking (call_of q.third))
     else None
 
--- the sizes that the mailbox is held to
+-- the sizes are within those of a mailbox
 abbrev pub is_layout : Layout → Bool
 is_layout l = nat_le l.procs 64 && (nat_le l.cap 65536 && (nat_le 1 l.width && nat_le l.width 8))
 
--- a chore that needs no sizes
+-- a script state that needs no sizes
 abbrev pub short_chore : RmePosition → Option Chore
 short_chore q =
     if q.at == 16 then Some chore.Checking
@@ -54,7 +54,7 @@ short_chore q =
     else if q.at == 19 then Some chore.Close
     else None
 
--- a chore that mends
+-- a script state of a mending
 abbrev pub mending_chore : Layout → RmePosition → Option Chore
 mending_chore l q =
     if q.at == 20 then Some chore.Asking
@@ -65,7 +65,7 @@ mending_chore l q =
     else if q.at == 25 then (if nat_lt q.third (8 + 2 * l.width) then Some (chore.Redo q.first q.second q.third) else None)
     else None
 
--- a chore of an append or of the board
+-- a script state of an append or of the board
 abbrev pub working_chore : Layout → RmePosition → Option Chore
 working_chore l q =
     if q.at == 26 then Some (chore.Closed q.second)
@@ -91,15 +91,15 @@ by_parts None None = position.Lost
 abbrev pub layout_of : RmeProcess → Layout
 layout_of p = record { procs = p.procs; cap = p.cap; width = p.width }
 
--- the process is one of its world's
+-- the index is that of a process
 abbrev pub is_placed : RmeProcess → Bool
 is_placed p = nat_lt p.index p.procs && nat_le p.procs 64
 
--- the stage of the lock's part in which it stands, if it stands in one
+-- the stage of the lock's part, if the process is in that part
 abbrev pub stage_now : RmeProcess → Option Stage
 stage_now p = if is_placed p then stage_of p.position else None
 
--- where it stands
+-- the position of the process
 abbrev pub position_of : RmeProcess → Position
 position_of p = if is_placed p then by_parts (stage_of p.position) (chore_of (layout_of p) p.position) else position.Lost
 
@@ -113,12 +113,12 @@ Fits p position.Lost = Unit {0}
 Fits p (position.Lock t) = (p.index < p.procs) × (p.procs ≤ 64)
 Fits p (position.Within c) = (p.index < p.procs) × ((p.procs ≤ 64) × FitsChore (layout_of p) c)
 
--- where a step of the lock's part leads: behind an entry by a lock the ruin check comes next
+-- the position after a step of the lock's part: after an entry by a lock it is the ruin check
 abbrev pub landing : Bool → Stage → Position
 landing true t = position.Within chore.Checking
 landing false t = position.Lock t
 
--- what the lock's machine sees of the process at this stage
+-- the state of the lock's machine at this stage
 abbrev pub standing_at : RmeProcess → Stage → Standing
 standing_at p t = record { procs = p.procs; limit = p.limit; index = p.index; place = place_of p.procs p.index t }
 
@@ -131,7 +131,7 @@ abbrev pub errand_at : Layout → ℕ → List ℕ → Position → Errand
 errand_at l p words (position.Within c) = errand_of l p words c
 errand_at l p words _ = errand.Free
 
--- the process of a world that these numbers are, at this position
+-- the process state of the world's machine with these numbers, at this position
 abbrev pub stand_at : RmeProcess → Position → Stand
 stand_at p x =
     record {
@@ -144,6 +144,6 @@ stand_at p x =
       errand = errand_at (layout_of p) p.index p.value x;
     }
 
--- the process of a world that these numbers are
+-- the process state of the world's machine with these numbers
 abbrev pub stand_of : RmeProcess → Stand
 stand_of p = stand_at p (position_of p)

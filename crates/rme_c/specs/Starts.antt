@@ -1,4 +1,4 @@
--- Which sizes are those of a world, which call C has written, and why a start is refused.
+-- Which sizes a world has (the specification's "Limits"), which call C has written, and why a start is refused.
 use Rattle.std.specs.Prelude.{ℕ, Bool, ◌==◌, ◌&&◌, nat_lt, nat_le, if◌then◌else◌, [], ◌∷◌, Option, Some, None, take, slice_index}
 use Rattle.rmecore.specs.declared.refusal.Refusal.{Refusal}
 use Rattle.rmecore.specs.declared.refusal.Refusal.TheVariants.{BadProcs, BadLimit, NoSuchProcess, BadCap, BadWidth, BadIndex}
@@ -12,7 +12,7 @@ use Rattle.rme_c.specs.declared.process.RmeCall.{RmeCall}
 abbrev pub within : ℕ → ℕ → ℕ → Bool
 within least most n = nat_le least n && nat_le n most
 
--- why there is no such process of such a world
+-- why no world has these sizes and this process, if so
 abbrev pub size_cause : Layout → ℕ → ℕ → Option Refusal
 size_cause l limit p =
     first_cause (
@@ -24,7 +24,7 @@ size_cause l limit p =
     ∷ []
     )
 
--- the call that these numbers are
+-- the call with these numbers
 abbrev pub call_by : ℕ → RmeCall → Option Call
 call_by width c =
     if c.code == 1 then Some Lock
@@ -38,7 +38,7 @@ call_by width c =
     else if c.code == 9 then Some Withdraw
     else None
 
--- why a call is refused: there is none with its code, or the process may not start it
+-- why a call is refused: no call has its code, or the process may not start it
 abbrev pub call_cause : Stand → Option Call → Option Refusal
 call_cause s None = Some BadIndex
 call_cause s (Some call) = start_refusal s.layout (spot_of s) call

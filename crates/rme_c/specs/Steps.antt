@@ -1,4 +1,4 @@
--- What a step from a position is.
+-- A step from a position, in the numbers of C.
 use Rattle.std.specs.Prelude.{◌≡◌, ℕ, ◌+◌, ◌<◌, ◌≤◌, ◌==◌, not, is_none, if◌then◌else◌, Bool, Option}
 use Rattle.redomail.specs.declared.layout.Layout.{Layout}
 use Rattle.redomail.specs.Layout.{held}
@@ -21,15 +21,15 @@ answered p x v = (outcome (stand_at p x) (next_access (stand_at p x)) v).answer
 abbrev pub is_blocked : RmeProcess → Position → ℕ → Bool
 is_blocked p x v = (outcome (stand_at p x) (next_access (stand_at p x)) v).progress.blocked
 
--- the step with this value leads from one process to the other, and was this
+-- the step with this value leads from one process to the other, with this outcome
 pub record IsStep (p : RmeProcess) (x : Position) (v : ℕ) (q : RmeProcess) (y : Position) (t : Told) : Type 0 where
   pub exact : stand_at q y ≡ stepped (stand_at p x) v
   pub answer : t.answer ≡ answered p x v
   pub blocked : t.blocked ≡ is_blocked p x v
   pub fits : Fits q y
 
--- a process that has landed: its numbers are those of the stage, and of what the call ends with there. What was shown before
--- stays where the number tells the access
+-- a step that leaves the process at a stage: its numbers are those of the stage and of the call's end there. `next` stays as
+-- it was if the code names the access
 pub record IsLanding (p : RmeProcess) (r : Landing) (q : RmeProcess) (b a : RmeAccess) : Type 0 where
   pub process : q ≡ record p { unmended = q.unmended; position = q.position; steps = held (p.steps + 1) }
   pub mended : (q.unmended == 0) ≡ mended_done (p.unmended == 0) r.done
@@ -39,7 +39,7 @@ pub record IsLanding (p : RmeProcess) (r : Landing) (q : RmeProcess) (b a : RmeA
   pub kept : 64 ≤ r.code → a ≡ b
   pub few : r.code < 256
 
--- the process was fed with this value: where it stands then, what was told, and what is shown where that does not tell it
+-- the process was fed this value: its new state, the code, and `next`, which stays as it was if the code names the access
 pub record IsFed (p : RmeProcess) (v : ℕ) (q : RmeProcess) (b a : RmeAccess) (r : ℕ) : Type 0 where
   pub exact : stand_of q ≡ stepped (stand_of p) v
   pub told : r ≡ told (stand_of p) v

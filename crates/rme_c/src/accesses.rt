@@ -1,4 +1,4 @@
-//! The step that comes next.
+//! The next access of a process.
 
 ghost use Rattle.std.specs.Prelude.{◌≡◌, ◌<◌, ◌≤◌, IfSome, None};
 ghost use Rattle.rmecore.specs.Place.{above};
@@ -14,6 +14,7 @@ use crate::steps::{check_next, chore_next};
 use rmecore::{Access, Kind, Stage, Word};
 
 /// The first other process from an index on.
+// Inline: once in each C step.
 #[inline(always)]
 pub fn first(p: &RmeProcess, from: u64) -> Option<u64>
     requires { p.now.index < p.now.procs }
@@ -26,7 +27,8 @@ pub fn first(p: &RmeProcess, from: u64) -> Option<u64>
     if j < p.procs { Some(j) } else { None }
 }
 
-/// The step of the lock's part that comes next, if a call is under way.
+/// The next access of the lock's part. None: no call is under way.
+// Inline: once in each C step.
 #[inline(always)]
 fn access(p: &RmeProcess, stage: Stage) -> Option<Access>
     requires { p.now.index < p.now.procs }
@@ -59,7 +61,8 @@ fn access(p: &RmeProcess, stage: Stage) -> Option<Access>
     }
 }
 
-/// The same, as a step of the process.
+/// The same, as an access of the process.
+// Inline: once in each C step.
 #[inline(always)]
 fn lock_next(p: &RmeProcess, stage: Stage) -> Option<Access>
     requires { Fits p.now (Position.Lock stage) }
@@ -69,7 +72,8 @@ fn lock_next(p: &RmeProcess, stage: Stage) -> Option<Access>
     access(p, stage)
 }
 
-/// The step that comes next at a position.
+/// The next access at a position. None: no call is under way.
+// Inline: once in each C step.
 #[inline(always)]
 pub fn next_at(p: &RmeProcess, position: Position) -> Option<Access>
     requires { Fits p.now position }

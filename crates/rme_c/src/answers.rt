@@ -1,4 +1,4 @@
-//! The numbers of accesses, answers and refusals.
+//! The codes of accesses, answers and refusals for C.
 
 ghost use Rattle.std.specs.Prelude.{◌≡◌, ◌<◌, ◌≤◌, IfSome, None};
 ghost use Rattle.rmecore.specs.Machine.{word_of};
@@ -10,27 +10,28 @@ use redomail::Reply;
 use rmecore::{Access, Found, Refusal, Word};
 use rmeworld::Answer;
 
-/// What `store` says of a load and of a store.
+/// The values of `RmeAccess::store` for a load and for a store.
 const LOAD: u64 = 0;
 
 const STORE: u64 = 1;
 
-/// What a step was for its call.
+/// What a step meant for its call.
 #[derive(Clone, Copy)]
 pub struct Told {
     pub answer: Option<Answer>,
-    /// A look or a weigh after which the process stands where it stood.
+    /// A look or a weigh that has to be taken again.
     pub blocked: bool,
 }
 
-/// What is shown where there is nothing to show.
+/// What `next` is when there is nothing to name.
 pub const NOTHING: RmeAccess = RmeAccess {
     store: 0,
     place: 0,
     value: 0,
 };
 
-/// Where a word stands in the block. What lies far beyond it stands at the greatest number.
+/// The index of a word in the block. An index too great for a u64 is the greatest one.
+// Inline: once in each C step.
 #[inline(always)]
 fn place(procs: u64, word: Word) -> u64
     requires procs { procs ≤ 64 }
@@ -45,7 +46,8 @@ fn place(procs: u64, word: Word) -> u64
     }
 }
 
-/// A load or store as C takes it.
+/// A load or store for C.
+// Inline: once in each C step.
 #[inline(always)]
 pub fn wanted(procs: u64, access: Access) -> RmeAccess
     requires procs { procs ≤ 64 }
@@ -66,6 +68,7 @@ pub fn wanted(procs: u64, access: Access) -> RmeAccess
     }
 }
 
+// Inline: once in each C step.
 #[inline(always)]
 fn found_code(found: Found) -> u64
     ensures is { result ≡ code_of_found found }
@@ -80,6 +83,7 @@ fn found_code(found: Found) -> u64
     }
 }
 
+// Inline: once in each C step.
 #[inline(always)]
 fn reply_code(reply: Reply) -> u64
     ensures is { result ≡ code_of_reply reply }
@@ -101,7 +105,8 @@ fn reply_code(reply: Reply) -> u64
     }
 }
 
-/// The number of an answer.
+/// The code of an answer.
+// Inline: once in each C step.
 #[inline(always)]
 fn answer_code(answer: Answer) -> u64
     ensures is { result ≡ code_of_answer answer }
@@ -119,7 +124,8 @@ fn answer_code(answer: Answer) -> u64
     }
 }
 
-/// The board word that is answered.
+/// The board word that was read, or 0.
+// Inline: once in each C step.
 #[inline(always)]
 fn answer_word(answer: Answer) -> u64
     ensures { result ≡ word_of_answer answer }
@@ -130,7 +136,8 @@ fn answer_word(answer: Answer) -> u64
     }
 }
 
-/// What is shown of an answer.
+/// What `next` is after an answer.
+// Inline: once in each C step.
 #[inline(always)]
 fn answered(answer: Answer) -> RmeAccess
     ensures { result ≡ record { store = 0; place = 0; value = word_of_answer answer } }
@@ -142,7 +149,8 @@ fn answered(answer: Answer) -> RmeAccess
     }
 }
 
-/// What is shown of the access that comes next, or of an answer.
+/// What `next` is: the next access, or after an answer.
+// Inline: once in each C step.
 #[inline(always)]
 pub fn shown(procs: u64, answer: Option<Answer>, next: Option<Access>) -> RmeAccess
     requires procs { procs ≤ 64 }
@@ -156,7 +164,8 @@ pub fn shown(procs: u64, answer: Option<Answer>, next: Option<Access>) -> RmeAcc
     }
 }
 
-/// The call goes on: the number of the lock word that it loads next, or its next access.
+/// The code of a call that goes on. A load of a lock word is in the code itself; any other access is written to `next`.
+// Inline: once in each C step.
 #[inline(always)]
 fn goes_on(procs: u64, after: Option<Access>, next: &mut RmeAccess) -> u64
     requires procs { procs ≤ 64 }
@@ -177,7 +186,8 @@ fn goes_on(procs: u64, after: Option<Access>, next: &mut RmeAccess) -> u64
     }
 }
 
-/// Tells a step: its number, and the access that comes next or the word that is answered, unless the number tells it.
+/// The code of a step. `next` is the next access or the board word that was read, unless the code says it all.
+// Inline: once in each C step.
 #[inline(always)]
 pub fn tell(procs: u64, told: Told, after: Option<Access>, next: &mut RmeAccess) -> u64
     requires procs { procs ≤ 64 }
@@ -200,7 +210,7 @@ pub fn tell(procs: u64, told: Told, after: Option<Access>, next: &mut RmeAccess)
     }
 }
 
-/// The number of a refusal.
+/// The code of a refusal; 0 for none, 16 for out of memory.
 pub fn refusal_code(refusal: Option<Refusal>) -> u64
     ensures { result ≡ code_of_refusal refusal }
 {

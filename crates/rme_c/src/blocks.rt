@@ -1,4 +1,4 @@
-//! The image that a copied block is.
+//! The image of a copied block.
 
 ghost use Rattle.std.specs.Prelude.{◌≡◌, ◌+◌, ◌*◌, ◌<◌, ◌≤◌, ◌↔◌, IfSome, IsTrue, true, map, drop, length};
 ghost use Rattle.std.specs.List.{range_with_len};
@@ -12,7 +12,7 @@ use rmecore::Own;
 use rmeworld::{Cells, Image, Owns};
 use std::alloc::Global;
 
-/// How many words the block of a world has.
+/// The number of words of a world's block.
 #[tactic(auto, unfolding(redomail::specs::Layout::place_at))]
 pub fn block_words(layout: Layout) -> u64
     requires { IsSize layout }
@@ -47,7 +47,7 @@ fn own(words: &[u64], p: u64) -> Own
     }
 }
 
-/// The lock words of each process, where there is memory for them.
+/// The lock words of each process. None: out of memory.
 fn owns(alloc: Global, words: &[u64], procs: u64) -> Option<Owns>
     requires { 3 * procs ≤ length words.now }
     ensures { IfSome result (λ o. o ≡ map (own_in words.now) (range_with_len 0 procs)) }
@@ -59,7 +59,7 @@ fn owns(alloc: Global, words: &[u64], procs: u64) -> Option<Owns>
     Some(Owns::new(all))
 }
 
-/// The data words, where there is memory for them.
+/// The data words. None: out of memory.
 fn cells(alloc: Global, words: &[u64], from: u64) -> Option<Cells>
     requires { from ≤ length words.now }
     ensures { IfSome result (λ c. c ≡ drop from words.now) }
@@ -69,7 +69,7 @@ fn cells(alloc: Global, words: &[u64], from: u64) -> Option<Cells>
     Some(Cells::new(all))
 }
 
-/// The image, where there is memory for it.
+/// The image of the block. None: out of memory.
 pub fn image(alloc: Global, layout: Layout, limit: u64, words: &[u64]) -> Option<Image>
     requires { 3 * layout.procs ≤ length words.now }
     ensures { IfSome result (λ i. i ≡ image_of layout limit words.now) }

@@ -1,37 +1,39 @@
-//! What a process that is inside has to do with the data words.
+//! The script state of a process that is inside: what it does with the data words.
 
-/// What a process that is inside does next with the data words, with what it knows by then. The words of the message stand
-/// beside it.
+/// What a process that is inside does next with the data words, and what it has read so far. The words of the message are
+/// kept beside it, in `RmeProcess::value`.
 #[derive(Clone, Copy)]
 pub enum Chore {
-    /// Consistent asks whether the lock is ruined.
+    /// A `consistent` reads whether the lock is ruined.
     Asking,
-    /// A lock asks that behind its entry.
+    /// A lock reads that after its entry: the ruin check.
     Checking,
-    /// An unmended holder ruins the lock before it leaves.
+    /// An unlock of an unmended holder ruins the lock before it leaves.
     Ruining,
-    /// A repair asks whether the record is armed.
+    /// A repair reads whether the record is armed.
     Armed,
-    /// It asks for the record's place.
+    /// It reads the record's place.
     At,
-    /// It asks for the record's number.
+    /// It reads the record's sequence number.
     Seq { at: u64 },
-    /// It asks for the words of the record's value, and knows so many.
+    /// It reads the words of the record's value, of which it has read `read`.
     Value { at: u64, seq: u64, read: u64 },
-    /// It stores the record: so many steps of storing stand.
+    /// It stores the record again: `step` steps of storing are done.
     Redo { at: u64, seq: u64, step: u64 },
-    /// An append asks whether the mailbox is closed.
+    /// An append reads whether the mailbox is closed.
     Closed { seq: u64 },
-    /// It asks for count.
+    /// It reads count.
     Count { seq: u64, closed: u64 },
-    /// It asks for the sender's last number.
+    /// It reads the sender's last number.
     Last { seq: u64, closed: u64, count: u64 },
-    /// It stores the message: so many steps of storing stand.
+    /// It stores the message: `step` steps of storing are done.
     Store { at: u64, seq: u64, step: u64 },
-    /// A close asks whether the mailbox is closed.
+    /// A close reads whether the mailbox is closed.
     Closing,
     /// It closes the mailbox.
     Close,
+    /// A holder reads a word of the board.
     Getting { i: u64 },
+    /// A holder writes a word of the board.
     Putting { i: u64, v: u64 },
 }

@@ -1,4 +1,4 @@
-//! What C calls.
+//! The functions that C calls.
 
 ghost use Rattle.std.specs.Prelude.{◌≡◌, ◌≢◌, ◌+◌, ◌*◌, ◌<◌, ◌≤◌, ◌↔◌, IfSome, None, false, is_none, if◌then◌else◌, length};
 ghost use Rattle.redomail.specs.Layout.{held, size};
@@ -28,8 +28,8 @@ use rmecore::Stage;
 use rmeworld::first_rule;
 use std::alloc::Global;
 
-/// How many words the shared block of a world has: three lock words a process, then the data words. 0 for sizes of no
-/// world.
+/// The number of words of a world's shared block: three lock words for each process, then the data words. 0: no world has
+/// these sizes.
 #[unsafe(no_mangle)]
 pub extern "C" fn rme_words(procs: u64, cap: u64, width: u64) -> u64
     ensures some { 0 < result → result ≡ 3 * procs + size (record { procs = procs; cap = cap; width = width }) }
@@ -41,7 +41,7 @@ pub extern "C" fn rme_words(procs: u64, cap: u64, width: u64) -> u64
     }
 }
 
-/// A process at rest, or the number of the refusal where its world's sizes are none's. Nothing changes then.
+/// Makes a process at rest, and answers 0; or answers the number of the first refusal of the sizes, and changes nothing.
 #[unsafe(no_mangle)]
 pub extern "C" fn rme_init(
     p: &mut RmeProcess,
@@ -80,11 +80,11 @@ pub extern "C" fn rme_init(
     refusal_code(refused)
 }
 
-/// The private memory is lost.
+/// A crash: the private memory is lost.
 #[unsafe(no_mangle)]
 pub extern "C" fn rme_crash(p: &mut RmeProcess)
     ensures crashed { stand_of p.new ≡ crashed (stand_of p.old) }
-    // The count stays that of the last call.
+    // The count of own steps stays that of the last call.
     ensures steps { p.new.steps ≡ p.old.steps }
 {
     p.unmended = 0;
@@ -98,6 +98,7 @@ pub extern "C" fn rme_crash(p: &mut RmeProcess)
 }
 
 /// Starts any call.
+// Apart: keeps a common start small.
 #[inline(never)]
 fn any_start(p: &mut RmeProcess, call: &RmeCall, next: &mut RmeAccess) -> u64
     ensures status { result ≡ code_of_refusal (start_cause (stand_of p.old) call.now) }
@@ -109,8 +110,8 @@ fn any_start(p: &mut RmeProcess, call: &RmeCall, next: &mut RmeAccess) -> u64
     refusal_code(start(p, call, next))
 }
 
-/// Starts a call and shows its first step, or answers the number of the refusal: of the sizes, of the call's code (13), of
-/// the start. Nothing changes then.
+/// Starts a call, names its first access in `next`, and answers 0. Or it answers the number of the refusal of the sizes, of
+/// the call's code (13) or of the start, and changes nothing.
 #[unsafe(no_mangle)]
 pub extern "C" fn rme_start(p: &mut RmeProcess, call: &RmeCall, next: &mut RmeAccess) -> u64
     ensures status { result ≡ code_of_refusal (start_cause (stand_of p.old) call.now) }
@@ -125,7 +126,8 @@ pub extern "C" fn rme_start(p: &mut RmeProcess, call: &RmeCall, next: &mut RmeAc
     }
 }
 
-/// Takes the step of a chore.
+/// Takes a step of a script on the data words.
+// Inline: once in each C step.
 #[inline(always)]
 fn chore_feed(p: &mut RmeProcess, chore: Chore, value: u64, next: &mut RmeAccess) -> u64
     requires here { position_of p.old ≡ PositionOf.Within chore }
@@ -133,6 +135,7 @@ fn chore_feed(p: &mut RmeProcess, chore: Chore, value: u64, next: &mut RmeAccess
     requires eight { length p.old.value ≡ 8 }
     ensures { IsFed p.old value p.new next.old next.new result }
 {
+    // For the proof alone: its value is read.
     let _whole = *p;
     let (to, told) = chore_step(p, chore, value);
     stand(p, to);
@@ -141,6 +144,7 @@ fn chore_feed(p: &mut RmeProcess, chore: Chore, value: u64, next: &mut RmeAccess
 }
 
 /// Takes the step of the ruin check.
+// Inline: once in each C step.
 #[inline(always)]
 fn check_feed(p: &mut RmeProcess, value: u64, steps: u64, next: &mut RmeAccess) -> u64
     requires here { position_of p.old ≡ PositionOf.Within ChoreOf.Checking }
@@ -149,6 +153,7 @@ fn check_feed(p: &mut RmeProcess, value: u64, steps: u64, next: &mut RmeAccess) 
     requires steps { steps ≡ p.old.steps + 1 }
     ensures { IsFed p.old value p.new next.old next.new result }
 {
+    // For the proof alone: its value is read.
     let _whole = *p;
     let (behind, told) = checked(p, value);
     stand(p, behind);
@@ -156,7 +161,8 @@ fn check_feed(p: &mut RmeProcess, value: u64, steps: u64, next: &mut RmeAccess) 
     tell(p.procs, told, next_at(p, behind), next)
 }
 
-/// Takes the step that comes next at a stage of the lock's part, if there is one.
+/// Takes the next step at a stage of the lock's part. 7: no call is under way.
+// Inline: once in each C step.
 #[inline(always)]
 fn whole_feed(p: &mut RmeProcess, stage: Stage, value: u64, next: &mut RmeAccess) -> u64
     requires here { position_of p.old ≡ PositionOf.Lock stage }
@@ -164,6 +170,7 @@ fn whole_feed(p: &mut RmeProcess, stage: Stage, value: u64, next: &mut RmeAccess
     requires eight { length p.old.value ≡ 8 }
     ensures { IsFed p.old value p.new next.old next.new result }
 {
+    // For the proof alone: its value is read.
     let _whole = *p;
     if is_idle(p, Position::Lock(stage)) {
         *next = NOTHING;
@@ -172,12 +179,14 @@ fn whole_feed(p: &mut RmeProcess, stage: Stage, value: u64, next: &mut RmeAccess
     lock_feed(p, stage, value, next)
 }
 
-/// Takes the step that comes next, wherever the process stands.
+/// Takes the next step from any position.
+// Apart: keeps a common step small.
 #[inline(never)]
 fn any_feed(p: &mut RmeProcess, value: u64, next: &mut RmeAccess) -> u64
     requires eight { length p.old.value ≡ 8 }
     ensures { IsFed p.old value p.new next.old next.new result }
 {
+    // For the proof alone: its value is read.
     let _whole = *p;
     match position_now(p) {
         Position::Lost => {
@@ -189,13 +198,15 @@ fn any_feed(p: &mut RmeProcess, value: u64, next: &mut RmeAccess) -> u64
     }
 }
 
-/// No call is under way, where the process is none of its world's.
+/// Answers 7: no call is under way, since the index is no process's.
+// Inline: once in each C step.
 #[inline(always)]
 fn nowhere(p: &mut RmeProcess, value: u64, next: &mut RmeAccess) -> u64
     requires beyond { p.old.procs ≤ p.old.index }
     requires eight { length p.old.value ≡ 8 }
     ensures { IsFed p.old value p.new next.old next.new result }
 {
+    // For the proof alone: its value is read.
     let _whole = *p;
     let _ = value;
     *next = NOTHING;
@@ -203,6 +214,7 @@ fn nowhere(p: &mut RmeProcess, value: u64, next: &mut RmeAccess) -> u64
 }
 
 /// Takes the step of a scan.
+// Inline: once in each C step.
 #[inline(always)]
 fn scan_on(p: &mut RmeProcess, stage: Stage, value: u64, steps: u64, next: &mut RmeAccess) -> u64
     requires here { position_of p.old ≡ PositionOf.Lock stage }
@@ -211,6 +223,7 @@ fn scan_on(p: &mut RmeProcess, stage: Stage, value: u64, steps: u64, next: &mut 
     requires steps { steps ≡ p.old.steps + 1 }
     ensures { IsFed p.old value p.new next.old next.new result }
 {
+    // For the proof alone: its value is read.
     let _whole = *p;
     match scan_feed(p, stage, value, steps, next) {
         Some(code) => code,
@@ -218,7 +231,8 @@ fn scan_on(p: &mut RmeProcess, stage: Stage, value: u64, steps: u64, next: &mut 
     }
 }
 
-/// Takes the step that comes next at a stage of the lock's part, by a short way where there is one.
+/// Takes the next step at a stage of the lock's part, by the short way if it has one.
+// Inline: once in each C step.
 #[inline(always)]
 fn stage_feed(p: &mut RmeProcess, stage: Stage, value: u64, steps: u64, next: &mut RmeAccess) -> u64
     requires here { position_of p.old ≡ PositionOf.Lock stage }
@@ -227,6 +241,7 @@ fn stage_feed(p: &mut RmeProcess, stage: Stage, value: u64, steps: u64, next: &m
     requires steps { steps ≡ p.old.steps + 1 }
     ensures { IsFed p.old value p.new next.old next.new result }
 {
+    // For the proof alone: its value is read.
     let _whole = *p;
     match quick_feed(p, stage, value, steps, next) {
         Some(code) => code,
@@ -234,13 +249,15 @@ fn stage_feed(p: &mut RmeProcess, stage: Stage, value: u64, steps: u64, next: &m
     }
 }
 
-/// Takes the step that comes next, by a short way where there is one.
+/// Takes the next step, by the short way if it has one.
+// Inline: once in each C step.
 #[inline(always)]
 fn short_feed(p: &mut RmeProcess, value: u64, steps: u64, next: &mut RmeAccess) -> u64
     requires eight { length p.old.value ≡ 8 }
     requires steps { steps ≡ p.old.steps + 1 }
     ensures { IsFed p.old value p.new next.old next.new result }
 {
+    // For the proof alone: its value is read.
     let _whole = *p;
     match lock_stage(p) {
         Some(stage) => stage_feed(p, stage, value, steps, next),
@@ -249,13 +266,15 @@ fn short_feed(p: &mut RmeProcess, value: u64, steps: u64, next: &mut RmeAccess) 
     }
 }
 
-/// Takes the step that comes next, by a short way where there is one. Those of a scan are the most, so they come first.
+/// Takes the next step, by the short way if it has one. Steps of a scan are the most frequent, so they come first.
+// Inline: once in each C step.
 #[inline(always)]
 fn counted_feed(p: &mut RmeProcess, value: u64, steps: u64, next: &mut RmeAccess) -> u64
     requires eight { length p.old.value ≡ 8 }
     requires steps { steps ≡ p.old.steps + 1 }
     ensures { IsFed p.old value p.new next.old next.new result }
 {
+    // For the proof alone: its value is read.
     let _whole = *p;
     match scan_stage(p) {
         Some(stage) => scan_on(p, stage, value, steps, next),
@@ -263,7 +282,7 @@ fn counted_feed(p: &mut RmeProcess, value: u64, steps: u64, next: &mut RmeAccess
     }
 }
 
-/// The load or store that comes next. It answers 7, and shows nothing, where no call is under way.
+/// Names the next load or store in `next`, and answers 0. 7: no call is under way, and `next` stays as it was.
 #[unsafe(no_mangle)]
 pub extern "C" fn rme_next(p: &RmeProcess, next: &mut RmeAccess) -> u64
     ensures status { result ≡ if is_none (next_access (stand_of p.now)) then 7 else 0 }
@@ -279,10 +298,10 @@ pub extern "C" fn rme_next(p: &RmeProcess, next: &mut RmeAccess) -> u64
     }
 }
 
-/// Takes the step that comes next, with the value that it read, and answers what it was: from 64 on where the call goes on with
-/// a load of a lock word, whose place is the number less 64; 0 where it goes on otherwise, 16 where it was blocked, from 17 on
-/// the answer that ends the call, 7 where no call is under way. Below 64 it shows the next access, or the board word that is
-/// answered.
+/// Takes the next step, with the value that it read, and answers what it was. 64 or more: the call goes on with a load of
+/// the lock word at the place that is the answer less 64. 0: it goes on with another access. 16: the step was blocked. 7: no
+/// call is under way. Any other number is the answer that ends the call. Below 64, `next` is the next access, or the board
+/// word that was read.
 #[unsafe(no_mangle)]
 pub extern "C" fn rme_feed(p: &mut RmeProcess, value: u64, next: &mut RmeAccess) -> u64
     ensures exact { stand_of p.new ≡ stepped (stand_of p.old) value }
@@ -292,6 +311,7 @@ pub extern "C" fn rme_feed(p: &mut RmeProcess, value: u64, next: &mut RmeAccess)
     ensures few { result < 256 }
     ensures steps { p.new.steps ≡ if is_none (next_access (stand_of p.old)) then p.old.steps else held (p.old.steps + 1) }
 {
+    // For the proof alone: its value is read.
     let _whole = *p;
     if p.procs > 64 {
         return any_feed(p, value, next);
@@ -305,7 +325,7 @@ pub extern "C" fn rme_feed(p: &mut RmeProcess, value: u64, next: &mut RmeAccess)
     }
 }
 
-/// The own steps of the last call that was started, held at the greatest number.
+/// The own steps of the last call that was started, at most the greatest u64.
 #[unsafe(no_mangle)]
 pub extern "C" fn rme_step_count(p: &RmeProcess) -> u64
     ensures { result ≡ p.now.steps }
@@ -313,8 +333,8 @@ pub extern "C" fn rme_step_count(p: &RmeProcess) -> u64
     p.steps
 }
 
-/// The rule that a copied block breaks first, from 2 to 9; 0 where it keeps them all, 1 where the words are no block of these
-/// sizes, 16 for want of memory.
+/// The first rule that a copied block breaks, from 2 to 9. 0: it keeps them all. 1: the words aren't a block of these sizes.
+/// 16: out of memory.
 #[unsafe(no_mangle)]
 pub extern "C" fn rme_content_rule(
     alloc: Global,

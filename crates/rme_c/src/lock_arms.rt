@@ -1,4 +1,4 @@
-//! The lock's part, stage by stage: where a step leads. Each way out makes its numbers at once.
+//! The steps of the lock's part, stage by stage. Each step makes the process's new numbers at once.
 
 ghost use Rattle.std.specs.Prelude.{◌≡◌, ℕ, ◌+◌, ◌<◌, ◌≤◌, ◌==◌, ◌||◌, IfSome, Some, None, true, false, is_none};
 ghost use Rattle.rmecore.specs.Place.{above, is_before};
@@ -17,7 +17,8 @@ use crate::position::{at, number};
 use crate::process::{RmeAccess, RmeProcess};
 use rmecore::{CoreCall, LockProcess, Stage};
 
-/// The door, with the processes from an index on left to be peeked at.
+/// The doorway, with the processes from an index on still to be peeked at.
+// Inline: once in each lock step.
 #[inline(always)]
 fn peeks_from(
     p: &mut RmeProcess,
@@ -56,7 +57,8 @@ fn peeks_from(
     }
 }
 
-/// The wait, with the processes from an index on left to be passed.
+/// The wait, with the processes from an index on still to be passed.
+// Inline: once in each lock step.
 #[inline(always)]
 fn looks_from(
     p: &mut RmeProcess,
@@ -97,7 +99,8 @@ fn looks_from(
     }
 }
 
-/// A peek, or what follows the last: a number is taken, or there is none left.
+/// After a peek, or after the step that follows the last one: a number is taken, or there is none left.
+// Inline: once in each lock step.
 #[inline(always)]
 fn after_door(
     p: &mut RmeProcess,
@@ -139,7 +142,9 @@ fn after_door(
     }
 }
 
-/// Whether a waiter with this number goes past process `j`, whose number was read.
+/// Whether a waiter with this number passes process `j`, whose number was read: it does if that is 0 or its own pair is
+/// smaller (Lamport's Bakery).
+// Inline: once in each lock step.
 #[inline(always)]
 fn passes(own: u64, number: u64, value: u64, j: u64) -> bool
     ensures { result ≡ ((value == 0) || is_before number own value j) }
@@ -147,7 +152,8 @@ fn passes(own: u64, number: u64, value: u64, j: u64) -> bool
     value == 0 || (number, own) < (value, j)
 }
 
-/// A look at process `j`.
+/// After a look at process `j`.
+// Inline: once in each lock step.
 #[inline(always)]
 fn after_look(
     p: &mut RmeProcess,
@@ -185,7 +191,8 @@ fn after_look(
     loads(p, to, at(258, number, second, from), 3 * j + 1, steps, next)
 }
 
-/// A weigh of process `j`.
+/// After a weigh of process `j`.
+// Inline: once in each lock step.
 #[inline(always)]
 fn after_weigh(
     p: &mut RmeProcess,
@@ -221,7 +228,8 @@ fn after_weigh(
     stays(p, to, at(258, number, second, from), 3 * j + 1, steps, next)
 }
 
-/// A step of a wait: a look, a weigh, or the mark that follows the last weigh.
+/// After a step of a wait: a look, a weigh, or the mark after the last weigh.
+// Inline: once in each lock step.
 #[inline(always)]
 fn after_wait(
     p: &mut RmeProcess,
@@ -247,7 +255,7 @@ fn after_wait(
     }
 }
 
-/// A step that the lock's own machine takes.
+/// A step that `LockProcess` takes.
 fn by_machine(p: &mut RmeProcess, stage: Stage, value: u64, next: &mut RmeAccess) -> Landing
     requires below { p.old.index < p.old.procs }
     requires few { p.old.procs ≤ 64 }
@@ -262,7 +270,8 @@ fn by_machine(p: &mut RmeProcess, stage: Stage, value: u64, next: &mut RmeAccess
     lands(p, machine.stage(), progress.done, progress.blocked, next)
 }
 
-/// Where a step of a scan leads. At any other nothing changes.
+/// Takes a step of a scan. None: the stage is no scan's, and nothing changed.
+// Inline: once in each lock step.
 #[inline(always)]
 fn scanned(
     p: &mut RmeProcess,
@@ -295,8 +304,9 @@ fn scanned(
     }
 }
 
-/// Where the step that comes next leads, where it is one of a lock or an unlock that finds no trace of a crash, and of no scan.
-/// At any other nothing changes.
+/// Takes the next step of a lock or an unlock that finds no trace of a crash, other than a scan's. None: it is another step,
+/// and nothing changed.
+// Inline: once in each lock step.
 #[inline(always)]
 fn shortly(
     p: &mut RmeProcess,
@@ -389,7 +399,8 @@ fn shortly(
     Some(landing)
 }
 
-/// Takes a step of the lock's part, if it is one of a scan.
+/// Takes a step of the lock's part, if it is a scan's. None: it isn't, and nothing changed.
+// Inline: once in each lock step.
 #[inline(always)]
 pub fn scan_feed(
     p: &mut RmeProcess,
@@ -410,7 +421,8 @@ pub fn scan_feed(
     }
 }
 
-/// Takes a step of the lock's part, if it is one of a lock or an unlock that finds no trace of a crash, and of no scan.
+/// Takes a step of the lock's part, if it is one of a lock or an unlock that finds no trace of a crash, other than a scan's.
+// Inline: once in each lock step.
 #[inline(always)]
 pub fn quick_feed(
     p: &mut RmeProcess,
@@ -431,7 +443,7 @@ pub fn quick_feed(
     }
 }
 
-/// Takes a step of the lock's part.
+/// Takes any step of the lock's part.
 pub fn lock_feed(p: &mut RmeProcess, stage: Stage, value: u64, next: &mut RmeAccess) -> u64
     requires here { position_of p.old ≡ Position.Lock stage }
     requires fits { Fits p.old (Position.Lock stage) }

@@ -20,8 +20,8 @@ use crate::steps::check_next;
 use rmecore::{CoreDone, Found, Stage};
 use rmeworld::Answer;
 
-/// Where a step of the lock's part has led: to which stage, what its call ends with, whether it was blocked, and what C is
-/// told.
+/// What a step of the lock's part leaves: the stage, the end of its call if it ended, whether it was blocked, and the code
+/// that C is given.
 #[derive(Clone, Copy)]
 pub struct Landing {
     pub to: Stage,
@@ -30,7 +30,8 @@ pub struct Landing {
     pub code: u64,
 }
 
-/// What is answered where the lock's part ends.
+/// The answer of a call that ends in the lock's part. None: it goes on with the ruin check.
+// Inline: once in each lock step.
 #[inline(always)]
 fn answer(barred: bool, done: Option<CoreDone>) -> Option<Answer>
     ensures { result ≡ by_lock barred done }
@@ -45,7 +46,8 @@ fn answer(barred: bool, done: Option<CoreDone>) -> Option<Answer>
     }
 }
 
-/// The number for whether something is left to be mended, behind a step.
+/// 1 if there is something to mend after a step, 0 if not.
+// Inline: once in each lock step.
 #[inline(always)]
 fn unmended(before: u64, done: Option<CoreDone>) -> u64
     ensures { (result == 0) ≡ mended_done (before == 0) done }
@@ -58,6 +60,7 @@ fn unmended(before: u64, done: Option<CoreDone>) -> u64
 }
 
 /// Whether a step was an entry by a lock.
+// Inline: once in each lock step.
 #[inline(always)]
 fn enters(done: Option<CoreDone>) -> bool
     ensures { result ≡ checks_done done }
@@ -68,7 +71,8 @@ fn enters(done: Option<CoreDone>) -> bool
     }
 }
 
-/// Where a step of the lock's part leads: behind an entry by a lock the ruin check comes next.
+/// The position after a step of the lock's part: after an entry by a lock it is the ruin check.
+// Inline: once in each lock step.
 #[inline(always)]
 fn behind(p: &RmeProcess, checks: bool, stage: Stage) -> Position
     requires below { p.now.index < p.now.procs }
@@ -76,6 +80,7 @@ fn behind(p: &RmeProcess, checks: bool, stage: Stage) -> Position
     ensures is { result ≡ landing checks stage }
     ensures fits { Fits p.now result }
 {
+    // For the proof alone: its value is read.
     let _ = &p.index;
     if checks {
         Position::Within(Chore::Checking)
@@ -84,7 +89,8 @@ fn behind(p: &RmeProcess, checks: bool, stage: Stage) -> Position
     }
 }
 
-/// The process lands at a stage.
+/// Puts the process at a stage.
+// Inline: once in each lock step.
 #[inline(always)]
 pub fn lands(
     p: &mut RmeProcess,
@@ -115,7 +121,8 @@ pub fn lands(
     }
 }
 
-/// The call goes on at this stage, which these numbers stand for, with a load of the lock word at this place.
+/// The call goes on at this stage, with these numbers, by a load of the lock word at this place.
+// Inline: once in each lock step.
 #[inline(always)]
 pub fn loads(
     p: &mut RmeProcess,
@@ -136,6 +143,7 @@ pub fn loads(
     ensures free { result.blocked ≡ false }
     ensures numbers { IsLanding p.old result p.new next.old next.new }
 {
+    // For the proof alone: its value is read.
     let _shown = *next;
     p.position = numbers;
     p.steps = steps;
@@ -148,6 +156,7 @@ pub fn loads(
 }
 
 /// The step was blocked: the same word is loaded again.
+// Inline: once in each lock step.
 #[inline(always)]
 pub fn stays(
     p: &mut RmeProcess,
@@ -182,7 +191,8 @@ pub fn stays(
     }
 }
 
-/// The call goes on with a store of an own lock word.
+/// The call goes on by a store into an own lock word.
+// Inline: once in each lock step.
 #[inline(always)]
 pub fn stores(
     p: &mut RmeProcess,
@@ -219,7 +229,8 @@ pub fn stores(
     }
 }
 
-/// The mark behind the last weigh: the ruin check comes next.
+/// After the mark that follows the last weigh: the ruin check is next.
+// Inline: once in each lock step.
 #[inline(always)]
 pub fn comes_in(p: &mut RmeProcess, steps: u64, next: &mut RmeAccess) -> Landing
     requires below { p.old.index < p.old.procs }
@@ -248,6 +259,7 @@ pub fn comes_in(p: &mut RmeProcess, steps: u64, next: &mut RmeAccess) -> Landing
 }
 
 /// The call ends at rest, with this answer.
+// Inline: once in each lock step.
 #[inline(always)]
 fn ends(
     p: &mut RmeProcess,
@@ -281,7 +293,8 @@ fn ends(
     }
 }
 
-/// There is no number left to take.
+/// No number is left to take.
+// Inline: once in each lock step.
 #[inline(always)]
 pub fn runs_out(p: &mut RmeProcess, steps: u64, next: &mut RmeAccess) -> Landing
     requires few { p.old.procs ≤ 64 }
@@ -294,7 +307,8 @@ pub fn runs_out(p: &mut RmeProcess, steps: u64, next: &mut RmeAccess) -> Landing
     ends(p, CoreDone::Spent, Answer::NumbersSpent, steps, next)
 }
 
-/// The last store of an unlock.
+/// After the last store of an unlock, or of the exit from a ruined lock.
+// Inline: once in each lock step.
 #[inline(always)]
 pub fn leaves(p: &mut RmeProcess, steps: u64, next: &mut RmeAccess) -> Landing
     requires few { p.old.procs ≤ 64 }

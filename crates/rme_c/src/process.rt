@@ -1,6 +1,6 @@
 //! The private memory of a process, as C keeps it.
 
-/// Where a process stands: a number for the place, and three numbers of that place.
+/// The position of a process, encoded: the number of the place, and three numbers that it needs.
 #[repr(C)]
 #[derive(Clone, Copy)]
 pub struct RmePosition {
@@ -10,21 +10,21 @@ pub struct RmePosition {
     pub third: u64,
 }
 
-/// The whole private memory of a process, with the sizes of its world. Numbers that no call leaves stand for a process that
-/// has crashed.
+/// The whole private memory of a process, with the sizes of its world. Numbers that no call can leave are those of a process
+/// that has crashed.
 #[repr(C)]
 #[derive(Clone, Copy)]
 pub struct RmeProcess {
     pub procs: u64,
     pub cap: u64,
     pub width: u64,
-    /// The greatest number that a process can take.
+    /// The greatest number that the process can take.
     pub limit: u64,
     pub index: u64,
     pub position: RmePosition,
-    /// 0 where there is nothing to mend.
+    /// 0: there is nothing to mend.
     pub unmended: u64,
-    /// 0 unless a lock has found the lock ruined, and leaves.
+    /// Not 0: a lock has found the lock ruined, and leaves.
     pub barred: u64,
     /// The own steps of the last call that was started.
     pub steps: u64,
@@ -41,8 +41,8 @@ pub struct RmeCall {
     pub value: [u64; 8],
 }
 
-/// The load or store that comes next: of which word of the shared block, and what a store writes. Behind an answer it is
-/// the board word that is answered.
+/// The next load (`store` 0) or store (1): the index of the word in the shared block, and the value that a store writes.
+/// After an answer `value` is the board word that was read.
 #[repr(C)]
 #[derive(Clone, Copy)]
 pub struct RmeAccess {

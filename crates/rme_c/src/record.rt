@@ -7,7 +7,8 @@ ghost use Rattle.redomail.specs.Tasks.{store_steps, record_of};
 use redomail::Layout;
 use redomail::layout::{ARMED, COUNT, RECORD};
 
-/// A word of the row that begins with `first`: then come the number and the words of the value.
+/// Word j of a row that begins with `first`: then come the sequence number and the words of the value.
+// Inline: once a word stored.
 #[inline(always)]
 fn word(first: u64, seq: u64, words: &[u64; 8], width: u64, j: u64) -> u64
     requires within { j < 2 + width }
@@ -21,7 +22,7 @@ fn word(first: u64, seq: u64, words: &[u64; 8], width: u64, j: u64) -> u64
     }
 }
 
-/// The put that is this step of storing: an index and its new value.
+/// The put of this step of storing: the index of a data word, and its new value.
 pub fn put(
     layout: Layout,
     sender: u64,

@@ -1,4 +1,4 @@
-//! Sizes, and starts of calls.
+//! The sizes of a world, and the starts of calls.
 
 ghost use Rattle.std.specs.Prelude.{◌≡◌, ◌≤◌, ◌<◌, true, false, not, nat_lt, OnOk, OnErr, IfErr, IfSome, IsSome, IsTrue, Some, None, [], ◌∷◌, length, take};
 ghost use Rattle.redomail.specs.Layout.{IsLayout};
@@ -18,7 +18,7 @@ use rmecore::simulated::{MOST_LIMIT, MOST_PROCS};
 use rmecore::{Body, CoreCall, Refusal, Stage};
 use rmeworld::Call;
 
-/// Why there is no such process of such a world, if there is none.
+/// Why no world has these sizes and this process, if so.
 pub fn size_refusal(layout: Layout, limit: u64, index: u64) -> Option<Refusal>
     ensures is { result ≡ size_cause layout limit index }
     ensures sized { result ≡ None → IsSize layout × (index < layout.procs) }
@@ -41,7 +41,7 @@ pub fn size_refusal(layout: Layout, limit: u64, index: u64) -> Option<Refusal>
     None
 }
 
-/// The call that C has written, if there is one with this code.
+/// The call that C has written. None: no call has this code.
 pub fn call_of(width: u64, call: &RmeCall) -> Option<Call>
     requires least { 1 ≤ width }
     requires most { width ≤ 8 }
@@ -67,7 +67,7 @@ pub fn call_of(width: u64, call: &RmeCall) -> Option<Call>
     }
 }
 
-/// What the refusals of a start ask about a process.
+/// What the refusals of a start need to know of a process.
 #[derive(Clone, Copy)]
 struct Seen {
     idle: bool,
@@ -75,12 +75,14 @@ struct Seen {
     waiting: bool,
 }
 
+// Inline: once in each C start.
 #[inline(always)]
 fn look_at(p: &RmeProcess, position: Position) -> Seen
     ensures idle { result.idle ≡ is_idle (spot_of (stand_at p.now position)) }
     ensures inside { result.inside ≡ is_inside (stand_at p.now position).lock }
     ensures waiting { result.waiting ≡ is_waiting (stand_at p.now position).lock }
 {
+    // For the proof alone: its value is read.
     let _ = &p.index;
     let (idle, inside, waiting) = match position {
         Position::Lost | Position::Lock(Stage::Rest | Stage::Dead) => (true, false, false),
@@ -96,7 +98,8 @@ fn look_at(p: &RmeProcess, position: Position) -> Seen
     }
 }
 
-/// Refuses, unless a process is inside with no call under way.
+/// Refuses, unless the process is inside with no call under way.
+// Inline: once in each C start.
 #[inline(always)]
 fn holds(seen: Seen) -> Result<(), Refusal>
     ensures accepted { OnOk result ((seen.idle ≡ true) × (seen.inside ≡ true)) }
@@ -111,7 +114,8 @@ fn holds(seen: Seen) -> Result<(), Refusal>
     Ok(())
 }
 
-/// Refuses, unless a process is not inside and no call is under way.
+/// Refuses, unless the process is outside with no call under way.
+// Inline: once in each C start.
 #[inline(always)]
 fn may_come(seen: Seen) -> Result<(), Refusal>
     ensures accepted { OnOk result ((seen.idle ≡ true) × (seen.inside ≡ false)) }
@@ -126,7 +130,8 @@ fn may_come(seen: Seen) -> Result<(), Refusal>
     Ok(())
 }
 
-/// Refuses, unless something holds.
+/// Refuses for this cause, unless the condition holds.
+// Inline: once in each C start.
 #[inline(always)]
 fn only(holds: bool, refusal: Refusal) -> Result<(), Refusal>
     ensures accepted { OnOk result (holds ≡ true) }
@@ -150,6 +155,7 @@ fn at_board(seen: Seen, i: u64) -> Result<(), Refusal>
 }
 
 /// Refuses a call that can't be started now.
+// Inline: once in each C start.
 #[inline(always)]
 fn check(p: &RmeProcess, position: Position, call: &Call) -> Result<(), Refusal>
     ensures accepted { OnOk result (start_refusal (layout_of p.now) (spot_of (stand_at p.now position)) call.now ≡ None) }
@@ -179,7 +185,7 @@ fn check(p: &RmeProcess, position: Position, call: &Call) -> Result<(), Refusal>
     }
 }
 
-/// The words of a value.
+/// The words of a value, zeros after them.
 fn words(value: Body) -> [u64; 8]
     ensures { take (length value) result ≡ value }
 {
@@ -189,7 +195,8 @@ fn words(value: Body) -> [u64; 8]
     all
 }
 
-/// Takes up a call that may start.
+/// The position right after the start of a call that may start.
+// Inline: once in each C start.
 #[inline(always)]
 fn begin(p: &mut RmeProcess, position: Position, call: Call) -> Position
     requires allowed { start_refusal (layout_of p.old) (spot_of (stand_at p.old position)) call ≡ None }
@@ -221,7 +228,8 @@ fn begin(p: &mut RmeProcess, position: Position, call: Call) -> Position
     }
 }
 
-/// Starts a call of a process of a world, and shows its first step.
+/// Starts a call of a process, and names its first access.
+// Inline: once in each C start.
 #[inline(always)]
 fn start_read(p: &mut RmeProcess, call: Call, next: &mut RmeAccess) -> Result<(), Refusal>
     requires sized { IsSize (layout_of p.old) }
@@ -243,6 +251,7 @@ fn start_read(p: &mut RmeProcess, call: Call, next: &mut RmeAccess) -> Result<()
 }
 
 /// Starts a call, whichever it is.
+// Inline: once in each C start.
 #[inline(always)]
 fn start_any(p: &mut RmeProcess, call: &RmeCall, next: &mut RmeAccess) -> Option<Refusal>
     requires sized { IsSize (layout_of p.old) }
@@ -259,7 +268,8 @@ fn start_any(p: &mut RmeProcess, call: &RmeCall, next: &mut RmeAccess) -> Option
     }
 }
 
-/// Whether the process is one of a world's.
+/// Whether the sizes and the index are those of a process of a world.
+// Inline: once in each C start.
 #[inline(always)]
 fn is_sized(p: &RmeProcess) -> bool
     ensures cause { IsTrue result → size_cause (layout_of p.now) p.now.limit p.now.index ≡ None }
@@ -268,7 +278,9 @@ fn is_sized(p: &RmeProcess) -> bool
     size_refusal(layout(p), p.limit, p.index).is_none()
 }
 
-/// Starts a lock at rest, or an unlock of who has nothing to mend, as they mostly come. Any other start changes nothing here.
+/// Starts a lock at rest, or an unlock with nothing to mend: the frequent cases. None: it is another start, and nothing
+/// changed.
+// Inline: once in each C start.
 #[inline(always)]
 pub fn quick_start(
     p: &mut RmeProcess,
@@ -291,7 +303,8 @@ pub fn quick_start(
     }
 }
 
-/// Starts a call and shows its first step, or says why it is refused. A refused call changes nothing.
+/// Starts a call and names its first access, or answers why it is refused. A refused call changes nothing.
+// Inline: once in each C start.
 #[inline(always)]
 pub fn start(p: &mut RmeProcess, call: &RmeCall, next: &mut RmeAccess) -> Option<Refusal>
     ensures cause { result ≡ start_cause (stand_of p.old) call.now }

@@ -1,4 +1,4 @@
-//! A step of a chore.
+//! The steps of a script on the data words.
 
 ghost use Rattle.std.specs.Prelude.{◌≡◌, Some, None, false, length};
 ghost use Rattle.rmecore.specs.Machine.{word_of};
@@ -24,6 +24,7 @@ use rmecore::{Access, Kind, Stage, Word};
 use rmeworld::Answer;
 
 /// A load of a data word.
+// Inline: once in each C step.
 #[inline(always)]
 fn get(i: u64) -> Access
     ensures { result ≡ AccessOf.Load KindOf.Get (WordOf.Data i) }
@@ -31,18 +32,20 @@ fn get(i: u64) -> Access
     Access::Load(Kind::Get, Word::Data(i))
 }
 
-/// The get of ruined behind an entry.
+/// The get of ruined after an entry.
+// Inline: once in each C step.
 #[inline(always)]
 pub fn check_next(p: &RmeProcess) -> Access
     requires { Fits p.now (Position.Within Chore.Checking) }
     ensures next { next_access (stand_at p.now (Position.Within Chore.Checking)) ≡ Some result }
     ensures word { InWords p.now.procs (word_of result) }
 {
+    // For the proof alone: its value is read.
     let _ = &p.index;
     get(RUINED)
 }
 
-/// The step of a chore that comes next.
+/// The next access of a script.
 pub fn chore_next(p: &RmeProcess, chore: Chore) -> Access
     requires { Fits p.now (Position.Within chore) }
     ensures next { next_access (stand_at p.now (Position.Within chore)) ≡ Some result }
@@ -68,7 +71,8 @@ pub fn chore_next(p: &RmeProcess, chore: Chore) -> Access
     }
 }
 
-/// The call ends with this answer, and the process stands here.
+/// The call ends with this answer, at this stage.
+// Inline: once in each C step.
 #[inline(always)]
 fn ends(stage: Stage, answer: Answer) -> (Position, Told)
     ensures { result ≡ (Position.Lock stage, record { answer = Some answer; blocked = false }) }
@@ -81,6 +85,7 @@ fn ends(stage: Stage, answer: Answer) -> (Position, Told)
 }
 
 /// The call ends inside, with this reply.
+// Inline: once in each C step.
 #[inline(always)]
 fn replied(reply: Reply) -> (Position, Told)
     ensures { result ≡ (Position.Lock StageOf.Inside, record { answer = Some (AnswerOf.Mail reply); blocked = false }) }
@@ -89,6 +94,7 @@ fn replied(reply: Reply) -> (Position, Told)
 }
 
 /// The call goes on at the exit.
+// Inline: once in each C step.
 #[inline(always)]
 fn leaves() -> (Position, Told)
     ensures { result ≡ (Position.Lock StageOf.Leaving, record { answer = None; blocked = false }) }
@@ -100,7 +106,8 @@ fn leaves() -> (Position, Told)
     (Position::Lock(Stage::Leaving), told)
 }
 
-/// The call goes on with this chore.
+/// The call goes on with this script state.
+// Inline: once in each C step.
 #[inline(always)]
 fn on(chore: Chore) -> (Position, Told)
     ensures { result ≡ (Position.Within chore, record { answer = None; blocked = false }) }
@@ -112,7 +119,8 @@ fn on(chore: Chore) -> (Position, Told)
     (Position::Within(chore), told)
 }
 
-/// The ruin check behind an entry.
+/// After the ruin check that follows an entry.
+// Inline: once in each C step.
 #[inline(always)]
 pub fn checked(p: &mut RmeProcess, value: u64) -> (Position, Told)
     requires { Fits p.old (Position.Within Chore.Checking) }
@@ -130,12 +138,13 @@ pub fn checked(p: &mut RmeProcess, value: u64) -> (Position, Told)
     }
 }
 
-/// The get of ruined with which consistent begins: unless the lock is ruined, the repair comes next.
+/// After the get of ruined with which `consistent` begins: unless the lock is ruined, the repair is next.
 fn asked(p: &mut RmeProcess, value: u64) -> (Position, Told)
     requires { Fits p.old (Position.Within Chore.Asking) }
     ensures step { IsStep p.old (Position.Within Chore.Asking) value p.new result.0 result.1 }
     ensures same { p.new ≡ p.old }
 {
+    // For the proof alone: its value is read.
     let _ = &p.index;
     if value == 1 {
         ends(Stage::Inside, Answer::NotRecoverable)
@@ -144,7 +153,7 @@ fn asked(p: &mut RmeProcess, value: u64) -> (Position, Told)
     }
 }
 
-/// The get of armed.
+/// After the get of armed.
 fn armed(p: &mut RmeProcess, value: u64) -> (Position, Told)
     requires { Fits p.old (Position.Within Chore.Armed) }
     ensures step { IsStep p.old (Position.Within Chore.Armed) value p.new result.0 result.1 }
@@ -157,7 +166,7 @@ fn armed(p: &mut RmeProcess, value: u64) -> (Position, Told)
     on(Chore::At)
 }
 
-/// The get of one more word of the record's value.
+/// After the get of one more word of the record's value.
 fn read_on(p: &mut RmeProcess, at: u64, seq: u64, read: u64, value: u64) -> (Position, Told)
     requires fits { Fits p.old (Position.Within (Chore.Value at seq read)) }
     requires eight { length p.old.value ≡ 8 }
@@ -179,13 +188,14 @@ fn read_on(p: &mut RmeProcess, at: u64, seq: u64, read: u64, value: u64) -> (Pos
     })
 }
 
-/// A put of a record that is stored again.
+/// After a put of a record that is stored again.
 fn redone(p: &mut RmeProcess, at: u64, seq: u64, step: u64, value: u64) -> (Position, Told)
     requires fits { Fits p.old (Position.Within (Chore.Redo at seq step)) }
     requires eight { length p.old.value ≡ 8 }
     ensures step { IsStep p.old (Position.Within (Chore.Redo at seq step)) value p.new result.0 result.1 }
     ensures same { p.new ≡ record p.old { unmended = p.new.unmended } }
 {
+    // For the proof alone: its value is read.
     let _ = value;
     if step + 1 < 8 + 2 * p.width {
         return on(Chore::Redo {
@@ -198,7 +208,7 @@ fn redone(p: &mut RmeProcess, at: u64, seq: u64, step: u64, value: u64) -> (Posi
     replied(Reply::Mended(true))
 }
 
-/// What an append does once it knows the three words.
+/// What an append does once it has read the three words.
 fn decided(p: &mut RmeProcess, seq: u64, closed: u64, count: u64, last: u64) -> (Position, Told)
     requires { Fits p.old (Position.Within (Chore.Last seq closed count)) }
     ensures step { IsStep p.old (Position.Within (Chore.Last seq closed count)) last p.new result.0 result.1 }
@@ -223,13 +233,14 @@ fn decided(p: &mut RmeProcess, seq: u64, closed: u64, count: u64, last: u64) -> 
     }
 }
 
-/// A put of a message that is stored.
+/// After a put of a message that is stored.
 fn stored(p: &mut RmeProcess, at: u64, seq: u64, step: u64, value: u64) -> (Position, Told)
     requires fits { Fits p.old (Position.Within (Chore.Store at seq step)) }
     requires eight { length p.old.value ≡ 8 }
     ensures step { IsStep p.old (Position.Within (Chore.Store at seq step)) value p.new result.0 result.1 }
     ensures same { p.new ≡ p.old }
 {
+    // For the proof alone: its value is read.
     let _ = value;
     let behind = step + 1;
     if behind < 8 + 2 * p.width {
@@ -242,7 +253,7 @@ fn stored(p: &mut RmeProcess, at: u64, seq: u64, step: u64, value: u64) -> (Posi
     replied(Reply::Stored)
 }
 
-/// Takes a step of a chore.
+/// Takes a step of a script.
 pub fn chore_step(p: &mut RmeProcess, chore: Chore, value: u64) -> (Position, Told)
     requires fits { Fits p.old (Position.Within chore) }
     requires eight { length p.old.value ≡ 8 }

@@ -1,4 +1,4 @@
-//! Three senders on threads of their own. One has died inside: it comes back, mends and goes on.
+//! An example: three senders on threads of their own. One has died inside: it comes back, mends and goes on.
 #![tactic(auto)]
 
 use crash_plans::{At, Never};
@@ -8,7 +8,7 @@ use robust::{Arena, Entry, LockFault, Member};
 use std::sync::Wait;
 use std::thread;
 
-/// Enters, mends where this process died inside, leaves, and sends a message.
+/// Enters, mends if this process died inside, leaves, and sends a message.
 fn send<R: Wait>(rt: &R, mut member: Member, value: Body) -> Result<(Entry, Reply), LockFault> {
     let mut plan = Never::new();
     let entry = member.lock(rt, &mut plan)?;

@@ -1,5 +1,5 @@
-//! `replay`: reads a schedule from standard input and prints its report, as `rmelab replay` does for the right lock. It stands
-//! on the simulated side alone, so that a first proved report needs few libraries.
+//! `replay`: reads a schedule from standard input and prints its report, as `rmelab replay` does for the right lock. It uses
+//! the simulated side alone, so that a first proved report needs few libraries.
 #![tactic(auto)]
 
 use schedule::{FromReader, ToWriter};
@@ -8,7 +8,7 @@ use std::io::{self, BufReader, BufWriter};
 use std::process::ExitCode;
 use schedule::{ReplayFault, replay};
 
-/// Replays what standard input gives to standard output.
+/// Replays the schedule on standard input, and writes the report to standard output.
 fn report<R: Input + Print>(rt: &R, alloc: Global) -> Result<(), ReplayFault> {
     let Ok(reader) = BufReader::new(alloc, rt.reader()) else {
         return Err(ReplayFault::OutOfMemory);
@@ -24,7 +24,7 @@ fn report<R: Input + Print>(rt: &R, alloc: Global) -> Result<(), ReplayFault> {
     Ok(())
 }
 
-/// The exit status of `rmelab`: 2 for a fault of the input, 3 for one of a device or of memory.
+/// The exit status, as that of `rmelab`: 2 for a fault of the input, 3 for a fault of a device or of memory.
 fn status(fault: ReplayFault) -> u8 {
     match fault {
         ReplayFault::Text { .. } | ReplayFault::Refused { .. } => 2,

@@ -1,4 +1,4 @@
-//! Why the work was not done.
+//! Why the work wasn't done.
 
 use robust::LockFault;
 use thiserror::Error;
@@ -7,10 +7,10 @@ use thiserror::Error;
 pub enum Fault {
     #[error("out of memory")]
     OutOfMemory,
-    /// A call of a member ended with a fault.
+    /// A call of a member had a fault.
     #[error("{0}")]
     Lock(LockFault),
-    /// A message was not stored.
+    /// A message wasn't stored.
     #[error("a message was refused")]
     Refused,
 }

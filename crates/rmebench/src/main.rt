@@ -1,4 +1,4 @@
-//! `rmebench`: what members of the running lock do again and again, so that it can be timed from outside.
+//! `rmebench`: repeats the calls of members of the running lock, so that they can be timed from outside.
 #![tactic(auto)]
 
 mod fault;

@@ -1,16 +1,16 @@
-//! What the words of the command line ask for.
+//! The work that the command line asks for.
 
 ghost use Rattle.std.specs.Prelude.{IfSome, IsNone};
 ghost use Rattle.rmebench.specs.declared.order.Order.{Order as OrderOf};
 ghost use Rattle.rmebench.specs.Sizes.{Asks, IsFit};
 
-/// How many messages a mailbox holds at most.
+/// The most messages of a mailbox.
 pub const MOST_MESSAGES: u64 = 65_536;
 
-/// What is done how often.
+/// The work, and how often it is done.
 #[derive(Clone, Copy, Debug, PartialEq, Eq)]
 pub enum Order {
-    /// So many members of an arena lock and unlock, each on a thread of its own.
+    /// `threads` of an arena's members lock and unlock, each on a thread of its own.
     Lock {
         procs: u64,
         threads: u64,
@@ -25,7 +25,7 @@ pub enum Order {
 }
 
 impl Order {
-    /// What the words ask for, of which the first is the program's name.
+    /// The work that the words ask for; the first word is the program's name. None: they ask for no work.
     pub fn of_words(words: &[String]) -> Option<Order>
         ensures { IfSome result IsFit }
     {
@@ -38,7 +38,7 @@ impl Order {
         Order::of(words[1].as_str(), procs, second, rounds)
     }
 
-    /// What this name and these numbers ask for, if it fits.
+    /// The work with this name and these numbers, if they are in range.
     fn of(name: &str, procs: u64, second: u64, rounds: u64) -> Option<Order>
         ensures fits { IfSome result IsFit }
         ensures asked { IfSome result (Asks name.now procs second rounds) }
@@ -62,7 +62,7 @@ impl Order {
         }
     }
 
-    /// What is counted.
+    /// The name of what is counted.
     pub fn counted(&self) -> &str {
         match self {
             Order::Lock { .. } => "entries",

@@ -1,4 +1,4 @@
-//! Each order once, and the words that ask for it.
+//! Each kind of work once, and the words that ask for it.
 
 use crate::order::Order;
 use crate::work::done;
@@ -27,7 +27,7 @@ fn a_member_appends_as_often_as_it_is_told(rt: HostRuntime) -> Result<(), Fail> 
     Ok(())
 }
 
-/// What the words of this line ask for.
+/// The work that the words of this line ask for.
 fn asked(alloc: Global, line: &str) -> Result<Option<Order>, AllocError> {
     let mut words = Vec::new(alloc);
     for word in line.split(' ') {

@@ -1,4 +1,4 @@
-//! The work itself. No member crashes.
+//! The work that is timed. No member crashes.
 
 ghost use Rattle.std.specs.Prelude.{◌≡◌, ◌≤◌, IfOk};
 ghost use Rattle.rmebench.specs.Sizes.{IsFit};
@@ -14,10 +14,10 @@ use std::sync::Wait;
 use std::thread;
 use std::thread::Threads;
 
-/// The greatest limit that a lock can have.
+/// The greatest limit of a lock's numbers.
 const MOST: u64 = 1 << 62;
 
-/// Does what an order says, and tells how many entries or messages that were.
+/// Does the work, and answers how many entries or messages there were.
 pub fn done<R: Threads + Wait + Sync>(rt: &R, alloc: Global, order: Order) -> Result<u64, Fault>
     requires { IsFit order }
 {
@@ -52,7 +52,7 @@ fn members<R>(rt: &R, alloc: Global, procs: u64, width: u64) -> Result<Vec<Membe
     }
 }
 
-/// Locks and unlocks so many times, and counts the entries.
+/// Locks and unlocks `rounds` times, and counts the entries.
 pub fn enter<R: Wait>(rt: &R, mut member: Member, rounds: u64) -> Result<u64, LockFault>
     ensures { IfOk result (λ count. count ≡ rounds) }
 {
@@ -66,7 +66,7 @@ pub fn enter<R: Wait>(rt: &R, mut member: Member, rounds: u64) -> Result<u64, Lo
     Ok(entries)
 }
 
-/// The first members lock and unlock, each on a thread of its own.
+/// Runs the first `threads` members, each on a thread of its own, and adds up their entries.
 fn enter_all<R: Threads + Wait + Sync>(
     rt: &R,
     mut members: Vec<Member>,
@@ -88,7 +88,7 @@ fn enter_all<R: Threads + Wait + Sync>(
     Ok(count)
 }
 
-/// Appends so many messages, numbered from 1, and counts those that were stored.
+/// Appends `rounds` messages, numbered from 1, and counts those that were stored.
 pub fn send<R: Wait>(rt: &R, member: &mut Member, width: u64, rounds: u64) -> Result<u64, Fault>
     requires least { 1 ≤ width }
     requires most { width ≤ 8 }

@@ -1,4 +1,5 @@
-//! Tests of the running lock and of its plain reference: the worked rows over members, and members that crash.
+//! Tests of the running lock and of its plain reference: the specification's worked rows over members, and members that
+//! crash.
 #![tactic(auto)]
 
 mod plain;

@@ -1,5 +1,5 @@
-//! The worked rows over members, and members that crash, on the plain reference of the running lock. Tests alone: each names
-//! public functions of `one_lock` or `plain_lab`.
+//! The specification's worked rows over members, and members that crash, on the plain reference of the running lock. Tests
+//! alone: each names public functions of `one_lock`.
 
 #[cfg(test)]
 mod gates;

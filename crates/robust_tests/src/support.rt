@@ -1,5 +1,5 @@
-//! What the rows over members share, on the running lock and on its plain reference: plans and gates that tell what they
-//! met, and what is expected of messages.
+//! What the tests over members share, on the running lock and on its plain reference: plans and gates that report what they
+//! met, and the messages that are expected.
 
 pub mod counted;
 pub mod cut_off;

@@ -1,5 +1,5 @@
-//! The worked rows over members, and members that crash, on the running lock. Tests alone: each names public functions of
-//! `robust`.
+//! The specification's worked rows over members, and members that crash, on the running lock. Tests alone: each names public
+//! functions of `robust`.
 
 #[cfg(test)]
 mod asked;

@@ -1,4 +1,4 @@
-//! Workers that meet: each waits at an asking until the other has come far enough.
+//! Workers that meet: each waits at an asking until the other has got far enough.
 
 ghost use Rattle.std.specs.Prelude.{◌≡◌};
 ghost use Rattle.std.specs.Thread.{IsSend, IsSync};
@@ -62,7 +62,7 @@ fn numbers_spent(rt: HostRuntime) -> Result<(), Fail> {
     Ok(())
 }
 
-/// Worker p waits at its first asking for the answer of the other.
+/// Worker p waits at its first asking until the other is answered.
 fn waits_for_the_other<R: Abort + Threads + Wait + Sync>(
     rt: &R,
     alloc: Global,
@@ -156,7 +156,7 @@ fn meets_an_append<L: Ledger + Send + Sync, R: Abort + Threads + Wait + Sync>(
     Ok(())
 }
 
-/// Whether a close, or a lock, is answered as it should be.
+/// Whether a close, or a lock, is answered as it has to be.
 fn enters<L: Ledger, R: Wait>(
     rt: &R,
     mut member: Member<L>,

@@ -1,4 +1,4 @@
-//! Members that are not all there.
+//! Gathering where members are missing.
 
 ghost use Rattle.std.specs.Prelude.{◌≡◌};
 

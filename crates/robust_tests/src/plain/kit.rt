@@ -1,4 +1,4 @@
-//! What the tests share: the two members of an arena, and what they leave.
+//! What the tests share: the two members of an arena, and the image of its words.
 
 ghost use Rattle.std.specs.Prelude.{◌≡◌};
 
@@ -33,7 +33,7 @@ pub fn two<L: Ledger>(
     (first, second)
 }
 
-/// What both members leave.
+/// The image after both members are gathered.
 pub fn left_by<L: Ledger, R: Abort + Wait>(
     rt: &R,
     alloc: Global,

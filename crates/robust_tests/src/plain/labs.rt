@@ -11,7 +11,7 @@ use std::sync::Wait;
 use std::test::Fail;
 use std::thread::Threads;
 
-/// So many workers, each of which crashes at 20 of 1,000 askings.
+/// A lab with this many workers, each of which crashes at 20 of 1,000 askings.
 fn sends_all<R: Abort + Threads + Wait + Sync>(
     rt: &R,
     alloc: Global,
@@ -69,7 +69,7 @@ const LEAST: Spec = Spec {
     width: 1,
 };
 
-/// What becomes of a lab with so many gates.
+/// The fault of a lab with this many gates.
 fn fault_with<R: Threads + Wait + Sync>(
     rt: &R,
     alloc: Global,

@@ -1,4 +1,4 @@
-//! The rows over members that need no thread.
+//! The worked rows over members that need no thread.
 
 ghost use Rattle.std.specs.Prelude.{◌≡◌};
 

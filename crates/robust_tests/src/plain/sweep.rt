@@ -30,7 +30,7 @@ fn cut<L: Ledger, C: CrashPlan, R: Abort + Wait>(
     assert!(rt; plan.taken() == member.steps().saturating_add(1));
 }
 
-/// The append of member 1 that comes last, and what the mailbox shows then.
+/// The append of member 1 that comes last, and what the mailbox shows after it.
 fn both_stand<L: Ledger, R: Abort + Wait>(
     rt: &R,
     alloc: Global,

@@ -2,7 +2,7 @@
 
 use crash_plans::{At, CrashPlan, Never};
 
-/// A plan with the askings that it has met.
+/// A plan that counts its askings.
 #[derive(Drop)]
 pub struct Counted<P> {
     plan: P,
@@ -14,7 +14,7 @@ impl<P: CrashPlan> Counted<P> {
         Counted { plan, askings: 0 }
     }
 
-    /// The askings since it was last asked for them.
+    /// The askings since this was last called.
     pub fn taken(&mut self) -> u64 {
         let askings = self.askings;
         self.askings = 0;
@@ -44,17 +44,17 @@ impl<P: CrashPlan> CrashPlan for Counted<P> {
     }
 }
 
-/// A plan that never falls and says so, and counts: a member goes the fast ways.
+/// A plan that never falls, says so by its type, and counts: a member takes the fast paths.
 pub fn never() -> Counted<Never> {
     Counted::new(Never::new())
 }
 
-/// A plan that falls at one asking, and counts.
+/// A plan that falls at this asking, and counts.
 pub fn at(place: u64) -> Counted<At> {
     Counted::new(At::new(place))
 }
 
-/// A plan that never falls and doesn't say so, and counts: a member goes step by step through its machine.
+/// A plan that never falls, doesn't say so, and counts: a member takes each step through its machine.
 pub fn stepwise() -> Counted<At> {
     Counted::new(At::new(0))
 }

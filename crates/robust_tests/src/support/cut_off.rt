@@ -1,4 +1,4 @@
-//! What the model says of an append of member 0 that is cut off at one of its askings and called again.
+//! The answers and steps of the model for an append of member 0 that crashes at one of its askings and is called again.
 
 use redomail::Reply;
 
@@ -17,7 +17,7 @@ pub fn answered_after(k: u64) -> (Reply, u64) {
     }
 }
 
-/// The steps of a lock of member 1 that is not answered yet, after such a crash of member 0; where there are none it enters.
+/// The steps of a lock of member 1 that isn't answered yet, after such a crash of member 0. None: it enters.
 pub fn blocked_after(k: u64) -> Option<u64> {
     match k {
         5..=7 => Some(8),

@@ -1,4 +1,4 @@
-//! A gate that holds its worker at one asking, until the other worker has come far enough.
+//! A gate that holds its worker at one asking until the other worker has got far enough.
 
 use crossbeam_utils::Backoff;
 use one_lock::lab::Gate;
@@ -7,15 +7,15 @@ use std::alloc::{AllocError, Global};
 use std::sync::Arc;
 use std::sync::atomic::{AtomicU64, Ordering};
 
-/// How often a gate looks before it gives up.
+/// How often a gate checks before it gives up.
 const MOST_LOOKS: u64 = 10_000_000;
 
-/// How far a worker has come, and whether its gate has given up.
+/// How far a worker has got, and whether its gate has given up.
 #[derive(Drop)]
 pub struct Progress {
     askings: AtomicU64,
     answer: AtomicU64,
-    /// How many askings there were when the answer was told.
+    /// The number of askings when the answer was reported.
     answered_at: AtomicU64,
     gave_up: AtomicU64,
 }
@@ -35,12 +35,13 @@ impl Progress {
         self.gave_up.load(Ordering::SeqCst) > 0
     }
 
-    /// The worker asked just so often, and told of this answer behind its last asking; of none where it is 0.
+    /// The worker has asked exactly this often, and its last answer, reported after its last asking, is this one; 0 is none.
     pub fn has_told_at(&self, answer: u64, askings: u64) -> bool {
         self.has_told(answer, askings) && self.askings.load(Ordering::SeqCst) == askings
     }
 
-    /// The worker asked at least so often, and told of this answer behind its last asking; of none where it is 0.
+    /// The worker has asked at least this often, and its last answer, reported after its last asking, is this one; 0 is
+    /// none.
     pub fn has_told(&self, answer: u64, least_askings: u64) -> bool {
         let askings = self.askings.load(Ordering::SeqCst);
         let last = if answer == 0 { 0 } else { askings };
@@ -50,7 +51,7 @@ impl Progress {
     }
 }
 
-/// How far the other worker has to come.
+/// How far the other worker has to get.
 #[derive(Clone, Copy, Debug)]
 pub enum Until {
     Asking(u64),
@@ -126,8 +127,8 @@ impl Gate for Gated {
     }
 }
 
-/// Two gates that meet: the second's first asking waits until worker 0 is at its asking 12, inside, and that one until
-/// worker 1 is at this asking.
+/// Two gates that meet. The second gate's first asking waits until worker 0 is at its asking 12, inside; and that asking
+/// waits until worker 1 is at this one.
 pub fn meeting(
     alloc: Global,
     asking: u64,

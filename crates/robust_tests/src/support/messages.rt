@@ -1,4 +1,4 @@
-//! Messages, and what is expected of them.
+//! Messages, and checks of them.
 
 ghost use Rattle.std.specs.Prelude.{◌≡◌, length};
 
@@ -27,7 +27,7 @@ pub fn body(word: u64) -> Body
     }
 }
 
-/// Whether the messages are these: of each its sender, its number and its word.
+/// Whether the messages are these. Each is given as its sender, its sequence number and its word.
 pub fn are(messages: &[Message], wanted: &[(u64, u64, u64)]) -> bool {
     messages.len() == wanted.len()
         && messages.iter().zip(wanted).all(|(message, (sender, seq, word))| {
@@ -35,7 +35,7 @@ pub fn are(messages: &[Message], wanted: &[(u64, u64, u64)]) -> bool {
         })
 }
 
-/// Whether an image of two processes, with values of one word, shows just these messages.
+/// Whether an image of two processes, with values of one word, shows exactly these messages.
 pub fn shows(alloc: Global, image: &Image, wanted: &[(u64, u64, u64)]) -> bool {
     let layout = Layout {
         procs: 2,
@@ -59,7 +59,7 @@ fn is_from(message: &Message, p: u64, seq: u64, width: u64) -> bool {
     })
 }
 
-/// Whether the messages of worker p are all that it was to send, in order.
+/// Whether the messages of worker p are all that it had to send, in order.
 fn are_sent_by(spec: Spec, messages: &[Message], p: u64) -> bool {
     let mut seq = 0u64;
     for message in messages {
@@ -73,7 +73,7 @@ fn are_sent_by(spec: Spec, messages: &[Message], p: u64) -> bool {
     seq == spec.messages
 }
 
-/// Whether the messages are all that the workers of a lab were to send, each worker's in order.
+/// Whether the messages are all that the workers of a lab had to send, each worker's in order.
 pub fn are_all_sent(spec: Spec, messages: &[Message]) -> bool {
     messages.len() as u64 == spec.procs.saturating_mul(spec.messages)
         && (0..spec.procs).all(|p| are_sent_by(spec, messages, p))

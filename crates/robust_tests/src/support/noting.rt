@@ -1,4 +1,4 @@
-//! A gate that notes what its worker tells it, and behind which asking.
+//! A gate that notes which answers its worker reports, and after which asking.
 
 use one_lock::lab::{Gate, Spec};
 use crash_plans::{Both, CrashPlan};
@@ -6,7 +6,7 @@ use std::alloc::{AllocError, Global};
 use std::sync::Arc;
 use std::sync::atomic::{AtomicU64, Ordering};
 
-/// One worker with three messages. Nobody else takes a number, so that the limit 1 is enough.
+/// One worker with three messages. No other process takes a number, so the limit 1 is enough.
 pub const ALONE: Spec = Spec {
     procs: 1,
     messages: 3,
@@ -15,11 +15,11 @@ pub const ALONE: Spec = Spec {
     width: 1,
 };
 
-/// The answers of that worker, each with the askings up to it, where it crashes at its askings 12 and 42. An append that
-/// nothing cuts off takes 23 steps; one that is called again after a crash inside before its arming, 21.
+/// The answers of that worker, each with the askings up to it, if it crashes at its askings 12 and 42. An append that isn't
+/// cut off takes 23 steps; one that is called again after a crash inside before its commit takes 21.
 const TOLD: [(u64, u64); 3] = [(1, 34), (2, 64), (3, 88)];
 
-/// What a gate has noted: the askings, the answers that came as they should, and whether another one came.
+/// What a gate has noted: the askings, the answers that came as expected, and whether another answer came.
 #[derive(Drop)]
 pub struct Notes {
     askings: AtomicU64,
@@ -28,8 +28,7 @@ pub struct Notes {
 }
 
 impl Notes {
-    /// Each of the three answers was told once and in order, behind the asking that it comes behind, and the worker has asked
-    /// no more since.
+    /// Each of the three answers was reported once, in order, after its asking, and the worker has not asked since.
     pub fn are_right(&self) -> bool {
         self.right.load(Ordering::SeqCst) == 3
             && self.wrong.load(Ordering::SeqCst) == 0

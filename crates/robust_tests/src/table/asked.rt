@@ -1,4 +1,4 @@
-//! A plan is asked before each step, and neither earlier nor later: what another member meets at an asking.
+//! A plan is asked right before each step: what another member finds at an asking.
 
 use super::kit::two;
 use crash_plans::{At, CrashPlan, Never};
@@ -9,13 +9,13 @@ use crate::support::messages::body;
 use std::alloc::Global;
 use std::process::Abort;
 
-/// A plan at whose askings another member tries the lock, until it enters, and leaves again.
+/// A plan at whose askings another member tries the lock, until it has entered and left once.
 #[derive(Drop)]
 struct Trying {
     never: Never,
     other: Member,
     askings: u64,
-    /// The asking at which the other member entered, 0 before.
+    /// The asking at which the other member entered; 0 before that.
     entered: u64,
 }
 
@@ -42,7 +42,7 @@ struct Watching<P> {
     other: Member,
     alloc: Global,
     askings: u64,
-    /// The asking at which the message was shown, 0 before.
+    /// The asking at which the message was shown; 0 before that.
     shown: u64,
 }
 
@@ -78,7 +78,7 @@ fn asked_before_each_step_of_an_unlock(rt: HostRuntime) {
     assert!(&rt; plan.entered == 2 && plan.askings == 3);
 }
 
-/// At which asking of an append the message is shown, and how many askings there are.
+/// The asking of an append at which the message is shown, and the number of askings.
 fn shown<P: CrashPlan + Drop>(
     rt: &impl Abort,
     alloc: Global,

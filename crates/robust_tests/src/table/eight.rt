@@ -23,7 +23,7 @@ use std::thread::{Promise, PromisedHandle, Scope, Threads};
 
 const ENTRIES: u64 = 400;
 
-/// A member that has raised the word of the board, and how often it was cut off meanwhile.
+/// A member that has incremented the word of the board, and how often it was cut off meanwhile.
 #[derive(Drop)]
 struct Raised {
     member: Member,
@@ -31,7 +31,7 @@ struct Raised {
     crashes: u64,
 }
 
-/// That a thread hands back the member that it was given.
+/// The promise of a thread: it hands back the member that it was given.
 #[derive(Drop)]
 struct SameSeat(Snapshot<Member>);
 
@@ -42,7 +42,7 @@ impl Promise<Raised> for SameSeat {
     ghost kept_by = { λ promise raised. seat_of raised.member ≡ seat_of promise.0.value };
 }
 
-/// Enters and, where it came in again, mends. A crash is left to the caller.
+/// Enters and, if it crashed inside, mends. A crash is left to the caller.
 fn enter<C: CrashPlan, R: Wait>(rt: &R, member: &mut Member, plan: &mut C) -> Result<(), LockFault>
     ensures { seat_of member.new ≡ seat_of member.old }
 {
@@ -52,8 +52,8 @@ fn enter<C: CrashPlan, R: Wait>(rt: &R, member: &mut Member, plan: &mut C) -> Re
     Ok(())
 }
 
-/// Raises the word by one as a holder, unless it was raised from this value before a crash, and leaves. It keeps the value
-/// from which it raises.
+/// As a holder, increments the word, unless the word was incremented from this value before a crash, and leaves. It keeps
+/// the value from which it increments.
 fn raise<C: CrashPlan>(
     member: &mut Member,
     from: &mut Option<u64>,
@@ -71,7 +71,7 @@ fn raise<C: CrashPlan>(
     member.unlock(plan)
 }
 
-/// Enters and raises, once.
+/// Enters and increments, once.
 fn attempt<C: CrashPlan, R: Wait>(
     rt: &R,
     member: &mut Member,
@@ -84,7 +84,7 @@ fn attempt<C: CrashPlan, R: Wait>(
     raise(member, from, plan)
 }
 
-/// Raises the word so often, each time again after a crash until it is done.
+/// Increments the word this often, and tries again after each crash until it is done.
 fn work<R: Wait>(rt: &R, mut member: Member, mut plan: Seeded) -> Raised
     ensures { seat_of result.member ≡ seat_of member }
 {
@@ -135,7 +135,7 @@ fn start_all<'s, E: 's, R: Wait + Sync>(
     Ok(threads)
 }
 
-/// What the threads hand back: their members, how often they raised the word, and how often they crashed.
+/// What the threads hand back: their members, how often they incremented the word, and how often they crashed.
 fn join_all<R: Threads>(
     rt: &R,
     alloc: Global,
@@ -184,7 +184,7 @@ fn made(rt: &impl Abort, alloc: Global) -> Vec<Member>
     members
 }
 
-/// The words of all members, which are lawful.
+/// The image of all members' words, which is lawful.
 fn gathered_all(rt: &impl Abort, alloc: Global, members: Vec<Member>) -> Image
     requires { OneArena members.items }
 {

@@ -11,7 +11,7 @@ use std::sync::Wait;
 use std::test::Fail;
 use std::thread;
 
-/// An append, and whether it is answered as it should be.
+/// An append, and whether it is answered as it has to be.
 fn sends<R: Wait>(rt: &R, mut member: Member, value: Body, mut gate: Gated) -> bool {
     member.append(rt, 1, value, &mut gate) == Ok(Reply::Stored)
 }
@@ -56,7 +56,7 @@ fn a_close_beside_an_append(rt: HostRuntime) -> Result<(), Fail> {
     Ok(())
 }
 
-/// An append that nothing holds, and its member.
+/// An append without a gate that holds it, and its member.
 fn appends<R: Wait>(rt: &R, mut member: Member, value: Body) -> (Member, Result<Reply, LockFault>) {
     let reply = member.append(rt, 1, value, &mut Never::new());
     (member, reply)

@@ -1,4 +1,4 @@
-//! What the tests share: two members of an arena, and the words at the end.
+//! What the tests share: two members of an arena, and the image of its words.
 
 ghost use Rattle.std.specs.Prelude.{◌≡◌};
 
@@ -21,7 +21,7 @@ pub fn two(rt: &impl Abort, alloc: Global, limit: u64, cap: u64) -> (Member, Mem
     (first, second)
 }
 
-/// The words of two members, which are lawful.
+/// The image of two members' words, which is lawful.
 pub fn gathered(rt: &impl Abort, alloc: Global, one: Member, other: Member) -> Image
     requires { one.pass.table ≡ other.pass.table }
 {

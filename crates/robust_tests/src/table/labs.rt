@@ -1,4 +1,4 @@
-//! The lab over the running lock, and workers that meet: each waits at an asking until the other has come far enough.
+//! The lab over the running lock, and workers that meet: each waits at an asking until the other has got far enough.
 
 use crash_plans::{Never, Seeded};
 use redomail::{Message, Reply};
@@ -41,7 +41,7 @@ fn numbers_spent(rt: HostRuntime) -> Result<(), Fail> {
     Ok(())
 }
 
-/// Worker p waits at its first asking for the answer of the other.
+/// Worker p waits at its first asking until the other is answered.
 fn waits_for_the_other<R: Abort + Threads + Wait + Sync>(
     rt: &R,
     alloc: Global,
@@ -118,7 +118,7 @@ fn a_full_mailbox(rt: HostRuntime) -> Result<(), Fail> {
     Ok(())
 }
 
-/// So many workers, each of which crashes at 20 of 1,000 askings.
+/// A lab with this many workers, each of which crashes at 20 of 1,000 askings.
 fn sends_all<R: Abort + Threads + Wait + Sync>(
     rt: &R,
     alloc: Global,

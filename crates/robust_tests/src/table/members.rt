@@ -1,4 +1,4 @@
-//! The rows over members that need no threads.
+//! The worked rows over members that need no threads.
 
 use super::kit::{gathered, two, words};
 use crash_plans::CrashPlan;
@@ -10,7 +10,7 @@ use std::alloc::Global;
 use std::process::Abort;
 use std::test::Fail;
 
-/// Calls that are refused, and ask nothing.
+/// Calls that are refused, and don't ask the plan.
 fn refuses<C: CrashPlan>(rt: &impl Abort, alloc: Global, plan: &mut Counted<C>) {
     let (mut one, mut other) = two(rt, alloc, 10, 1);
     assert!(rt; one.lock_within(plan, 0) == Ok(Entry::Clean) && plan.taken() == 12);
@@ -25,7 +25,7 @@ fn refusals(rt: HostRuntime) -> Result<(), Fail> {
     Ok(())
 }
 
-/// An unlock that ruins the lock, and who comes behind it.
+/// An unlock that ruins the lock, and the members that lock after it.
 fn ruins<C: CrashPlan>(rt: &impl Abort, alloc: Global, plan: &mut Counted<C>) {
     let (mut one, mut other) = two(rt, alloc, 10, 1);
     let mut falls = at(12);
@@ -51,7 +51,7 @@ fn ruined(rt: HostRuntime) -> Result<(), Fail> {
     Ok(())
 }
 
-/// A lock that gives up, and one that waits on with its place.
+/// A lock that gives up, and one that waits on and keeps its place.
 fn keeps_place<C: CrashPlan>(rt: &impl Abort, alloc: Global, plan: &mut Counted<C>) {
     let (mut one, mut other) = two(rt, alloc, 10, 1);
     assert!(rt; one.lock_within(plan, 0) == Ok(Entry::Clean));

@@ -1,5 +1,5 @@
-//! Each request for memory refused in turn: all memory is taken, but for a reserve that is given back piece by piece, until
-//! a call meets no refusal.
+//! Each request for memory is refused in turn: all memory is taken but for a reserve, which is given back piece by piece
+//! until a call meets no refusal.
 
 ghost use Rattle.execution.specs.Gathering.{OneArena};
 
@@ -22,7 +22,7 @@ const PIECES: usize = 400;
 
 const PIECE: usize = 240;
 
-/// All memory but for a reserve.
+/// All memory, taken but for a reserve.
 #[derive(Drop)]
 struct Scarce {
     reserve: Vec<Vec<u8>>,
@@ -39,14 +39,14 @@ impl Scarce {
         Ok(Scarce { reserve, taken })
     }
 
-    /// Gives back one piece, while there is one.
+    /// Gives back one piece, if there is one.
     fn give_back(&mut self) {
         let piece = self.reserve.pop();
         drop(piece);
     }
 }
 
-/// Blocks that shrink, until the smallest is refused.
+/// Blocks of falling size, until the smallest is refused.
 fn all_that_is_left(alloc: Global) -> Result<Vec<Vec<u8>>, AllocError> {
     let mut blocks = Vec::with_capacity(alloc, BLOCKS)?;
     let mut size = LARGEST;
@@ -84,7 +84,7 @@ fn a_new_arena(rt: HostRuntime) -> Result<(), Fail> {
     Ok(())
 }
 
-/// Gathers, again after each refusal, and counts the refusals.
+/// Gathers again after each refusal, and counts the refusals.
 fn gather_at_last(
     rt: &impl Abort,
     alloc: Global,

@@ -23,7 +23,7 @@ fn cut<C: CrashPlan>(rt: &impl Abort, member: &mut Member, plan: &mut Counted<C>
     assert!(rt; plan.taken() == member.steps().saturating_add(1));
 }
 
-/// The append of member 1 that comes last, and what the mailbox shows then.
+/// The append of member 1 that comes last, and what the mailbox shows after it.
 fn both_stand(rt: &impl Abort, alloc: Global, one: Member, mut other: Member)
     requires { one.pass.table ≡ other.pass.table }
 {

@@ -1,4 +1,4 @@
-//! The words of command lines, and the help that they ask for. Tests alone: each names public functions of `orders`.
+//! The words of command lines, and the help that they ask for. Tests alone: each names public functions of `cli`.
 
 #[cfg(test)]
 mod helps;

@@ -1,5 +1,5 @@
 //! Drawings, explanations and senders, and words that are refused, as whole invocations of the program; and each request for
-//! memory refused in turn. Tests alone: each names public functions of `laboratory` and of the crates below it.
+//! memory is refused in turn. Tests alone: each names public functions of `commands` and of the crates below it.
 
 #[cfg(test)]
 mod drawings;

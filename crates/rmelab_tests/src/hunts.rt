@@ -1,5 +1,5 @@
-//! Hunts, searches and least schedules, as whole invocations of the program; and each request for memory refused in turn.
-//! Tests alone: each names public functions of `laboratory` and of the crates below it.
+//! Hunts, searches and shrunk schedules, as whole invocations of the program; and each request for memory is refused in
+//! turn. Tests alone: each names public functions of `commands` and of the crates below it.
 
 #[cfg(test)]
 mod explores;

@@ -1,4 +1,4 @@
-//! Tests of the program: whole invocations over a folder in memory, and each request for memory refused in turn.
+//! Tests of the program: whole invocations over a folder in memory; and each request for memory is refused in turn.
 #![tactic(auto)]
 
 mod arguments;

@@ -1,5 +1,5 @@
-//! Each request for memory refused in turn, of worlds, images, replays, traces and labs. Tests alone: each names public
-//! functions of `rmeworld`, `imaging`, `trials` or `robust`.
+//! Each request for memory of worlds, images, replays, traces and labs is refused in turn. Tests alone: each names public
+//! functions of `rmeworld`, `schedule` or `robust`.
 
 #[cfg(test)]
 mod labs;

@@ -1,6 +1,6 @@
-//! The worked rows of replays and traces, as whole invocations of the program over a folder, an input and two outputs that are
-//! made up; and each request for memory refused in turn. Tests alone: each names public functions of `laboratory` and of the
-//! crates below it.
+//! The specification's worked rows of replays and traces, as whole invocations of the program over a folder, an input and
+//! two outputs in memory; and each request for memory is refused in turn. Tests alone: each names public functions of
+//! `commands` and of the crates below it.
 
 #[cfg(test)]
 mod devices;

@@ -1,5 +1,5 @@
-//! What the rows of whole invocations share: the program run over a folder in memory and devices that may fail, all that
-//! comes of it compared, and each of its requests for memory refused in turn.
+//! What the tests of whole invocations share: the program is run over a folder in memory and devices that may fail, its
+//! whole output is compared, and each of its requests for memory is refused in turn.
 
 pub mod devices;
 pub mod fake;

@@ -1,4 +1,4 @@
-//! What `clap` prints: the help of the program and of each command, and what is wrong with words.
+//! What `clap` prints: the help of the program and of each command, and the errors for bad words.
 
 use crate::arguments::kit::words_of;
 use cli::arguments::words::{WordsFault, read_words};

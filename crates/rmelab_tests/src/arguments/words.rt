@@ -1,4 +1,4 @@
-//! The words of the command line that are a command.
+//! The command lines that spell a command.
 
 use crate::arguments::kit::words_of;
 use crashlab::Variant;

@@ -81,7 +81,7 @@ fn drawings_that_go_on_from_an_image(rt: HostRuntime) -> Result<(), Fail> {
     all_come_to(&rt, rt.alloc(), &rows)
 }
 
-/// A drawing up to the line that is refused is whole; of a text that is none, nothing is drawn.
+/// A drawing up to the line that is refused is whole. If the text isn't a schedule, nothing is drawn.
 #[test]
 fn drawings_refused(rt: HostRuntime) -> Result<(), Fail> {
     let rows = [

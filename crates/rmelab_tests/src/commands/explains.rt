@@ -1,4 +1,4 @@
-//! What `explain` prints: the names of all that is explained, one thing of each kind, and words that are no name.
+//! What `explain` prints: the names of all topics, one topic of each kind, and words that name none.
 
 use crate::support::fake::Failing;
 use crate::support::invocation::all_come_to;

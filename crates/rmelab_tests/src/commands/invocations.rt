@@ -63,7 +63,7 @@ fn orders_that_are_refused(rt: HostRuntime) -> Result<(), Fail> {
     Ok(())
 }
 
-/// No command line lets a member of a lab fail: the end of a command is tried, where each fault is told.
+/// No command line makes a member of a lab fail. So the end of a command is tested by itself, where each fault is reported.
 #[test]
 fn a_member_that_fails(rt: HostRuntime) -> Result<(), Fail> {
     let mut page = Page::new(rt.alloc());
@@ -75,7 +75,7 @@ fn a_member_that_fails(rt: HostRuntime) -> Result<(), Fail> {
     Ok(())
 }
 
-/// The words of a process, of which the second is no text.
+/// The words of a process. The second one isn't UTF-8 text.
 #[derive(Drop)]
 struct BadWords;
 

@@ -1,4 +1,4 @@
-//! Each request for memory refused in turn, of a drawing and of explanations.
+//! Each request for memory of a drawing and of explanations is refused in turn.
 
 use crate::commands::drawings::{DRAWN, SMALLEST};
 use crate::commands::explains::{NO_NAME, NO_NEWLINE};

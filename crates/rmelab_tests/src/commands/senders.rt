@@ -56,7 +56,7 @@ sender 1 messages 2 twice 1 order yes
 total 5
 ";
 
-/// No lock lets such a mailbox come to be: the tallies alone are tried.
+/// No lock allows such a mailbox, so the tallies are tested by themselves.
 #[test]
 fn a_message_twice_and_one_out_of_order(rt: HostRuntime) -> Result<(), Fail> {
     let value = Body::new(&[7])?;

@@ -1,4 +1,4 @@
-//! Searches of all schedules up to a bound. The schedules and the numbers are those of the plain search in bench/explore.
+//! Searches of all schedules up to a bound. The schedules and the counts are those of the plain search in bench/explore.
 
 use crate::support::fake::Failing;
 use crate::support::invocation::{all_come_to, ran};
@@ -6,7 +6,8 @@ use crate::support::row::invoked;
 use std::process::ExitCode;
 use std::test::Fail;
 
-/// Both read the numbers in the doorway and find none; 1 comes in, and 0, which doesn't ask whether 1 chooses, too.
+/// Both read the numbers in the doorway and find none. Process 1 enters, and so does 0, which doesn't look whether 1 is
+/// choosing.
 pub const SHORTEST: &str =
     "rme 1 procs 2 limit 1 cap 1\nlock 0\nstep 0\nstep 0\nstep 0\nstep 0\nstep 0\nlock 1\nstep 1\nstep 1\nstep 1\nstep 1\nstep 1\nstep 1\nstep 1\nstep 1\nstep 0\nstep 0\nstep 0\nstep 0\nstep 1\n";
 
@@ -119,7 +120,7 @@ fn explores_to_a_writer_that_fails(rt: HostRuntime) -> Result<(), Fail> {
     all_come_to(&rt, rt.alloc(), &rows)
 }
 
-/// What is found replays to its fault.
+/// The schedule that is found replays to its fault.
 #[test]
 fn explored_schedules_replay(rt: HostRuntime) -> Result<(), Fail> {
     let replayed = ran(

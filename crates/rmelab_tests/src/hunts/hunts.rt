@@ -13,7 +13,7 @@ const WRONG: [&str; 6] = [
     "last-skipped",
 ];
 
-/// What seed 1 finds of each wrong variant ends against under it, and never so under the right lock.
+/// What seed 1 finds of each wrong variant has a verdict against that variant, and none against the right lock.
 #[test]
 fn hunt_seeds(rt: HostRuntime) -> Result<(), Fail> {
     let alloc = rt.alloc();
@@ -37,7 +37,7 @@ fn hunt_seeds(rt: HostRuntime) -> Result<(), Fail> {
     prints(&rt, alloc, line, "", "nothing found\n", "", 0)
 }
 
-/// The schedule that `bench/lab`, a program by hand, draws by the same rule.
+/// The schedule that `bench/lab`, a program written by hand, draws by the same rule.
 const DRAWN: &str =
     "rme 1 procs 3 limit 1000000 cap 64\nlock 2\nlock 0\nlock 1\ncrash 1\nlock 1\nstep 2\nstep 0\nstep 2\n\
 step 2\nstep 2\nstep 1\nstep 1\nstep 2\ncrash 0\nlock 0\nstep 0\nstep 1\nstep 2\nstep 2\nstep 2\n\

@@ -1,4 +1,4 @@
-//! Each request for memory refused in turn, of searches and of schedules that are made least.
+//! Each request for memory of searches and of schedules that are shrunk is refused in turn.
 
 use crate::hunts::explores::GONE_OUT;
 use crate::hunts::shrinks::{LEAST, SMALLEST, TWO_INSIDE};

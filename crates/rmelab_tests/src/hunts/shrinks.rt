@@ -1,4 +1,4 @@
-//! Schedules made least, by `shrink` and by `hunt --shrink`.
+//! Schedules shrunk by `shrink` and by `hunt --shrink`.
 
 use crate::support::fake::Failing;
 use crate::support::invocation::{all_come_to, prints, ran};
@@ -6,11 +6,11 @@ use crate::support::row::invoked;
 use std::process::ExitCode;
 use std::test::Fail;
 
-/// 0 has read the numbers and not taken its own, while 1 comes in; then 0 comes in too.
+/// Process 0 has read the numbers and not taken its own while 1 enters. Then 0 enters too.
 pub const TWO_INSIDE: &str =
     "rme 1 procs 2 limit 10 cap 1\nlock 0\nlock 1\nstep 0 5\nstep 1 6\nstep 1 4\nstep 0 6\n";
 
-/// 1 needs nine steps to come in, and 0 four after the five in its doorway.
+/// Process 1 needs nine steps to enter, and 0 four after the five in its doorway.
 pub const LEAST: &str =
     "rme 1 procs 2 limit 10 cap 1\nlock 0\nlock 1\nstep 0 5\nstep 1 9\nstep 0 4\n";
 
@@ -99,7 +99,7 @@ fn shrinks_over_devices_that_fail(rt: HostRuntime) -> Result<(), Fail> {
     all_come_to(&rt, rt.alloc(), &rows)
 }
 
-/// What `hunt --shrink` writes is what `shrink` makes of what the same hunt writes.
+/// What `hunt --shrink` writes is what `shrink` makes of the schedule that the same hunt writes.
 #[test]
 fn hunts_shrunk(rt: HostRuntime) -> Result<(), Fail> {
     let alloc = rt.alloc();

@@ -1,4 +1,4 @@
-//! How a search or a hunt comes on, told and shown.
+//! The progress of a search or a hunt, as it is reported and as it is shown.
 
 use crate::hunts::explores::SHORTEST;
 use crashlab::Variant;
@@ -9,7 +9,7 @@ use crate::support::invocation::all_come_to;
 use crate::support::row::invoked;
 use std::test::Fail;
 
-/// Keeps what it is told. What it has no memory for is lost.
+/// Keeps the progress that is reported to it. What it has no memory for is dropped.
 #[derive(Drop)]
 struct Told {
     all: Vec<(u64, u64)>,
@@ -37,15 +37,15 @@ const HUNT: &str = "rmelab hunt --variant right --seed 1 --rounds 1300 --steps 1
 
 const SEARCH: &str = "rmelab explore --variant right --procs 2";
 
-/// Before the 640th and the 1280th round.
+/// What is shown before the 640th and the 1280th round.
 const HUNT_SHOWN: &str =
     "\r639 rounds, 6390 moves, 6390 moves a second\x1b[K\r1279 rounds, 12790 moves, 6395 moves a second\x1b[K\r\x1b[K";
 
-/// Where the 640th state is tried.
+/// What is shown when the 640th state is tried.
 const SEARCH_SHOWN: &str = "\r657 states, 48 moves deep, 657 states a second\x1b[K\r\x1b[K";
 
-/// The clock is read when the work begins, and then at each 64th state or round: each tenth reading after the first is
-/// another second later. What is found in so many states is what the plain search in bench/explore has found.
+/// The clock is read when the work begins, and then at each 64th state or round. Each tenth reading after the first one is
+/// another second later. The counts of states are those of the plain search in bench/explore.
 #[test]
 fn shown_on_a_terminal(rt: HostRuntime) -> Result<(), Fail> {
     let rows = [
@@ -68,7 +68,7 @@ fn shown_on_a_terminal(rt: HostRuntime) -> Result<(), Fail> {
     all_come_to(&rt, rt.alloc(), &rows)
 }
 
-/// Where standard error is no terminal, nothing is shown.
+/// If standard error isn't a terminal, nothing is shown.
 #[test]
 fn shown_on_no_terminal(rt: HostRuntime) -> Result<(), Fail> {
     let rows = [

@@ -1,4 +1,4 @@
-//! Each request for memory refused in turn, of a lab over the running lock.
+//! Each request for memory of a lab over the running lock is refused in turn.
 
 use crash_plans::Never;
 use robust::{LabFault, LabResult, Spec, run_lab};
@@ -16,7 +16,7 @@ const TWO: Spec = Spec {
     width: 1,
 };
 
-/// The gates of a lab, one for each worker, as many times as there are pieces, and once more.
+/// The gates of a lab, one for each worker: as many lists as there are pieces, and one more.
 fn gates(alloc: Global) -> Result<Vec<Vec<Never>>, AllocError> {
     let mut all = Vec::with_capacity(alloc, PIECES + 1)?;
     for _ in 0..PIECES + 1 {

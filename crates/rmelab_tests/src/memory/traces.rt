@@ -1,4 +1,4 @@
-//! Judging a trace holds one line of it: a long trace meets as many refusals of memory as a short one.
+//! Judging a trace keeps one line of it in memory: a long trace meets as many refusals as a short one.
 
 use memory_limit::{PIECES, Scarce};
 use schedule::Text;
@@ -14,7 +14,7 @@ ready 1
 enter 0
 ";
 
-/// How many requests for memory are refused, one after the other, until the trace is found fine; none if it never is.
+/// How many requests for memory are refused in a row until the verdict of the trace is fine. None: it never is.
 fn refusals(alloc: Global, text: &[u8]) -> Result<Option<u64>, AllocError> {
     let mut scarce = Scarce::new(alloc)?;
     let mut refused = 0u64;

@@ -1,4 +1,4 @@
-//! Each request for memory refused in turn, of worlds, images and replays.
+//! Each request for memory of worlds, images and replays is refused in turn.
 
 use rmeworld::{read_image, write_image};
 use rmecore::Refusal;
@@ -33,7 +33,7 @@ const TORN: &str =
 const REPORT: &str =
     "begin 0\nready 0\nenter 0\nanswer 0 clean\ncommit 0 1 77\ncrash 0\nreenter 0\nanswer 0 owner-died\nshow 0 0 1 77\nanswer 0 mended\nanswer 0 already\nwords 0 0 1 1\nmail 1 closed 0 ruined 0\nmessage 0 0 1 77\nverdict fine\n";
 
-/// Replays into room that is there.
+/// Replays into a buffer that is already there.
 fn torn(alloc: Global, printed: &mut [u8]) -> Result<Verdict, ReplayFault> {
     let mut source = Text::new(TORN.as_bytes(), 64);
     let mut sink = ToWriter::new(Cursor::new(printed));

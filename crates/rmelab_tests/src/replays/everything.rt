@@ -1,4 +1,5 @@
-//! The longest worked row: 64 processes, two of them in the line, and then each crashes. What it saves is gone on from.
+//! The longest worked row: 64 processes, two of them in the line, and then each crashes. Another replay starts from the
+//! image that it saves.
 
 use crate::support::invocation::{Printed, ran};
 use std::alloc::Global;
@@ -29,7 +30,7 @@ fn everything(alloc: Global) -> Result<String, Fail> {
     Ok(schedule)
 }
 
-/// What stands at the end: 0 is inside, 1 has number 2, and no other is in the line.
+/// The words at the end: process 0 is inside, 1 has number 2, and no other is in the line.
 fn add_standing(alloc: Global, report: &mut String) -> Result<(), Fail> {
     report.push_str("words 0 0 1 1\nwords 1 0 2 0\n")?;
     add_lines(alloc, report, ("words", " 0 0 0"), 2)?;
@@ -45,7 +46,7 @@ fn report_of_everything(alloc: Global) -> Result<String, Fail> {
     Ok(report)
 }
 
-/// The image: its data words, 15 and one more for each process but the first, are 0.
+/// The image. Its data words, 15 and one more for each process but the first, are 0.
 fn image_of_everything(alloc: Global) -> Result<String, Fail> {
     let mut image = String::from_str(alloc, "{\"cap\":1,\"data\":[0")?;
     for _ in 1..78u64 {
@@ -73,7 +74,7 @@ fn crash_of_everything(rt: HostRuntime) -> Result<(), Fail> {
     let schedule = everything(alloc)?;
     let found = ran(&rt, alloc, "rmelab replay --save a.json", "", &schedule)?;
     comes_to(&rt, &found, &report_of_everything(alloc)?, &image);
-    // 1 has read its words again, and has its number still: no word changes
+    // Process 1 has reread its words and still has its number: no word changes.
     let mut schedule = String::from_str(alloc, HEADER)?;
     schedule.push_str("lock 1\nstep 1 5\nlock 0\nstep 0 4\n")?;
     let mut report = String::from_str(alloc, "reenter 0\nanswer 0 owner-died\n")?;

@@ -1,4 +1,4 @@
-//! Replays that save an image, and replays that go on from one.
+//! Replays that save an image, and replays that start from one.
 
 use crate::support::invocation::{all_come_to, prints, ran};
 use crate::support::row::invoked;
@@ -82,7 +82,7 @@ fn wide_torn(rt: HostRuntime) -> Result<(), Fail> {
     goes_on(&rt, rt.alloc(), WIDE_TORN_IMAGE, schedule, report, "")
 }
 
-/// The header has to name the image's sizes, a wider width makes the image wider, and a broken image is named by its rule.
+/// The header has to name the image's sizes. A greater width widens the image. A broken image is refused with its rule.
 #[test]
 fn images_and_headers(rt: HostRuntime) -> Result<(), Fail> {
     let alloc = rt.alloc();

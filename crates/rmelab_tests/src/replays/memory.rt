@@ -1,4 +1,4 @@
-//! Each request for memory refused in turn, of replays and of a trace.
+//! Each request for memory of replays and of a trace is refused in turn.
 
 use crate::replays::reports::{IN_ORDER, OBJECT, REPORT, SMALLEST};
 use crate::replays::stepwise::TOLD;

@@ -1,4 +1,4 @@
-//! Schedules, their reports, and what is refused behind a beginning of one.
+//! Schedules, their reports, and a refusal after part of a report.
 
 use crate::support::invocation::prints;
 use std::alloc::Global;
@@ -96,7 +96,7 @@ const HOSTILE_TEXT_1: (&str, &str, &str) = (
     "rmelab: line 4: refused 13\n",
 );
 
-/// Each schedule is replayed to this report, and this is told.
+/// Each schedule is replayed to this report, and this is printed on standard error.
 fn replay<'a>(
     rt: &(impl Threads + Wait + Sync),
     alloc: Global,

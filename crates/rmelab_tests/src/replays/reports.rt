@@ -1,5 +1,5 @@
-//! Replays and traces as whole invocations: words, standard input and files, then what is printed and told, the exit status
-//! and the file saved.
+//! Replays and traces as whole invocations: the words, standard input and files; then what is printed on both outputs, the
+//! exit status and the file that is saved.
 
 use commands::command::command;
 use cli::arguments::order::Command;
@@ -177,7 +177,7 @@ fn lines_of_faults(rt: HostRuntime) -> Result<(), Fail> {
     all_come_to(&rt, rt.alloc(), &rows)
 }
 
-/// A command over a reader and two writers in memory tells the same.
+/// A command over a reader and two writers in memory prints the same.
 #[test]
 fn a_command_alone(rt: HostRuntime) -> Result<(), Fail> {
     let alloc = rt.alloc();

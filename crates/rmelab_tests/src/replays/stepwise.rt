@@ -1,4 +1,4 @@
-//! Replays that tell each step: under a variant, from an image, as JSON, and up to a line that is refused.
+//! Replays that print each step: under a variant, from an image, as JSON, and up to a line that is refused.
 
 use crate::support::fake::Failing;
 use crate::support::invocation::all_come_to;
@@ -33,7 +33,7 @@ const MENDED_FIRST: &str = "rme 1 procs 1 limit 10 cap 1\nlock 0\nstep 0 8\ncons
 const TOLD_TO_LINE_4: &str =
     "at 0 rest r choosing 0\nat 0 rest r number 0\nat 0 rest r inside 0\nat 0 doorway w choosing=1\nbegin 0\nat 0 waiting w number=1\nready 0\nat 0 waiting w choosing=0\nat 0 section w inside=1\nenter 0\nat 0 section r ruined 0\nanswer 0 clean\n";
 
-/// Under `no-look` the second waits for nothing and comes in while the first is inside.
+/// Under `no-look` the second process waits for nothing, and enters while the first is inside.
 const UNLOOKED: &str =
     "rme 1 procs 2 limit 10 cap 1\nlock 0\nlock 1\nstep 0 5\nstep 1 6\nstep 1 4\nstep 0 6\n";
 

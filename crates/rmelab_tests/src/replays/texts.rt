@@ -1,4 +1,4 @@
-//! Texts that are no schedules, and schedules whose first line or step is refused.
+//! Texts that aren't schedules, and schedules whose first line or step is refused.
 
 use crate::support::invocation::prints;
 use std::test::Fail;

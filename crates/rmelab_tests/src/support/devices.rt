@@ -5,7 +5,7 @@ use std::io;
 use std::io::{ErrorKind, Read, Write};
 use std::time::{Clock, Duration};
 
-/// Bytes that are read. The second read may fail.
+/// Bytes to be read. The second read may fail.
 #[derive(Drop)]
 pub struct Feed<'a> {
     left: &'a [u8],
@@ -36,7 +36,7 @@ impl Read for Feed<'_> {
     }
 }
 
-/// A writer that keeps what it is given, or fails, or fails where it is flushed.
+/// A writer that keeps what is written to it, or fails, or fails when it is flushed.
 #[derive(Drop)]
 pub struct Paper<'a> {
     pub text: &'a mut Vec<u8>,
@@ -61,7 +61,7 @@ impl Write for Paper<'_> {
     }
 }
 
-/// A clock that goes on by a tenth of a second each time that it is read.
+/// A clock that advances by a tenth of a second each time it is read.
 #[derive(Drop)]
 pub struct Ticking {
     read: Cell<u64>,

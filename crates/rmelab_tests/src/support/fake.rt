@@ -1,4 +1,4 @@
-//! A folder in memory, which may fail, and what of an invocation's devices fails.
+//! A folder in memory, which may fail, and which device of an invocation fails.
 
 use crate::support::devices::Feed;
 use histories::Log;
@@ -6,7 +6,7 @@ use commands::folder::{FileFault, Folder};
 use schedule::FromReader;
 use std::alloc::Global;
 
-/// What fails.
+/// Which device fails.
 #[derive(Clone, Copy, PartialEq, Eq)]
 pub enum Failing {
     Nothing,
@@ -16,17 +16,17 @@ pub enum Failing {
     Flush,
     /// Standard error.
     Told,
-    /// Standard error, where it is shown how a command comes on.
+    /// Standard error, when progress is shown.
     Shown,
     /// A file that is opened or saved.
     File,
-    /// Memory, where a file is opened or saved.
+    /// Memory, when a file is opened or saved.
     FileMemory,
     /// The second read of a file.
     FileRead,
 }
 
-/// A folder of two files in memory. What is saved is kept apart.
+/// A folder of two files in memory. What is saved is kept separately.
 #[derive(Drop)]
 pub struct Fake<'a> {
     first_name: &'a str,
@@ -59,7 +59,7 @@ impl<'a> Fake<'a> {
     }
 }
 
-/// What a file that is opened or saved fails with.
+/// The fault of opening or saving a file.
 fn fault_of(failing: Failing) -> Option<FileFault> {
     match failing {
         Failing::File => Some(FileFault::Failed),

@@ -1,4 +1,4 @@
-//! Runs the program as rows say, over a folder in memory and devices that may fail, and compares all that comes of it.
+//! Runs the program as a row says, over a folder in memory and devices that may fail, and compares its whole output.
 
 use crate::support::devices::{Feed, Paper, Ticking};
 use crate::support::fake::{Failing, Fake};
@@ -21,7 +21,7 @@ pub fn words_of(alloc: Global, line: &str) -> Result<Vec<String>, AllocError> {
     Ok(words)
 }
 
-/// What an invocation has written to its two outputs and to a file, what it has shown, and the exit status.
+/// What an invocation has written to its two outputs and to a file, what it has shown, and its exit status.
 #[derive(Drop)]
 pub struct Printed {
     pub out: Vec<u8>,
@@ -32,7 +32,7 @@ pub struct Printed {
     pub code: ExitCode,
 }
 
-/// Runs the program on these words, else as the row says.
+/// Runs the program on these words, and otherwise as the row says.
 pub fn printed_by(
     rt: &(impl Threads + Wait + Sync),
     alloc: Global,
@@ -83,7 +83,7 @@ pub fn printed_by(
     }
 }
 
-/// It has written this there, or the test has failed.
+/// Fails the test, unless the invocation has written this to this place.
 fn wrote(line: &str, place: &str, found: &[u8], wanted: &str) -> Result<(), Fail> {
     if found == wanted.as_bytes() {
         return Ok(());
@@ -92,7 +92,7 @@ fn wrote(line: &str, place: &str, found: &[u8], wanted: &str) -> Result<(), Fail
     Err(Fail::new(format_args!("{line}: {place}: {found}")))
 }
 
-/// Runs the program on these words, else as the row says, and compares all that comes of it.
+/// Runs the program on these words, and otherwise as the row says, and compares its whole output.
 pub fn comes_to(
     rt: &(impl Threads + Wait + Sync),
     alloc: Global,
@@ -117,7 +117,7 @@ pub fn comes_to(
     Ok(())
 }
 
-/// Runs the program as each of the rows says.
+/// Runs the program as each of the rows says, and compares its whole output.
 pub fn all_come_to(
     rt: &(impl Threads + Wait + Sync),
     alloc: Global,

@@ -1,8 +1,8 @@
-//! A row: an invocation, and what has to come of it.
+//! A row: an invocation, and the output that is expected.
 
 use crate::support::fake::Failing;
 
-/// An invocation, and what comes of it.
+/// An invocation, and the output that is expected.
 #[derive(Clone, Copy)]
 pub struct Row<'a> {
     pub(crate) line: &'a str,
@@ -17,7 +17,7 @@ pub struct Row<'a> {
     pub(crate) status: u8,
 }
 
-/// These words over this standard input print this.
+/// With these words and this standard input, this is printed.
 pub fn invoked<'a>(line: &'a str, input: &'a str, printed: &'a str) -> Row<'a> {
     Row {
         line,
@@ -34,7 +34,7 @@ pub fn invoked<'a>(line: &'a str, input: &'a str, printed: &'a str) -> Row<'a> {
 }
 
 impl<'a> Row<'a> {
-    /// In a folder of these files.
+    /// In a folder with these two files.
     pub fn among(self, first: (&'a str, &'a str), second: (&'a str, &'a str)) -> Row<'a> {
         Row {
             files: [first, second],
@@ -42,12 +42,12 @@ impl<'a> Row<'a> {
         }
     }
 
-    /// In a folder of this file.
+    /// In a folder with this file.
     pub fn beside(self, first: (&'a str, &'a str)) -> Row<'a> {
         self.among(first, ("", ""))
     }
 
-    /// While this fails.
+    /// While this device fails.
     pub fn where_fails(self, failing: Failing) -> Row<'a> {
         Row { failing, ..self }
     }
@@ -61,7 +61,7 @@ impl<'a> Row<'a> {
         }
     }
 
-    /// The file of this name is written.
+    /// The file with this name is written.
     pub fn saves(self, name: &'a str, text: &'a str) -> Row<'a> {
         Row {
             saved: (name, text),
@@ -69,7 +69,7 @@ impl<'a> Row<'a> {
         }
     }
 
-    /// It ends with this status, and this on standard error.
+    /// It ends with this exit status, and with this on standard error.
     pub fn ends(self, status: u8, told: &'a str) -> Row<'a> {
         Row {
             status,

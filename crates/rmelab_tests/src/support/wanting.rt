@@ -1,4 +1,4 @@
-//! Each request for memory refused in turn, of whole invocations.
+//! Each request for memory of whole invocations is refused in turn.
 
 use crate::support::devices::Feed;
 use crate::support::fake::Fake;
@@ -14,7 +14,7 @@ use std::sync::Wait;
 use std::test::Fail;
 use std::thread::Threads;
 
-/// The words of a command line, once for each time that it is tried.
+/// The words of a command line, once for each try.
 fn all_words(alloc: Global, line: &str) -> Result<Vec<Vec<String>>, AllocError> {
     let mut all = Vec::with_capacity(alloc, PIECES)?;
     for _ in 0..PIECES {
@@ -23,7 +23,7 @@ fn all_words(alloc: Global, line: &str) -> Result<Vec<Vec<String>>, AllocError> 
     Ok(all)
 }
 
-/// Runs the program into room that is there.
+/// Runs the program into buffers that are already there.
 fn ends(
     rt: &(impl Threads + Wait + Sync),
     alloc: Global,
@@ -48,7 +48,7 @@ fn ends(
     )
 }
 
-/// It holds, or the test of this row has failed.
+/// Fails the test of this row, unless the condition holds.
 fn check(holds: bool, line: &str, what: &str) -> Result<(), Fail> {
     if holds {
         return Ok(());
@@ -56,7 +56,8 @@ fn check(holds: bool, line: &str, what: &str) -> Result<(), Fail> {
     Err(Fail::new(format_args!("{line}: {what}")))
 }
 
-/// The program tells that it wants memory, and ends with 3, until it meets no refusal; then it comes to what the row says.
+/// The program reports that it is out of memory and ends with 3, until it meets no refusal. Then its output is what the row
+/// says.
 fn wants(rt: &(impl Threads + Wait + Sync), alloc: Global, row: &Row<'_>) -> Result<(), Fail> {
     let line = row.line;
     let mut all = all_words(alloc, line)?;
@@ -83,7 +84,7 @@ fn wants(rt: &(impl Threads + Wait + Sync), alloc: Global, row: &Row<'_>) -> Res
     check(0 < refused && refused < PIECES as u64, line, "refused")
 }
 
-/// Of each of the rows each request for memory is refused in turn.
+/// Each request for memory of each of the rows is refused in turn.
 pub fn all_want_memory(
     rt: &(impl Threads + Wait + Sync),
     alloc: Global,

@@ -1,4 +1,4 @@
--- A call that has been started is under way, and has not many steps left.
+-- A call that has been started is under way, and has few steps left.
 use Rattle.std.proofs.Common.{◌≡◌, ℕ, zero, suc, ◌+◌, ◌*◌, ◌≤◌, Bool, true, false, ◌&&◌, ◌==◌, nat_lt, nat_le, if◌then◌else◌, List, [], ◌∷◌, ◌++◌, length, Some, None, IsSome, unwrap_or, refl, sym, ap, ◌∙◌, subst, arith, length-append, eqb-true}
 use Rattle.execution.proofs.Common.{and_parts, ltb-true, Place, Rest, Dead, Wait, Inside, Layout, Reply, IsLayout, last_at, held, place_at, tail, Script, Get as Asks, Put as Writes, Done, puts, gets, in_row}
 use Rattle.execution.proofs.Common.{append, repair, redo, consistent, apply_steps, store_steps, record_of, Call, Lock, Unlock, Consistent, Recover, Append, Close, Withdraw, Why, Errand, Free, Doing, Spot}
@@ -53,7 +53,7 @@ within_append l p seq value few = λ closed count last.
 within_redo : (l : Layout) (p at seq : ℕ) (value : List ℕ) → length value ≤ 8 → Within 20 (redo l p at seq value)
 within_redo l p at seq value few = within_more (length (apply_steps l p (record_of at seq value)) + 0) 20 (redo l p at seq value) (let s = apply_length l p (record_of at seq value) in omega arith) (within_puts (apply_steps l p (record_of at seq value)) (Done (reply.Mended true)) 0 tt)
 
--- each reply of a script
+-- P holds of each reply of a script
 module _ (P : Reply → Type 0) where
   pub replies_puts : (xs : List (ℕ × ℕ)) (r : Script Reply) → Replies P r → Replies P (puts xs r)
   replies_puts [] r h = h
@@ -76,7 +76,7 @@ module _ (P : Reply → Type 0) where
   replies_tail (Asks i rest) v h = h v
   replies_tail (Writes i x rest) v h = h
 
--- those of an append
+-- the replies of an append
 appends : (l : Layout) (p seq : ℕ) (value : List ℕ) → Replies (Appends seq) (append l p seq value)
 appends l p seq value = λ closed count last.
     let P = Appends seq in

@@ -1,4 +1,4 @@
--- The words of the board are what was put there last; and since its Enter a process's own puts are the last.
+-- A word of the board holds what was put there last. Since its Enter, a process's own puts are the last ones.
 use Rattle.std.proofs.Common.{◌≡◌, ℕ, ◌+◌, ◌*◌, ◌<◌, ◌==◌, ◌&&◌, nat_lt, lt-ltb, Bool, true, false, if◌then◌else◌, List, [], ◌∷◌, ◌++◌, Option, Some, None, refl, sym, ap, ◌∙◌, subst, arith, append_assoc, eqb-true, eq-eqb, inl, inr}
 use Rattle.execution.proofs.Common.{and_parts, cases_Bool, eqb-false, true≢false, Kind, Word, Data as DataAt, put, is_store, put_same, put_other, Layout, IsLayout, Words}
 use Rattle.execution.proofs.Common.{board_at, size, place_at, Answer, Call, Happening, Scene, at_first, Story, last_scene, put_cell, holders_put, TakenStep, Setup, is_data, or_earlier, last_put, value_or}
@@ -68,7 +68,7 @@ all_back : (p : ℕ) (xs ys : List Happening) → AllPutBy p (xs ++ ys) → AllP
 all_back p [] ys h = h
 all_back p (x ∷ xs) ys h = all_back p xs ys h.1
 
--- a put of the board stores in a data word
+-- a put of the board stores into a data word
 stores_data : (k : ℕ) (word : Word) (kind : Kind) → (is_store kind && is_data k word) ≡ true → (word ≡ DataAt k) × (is_store kind ≡ true)
 stores_data k (DataAt j) kind e = let both = and_parts (is_store kind) (j == k) e in (ap DataAt (eqb-true j k both.1), both.0)
 stores_data k _ kind e = absurd (true≢false (sym (and_parts (is_store kind) false e).1))

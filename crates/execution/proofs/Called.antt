@@ -1,4 +1,4 @@
--- Steps make a call.
+-- Steps of a call are a call.
 use Rattle.std.proofs.Common.{◌≡◌, ℕ, suc, ◌+◌, ◌⊎◌, true, false, List, [], ◌∷◌, ◌++◌, length, Option, Some, None, Result, Ok, Err, OnErr, All, refl, sym, ap, ◌∙◌, subst, inl, inr, arith, append-nil, append_assoc}
 use Rattle.execution.proofs.Common.{All-nil, All-cons, is_glance, one_more, Answer, Call, TakenStep, Served, and_call, starts, FirstStart, AreMoves, FirstCrash, answers_of, blocked_of, Takes, blocks, Ran}
 use Rattle.execution.proofs.Common.{CutOff, Crashes, Pass, IsPass, EndsWith, Adds, Calls, Seated, many_more, fell, own, IsRun}
@@ -20,7 +20,7 @@ pub ends_cons : (e f : TakenStep) (fs es : List TakenStep) → EndsWith (f ∷ f
 ends_cons e f fs es h [] last k = absurd (let t : f ∷ fs ≡ [] = cc in cc)
 ends_cons e f fs es h (g ∷ front) last k = h front last (let t : f ∷ fs ≡ front ++ last ∷ [] = cc in t)
 
--- steps one after another, each with its entry
+-- steps in a row, each with its entry
 abbrev pub Grows : Pass → List TakenStep → Pass → Type 0
 Grows x [] y = y ≡ x
 Grows x (e ∷ es) y = (z : Pass) × (e.by ≡ x.by) × Adds x e z × Grows z es y
@@ -56,7 +56,7 @@ grows_taken x y (e ∷ es) h =
 pub calls_of : (x y : Pass) (mine : List TakenStep) → IsRun x.setup x.seen → Takes x mine y → Calls x mine y
 calls_of x y mine run h = calls_grown x y mine run (grows_taken x y mine h)
 
--- where nothing is owed, the steps carry nothing
+-- where nothing is pending, the steps carry nothing
 nothing_carried : (z y : Pass) (es : List TakenStep) → Takes z es y → z.fallen ≡ false → z.start ≡ None → All (λ (f : TakenStep). f.step.crashed ≡ false) es × All (λ (f : TakenStep). f.step.start ≡ None) es × (starts es ≡ [])
 nothing_carried z y [] h calm none = (All-nil _, All-nil _, refl)
 nothing_carried z y (e ∷ es) h calm none =
@@ -125,7 +125,7 @@ crashes_of x y call mine pass start cut =
       idle = ap (λ (p : Pass). p.start) is;
     }
 
--- steps with an answer are some
+-- there is at least one step with an answer
 pub some_steps : (x : Seated) (mine : List TakenStep) (a : Answer) → answers_of x.pass mine ≡ a ∷ [] → mine ≡ [] → ⊥
 some_steps x mine a e none = absurd (let k : [] ≡ a ∷ [] = sym (ap (answers_of x.pass) none) ∙ e in cc)
 
@@ -139,7 +139,7 @@ pub on_err : {T E : Type 0} (P : Type 0) (r : Result T E) → P → OnErr r P
 on_err P (Ok x) p = tt
 on_err P (Err e) p = p
 
--- one asking more than steps
+-- one more asking than steps
 pub fell_more : (mine : List TakenStep) (asked before now : ℕ) → now ≡ one_more before → before ≡ many_more (length mine) asked → now ≡ many_more (length mine + 1) asked
 fell_more mine asked before now e f = e ∙ ap one_more f ∙ ap (λ (k : ℕ). many_more k asked) (let s : suc (length mine) ≡ length mine + 1 = omega arith in s)
 

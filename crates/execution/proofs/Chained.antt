@@ -1,4 +1,4 @@
--- Calls one after another are calls.
+-- Calls in a row are calls.
 use Rattle.std.proofs.Common.{◌≡◌, ℕ, suc, ◌+◌, ◌⊎◌, Bool, false, List, [], ◌∷◌, ◌++◌, length, Option, Some, None, All, refl, sym, ap, ◌∙◌, subst, inl, inr, arith, append-nil, append_assoc, length-append}
 use Rattle.execution.proofs.Common.{All-nil, All-cons, All-append, is_glance, one_more, Answer, Call, Lock, Spot, at_rest, TakenStep, Setup, and_call, starts, FirstStart, FirstCrash, answers_of}
 use Rattle.execution.proofs.Common.{blocked_of, Ran, CutOff, Crashes, StartsWith, FirstStarts, answers_from, blocked_from, ServedAll, CrashesIn, Calm, Fell, CutBy, CutIn, AnsweredBy, LockBy, LockEnds}
@@ -73,7 +73,7 @@ first_more : (c d : Call) (cs ds : List Call) (a b : List TakenStep) → FirstSt
 first_more c d [] ds a b h = starts_on c a b (starts_alone c a h)
 first_more c d (k ∷ ks) ds a b h = starts_on c a b h
 
--- the base is the same where only a start is owed
+-- the base is the same where only a start is pending
 calls_from : (y z : Pass) (c : Call) (n : List TakenStep) → Calls (record y { start = Some c }) n z → Calls y n z
 calls_from y z c n d = record { table = d.table; setup = d.setup; by = d.by; since = d.since; seen = d.seen; mine_are = d.mine_are; last = d.last; run = d.run }
 

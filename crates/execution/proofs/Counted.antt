@@ -1,4 +1,4 @@
--- What a member counts of its calls is the table's.
+-- The steps that a member counts of its calls are those of the table.
 use Rattle.std.proofs.Common.{◌≡◌, ℕ, zero, suc, ◌+◌, ◌^◌, ◌<◌, ◌≤◌, List, [], ◌∷◌, ◌++◌, length, drop, Option, Some, None, Result, Ok, Err, IfOk, IfErr, OnOk, refl, sym, ap, ◌∙◌, subst, arith}
 use Rattle.execution.proofs.Common.{one_more, Layout, IsLayout, Answer, Call, Lock, Consistent, Append, most_steps, is_idle, IsSize, TakenStep, LockFault, Setup, Served}
 use Rattle.execution.proofs.Common.{answers_of, blocked_of, Takes, blocks, Ran, CutOff, Calm, Turning, LockEnds, ready, Pass, IsPass, spot_now, Calls, Seated, began, many_more, own, KeepsTable}
@@ -94,14 +94,14 @@ pub few_cut : (x z : Seated) (call : Call) (mine : List TakenStep) → IsPass x.
 few_cut x z call mine pass start cut none =
     few_taken x z cut.last.pass call mine (most_steps x.pass.setup.layout call) pass start cut.takes (unblocked (most_steps x.pass.setup.layout call) (blocked_of x.pass mine) none) (ap (λ (u : Seated). u.steps) cut.crash ∙ cut.steps)
 
--- from its start on a call counts from 0
+-- from its start on, a call counts from 0
 few_now : (x z : Seated) (call : Call) (most : ℕ) → CountsAtMost most (began x call) z → z.steps ≤ most
 few_now x z call most h = let low = many_at_most h.0 in let few = h.1 in let is : z.steps ≡ many_more h.0 0 = h.2 in omega arith
 
 pub few_begun : (x u z : Seated) (call : Call) → u ≡ began x call → CountsAtMost (most_steps u.pass.setup.layout call) u z → z.steps ≤ most_steps x.pass.setup.layout call
 few_begun x u z call is h = few_now x z call (most_steps x.pass.setup.layout call) (subst (λ (w : Seated). CountsAtMost (most_steps w.pass.setup.layout call) w z) is h)
 
--- the same of a call that sets out from anywhere
+-- the same of a call that may start from anywhere outside the section
 pub few_out : (x u z : Seated) (call : Call) (most : Layout → ℕ) → u ≡ began (ready x) call → CountsAtMost (most u.pass.setup.layout) u z → z.steps ≤ most x.pass.setup.layout
 few_out x u z call most is h =
     let few : z.steps ≤ most (ready x).pass.setup.layout = few_now (ready x) z call (most (ready x).pass.setup.layout) (subst (λ (w : Seated). CountsAtMost (most w.pass.setup.layout) w z) is h) in

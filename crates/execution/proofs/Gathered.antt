@@ -39,7 +39,7 @@ answers_has_first first (x ∷ xs) = has-append_left first.pass.by (answers_of f
 pub knows_some : (first : Seated) (xs : List Seated) (n : ℕ) (k : Known) → Knows first xs n k → has (stepper k.view) k.view.answers ≡ true
 knows_some first xs n k h = subst (λ (ps : List ℕ). has (slice_index ps 0) ps ≡ true) (sym h.answers) (ap (λ (p : ℕ). has p (answers_of first xs)) (answers_first first xs) ∙ answers_has_first first xs)
 
--- whoever was joined is answered for
+-- each process whose member was joined is answered for
 answers_has : (first : Seated) (xs : List Seated) (p : ℕ) → has_member p xs ≡ true → has p (answers_of first xs) ≡ true
 answers_has first [] p h = absurd (true≢false (sym h))
 answers_has first (x ∷ xs) p h =
@@ -62,7 +62,7 @@ answers_each first (x ∷ xs) =
     All-cons P x xs (has-append_right x.pass.by (answers_of first xs) (x.pass.by ∷ []) (has_one x.pass.by))
     (λ i d h. has-append_left _ (answers_of first xs) (x.pass.by ∷ []) (answers_each first xs i d h))
 
--- a beginning of a beginning
+-- a prefix of a prefix
 begins_on : (xs ys zs : List TakenStep) → Begins xs ys → Begins ys zs → Begins xs zs
 begins_on xs ys zs a b = (a.0 ++ b.0, b.1 ∙ ap (λ (l : List TakenStep). l ++ b.0) a.1 ∙ append_assoc xs a.0 b.0)
 
@@ -100,7 +100,7 @@ knows_first x k e =
       };
     }
 
--- a glance more
+-- one more glance
 module _ (first : Seated) (xs : List Seated) (n : ℕ) (k l : Known) (word : Word) (found : ℕ) (h : Knows first xs n k) (d : Did (glanced word) k found l) where
   abbrev front : List TakenStep
   front = k.view.seen ++ d.between
@@ -148,7 +148,7 @@ module _ (first : Seated) (xs : List Seated) (n : ℕ) (k l : Known) (word : Wor
   glanced_on : Knows first xs (n + 1) l
   glanced_on = record { setup = d.setup ∙ h.setup; answers = answers; tells = λ run inside told. told_more run inside }
 
--- a seat more
+-- one more seat
 joined_on : (first : Seated) (xs : List Seated) (n : ℕ) (k : Known) (x : Seated) → Knows first xs n k → Knows first (x ∷ xs) n (joined k (alone x.pass.setup x.pass.by x.pass.seen))
 joined_on first xs n k x h =
     record {
@@ -215,7 +215,7 @@ stays_on s k l m x y = record { setup = y.setup ∙ x.setup; answers = y.answers
 pub still_all : (s : Setup) (k l : Known) → Stays s k l → AnswersAll s k.view → AnswersAll s l.view
 still_all s k l x all = (x.setup ∙ all.0, λ p h. subst (λ (ps : List ℕ). has p ps ≡ true) (sym x.answers) (all.1 p h), all.2)
 
--- what a later glance reads stood there before
+-- what a later glance reads was in the word before
 pub found_first : (s : Setup) (word : Word) (k l m : Known) (found : ℕ) → Stays s k l → Looked s word l found m → found ≡ reading (end_of s k.view.seen) word
 found_first s word k l m found x y = y.found_is ∙ reading_same (end_of s k.view.seen) (end_of s l.view.seen) word x.words x.cells
 

@@ -15,7 +15,7 @@ use Rattle.execution.proofs.Begun.{replies_tail}
 use Rattle.execution.proofs.Lasting.{Burns, burns}
 use Rattle.execution.proofs.Under.{LockTo, lock_to}
 
--- a step with this answer, blocked or not: the call is at its end, or goes on, with a step fewer unless it was blocked
+-- a step with this answer, blocked or not: the call has ended, or it is under way with one step fewer, unless it was blocked
 abbrev pub SpotTo : Call → ℕ → ℕ → Option Answer → Bool → Spot → Type 0
 SpotTo call n k (Some a) blocked t = Fits call a × Leaves call a t
 SpotTo call n k None blocked t = (is_idle t ≡ false) × IsUnder call t × Lasts n (if blocked then suc k else k) t

@@ -1,4 +1,4 @@
--- Each step keeps the rule. What is proved here knows nothing of the automaton.
+-- Each step keeps the rule. What is proved here doesn't use the lock's machine.
 use Rattle.std.proofs.Common.{◌≡◌, ◌≢◌, ◌⊎◌, ℕ, zero, suc, ◌+◌, ◌<◌, ◌≤◌, ◌==◌, ltb, Bool, true, false, cond, All, true≢false, List, [], ◌∷◌, ◌++◌, length, set, replicate, refl, sym, ap, ◌∙◌, subst, inl, inr, ⊎_elim, arith, eqb-true, eq-eqb, ne_eqb, length-set, length-append, append_assoc, append-nil, ltb-true, ltb-false}
 use Rattle.execution.proofs.Common.{set-get_or, or_cases, All-nil, All-cons, All-append, slice_index, dite, ℕ_discrete, keeps, Allows, Splits, Joins, opening, Spot, at_rest, at_first, reading, Known, Step, TakenStep, View}
 use Rattle.execution.proofs.Common.{Setup, count_from, joined, IsIn, Did, MayLoad, stepper, entry_of, opening_known, longer, spent_known, IsAnswered, AllFit, IsMember, IsKept, Kept, May, MayStore, MayPass}
@@ -16,7 +16,7 @@ nothing_after : (xs ys zs : List TakenStep) → xs ≡ ys ++ zs → length xs �
 nothing_after xs ys [] e h = refl
 nothing_after xs ys (z ∷ zs) e h = absurd (let k : length xs ≡ length (ys ++ z ∷ zs) = ap length e in omega (arith, length-append ys (z ∷ zs)))
 
--- a process that has all its entries in a beginning has none after it
+-- a process that has all its entries in a prefix has none after it
 pub none_after : (p : ℕ) (log xs rest : List TakenStep) → log ≡ xs ++ rest → own p log ≡ own p xs → own p rest ≡ []
 none_after p log xs rest e h = nothing_after (own p log) (own p xs) (own p rest) (ap (own p) e ∙ own-append p xs rest) (ap length h)
 
@@ -49,7 +49,7 @@ within [] i x h = absurd (some-ne-none x (sym h))
 within (y ∷ ys) zero x h = omega arith
 within (y ∷ ys) (suc i) x h = let k : i < length ys = within ys i x h in omega arith
 
--- the seat id goes on answering for p
+-- seat id still answers for p
 member_set : (views : List Known) (owner : ℕ → ℕ) (id : ℕ) (v w : Known) (p : ℕ) → get_elem? views id ≡ some v → (has p v.view.answers ≡ true → has p w.view.answers ≡ true) → IsMember views owner p → IsMember (set views id w) owner p
 member_set views owner id v w p at keep m =
     dite (ℕ_discrete (owner p) id)
@@ -76,7 +76,7 @@ module _ (sizes : Setup) (log : List TakenStep) (owner : ℕ → ℕ) (words : L
       let goes : Goes sizes (spot_of sizes p v.view.seen) (happenings e) = subst (λ (z : Setup). Goes z (spot_of z p v.view.seen) (happenings e)) mine.setup may.1 in
       prolongs sizes log e k.run mine.within (subst (λ (q : Spot). Goes sizes q (happenings e)) here goes) reads
 
-  -- what was known of the caller's setup is known of the table's
+  -- what was known of the caller's setup holds of the table's
   known : (P : Setup → Type 0) → P v.view.setup → P sizes
   known P h = subst P mine.setup h
 
@@ -170,7 +170,7 @@ own_same p log xs ys rest e h more f =
     front_empty [] ys e = refl
     front_empty (x ∷ xs) ys e = absurd (cc)
 
--- of two beginnings of one list the shorter begins the longer
+-- of two prefixes of one list the shorter is a prefix of the longer
 two_fronts : (log xs ys r t : List TakenStep) → log ≡ xs ++ r → log ≡ ys ++ t → length xs ≤ length ys → Begins xs ys
 two_fronts log [] ys r t e f h = (ys, refl)
 two_fronts log (x ∷ xs) [] r t e f h = absurd (omega arith)
@@ -186,7 +186,7 @@ longer_left : (log xs ys : List TakenStep) → Begins xs log → Begins ys log �
 longer_left log xs ys f g true is = rw is (let h : length xs < length ys = ltb-true _ _ is in (two_fronts log xs ys f.0 g.0 f.1 g.1 (omega arith), ([], sym (append-nil ys)), g))
 longer_left log xs ys f g false is = rw is (let h : length ys ≤ length xs = ltb-false _ _ is in (([], sym (append-nil xs)), two_fronts log ys xs g.0 f.0 g.1 f.1 h, f))
 
--- the longer of two beginnings begins with both
+-- both of two prefixes are prefixes of the longer
 pub longer_begins : (log xs ys : List TakenStep) → Begins xs log → Begins ys log → Begins xs (longer xs ys) × Begins ys (longer xs ys) × Begins (longer xs ys) log
 longer_begins log xs ys f g = longer_left log xs ys f g (ltb (length xs) (length ys)) refl
 
@@ -222,7 +222,7 @@ at_end [] x y (suc j) h = absurd (some-ne-none y (sym h))
 at_end (z ∷ l) x y zero h = inl h
 at_end (z ∷ l) x y (suc j) h = ⊎_elim (λ m. inl m) (λ (m : (j ≡ length l) × (x ≡ y)). inr (let r : j ≡ length l = m.0 in omega arith, m.1)) (at_end l x y j h)
 
--- the owners once p has the seat i
+-- the owners once seat i answers for p
 given : (ℕ → ℕ) → ℕ → ℕ → ℕ → ℕ
 given owner p i q = cond (q == p) i (owner q)
 
@@ -234,7 +234,7 @@ given_other : (owner : ℕ → ℕ) (p i q : ℕ) → q ≢ p → given owner p 
 unfolding given
 given_other owner p i q h = rw (ne_eqb q p h)
 
--- the owners once all that the seat j had has the seat i
+-- the owners once seat i answers for all processes of seat j
 moved : (ℕ → ℕ) → ℕ → ℕ → ℕ → ℕ
 moved owner j i q = cond (owner q == j) i (owner q)
 
@@ -345,7 +345,7 @@ module _ (sizes : Setup) (log : List TakenStep) (owner : ℕ → ℕ) (words : L
     begins : Begins v.view.seen (longer v.view.seen w.view.seen) × Begins w.view.seen (longer v.view.seen w.view.seen) × Begins (longer v.view.seen w.view.seen) log
     begins = longer_begins log v.view.seen w.view.seen (k.fits id v at).0.0 (k.fits other w there).0.0
 
-    -- what was this seat's stays so, what was the other's becomes so
+    -- the owner of a process of this seat stays, the owner of one of the other's changes
     this_fits : (j : ℕ) (u : View) → j ≢ other → Fits sizes log owner j u → Fits sizes log seats j u
     this_fits j u away f = (
       f.0,

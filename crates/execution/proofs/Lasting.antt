@@ -34,7 +34,7 @@ span_short p i (suc k) =
     let later = span_short p (i + 1) k in
     elim (cases_Bool (i == p)) [ inl e ↦ rw e (omega arith) | inr e ↦ rw e (omega arith) ]
 
--- what a step leaves: where it is blocked the place, else fewer steps
+-- after a step the place is the same, if it was blocked, or fewer steps are left
 abbrev pub Burns : ℕ → Bool → Place → Place → Type 0
 Burns n true s t = t ≡ s
 Burns n false s t = IsFair t × (lock_left n t < lock_left n s)

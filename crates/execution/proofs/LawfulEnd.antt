@@ -29,7 +29,7 @@ from_counted f n d past p =
       | inr h ↦ get_or_past (map f (count_from 0 n)) p d (let l = length-counted f n in omega (arith, l)) ∙ sym (past p h)
     ]
 
--- no event changes the words of a process that there is not
+-- no event changes the words of a process with an index outside the world
 beyond_same : (n limit : ℕ) (w : World) (a : Abstract) (es : List Event) → Tied n w a → Run n limit w es → (p : ℕ) → n ≤ p → (final n limit w es).words p ≡ w.words p
 beyond_same n limit w a [] t run p past = refl
 beyond_same n limit w a (e ∷ es) t run p past =

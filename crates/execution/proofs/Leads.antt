@@ -24,7 +24,7 @@ own_grown p seen between e none by =
     own-append p (seen ++ between) (e ∷ []) ∙ ap (λ (l : List TakenStep). l ++ own p (e ∷ [])) (own-append p seen between ∙ ap (λ (l : List TakenStep). own p seen ++ l) none ∙ append-nil (own p seen))
     ∙ ap (λ (l : List TakenStep). own p seen ++ l) (own_mine p e by)
 
--- an own step more
+-- one more own step
 pub own_seen : (x y : Pass) (e : TakenStep) → e.by ≡ x.by → Adds x e y → own x.by y.seen ≡ own x.by x.seen ++ e ∷ []
 own_seen x y e by a = ap (own x.by) a.seen ∙ own_grown x.by x.seen a.between e a.apart by
 
@@ -33,7 +33,7 @@ spot_after x y e by a =
     subst (λ (t : Setup × ℕ). spot_of t.0 t.1 y.seen ≡ gone x.setup (spot_of x.setup x.by x.seen) (happenings e)) (λ i. (sym a.setup i, sym a.by i))
     (ap (λ (es : List TakenStep). gone x.setup at_rest (spelled es)) (own_seen x y e by a) ∙ ap (gone x.setup at_rest) (spelled_snoc (own x.by x.seen) e) ∙ gone-append x.setup at_rest (spelled (own x.by x.seen)) (happenings e))
 
--- where the step leads, there the process is after it
+-- the process is in the state to which the step leads
 pub spot_moves : (x y : Pass) (kind : Kind) (word : Word) (value : ℕ) → Advances x kind word value y → spot_now y ≡ unwrap_or (moved_spot x kind word value) (spot_now x)
 spot_moves x y kind word value a =
     let here : spot_of y.setup y.by y.seen ≡ unwrap_or (moved_spot x kind word value) (spot_now x) =
@@ -86,7 +86,7 @@ looks_of x k word value l y e d is =
       start = ap (λ (p : Pass). p.start) is;
     }
 
--- the seat goes on being alone
+-- the seat stays one of a single process
 pub alone_after : (x : Pass) (k : Known) (step : Step) (value : ℕ) (l : Known) → k ≡ alone x.setup x.by x.seen → Did step k value l → l ≡ alone x.setup x.by l.view.seen
 alone_after x k step value l e d =
     let setup : l.view.setup ≡ x.setup = d.setup ∙ ap (λ (k : Known). k.view.setup) e in

@@ -1,4 +1,5 @@
--- A task leaves a holder that has nothing to mend so, and a mending that finds the lock ruined leaves the holder unmended.
+-- A task of a holder with nothing to mend leaves nothing to mend. A mending that finds the lock ruined leaves the holder
+-- unmended.
 use Rattle.std.proofs.Common.{◌≡◌, ℕ, ◌==◌, ◌&&◌, Bool, true, false, List, [], ◌∷◌, length, Option, Some, None, unwrap_or, All, ◌⊎◌, inl, inr, refl, sym, ap, ◌∙◌, subst, append-nil}
 use Rattle.execution.proofs.Common.{All-nil, All-cons, All-head, All-tail, Kind, Word, Data as DataAt, is_glance, Place, Inside, Layout, Reply, Mended, Task, Script, Get as Asks}
 use Rattle.execution.proofs.Common.{Put as Writes, Done, script, Answer, NotRecoverable, Mail, Call, Consistent, Append, Close, Mending, Working, by_script, answer_at, answer_by, next_or_same, and_answer}
@@ -12,7 +13,7 @@ use Rattle.execution.proofs.OneStep.{inside_stays}
 use Rattle.execution.proofs.Tabled.{start_leads, start_of, Stepped, stepped}
 use Rattle.execution.proofs.Walked.{OwnMoves}
 
--- inside, mended or not, with what is left of a task or of a mending, or nothing to do
+-- inside, mended or not, with the rest of a task or of a mending under way, or with no call under way
 abbrev WorkBy : Bool → Place → Bool → Errand → Type 0
 WorkBy m Inside b Free = b ≡ m
 WorkBy m Inside b (Doing (Working t) left) = b ≡ m
@@ -54,7 +55,7 @@ work_step l limit p m Inside b c (Doing (Working t) left) kind word v moves h fi
 work_step l limit p m Inside b c (Doing Mending left) kind word v moves h fine = h
 work_step l limit p m _ b c _ kind word v moves h fine = absurd h
 
--- nothing is to be mended, or each of these answers is that the lock is ruined
+-- there is nothing to mend, or each of these answers is NotRecoverable
 abbrev Ruins : Answer → Type 0
 Ruins a = a ≡ NotRecoverable
 
@@ -71,7 +72,7 @@ calm_later m o later (inl mended) = inl mended
 calm_later m None later (inr all) = inr all
 calm_later m (Some a) later (inr all) = inr (All-tail Ruins a later all)
 
--- steps one after another
+-- steps in a row
 work_gone : (s : Setup) (p : ℕ) (m : Bool) (t : Spot) (ms : List Happening) → OwnMoves p ms → Calm m (answers_in s.layout s.limit t ms) → AtWork m t → AtWork m (gone s t ms)
 work_gone s p m t [] moves calm h = h
 work_gone s p m t (Moves q kind word v ∷ ms) moves calm h =
@@ -128,7 +129,7 @@ module _ (x y : Seated) (call : Call) (a : Answer) (blocked : ℕ) (mine : List 
       work_is m t.lock t.mended t.errand
       (subst (AtWork m) (sym ends_at) (work_gone x.pass.setup x.pass.by m (start_of x.pass call) walked.steps walked.own (subst (Calm m) (sym (walked.answers ∙ r.answered)) calm) begun))
 
-  -- a task of a holder with nothing to mend leaves it so
+  -- a task of a holder with nothing to mend leaves nothing to mend
   pub still_mended : IsTask x.pass.setup.layout call → IsHolder (spot_now x.pass) → (spot_now x.pass).mended ≡ true → (spot_begun y.pass).mended ≡ true
   still_mended is holder mended = still true holder mended (task_starts x.pass.setup.layout x.pass.by (spot_begun x.pass).barred call is) (inl refl)
 

@@ -18,7 +18,7 @@ use Rattle.execution.proofs.Leads.{gone-append}
 use Rattle.execution.proofs.Running.{taken_moves, spot_begun}
 use Rattle.execution.proofs.Board.{last-append, board_holds}
 
--- a run is allowed to each of its processes, by its own entries
+-- the own entries of a process are allowed to it in turn
 module _ (s : Setup) where
   own_goes : (w : Scene) (hs : List Happening) (p : ℕ) → Story s.layout s.limit w hs → Goes s (w.spots p) (own_happenings p hs)
   own_goes w [] p story = tt
@@ -47,7 +47,7 @@ module _ (s : Setup) where
   goes_back spot [] ys g = g
   goes_back spot (x ∷ xs) ys g = goes_back (unwrap_or (next_spot s.layout s.limit spot x) spot) xs ys g.1
 
-  -- the step of an entry that comes next
+  -- the step of the next entry
   entry_goes : (spot : Spot) (e : TakenStep) (es : List TakenStep) → Goes s spot (spelled (e ∷ es)) → IsSome (next_spot s.layout s.limit (spot_before s spot e) (taken e.by e.step.kind e.step.word e.value))
   entry_goes spot e es g =
       (goes_back spot (before e.step.crashed e.step.start e.by) (taken e.by e.step.kind e.step.word e.value ∷ []) (goes_front spot (happenings e) (spelled es) g)).0
@@ -60,7 +60,7 @@ own_by p (x ∷ xs) e rest h =
       | inr is ↦ own_by p xs e rest (rw is at h)
     ]
 
--- a process inside with no call under way steps no more by itself
+-- a process inside with no call under way takes no own step
 pub inside_stays : (n limit p : ℕ) (kind : Kind) (word : Word) (v : ℕ) → is_glance kind ≡ false → next n limit p Inside kind word v ≡ None
 inside_stays n limit p Glances word v move = absurd (cc)
 inside_stays n limit p _ word v move = refl
@@ -198,7 +198,7 @@ put_step l limit p b i x Puts (DataAt j) v some =
     ]
 put_step l limit p b i x _ _ v some = absurd (cc)
 
--- what a get answers is what the run has put there last
+-- the answer of a get is what the run has put there last
 pub got : (x y : Seated) (i v : ℕ) (mine : List TakenStep) → x.pass.start ≡ None → refusal_now x (Get i) ≡ None → Served (began x (Get i)) (Get i) (Mail (reply.Word v) ∷ []) 0 y mine → v ≡ value_or (last_put x.pass.setup i y.pass.seen) 0
 got x y i v mine none accepted r =
     let p = x.pass in

@@ -6,7 +6,7 @@ use Rattle.execution.specs.declared.entry_kind.Entry.TheVariants as entering
 use Rattle.execution.proofs.Outside.{ready_same}
 use Rattle.execution.proofs.Runs.{own-append}
 
--- calls in order, one after the other, without a crash between
+-- calls in a worker's order, without a crash between them
 abbrev CallsInOrder : Option Call → List Call → Type 0
 CallsInOrder last [] = Unit {0}
 CallsInOrder last (c ∷ cs) = MayStart last false (Some c) × CallsInOrder (Some c) cs

@@ -179,7 +179,7 @@ module _ (s : Setup) where
             ]
       ]
 
-  -- an unlock is begun by none that has something to mend
+  -- no process that has something to mend starts an unlock
   pub unlocks_mended : (last : Option Call) (q : Spot) (p : ℕ) → StandsAt s.layout last q → settles last ≡ true → IsSome (next_spot s.layout s.limit q (Begins p Unlock)) → q.mended ≡ false → ⊥
   unlocks_mended last q p h on some unmended = by q.lock q.mended q.barred q.errand h some unmended
     where

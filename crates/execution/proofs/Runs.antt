@@ -64,7 +64,7 @@ own_spelled p (e ∷ es) =
     ∙ ap (λ (l : List Happening). l ++ own_happenings p (spelled es)) (own_all p e.by (taken e.by e.step.kind e.step.word e.value) (who_taken e.by e.step.kind e.step.word e.value) e.step.crashed e.step.start (e.by == p) refl)
     ∙ elim (cases_Bool (e.by == p)) [ inl is ↦ rw is (ap (λ (l : List Happening). happenings e ++ l) later) | inr is ↦ rw is later ]
 
--- the first law
+-- the first law: the state follows from the own entries
 pub spot_in_run : (s : Setup) (es : List TakenStep) (p : ℕ) → (end_of s es).spots p ≡ spot_of s p es
 spot_in_run s es p = spots_are_own s.layout s.limit p at_first (spelled es) ∙ ap (gone s at_rest) (own_spelled p es)
 
@@ -111,7 +111,7 @@ reads_taken : (w u : Scene) (p : ℕ) (word : Word) (v : ℕ) (kind : Kind) → 
 reads_taken w u p word v kind e f =
     by_kind (λ kind h. (is_store kind ≡ false → reading w word ≡ v) → Reads u h) p word v (λ r. reading_same w u word e f ∙ r refl) (λ kind r loads. reading_same w u word e f ∙ r loads) kind
 
--- the second law
+-- the second law: an allowed entry prolongs a run
 pub prolongs : (s : Setup) (es : List TakenStep) (e : TakenStep) → IsRun s es → e.by < s.layout.procs → Goes s (spot_of s e.by es) (happenings e) → (stores e ≡ false → reading (end_of s es) e.step.word ≡ e.value) → IsRun s (es ++ e ∷ [])
 prolongs s es e run lt goes reads =
     subst (Story s.layout s.limit at_first) (sym (spelled_snoc es e))
@@ -119,14 +119,14 @@ prolongs s es e run lt goes reads =
     (entry_goes s e.by lt (taken e.by e.step.kind e.step.word e.value) (who_taken e.by e.step.kind e.step.word e.value) (end_of s es) (spot_of s e.by es) e.step.crashed e.step.start (spot_in_run s es e.by) goes
     (λ u same cells. reads_taken (end_of s es) u e.by e.step.word e.value e.step.kind same cells reads)))
 
--- a beginning of a run is a run
+-- a prefix of a run is a run
 pub legal_front : (s : Setup) (xs ys : List TakenStep) → IsRun s (xs ++ ys) → IsRun s xs
 legal_front s xs ys run = story_front s.layout s.limit at_first (spelled xs) (spelled ys) (subst (Story s.layout s.limit at_first) (spelled-append xs ys) run)
 
 pub legal_back : (s : Setup) (xs ys : List TakenStep) → IsRun s (xs ++ ys) → Story s.layout s.limit (end_of s xs) (spelled ys)
 legal_back s xs ys run = story_back s.layout s.limit at_first (spelled xs) (spelled ys) (subst (Story s.layout s.limit at_first) (spelled-append xs ys) run)
 
--- what a step leaves of the words
+-- the words after a step
 abbrev pub words_now : (ℕ → Own) → Kind → Word → ℕ → ℕ → Own
 words_now words kind word v = if is_store kind then write words word v else words
 
@@ -156,7 +156,7 @@ put_keeps g words p x q h =
       | inr ne ↦ ap g (put_other words p x q ne)
     ]
 
--- a store, as it is read
+-- the value that a store leaves
 abbrev written : Setup → (ℕ → Own) → Words → Word → ℕ → Scene
 written s words cells word v = record { words = write words word v; cells = put_cell s.layout cells word v; spots = λ _. at_rest }
 
@@ -199,14 +199,14 @@ shows_rest s = (length-replicate (word_count s) 0, λ word t. get_or-replicate (
     zero_at (DataAt i) = refl
     zero_at _ = refl
 
--- a load leaves the words
+-- a load leaves the words as they are
 pub shows_load : (s : Setup) (es : List TakenStep) (e : TakenStep) (words : List ℕ) → stores e ≡ false → Shows s (end_of s es) words → Shows s (end_of s (es ++ e ∷ [])) words
 shows_load s es e words loads h =
     let same : words_now (end_of s es).words e.step.kind e.step.word e.value ≡ (end_of s es).words = rw loads refl in
     let cells : cells_now s.layout (end_of s es).cells e.step.kind e.step.word e.value ≡ (end_of s es).cells = rw loads refl in
     (h.0, λ word t. h.1 word t ∙ sym (reading_same (end_of s es) (end_of s (es ++ e ∷ [])) word (words_snoc s es e ∙ same) (cells_snoc s es e ∙ cells)))
 
--- a store changes just its word
+-- a store changes only its word
 pub shows_store : (s : Setup) (es : List TakenStep) (e : TakenStep) (words : List ℕ) → stores e ≡ true → InTable s e.step.word → Shows s (end_of s es) words → Shows s (end_of s (es ++ e ∷ [])) (set words (index s e.step.word) e.value)
 shows_store s es e words is t h =
     let a = e.step.word in
@@ -228,7 +228,7 @@ shows_store s es e words is t h =
           ∙ sym (there b ∙ read_written_other s old.words old.cells a b v (λ one. ne (ap (index s) one)) ∙ reading_same old (standing old.words old.cells) b refl refl)),
     )
 
--- a data word that there is not reads 0, whatever was put
+-- a data word past the mailbox's end reads 0, whatever was stored
 beyond_zero : (s : Setup) (hs : List Happening) (w : Scene) (i : ℕ) → size s.layout ≤ i → w.cells i ≡ 0 → (last_scene s.layout s.limit w hs).cells i ≡ 0
 beyond_zero s [] w i h z = z
 beyond_zero s (x ∷ xs) w i h z = beyond_zero s xs (onward s.layout s.limit w x) i h (after_one x)
@@ -250,7 +250,7 @@ pub reads_beyond : (s : Setup) (es : List TakenStep) (word : Word) → IsBeyond 
 reads_beyond s es (DataAt i) h = beyond_zero s (spelled es) at_first i h refl
 reads_beyond s es _ h = absurd h
 
--- a step there leaves the words
+-- a step there leaves the words as they are
 pub shows_beyond : (s : Setup) (es : List TakenStep) (e : TakenStep) (words : List ℕ) → IsBeyond s e.step.word → Shows s (end_of s es) words → Shows s (end_of s (es ++ e ∷ [])) words
 shows_beyond s es e words t h =
     elim (cases_Bool (is_store e.step.kind)) [
@@ -269,7 +269,7 @@ shows_beyond s es e words t h =
     same_cells (DataAt i) k cells v = let above : nat_lt i (size s.layout) ≡ false = le-ltb i (size s.layout) k in rw above refl
     same_cells _ k cells v = absurd k
 
--- what the last entry of a run read is the word as it stood
+-- the last entry of a run, if it is a load, read the word's value before it
 move_read : (w : Scene) (p : ℕ) (word : Word) (v : ℕ) (kind : Kind) → Reads w (taken p kind word v) → is_store kind ≡ false → reading w word ≡ v
 move_read w p word v kind = by_kind (λ kind h. Reads w h → is_store kind ≡ false → reading w word ≡ v) p word v (λ r _. r) (λ kind r loads. r loads) kind
 

@@ -12,7 +12,7 @@ use Rattle.rmeworld.proofs.Stories.{before_is}
 use Rattle.judge.proofs.Histories.{judged_all-append}
 use Rattle.execution.proofs.Runs.{spelled-append, legal_front}
 
--- deeds take no message away that is shown
+-- a deed takes away no message that is shown
 one_more_shown : (s : State) (d : Deed) → (more : List Message) × ((after s d).mail.shown ≡ s.mail.shown ++ more)
 one_more_shown s (Show p at seq v) = (message p seq v ∷ [], refl)
 one_more_shown s _ = ([], sym (append-nil s.mail.shown))
@@ -46,7 +46,7 @@ module _ (s : Setup) (layout : IsLayout s.layout) where
       let new : State = empty l.procs l.cap in
       arrives l s.limit at_first new (spelled es) layout (origin l s.limit at_first new layout (inl (refl, refl))) run
 
-  -- only one is in
+  -- only one process is in
   only : (es : List TakenStep) (a : Came es) (p : ℕ) → p < l.procs → IsIn (a.now.lock.phase p) → (r : ℕ) → r < l.procs → IsIn (a.now.lock.phase r) → r ≡ p
   only es a p below i r low j =
       elim (cases_eq r p) [

@@ -14,7 +14,7 @@ abbrev steps_of : ℕ → List TakenStep → List Happening
 steps_of p [] = []
 steps_of p (e ∷ es) = Moves p e.step.kind e.step.word e.value ∷ steps_of p es
 
--- a step of p, no glance, that carries nothing
+-- a step of p that is no glance and carries nothing
 abbrev IsPlain : ℕ → TakenStep → Type 0
 IsPlain p e = (e.by ≡ p) × (e.step.crashed ≡ false) × (e.step.start ≡ None) × (is_glance e.step.kind ≡ false)
 
@@ -83,7 +83,7 @@ module _ (s : Setup) (p : ℕ) where
   told_plain [] plain q = (refl, refl)
   told_plain (e ∷ es) plain q = subst (Alike (e ∷ es) q) (nothing_before q e plain.0) (told_first q e es plain.0.0 plain.0.3 (told_plain es plain.1))
 
-  -- a start, with the crash that was owed
+  -- a start, with the pending crash
   pub start_leads : (q : Spot) (c : Bool) (call : Call) → gone s q (before c (Some call) p) ≡ next_or_same s.layout s.limit (gone s q (crash_first c p)) (Begins p call)
   start_leads q true call = refl
   start_leads q false call = refl

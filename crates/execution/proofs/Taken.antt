@@ -52,7 +52,7 @@ at_now x y mine kind word v h = ap (λ (t : Setup × Spot). gone t.0 t.1 (before
 alone : (m : ℕ) → 0 + (m + 0) ≡ m
 alone m = omega arith
 
--- one step more
+-- one more step
 module _ (x y z : Seated) (mine : List TakenStep) (o : Outcome) (g : Going x mine y) (s : TakesStep y o z) where
   abbrev pub last : TakenStep
   last = next_entry y.pass (kind_of s.access) (word_of s.access) (carried s.access s.value)
@@ -77,7 +77,7 @@ module _ (x y z : Seated) (mine : List TakenStep) (o : Outcome) (g : Going x min
       ∙ alone (if is_blocked_at (spot_before x.pass.setup (gone x.pass.setup (spot_of x.pass.setup x.pass.by x.pass.seen) (spelled mine)) last) last then 1 else 0)
       ∙ ap (λ (q : Spot). if is_blocked_at q last then 1 else 0) (at_now x.pass y.pass mine (kind_of s.access) (word_of s.access) (carried s.access s.value) g.takes) ∙ ap (λ (u : Outcome). if u.progress.blocked then 1 else 0) (sym s.told)
 
--- where a step of a call leads to
+-- the process state after a step of a call
 pub step_to : (call : Call) (y z : Seated) (o : Outcome) (k : ℕ) → TakesStep y o z → IsUnder call (spot_now y.pass) → Lasts y.pass.setup.layout.procs (suc k) (spot_now y.pass) → SpotTo call y.pass.setup.layout.procs k o.answer o.progress.blocked (spot_now z.pass)
 step_to call y z o k s u lasts =
     let q = spot_now y.pass in
@@ -110,7 +110,7 @@ lasts_more : (n k m : ℕ) (s : Place) (e : Errand) → k ≤ m → LastsBy n k 
 lasts_more n k m s Free h l = (l.0, (let few = l.1 in omega arith))
 lasts_more n k m s (Doing why left) h l = (l.0, l.1, (let few = l.2 in omega arith), l.3)
 
--- a blocked reading answers nothing, and is a lock's
+-- a blocked reading has no answer, and is a lock's
 lock_silent : (p : ℕ) (s : Place) (kind : Kind) (v : ℕ) → is_blocked p s kind v ≡ true → answer s kind v ≡ None
 lock_silent p (Wait k unpassed None) Look v h = refl
 lock_silent p (Wait k unpassed (Some j)) Weigh v h = refl

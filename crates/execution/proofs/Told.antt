@@ -39,7 +39,7 @@ work_calm t (Done r) b e = absurd (cc)
 work_calm t _ b e = absurd (cc)
 
 module _ (l : Layout) (last : Option Call) (s : Place) (b c : Bool) (limit p : ℕ) where
-  -- the reading that a mending begins with
+  -- the reading with which a mending begins
   first_ruin : (q : ℕ) (kind : Kind) (word : Word) (v : ℕ) → IsSome (moved_by l limit p s b c (Doing Mending (consistent l q)) kind word v) → by_script Mending b (tail (consistent l q) v) ≡ Some RuinedAnswer → IsRuin kind word v
   first_ruin q Gets (DataAt i) v some e =
       guard_spot (i == 0) (settled b c Mending (if v == 1 then Done (reply.Ruined true) else repair l q)) at_rest (λ t. IsRuin Gets (DataAt i) v) some
@@ -56,7 +56,7 @@ module _ (l : Layout) (last : Option Call) (s : Place) (b c : Bool) (limit p : �
   ruin_told (Doing (Working t) left) kind word v h some a = absurd (work_calm t (tail left v) b a)
 
 module _ (s : Setup) where
-  -- an entry that answers so
+  -- an entry with this answer
   entry_told : (last : Option Call) (q : Spot) (e : TakenStep) → StandsAt s.layout last q → AreInOrder last (e ∷ []) → Goes s q (happenings e) → is_glance e.step.kind ≡ false → answer_at (spot_before s q e) e.step.kind e.value ≡ Some RuinedAnswer → ReadsRuin e
   entry_told last q e h order goes move a =
       let hs = before e.step.crashed e.step.start e.by in
@@ -104,7 +104,7 @@ module _ (s : Setup) where
   right_ruin : (xs ys : List TakenStep) → HasReadRuin ys → HasReadRuin (xs ++ ys)
   right_ruin xs ys h = record { front = xs ++ h.front; entry = h.entry; back = h.back; is = ap (λ (l : List TakenStep). xs ++ l) h.is ∙ sym (append_assoc xs h.front (h.entry ∷ h.back)); reads = h.reads }
 
--- calls of which one answers so
+-- calls, one of which has this answer
 served_told : (x y : Seated) (order : List Call) (answers told rest : List Answer) (blocked : ℕ) (mine : List TakenStep) → ServedAll (began (ready x) Lock) order answers blocked y mine → AreInOrder None (own_of x.pass) → AreInOrder None (own_of x.pass ++ mine) → answers ≡ told ++ RuinedAnswer ∷ rest
     → HasReadRuin (own_of y.pass)
 served_told x y order answers told rest blocked mine served old all is =

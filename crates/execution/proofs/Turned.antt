@@ -1,4 +1,4 @@
--- Some steps and then some more.
+-- Steps of a lock, then more of its steps.
 use Rattle.std.proofs.Common.{◌≡◌, ℕ, zero, suc, ◌+◌, List, [], ◌∷◌, ◌++◌, length, Option, Some, None, refl, sym, ap, ◌∙◌, arith, length-append}
 use Rattle.execution.proofs.Common.{one_more, Answer, Call, and_answer, Spot, TakenStep, Setup, Served, answers_of, blocked_of, blocks, Ran, CutOff, answers_from, blocked_from, Turning}
 use Rattle.execution.proofs.Common.{IsPass, Seated, many_more, spelled, gone, spot_of}

@@ -1,4 +1,4 @@
--- What a step of a call leads to: the call goes on, or has an answer that fits it.
+-- After a step of a call it is still under way, or has an answer that fits it.
 use Rattle.std.proofs.Common.{◌≡◌, ℕ, zero, suc, max, Bool, true, false, ◌||◌, ◌==◌, if◌then◌else◌, ◌⊎◌, [], ◌∷◌, Option, Some, None, IsSome, unwrap_or, refl, inl, inr}
 use Rattle.execution.proofs.Common.{cases_Bool, Kind, Look as Looks, Weigh as Weighs, Open as Opens, Peek as Peeks, Take as Takes, Shut as Shuts, Mark as Marks, Drop as Drops, Glance as Glances, Word}
 use Rattle.execution.proofs.Common.{Choosing as ChoosingOf, Number as NumberOf, answer, is_blocked, again, found, is_glance, Place, Rest, Wait, Inside, Reread, Opening, Door, Shutting, Leaving}
@@ -10,7 +10,7 @@ use Rattle.rmecore.specs.declared.core_call.CoreCall.TheVariants as core
 use Rattle.rmecore.specs.declared.kind.Kind.TheVariants.{Reread as Rereads}
 use Rattle.rmecore.specs.declared.word.Word.TheVariants.{Inside as InsideOf}
 
--- what a step of the lock's part leads to
+-- after a step of the lock's part
 abbrev pub LockTo : Call → Bool → Place → Option Answer → Place → Type 0
 LockTo call c s (Some a) t = Fits call a × ((u : Spot) → u.lock ≡ t → Leaves call a u)
 LockTo call c s None t = ((is_entry s t ≡ true) × (call ≡ Lock)) ⊎ ((is_entry s t ≡ false) × (is_idle_place t ≡ false) × (under_place call c t ≡ true))
@@ -50,7 +50,7 @@ module _ (n limit p : ℕ) where
   lock_in s Glances word v u some moves = absurd (cc)
   lock_in _ _ _ v u some moves = absurd (cc)
 
-  -- a step of a lock that was turned away
+  -- a step of a lock that found the lock ruined
   lock_out : (s : Place) (kind : Kind) (word : Word) (v : ℕ) → under_place Lock true s ≡ true → IsSome (next n limit p s kind word v) → is_glance kind ≡ false → LockTo Lock true s (by_lock true (answer s kind v)) (unwrap_or (next n limit p s kind word v) s)
   lock_out Leaving Drops (NumberOf q) v u some moves = guard _ (Unmarking core.Unlock) _ (LockTo Lock true Leaving None) some (λ e. inr (refl, refl, refl))
   lock_out (Unmarking core.Unlock) Marks (InsideOf q) v u some moves = guard _ Rest _ (LockTo Lock true (Unmarking core.Unlock) (Some NotRecoverable)) some (λ e. (tt, λ t is. is))

@@ -17,7 +17,7 @@ use Rattle.rmeworld.proofs.CallSteps.{guard_spot}
 use Rattle.rmeworld.proofs.WorldTallies.{at_lock_some, settled_not}
 use Rattle.execution.proofs.Begun.{guard_inside}
 
--- nobody else's step stores into the lock words of p
+-- no other process's step stores into the lock words of p
 apart : (p q r : ℕ) (b : Bool) (t : Place) → p ≢ q → IsSome (only ((r == q) && b) t) → p ≢ r
 apart p q r b t ne some e = ne (e ∙ eqb-true r q (and_parts (r == q) b (passed ((r == q) && b) t some)).0)
 
@@ -57,7 +57,7 @@ locked_was : (l : Layout) (p : ℕ) (s : Place) (b c : Bool) (o : Option Place) 
 locked_was l p s b c None d some h = absurd (cc)
 locked_was l p s b c (Some t) d some h = h
 
--- what is left of a call where its process rereads
+-- what is left of a call whose process rereads
 abbrev Still : Place → Kind → Spot → Type 0
 Still s kind t = IsRereading t.lock → IsRereading s × (is_store kind ≡ false) × (t.errand ≡ Free)
 
@@ -119,7 +119,7 @@ module _ (l : Layout) (limit p : ℕ) where
             record { scene = n.scene; spot = n.spot ∙ put_other w.spots (who x) _ p far; words = n.words ∙ others_keep w x story.0 far; can = n.can; rest = n.rest; story = n.story; own = n.own }
       ]
 
-  -- own words as they stood when the call began, for a process that rereads
+  -- the own words are those at the call's start, for a process that rereads
   abbrev Fresh : Own → Spot → Own → Type 0
   Fresh began spot words = IsRereading spot.lock → (spot.errand ≡ Free) × (began ≡ words)
 

@@ -22,7 +22,7 @@ mends_is answer.NotRecoverable r e f = absurd (cc)
 mends_is (answer.Mail (reply.Mended mended)) r e f = (mended, refl)
 mends_is _ r e f = absurd f
 
--- fronts
+-- prefixes of lists of calls
 pub front_all : (order : List Call) → IsFront order order
 front_all order = ([], sym (append-nil order))
 
@@ -78,7 +78,7 @@ inner_some : (entry : Entering) (task : Call) (r : Result Reply LockFault) (orde
 inner_some entry task (Ok it) order answers h none = inside_some entry task (sym h.1 ∙ none)
 inner_some entry task (Err e) order answers h none = absurd (let k : call.Consistent ∷ call.Unlock ∷ [] ≡ [] = sym h.2 ∙ none in cc)
 
--- the asking before the answer is no step
+-- the asking before the answer isn't a step
 counts_here : (x y z : Seated) (order : List Call) (answers : List Answer) (blocked : ℕ) → z ≡ y → SumCounts x order answers blocked y → SumCounts x order answers blocked z
 counts_here x y z order answers blocked e h = subst (λ (u : Seated). SumCounts x order answers blocked u) (sym e) h
 
@@ -146,11 +146,11 @@ pub ran_from : (y w z : Seated) (task : Call) (a : Answer) (n : List TakenStep) 
 ran_from y w z task a n e pass {o} is h =
     ran_behind y z task a n (subst (λ (u : Seated). IsPass u.pass) e pass) (subst (λ (t : Seated × Option Answer). Ran t.0 t.1 z n) (λ i. (e i, is i)) h)
 
--- a lock that entered, and the calls inside
+-- a lock that entered, and the calls after it
 pub lock_is : (x y : Seated) (turns : ℕ) (a0 a1 f0 f1 : ℕ) (o p : Option Answer) → o ≡ p → LockBy 0 x turns o y a0 a1 f0 f1 → LockBy 0 x turns p y a0 a1 f0 f1
 lock_is x y turns a0 a1 f0 f1 o p is h = subst (λ (q : Option Answer). LockBy 0 x turns q y a0 a1 f0 f1) is h
 
--- what a whole mailbox call answers, from right after its start
+-- the outcome of a whole mailbox call, from right after its start
 module _ (x w y : Seated) (turns : ℕ) (task : Call) (a0 a1 f0 f1 : ℕ) (e : w ≡ began (ready x) call.Lock) where
   from_start : (r : Result Reply LockFault) → WholeGoes w turns task r y a0 a1 f0 f1 → WholeGoes (began (ready x) call.Lock) turns task r y a0 a1 f0 f1
   from_start r h = subst (λ (u : Seated). WholeGoes u turns task r y a0 a1 f0 f1) e h
@@ -166,7 +166,7 @@ module _ (x w y : Seated) (turns : ℕ) (task : Call) (a0 a1 f0 f1 : ℕ) (e : w
   pub cut_fails : refusal_now (ready x) call.Lock ≡ None → (why : LockFault) → why ≡ fault.Crashed → CutIn w call.Lock y a0 a1 f0 f1 → WholeFails x turns task y a0 a1 f0 f1 why
   cut_fails may why is h = lock_fails x y turns task a0 a1 f0 f1 may why is (subst (λ (u : Seated). CutIn u call.Lock y a0 a1 f0 f1) e h)
 
--- the task fits as it did before
+-- the task still fits
 pub task_fits : (x w y : Seated) (turns : ℕ) (o : Option Answer) (task : Call) (a0 a1 f0 f1 : ℕ) → w ≡ began (ready x) call.Lock → LockBy 0 w turns o y a0 a1 f0 f1 → IsTask x.pass.setup.layout task → IsTask y.pass.setup.layout task
 task_fits x w y turns o task a0 a1 f0 f1 e h fits =
     let same : y.pass.setup ≡ x.pass.setup = lock_setup w y turns o a0 a1 f0 f1 h ∙ ap (λ (u : Seated). u.pass.setup) e ∙ (ready_same (is_idle (spot_now x.pass)) x).0 in

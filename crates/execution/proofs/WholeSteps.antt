@@ -1,4 +1,4 @@
--- What a whole mailbox call counts is the sum of the table, and no more than its most.
+-- The steps that a whole mailbox call counts are the sum of the table, and at most its bound.
 use Rattle.std.proofs.Common.{◌≡◌, ℕ, ◌+◌, ◌*◌, ◌≤◌, Bool, true, false, List, [], ◌∷◌, Option, Some, None, IfSome, Err, refl, sym, ap, ◌∙◌, subst, inl, inr, arith}
 use Rattle.execution.proofs.Common.{Own, Layout, Reply, Mended, Answer, Call, Lock, Unlock, Consistent, Append, Close, most_steps, own_steps, Entry as Entering, Setup, AnsweredBy, LockBy, ready, answer_of}
 use Rattle.execution.proofs.Common.{spot_now, Seated, began, many_more, behind, CountsAtMost, words_begun, spot_begun, table_steps, Fits, IsHolder, IsTask, WholeBy, mended_by, SumCounts, InsideCounts}
@@ -14,13 +14,13 @@ use Rattle.execution.proofs.Turned.{many_add}
 both_are : (o p : Option ℕ) (j k : ℕ) → o ≡ Some j → p ≡ Some k → both o p ≡ Some (j + k)
 both_are o p j k e f = λ i. both (e i) (f i)
 
--- the table goes by no words for a task
+-- the table's number of a task doesn't depend on the words
 task_words : (l : Layout) (w u : Own) (m n : Bool) (call : Call) (reply : Reply) → IsTask l call → own_steps l w m call (answer.Mail reply) ≡ own_steps l u n call (answer.Mail reply)
 task_words l w u m n (Append seq value) reply is = refl
 task_words l w u m n Close reply is = refl
 task_words l w u m n _ reply is = absurd is
 
--- and for an unlock by whether there is something to mend
+-- that of an unlock depends only on whether there is something to mend
 unlock_words : (l j : Layout) (w u : Own) (m n : Bool) (k : ℕ) → m ≡ n → own_steps j u m Unlock answer.Unlocked ≡ Some k → own_steps l w n Unlock answer.Unlocked ≡ Some k
 unlock_words l j w u m n k same h = subst (λ (b : Bool). own_steps l w b Unlock answer.Unlocked ≡ Some k) same h
 
@@ -103,7 +103,7 @@ whole_counts x y z turns entry order answers a0 a1 f0 f1 h t =
       t.2 ∙ ap (many_more t.0) one.2 ∙ many_add (one.0 + h.0) t.0 x.steps ∙ ap (λ (n : ℕ). many_more n x.steps) (let j = one.0 in let b = h.0 in let k = t.0 in let e : (j + b) + k ≡ (j + k) + (b + 0) = omega arith in e),
     )
 
--- a lock that is answered otherwise
+-- a lock with another answer
 module _ (x y : Seated) (turns a0 a1 f0 f1 : ℕ) (task : Call) where
   lock_sum : (a : Answer) → (h : LockBy 0 x turns (Some a) y a0 a1 f0 f1) → SumCounts x (Lock ∷ []) (a ∷ []) h.0 y
   lock_sum a h =
@@ -138,7 +138,7 @@ few_behind y w z call e h = subst (λ (u : Seated). CountsAtMost (most_steps u.p
 pub owes : (y w : Seated) (call : Call) → w ≡ behind y call → w.pass.start ≡ Some call
 owes y w call e = ap (λ (u : Seated). u.pass.start) e
 
--- sums of what parts take at most
+-- sums of the parts' bounds
 sum_joined : (a b c : ℕ) → a + (b + c) ≤ (a + b) + c
 sum_joined a b c = omega arith
 

@@ -13,6 +13,7 @@ use Rattle.execution.specs.declared.entry.TakenStep.{TakenStep}
 use Rattle.execution.specs.Runs.{own, spelled, end_of, stores}
 use Rattle.execution.specs.Headline.{deeds_of}
 
+-- the word is data word i
 abbrev pub is_data : ℕ → Word → Bool
 is_data i (DataAt j) = j == i
 is_data i word = false
@@ -21,6 +22,7 @@ is_data i word = false
 abbrev pub puts : Setup → ℕ → TakenStep → Bool
 puts s i e = stores e && is_data (board_at s.layout i) e.step.word
 
+-- the first of the two that is there
 abbrev pub or_earlier : Option TakenStep → Option TakenStep → Option TakenStep
 or_earlier None earlier = earlier
 or_earlier (Some e) earlier = Some e

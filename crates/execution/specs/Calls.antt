@@ -26,6 +26,7 @@ abbrev pub answers_from : Setup → Spot → List TakenStep → List Answer
 answers_from s spot [] = []
 answers_from s spot (e ∷ es) = and_answer (answer_at (spot_before s spot e) e.step.kind e.value) (answers_from s (gone s spot (happenings e)) es)
 
+-- the entry is blocked in this process state
 abbrev pub is_blocked_at : Spot → TakenStep → Bool
 is_blocked_at spot e = blocked_by e.by spot.lock spot.errand e.step.kind e.value
 
@@ -34,6 +35,7 @@ abbrev pub blocked_from : Setup → Spot → List TakenStep → ℕ
 blocked_from s spot [] = 0
 blocked_from s spot (e ∷ es) = (if is_blocked_at (spot_before s spot e) e then 1 else 0) + blocked_from s (gone s spot (happenings e)) es
 
+-- one more call in front, if there is one
 abbrev pub and_call : Option Call → List Call → List Call
 and_call None calls = calls
 and_call (Some c) calls = c ∷ calls
@@ -68,9 +70,11 @@ abbrev pub FirstCrash : Bool → List TakenStep → Type 0
 FirstCrash c [] = Unit {0}
 FirstCrash c (e ∷ es) = (e.step.crashed ≡ c) × All (λ (f : TakenStep). f.step.crashed ≡ false) es
 
+-- the answers of a view's later own entries
 abbrev pub answers_of : Pass → List TakenStep → List Answer
 answers_of x mine = answers_from x.setup (spot_of x.setup x.by x.seen) mine
 
+-- the number of blocked steps among a view's later own entries
 abbrev pub blocked_of : Pass → List TakenStep → ℕ
 blocked_of x mine = blocked_from x.setup (spot_of x.setup x.by x.seen) mine
 

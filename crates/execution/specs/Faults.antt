@@ -35,6 +35,7 @@ Refused x call y asked asked_now fallen fallen_now e = ((refusal : Refusal) × (
 abbrev pub Cut : Seated → Call → Seated → (asked asked_now fallen fallen_now : ℕ) → LockFault → Type 0
 Cut x call y asked asked_now fallen fallen_now e = (e ≡ Crashed) × (refusal_now x call ≡ None) × ((mine : List TakenStep) × Crashes (began x call) call y mine × Fell (length mine + 1) asked asked_now fallen fallen_now)
 
+-- a call that is never blocked fails: refused, or cut off by a crash
 abbrev pub Fails : Seated → Call → Seated → (asked asked_now fallen fallen_now : ℕ) → LockFault → Type 0
 Fails x call y asked asked_now fallen fallen_now e = Refused x call y asked asked_now fallen fallen_now e ⊎ Cut x call y asked asked_now fallen fallen_now e
 
@@ -74,6 +75,7 @@ FailsOut x call y asked asked_now fallen fallen_now e =
     (e ≡ AlreadyIn) × (refusal_now x call ≡ Some IsIn) × (y ≡ x) × (asked_now ≡ asked) × (fallen_now ≡ fallen)
     ⊎ (e ≡ Crashed) × (refusal_now (ready x) call ≡ None) × CutIn (began (ready x) call) call y asked asked_now fallen fallen_now
 
+-- the answer of a lock with this entry
 abbrev pub answer_of : Entering → Answer
 answer_of entering.Clean = Clean
 answer_of entering.OwnerDied = OwnerDied

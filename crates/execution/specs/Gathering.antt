@@ -19,6 +19,7 @@ use Rattle.execution.specs.Running.{Seated}
 abbrev pub OneArena : List Seated → Type 0
 OneArena xs = (t : TableId) × All (λ (x : Seated). x.pass.table ≡ t) xs
 
+-- process p has a member in the list
 abbrev pub has_member : ℕ → List Seated → Bool
 has_member p xs = list_any (λ (x : Seated). x.pass.by == p) xs
 
@@ -43,6 +44,7 @@ image_at s w =
       width = s.layout.width;
     }
 
+-- the entry is a glance, without a crash or a start
 abbrev pub IsGlance : TakenStep → Type 0
 IsGlance e = (word : Word) × (e.step ≡ glanced word)
 

@@ -66,5 +66,6 @@ pub record IsSoundRun (s : Setup) (es : List TakenStep) : Type 0 where
   pub data_words : Sits s.layout (end_of s es).cells (judged_by s es)
   pub answered : AnsweredIsShown s es
 
+-- the specification's "lock theorem": every run is sound
 abbrev pub EveryRunIsSound : Type 0
 EveryRunIsSound = (s : Setup) (es : List TakenStep) → IsLayout s.layout → IsRun s es → IsSoundRun s es

@@ -47,11 +47,13 @@ exit_of Ruining = 2
 exit_of Mending = 0
 exit_of (Working task) = 0
 
+-- the script isn't done
 abbrev pub HasStep : Script Reply → Type 0
 HasStep (Done reply) = ⊥
 HasStep (Get i rest) = Unit {0}
 HasStep (Put i v rest) = Unit {0}
 
+-- at most k steps are left at this place, with this script under way
 abbrev pub LastsBy : ℕ → ℕ → Place → Errand → Type 0
 LastsBy n k place Free = IsFair place × (lock_left n place ≤ k)
 LastsBy n k place (Doing why left) = (m : ℕ) × Within m left × (m + exit_of why ≤ k) × HasStep left

@@ -25,6 +25,7 @@ pub record Pass : Type 0 where
   pub start : Option Call
   pub seen : List TakenStep
 
+-- a member's view, as the rule of the table has it
 abbrev pub view_of : Pass → View
 view_of x = record { setup = x.setup; answers = x.by ∷ []; seen = x.seen }
 
@@ -48,6 +49,7 @@ own_of x = own x.by x.seen
 abbrev pub owed : Pass → Kind → Word → Step
 owed x kind word = record { crashed = x.fallen; start = x.start; kind = kind; word = word }
 
+-- the entry of the next step, with this value
 abbrev pub next_entry : Pass → Kind → Word → ℕ → TakenStep
 next_entry x kind word value = record { by = x.by; step = owed x kind word; value = value }
 
@@ -55,6 +57,7 @@ next_entry x kind word value = record { by = x.by; step = owed x kind word; valu
 abbrev pub glanced : Word → Step
 glanced word = record { crashed = false; start = None; kind = Glance; word = word }
 
+-- the entry of a glance, with the value that it read
 abbrev pub glance_entry : Pass → Word → ℕ → TakenStep
 glance_entry x word value = record { by = x.by; step = glanced word; value = value }
 

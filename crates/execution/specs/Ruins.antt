@@ -14,6 +14,7 @@ use Rattle.execution.specs.Runs.{own, stores, IsRun}
 abbrev pub ReadsRuin : TakenStep → Type 0
 ReadsRuin e = (stores e ≡ false) × (e.step.word ≡ DataAt 0) × (e.value ≡ 1)
 
+-- one of these entries reads that the lock is ruined
 pub record HasReadRuin (es : List TakenStep) : Type 0 where
   pub front : List TakenStep
   pub entry : TakenStep
@@ -27,6 +28,7 @@ last_call last crashed (Some call) = Some call
 last_call last true None = None
 last_call last false None = last
 
+-- the call that was started last in these entries, if no crash came after it
 abbrev pub last_of : Option Call → List TakenStep → Option Call
 last_of last [] = last
 last_of last (e ∷ es) = last_of (last_call last e.step.crashed e.step.start) es
@@ -46,6 +48,7 @@ MayStart last crashed (Some (Append seq value)) = Unit {0}
 MayStart last crashed (Some Unlock) = (crashed ≡ false) × (settles last ≡ true)
 MayStart last crashed _ = ⊥
 
+-- these entries start their calls in a worker's order
 abbrev pub AreInOrder : Option Call → List TakenStep → Type 0
 AreInOrder last [] = Unit {0}
 AreInOrder last (e ∷ es) = MayStart last e.step.crashed e.step.start × AreInOrder (last_call last e.step.crashed e.step.start) es

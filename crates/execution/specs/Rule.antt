@@ -14,6 +14,7 @@ use Rattle.execution.specs.declared.entry.View.{View}
 use Rattle.execution.specs.declared.entry.Known.{Known}
 use Rattle.execution.specs.Runs.{own, has, spot_of, happenings, IsRun, end_of, Goes, index, InTable, IsBeyond, Shows}
 
+-- the step of a name that names none
 abbrev pub no_step : Step
 no_step = record { crashed = false; start = None; kind = Glance; word = ChoosingOf 0 }
 
@@ -22,20 +23,25 @@ abbrev pub count_from : ℕ → ℕ → List ℕ
 count_from k zero = []
 count_from k (suc n) = k ∷ count_from (suc k) n
 
+-- what the first seat of a new table knows: it answers for all processes
 abbrev pub opening_known : Setup → Known
 opening_known s = record { view = record { setup = s; answers = count_from 0 s.layout.procs; seen = [] }; told = [] }
 
+-- the first process, alone
 abbrev pub first_of : List ℕ → List ℕ
 first_of [] = []
 first_of (p ∷ ps) = p ∷ []
 
+-- the others
 abbrev pub rest_of : List ℕ → List ℕ
 rest_of [] = []
 rest_of (p ∷ ps) = ps
 
+-- what the seat knows that is split off, for the first process
 abbrev pub first_alone : Known → Known
 first_alone k = record { view = record { setup = k.view.setup; answers = first_of k.view.answers; seen = k.view.seen }; told = [] }
 
+-- what the other seat keeps
 abbrev pub without_first : Known → Known
 without_first k = record { view = record { setup = k.view.setup; answers = rest_of k.view.answers; seen = k.view.seen }; told = [] }
 
@@ -43,6 +49,7 @@ without_first k = record { view = record { setup = k.view.setup; answers = rest_
 abbrev pub longer : List TakenStep → List TakenStep → List TakenStep
 longer xs ys = if ltb (length xs) (length ys) then ys else xs
 
+-- the view of a joined seat
 abbrev pub joined_view : View → View → View
 joined_view v w = record { setup = v.setup; answers = v.answers ++ w.answers; seen = longer v.seen w.seen }
 
@@ -50,6 +57,7 @@ joined_view v w = record { setup = v.setup; answers = v.answers ++ w.answers; se
 abbrev pub joined : Known → Known → Known
 joined k l = record { view = joined_view k.view l.view; told = (k.view ∷ k.told) ++ (l.view ∷ l.told) }
 
+-- what is left of a seat that was joined into another: it answers for no process
 abbrev pub spent_known : Known
 spent_known = record { view = record { setup = record { layout = record { procs = 0; cap = 0; width = 0 }; limit = 0 }; answers = []; seen = [] }; told = [] }
 
@@ -64,9 +72,11 @@ pub record IsAnswered (s : Setup) (log : List TakenStep) (owner : ℕ → ℕ) (
   pub seat : owner p ≡ i
   pub own_is : own p log ≡ own p v.seen
 
+-- the view is a prefix of the run, and the rule holds of each process that it answers for
 abbrev pub Fits : Setup → List TakenStep → (ℕ → ℕ) → ℕ → View → Type 0
 Fits s log owner i v = Begins v.seen log × ((p : ℕ) → has p v.answers ≡ true → IsAnswered s log owner i v p)
 
+-- the same of all views that a seat knows
 abbrev pub AllFit : Setup → List TakenStep → (ℕ → ℕ) → ℕ → Known → Type 0
 AllFit s log owner i k = Fits s log owner i k.view × All (Fits s log owner i) k.told
 
@@ -87,6 +97,7 @@ pub record IsKept (s : Setup) (log : List TakenStep) (owner : ℕ → ℕ) (word
   pub fits : (i : ℕ) (k : Known) → get_elem? views i ≡ some k → AllFit s log owner i k
   pub members : (p : ℕ) → p < s.layout.procs → IsMember views owner p
 
+-- the rule: the table keeps it between any two steps
 abbrev pub Kept : Setup → State (Unit {0}) Known → Type 0
 Kept s state = (log : List TakenStep) × (owner : ℕ → ℕ) × IsKept s log owner state.words state.views
 
@@ -94,6 +105,7 @@ Kept s state = (log : List TakenStep) × (owner : ℕ → ℕ) × IsKept s log o
 abbrev pub stepper : View → ℕ
 stepper v = slice_index v.answers 0
 
+-- the entry of a step that a seat takes
 abbrev pub entry_of : View → Step → ℕ → TakenStep
 entry_of v step value = record { by = stepper v; step = step; value = value }
 
@@ -117,6 +129,7 @@ May step v value = (has (stepper v) v.answers ≡ true) × Goes v.setup (spot_of
 abbrev pub MayLoad : Step → ℕ → View → Type 0
 MayLoad step word v = (word ≡ index v.setup step.word) × InTable v.setup step.word × (is_store step.kind ≡ false) × ((found : ℕ) → found < 18446744073709551616 → May step v found)
 
+-- the process may store this value into the word
 abbrev pub MayStore : Step → ℕ → View → ℕ → Type 0
 MayStore step word v new = (word ≡ index v.setup step.word) × InTable v.setup step.word × (is_store step.kind ≡ true) × May step v new
 

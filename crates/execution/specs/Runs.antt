@@ -13,10 +13,12 @@ use Rattle.rmeworld.specs.World.{Scene, at_first, Story, last_scene, reading, sp
 use Rattle.execution.specs.declared.setup.Setup.{Setup}
 use Rattle.execution.specs.declared.entry.TakenStep.{TakenStep}
 
+-- the crash, if there is one
 abbrev pub crash_first : Bool → ℕ → List Happening
 crash_first true p = Falls p ∷ []
 crash_first false p = []
 
+-- the start of a call, if there is one
 abbrev pub start_then : Option Call → ℕ → List Happening
 start_then None p = []
 start_then (Some call) p = Begins p call ∷ []
@@ -30,6 +32,7 @@ abbrev pub taken : ℕ → Kind → Word → ℕ → Happening
 taken p Looks word v = Glances p word v
 taken p kind word v = Moves p kind word v
 
+-- the events of an entry: its crash, its start, and its load or store
 abbrev pub happenings : TakenStep → List Happening
 happenings e = before e.step.crashed e.step.start e.by ++ taken e.by e.step.kind e.step.word e.value ∷ []
 
@@ -42,10 +45,12 @@ spelled (e ∷ es) = happenings e ++ spelled es
 abbrev pub own : ℕ → List TakenStep → List TakenStep
 own p es = filter (λ (e : TakenStep). e.by == p) es
 
+-- the number is in the list
 abbrev pub has : ℕ → List ℕ → Bool
 has p [] = false
 has p (q ∷ qs) = (q == p) || has p qs
 
+-- the entries are a run from the first global state on, all words 0
 abbrev pub IsRun : Setup → List TakenStep → Type 0
 IsRun s es = Story s.layout s.limit at_first (spelled es)
 
@@ -77,6 +82,7 @@ index s (NumberOf p) = 3 * p + 1
 index s (InsideOf p) = 3 * p + 2
 index s (DataAt i) = 3 * s.layout.procs + i
 
+-- the table has the word
 abbrev pub InTable : Setup → Word → Type 0
 InTable s (ChoosingOf p) = p < s.layout.procs
 InTable s (NumberOf p) = p < s.layout.procs
@@ -92,5 +98,6 @@ IsBeyond s word = ⊥
 abbrev pub Shows : Setup → Scene → List ℕ → Type 0
 Shows s w words = (length words ≡ word_count s) × ((word : Word) → InTable s word → slice_index words (index s word) ≡ reading w word)
 
+-- the entry is a store
 abbrev pub stores : TakenStep → Bool
 stores e = is_store e.step.kind

@@ -39,11 +39,13 @@ Replies P (Done reply) = P reply
 Replies P (Asks i rest) = (x : ℕ) → Replies P (rest x)
 Replies P (Writes i v rest) = Replies P rest
 
+-- a reply of a mending, or of the ruin check
 abbrev pub Mends : Reply → Type 0
 Mends (Mended repaired) = Unit {0}
 Mends (Ruined ruined) = Unit {0}
 Mends _ = ⊥
 
+-- a reply with a word of the board
 abbrev pub IsWord : Reply → Type 0
 IsWord (Word v) = Unit {0}
 IsWord _ = ⊥
@@ -68,6 +70,7 @@ UnderScript (Get i) c (Working task) left = Replies IsWord left
 UnderScript (Put i v) c (Working task) left = Unit {0}
 UnderScript _ _ _ _ = ⊥
 
+-- the call is under way at this place, with this script
 abbrev pub UnderBy : Call → Place → Bool → Errand → Type 0
 UnderBy call s c Free = under_place call c s ≡ true
 UnderBy call s c (Doing why left) = UnderScript call c why left

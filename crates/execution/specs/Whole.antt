@@ -27,6 +27,7 @@ abbrev pub calls_inside : Entering → Call → List Call
 calls_inside entering.Clean task = task ∷ Unlock ∷ []
 calls_inside entering.OwnerDied task = Consistent ∷ task ∷ Unlock ∷ []
 
+-- the answers of the calls after the lock
 abbrev pub answers_inside : Entering → Bool → Reply → List Answer
 answers_inside entering.Clean mended reply = Mail reply ∷ Unlocked ∷ []
 answers_inside entering.OwnerDied mended reply = Mail (Mended mended) ∷ Mail reply ∷ Unlocked ∷ []

@@ -1,4 +1,4 @@
--- What the mailbox list shows at the end of a lab: just what its workers sent.
+-- The messages of the mailbox list at the end of a lab: exactly what its workers sent.
 use Rattle.std.proofs.Common.{◌≡◌, ℕ, ◌<◌, ◌≤◌, ◌==◌, Bool, true, false, List, [], ◌∷◌, ◌++◌, length, slice_index, Option, Some, None, All, refl, sym, ap, ◌∙◌, subst, inl, inr, arith, eq-eqb}
 use Rattle.robust.proofs.Common.{cases_eq, All-nil, All-cons, All-head, All-tail, All-append, All-weaker, All-contains, Layout, Message, IsContent, Words, IsLayout, words_of, IsAmong, entries}
 use Rattle.robust.proofs.Common.{count_of, IsNumbered, RecordRule, Call, Append, Image, layout_of, EveryMessageWasSent, IsSent, Happening, Begins, Falls, TakenStep, Setup, Gathers, IsGlance, IsTold}
@@ -71,7 +71,7 @@ shown_entries s run layout legal shows =
     let h = (shows s run layout legal).0 in
     ap (λ (t : State). t.mail.shown) (sym (state_led (empty s.layout.procs s.layout.cap) h.0 (deeds_of s run) h.1)) ∙ h.2
 
--- the messages shown are such as are sent, where each process of the run has started just its own appends
+-- the messages shown are messages that were sent, if each process of the run has started only its own appends
 module _ (s : Spec) (run : List TakenStep) (w : Words) (n : ℕ) (layout : IsLayout (sizes_of s).layout) (legal : IsRun (sizes_of s) run) (numbered : IsNumbered (sizes_of s).layout w n) (sent : EveryMessageWasSent)
     (shown : shown_by (sizes_of s) run ≡ entries (sizes_of s).layout w n) (sending : (p : ℕ) → p < s.procs → AreSending s.width s.messages p (own p run)) where
   abbrev z : Setup
@@ -96,7 +96,7 @@ module _ (s : Spec) (run : List TakenStep) (w : Words) (n : ℕ) (layout : IsLay
   pub at_most : (p : ℕ) → count_of p ms ≤ s.messages
   at_most p = few z.layout w p s.messages n numbered (All-weaker Fits (λ (m : Message). m.sender ≡ p → m.seq ≤ s.messages) (λ m h e. h.0) ms all_fit)
 
-  -- each sender's are what it sent, where its last message is shown
+  -- each sender's messages are what it sent, if its last message is shown
   module _ (last : (p : ℕ) → p < s.procs → IsAmong p s.messages (shown_by z run)) where
     counted : (p : ℕ) → p < s.procs → count_of p ms ≡ s.messages
     counted p below =
@@ -121,7 +121,7 @@ sending_more width k p es glances are h =
     let F : TakenStep → Type 0 = λ e. OfStart (IsSending width k p) e.step.start in
     All-append F es glances h (All-weaker IsGlance F (glance_starts (IsSending width k p)) glances are)
 
--- of the one run, where each member has sent its own
+-- in the one run, if each member has sent its own
 module _ (z : Setup) (width k : ℕ) (first : Seated) (others : List Seated) (run : List TakenStep) (told : IsTold first others (length others) run) where
   abbrev Has : Seated → Type 0
   Has x = AreSending width k x.pass.by (own x.pass.by run) × IsAmong x.pass.by k (shown_by z run)
@@ -147,7 +147,7 @@ module _ (z : Setup) (width k : ℕ) (first : Seated) (others : List Seated) (ru
       let m = member_at Has p (first ∷ others) there (all_have h) in
       subst (λ (q : ℕ). AreSending width k q (own q run) × IsAmong q k (shown_by z run)) m.1 m.2
 
--- the run that all members of a lab were gathered from, where each has sent its own
+-- the run that all members of a lab were gathered into, if each has sent its own
 record HasRun (s : Spec) (image : Image) : Type 0 where
   run : List TakenStep
   legal : IsRun (sizes_of s) run

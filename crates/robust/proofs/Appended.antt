@@ -75,7 +75,7 @@ pub record Ended (z y : Seated) (seq : ℕ) (r : Reply) : Type 0 where
   pub setup : y.pass.setup ≡ z.pass.setup
   pub run : IsRun z.pass.setup y.pass.seen
 
--- calls one after another, of which at most the append with this number does a task, and one of their answers is its reply
+-- calls in a row, of which only the append with this number does a task, and one of whose answers is its reply
 module _ (z y : Seated) (c d : Call) (order : List Call) (answers told rest : List Answer) (blocked seq : ℕ) (value : List ℕ) (r : Reply) where
   abbrev t : Task
   t = task.Append seq value
@@ -114,7 +114,7 @@ module _ (z y : Seated) (c d : Call) (order : List Call) (answers told rest : Li
         run = subst (λ (u : Setup). IsRun u y.pass.seen) calls.setup calls.run;
       }
 
--- what was answered Stored or Already is shown from then on
+-- a message whose append was answered Stored or Already is shown from then on
 stored_shown : (z y : Seated) (seq : ℕ) (r : Reply) → Ended z y seq r → IsLayout z.pass.setup.layout → EveryRunIsSound → (r ≡ Stored) ⊎ (r ≡ Already) → IsAmong z.pass.by seq (shown_by y.pass.setup y.pass.seen)
 stored_shown z y seq r h layout every stored =
     let s = z.pass.setup in
@@ -125,7 +125,7 @@ stored_shown z y seq r h layout every stored =
     let among : IsAmong f.by seq (shown_by s ((front ++ f ∷ []) ++ h.later)) = subst (IsAmong f.by seq) (sym grown.1) (among_more f.by seq (shown_by s (front ++ f ∷ [])) grown.0 told) in
     subst (λ (u : ℕ × Setup × List TakenStep). IsAmong u.0 seq (shown_by u.1 u.2)) (λ i. (h.by i, sym h.setup i, sym h.seen i)) among
 
--- a reply of an append holds of the mailbox at its point of the run
+-- what a reply of an append says of the mailbox holds at its point of the run
 reply_told : (s : Setup) (es front : List TakenStep) (e : TakenStep) (back : List TakenStep) (seq : ℕ) (r : Reply) → IsLayout s.layout → IsRun s es → RepliesTell → es ≡ (front ++ e ∷ []) ++ back → EndsAppend s front e seq r → ReplyTells s.layout e.by seq r (judged_by s (front ++ e ∷ [])).mail
 reply_told s es front e back seq r layout run tell split ends =
     let l = s.layout in
@@ -151,7 +151,7 @@ ended_told z y seq r h layout tell =
       tells = subst (λ (u : ℕ × List TakenStep). ReplyTells s.layout u.0 seq r (judged_by s u.1).mail) (λ i. (h.by i, all i)) told;
     }
 
--- a call that sets out from outside the section has no task under way
+-- a call that starts from outside the section has no task under way
 idle_only : (t : Task) (s : Place) (e : Errand) (o : Option Refusal) (why : Refusal) → (if is_idle_by s e then o else Some why) ≡ None → Only t e
 idle_only t s Free o why h = tt
 idle_only t s (Doing w left) o why h = absurd (cc)

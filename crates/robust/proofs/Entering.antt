@@ -1,4 +1,4 @@
--- How far the fast path of a lock leads, put together from its parts.
+-- How far the fast path of a lock gets, from its parts.
 use Rattle.std.proofs.Common.{◌≡◌, ℕ, ◌+◌, Bool, true, false, if◌then◌else◌, refl, ap, ◌∙◌, subst}
 use Rattle.robust.proofs.AccessCommon.{place_of, Clean, is_waiting, Setup, spot_now, Pass, Begun, free_spot, IsSame, Unanswered, EndsIn, Enters, checked_spot}
 use Rattle.rmecore.specs.declared.stage.Stage.{Stage}

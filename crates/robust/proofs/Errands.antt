@@ -25,7 +25,7 @@ pub none_in : {A : Type 0} (x : A) (front back : List A) → [] ≡ front ++ x �
 none_in x [] back e = absurd (cc)
 none_in x (y ∷ ys) back e = absurd (let k : [] ≡ y ∷ (ys ++ x ∷ back) = e in cc)
 
--- of all tasks at most this one is under way here, and a mending replies as mendings do
+-- of all tasks only this one may be under way here, and a mending has a mending's replies
 abbrev pub Only : Task → Errand → Type 0
 Only t Free = Unit {0}
 Only t (Doing Checking left) = Unit {0}
@@ -33,7 +33,7 @@ Only t (Doing Ruining left) = Unit {0}
 Only t (Doing Mending left) = Replies Mends left
 Only t (Doing (Working u) left) = u ≡ t
 
--- a call that brings no other task
+-- a call that starts no other task
 abbrev pub Brings : Task → Call → Type 0
 Brings t (Append seq value) = task.Append seq value ≡ t
 Brings t Close = task.Close ≡ t
@@ -122,7 +122,7 @@ module _ (t : Task) where
         subst (λ (u : Spot). Only t u.errand) (sym (gone-append s spot (before e.step.crashed e.step.start e.by) (taken e.by e.step.kind e.step.word e.value ∷ [])))
         (only_taken e.by e.step.kind e.step.word e.value (spot_before s spot e) h)
 
-    -- one of these entries answers so, where at most this task is under way
+    -- one of these entries has this answer, where only this task may be under way
     pub record Answering (spot : Spot) (mine : List TakenStep) (a : Answer) : Type 0 where
       pub front : List TakenStep
       pub entry : TakenStep
@@ -169,7 +169,7 @@ module _ (t : Task) where
         (find (gone s spot (happenings e)) f fs a more rest (All-tail (λ (g : TakenStep). OfStart (Brings t) g.step.start) f fs fine)
         (only_before f.step.crashed f.step.start f.by (gone s spot (happenings e)) (All-head (λ (g : TakenStep). OfStart (Brings t) g.step.start) f fs fine) (only_after spot e only)) k))
 
--- the lock and the ruin check answer with no reply, and a mending with such a one alone
+-- the lock and the ruin check have no reply, and a mending has only a mending's
 abbrev pub IsTasks : Reply → Type 0
 IsTasks (reply.Mended repaired) = ⊥
 IsTasks r = Unit {0}
@@ -205,7 +205,7 @@ mends_tail : (left : Script Reply) (v : ℕ) → Replies Mends left → Replies 
 mends_tail (Asks i rest) v h = h v
 mends_tail _ v h = h
 
--- the task's alone is
+-- only the task's is
 pub task_mails : (t : Task) (s : Place) (b c : Bool) (e : Errand) (kind : Kind) (v : ℕ) (r : Reply) → Only t e → IsTasks r → answer_by s b c e kind v ≡ Some (Mail r) → (left : Script Reply) × (e ≡ Doing (Working t) left)
 task_mails t s b c Free kind v r h its e = absurd (lock_mails c (answer s kind v) r e)
 task_mails t s b c (Doing Checking left) kind v r h its e = absurd (checked b (tail left v) r e)

@@ -1,4 +1,4 @@
--- How a worker's append can fail, where its member is outside the section and its value has the right width.
+-- How a worker's append can fail, if its member is outside the section and its value has the right width.
 use Rattle.std.proofs.Common.{◌≡◌, ◌≢◌, ◌⊎◌, ℕ, ◌+◌, ◌-◌, ◌<◌, ◌≤◌, Bool, true, false, if◌then◌else◌, List, [], ◌++◌, length, Some, None, Result, Ok, Err, IfOk, IfErr, refl, sym, ap, ◌∙◌, subst, inl, inr, arith, append_assoc, append-nil}
 use Rattle.robust.proofs.Common.{TableId, Reply, IsAmong, Answer, Call, Append, Lock, is_idle, ReplyTells, TakenStep, LockFault, Crashed, NotYet, AlreadyIn, Setup, refusal_now, ready, shown_by}
 use Rattle.robust.proofs.Common.{judged_by, spot_now, Calls, Seated, fell, began, ToldIn, Appends, WholeEnds, AppendFails, Comes, shown_on, RefusedAt, HasShown, seat_of}

@@ -74,7 +74,7 @@ module _ (y : Pass) (seq : ℕ) (value : List ℕ) (i v : ℕ) (rest : Script Re
     pub written_left : (x : Pass) (k : ℕ) → Unanswered x k 0 y → HasLeft x (k + 1) rest z
     written_left x k p = has_left x y z k p seq value (Writes i v rest) rest (Store Puts (DataAt i) v) 0 at refl written_may adv refl
 
--- count is within the mailbox's room
+-- count is at most the mailbox's room
 pub count_fits : (x y z : Pass) (v : ℕ) (first : TakenStep) → IsPass x → Adds x first y → Advances y Gets (DataAt 2) v z → v ≤ x.setup.layout.cap
 count_fits x y z v first pass was adv =
     let a = adv.adds in
@@ -144,7 +144,7 @@ module _ (x : Pass) (seq : ℕ) (value : List ℕ) (at : spot_now x ≡ append_b
             let two : Unanswered x ((0 + 1) + 1) 0 z = asked_left y seq value 2 count _ asks_count z adv2 x (0 + 1) one in
             asked_left z seq value i last _ asks_last w adv3 x ((0 + 1) + 1) two
 
--- the rows of its puts, and the last put
+-- the rows of its puts, and the last puts
 module _ (e : NewEntry) where
   abbrev l : Layout
   l = e.setup.layout
@@ -174,7 +174,7 @@ module _ (e : NewEntry) where
 pub room_for : (l : Layout) (a : ℕ) → IsLayout l → a < l.cap → (place_at l a + 2 + l.width ≤ size l) × (size l ≤ 900000) × (10 + l.width + l.procs ≤ size l)
 room_for l a lawful below = (place_up l a l.cap below, place_small l l.cap lawful lawful.small, place_low l l.cap)
 
--- the puts of a storing, one after another: two rows, with the commit between them, and the last three words
+-- the puts of a storing append in a row: two rows, with the commit between them, and the last three words
 module _ (x y1 y2 y3 y4 y5 : Pass) (e : NewEntry) (u1 : Unanswered x (2 + length e.value) 0 y1) (u2 : Unanswered y1 1 0 y2) (u3 : Unanswered y2 (2 + length e.value) 0 y3) (u4 : Unanswered y3 1 0 y4) (u5 : Unanswered y4 1 0 y5) where
   pub all_five : Unanswered x (((((2 + length e.value) + 1) + (2 + length e.value)) + 1) + 1) 0 y5
   all_five =

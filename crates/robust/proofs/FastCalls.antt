@@ -58,7 +58,7 @@ run_by_stage x z s u t r same barred free there is =
     let here : spot_now z ≡ free_spot (place_of s.layout.procs s.index t) s.mended = there ∙ (λ i. free_spot (place_of (sym r.layout i).procs (sym r.index i) t) (sym r.spot i).mended) in
     run_by_stood x z s u (place_of s.layout.procs s.index t) s.mended r same barred free here is
 
--- who is barred from a ruined lock
+-- a process that found the lock ruined
 module _ (l : Layout) (limit p : ℕ) (b : Bool) where
   abbrev pub last_wait : Stand
   last_wait = record { layout = l; limit = limit; index = p; lock = Wait 1 [] None; mended = b; barred = false; errand = IsFree }

@@ -56,7 +56,7 @@ module _ (x y z : Pass) (k : ℕ) (p : Unanswered x k 0 y) (a : Access) (v : ℕ
       let r = ran_answered (seat x 0) (seat y (many_more (length p.mine) 0)) (seat z (one_more (many_more (length p.mine) 0))) p.mine (outcome_of y a v) going step said is in
       record { mine = more (seat x 0) (seat y (many_more (length p.mine) 0)) (seat z (one_more (many_more (length p.mine) 0))) p.mine (outcome_of y a v) going step; long = longer; takes = r.takes; answers = r.answers; blocked = r.blocked }
 
--- one step more of the lock's part
+-- one more step of the lock's part
 module _ (x y z : Pass) (k : ℕ) (p : Unanswered x k 0 y) (t : Place) (b : Bool) (here : spot_now y ≡ free_spot t b) (a : Access) (v : ℕ) (next : access y.setup.limit y.by t ≡ Some a) (adv : Advances y (kind_of a) (word_of a) (carried a v) z) where
   r : IsRunBy y (stand_of y t b)
   r = run_by_free y t b here
@@ -73,14 +73,14 @@ module _ (x y z : Pass) (k : ℕ) (p : Unanswered x k 0 y) (t : Place) (b : Bool
   pub ended : (said : Answer) → by_lock false (answer t (kind_of a) (carried a v)) ≡ Some said → EndsIn x (k + 1) said z
   ended said is = ended_by x y z k p a v is_next (may_free y t b a here next v) adv said (says (Some said) is)
 
-  -- where the step leads
+  -- the state after the step
   pub there_by : (u : Place) → after_access (standing (stand_of y t b)) (lock_access (standing (stand_of y t b))) v ≡ u → spot_now z ≡ standing_at (lock_moved (stand_of y t b) u)
   there_by u to =
       let goes = lock_goes (stand_of y t b) v (all_allowed (standing (stand_of y t b))) in
       let run = run_by_step y z (stand_of y t b) (stepped (stand_of y t b) v) a v r next adv refl refl refl goes in
       sym run.spot ∙ ap (λ (w : Place). standing_at (lock_moved (stand_of y t b) w)) to
 
-  -- where the step leads, if that is no entry
+  -- the state after the step, if that is no entry
   pub there : (u : Place) → after_access (standing (stand_of y t b)) (lock_access (standing (stand_of y t b))) v ≡ u → is_entry t u ≡ false → mended_entered b t u ≡ b → spot_now z ≡ free_spot u b
   there u to none kept = there_by u to ∙ (λ i. record { lock = u; mended = kept i; barred = false; errand = errand_of (if none i then Does Checking (begun y.setup.layout y.by Check) else IsFree) })
 
@@ -99,7 +99,7 @@ pub takes-append : (x y z : Pass) (a b : List TakenStep) → Takes x a y → Tak
 takes-append x y z [] b h k = subst (λ (p : Pass). Takes p b z) h k
 takes-append x y z (e ∷ es) b h k = (h.0, h.1, h.2, takes-append h.0 y z es b h.3 k, h.4)
 
--- steps that answer nothing, and then some more
+-- steps without an answer, then more steps
 module _ (x y z : Pass) (j : ℕ) (p : Unanswered x j 0 y) (b : List TakenStep) (takes : Takes y b z) where
   then_answers : answers_of x (p.mine ++ b) ≡ answers_of y b
   then_answers =
@@ -137,7 +137,7 @@ ends_then x y z j k a p q = record {
 pub same_then : (x y z : Pass) → IsSame x y → IsSame y z → IsSame x z
 same_then x y z h k = (k.0 ∙ h.0, k.1 ∙ h.1)
 
--- a way, and then another
+-- one path, then another
 pub way_then : {x y z : Pass} {j k : ℕ} {t u : Place} → Way x j y t → Way y k z u → Way x (j + k) z u
 way_then {x} {y} {z} {j} {k} {t} {u} w v = record { at = v.at ∙ (λ i. free_spot u (w.at i).mended); unanswered = unanswered_then x y z j k 0 w.unanswered v.unanswered; clear = v.clear; same = same_then x y z w.same v.same }
 

@@ -48,7 +48,7 @@ module _ (s : Spec) (run front rest : List TakenStep) (is : run ≡ front ++ res
       let mine : All F (own p front) = all_left F (own p front) (own p rest) (subst (All F) (ap (own p) is ∙ own-append p front rest) (sending p below)) in
       begins_it P p Close (All-contains (OfBegins P p) (spelled front) (Begins p Close) (begins_all P p front mine) asked.1)
 
-  -- where it was full, there is less room than messages
+  -- if it was full, there is less room than there are messages
   module _ (w : Words) (n : ℕ) (numbered : IsNumbered z.layout w n) (sent : EveryMessageWasSent) (shown : shown_by z run ≡ entries z.layout w n) (room : n ≤ s.cap) where
     abbrev ms : List Message
     ms = entries z.layout w n

@@ -1,4 +1,4 @@
--- Numbered entries, of which each sender's are such as it sent: how many each has, and how many there are.
+-- Numbered entries, where each sender's are entries that it sent: how many each sender has, and how many there are.
 use Rattle.std.proofs.Common.{◌≡◌, ℕ, zero, suc, ◌+◌, ◌*◌, ◌<◌, ◌≤◌, ◌==◌, Bool, true, false, List, [], ◌∷◌, ◌++◌, length, filter, All, refl, sym, ap, ◌∙◌, subst, inl, inr, arith, append-nil, eqb-true, eq-eqb}
 use Rattle.robust.proofs.Common.{cases_eq, cases_Bool, cases_lt, All-nil, All-head, All-tail, All-weaker, All-push, filter-append, Layout, Message, Words, IsAmong, message, is_by, entries, count_of}
 use Rattle.robust.proofs.Common.{IsNumbered, entry, all_left, all_right, words_sent, messages_sent, messages_by, message_sent}
@@ -6,7 +6,7 @@ use Rattle.redomail.proofs.Changes.{count_of-push}
 use Rattle.judge.proofs.Counts.{one_if, count_cons}
 use Rattle.robust.proofs.Appended.{all_at, among_more}
 
--- the last of one more
+-- the last of k + 1
 all_last : {A : Type 0} (P : A → Type 0) (xs : List A) (x : A) → All P (xs ++ x ∷ []) → P x
 all_last P xs x h = All-head P x [] (all_right P xs (x ∷ []) h)
 
@@ -184,6 +184,6 @@ totals_less (suc n) each p ms h below less =
           omega (arith, old, here, product))
     ]
 
--- where one sender has fewer, there are fewer
+-- if one sender has fewer, there are fewer
 pub fewer_all : (n each p : ℕ) (ms : List Message) → All (λ (m : Message). m.sender < n) ms → ((q : ℕ) → q < n → count_of q ms ≤ each) → p < n → count_of p ms < each → length ms < n * each
 fewer_all n each p ms all h below less = subst (λ (k : ℕ). k < n * each) (sym (all_counted n ms all)) (totals_less n each p ms h below less)

@@ -1,4 +1,4 @@
--- One step more of a scan.
+-- One more step of a scan.
 use Rattle.std.proofs.Common.{◌≡◌, ◌≢◌, ℕ, ◌+◌, ◌<◌, max, List, Some, refl, sym, ap, ◌∙◌, arith}
 use Rattle.robust.proofs.AccessCommon.{Load, Peek as Peeks, Number as NumberOf, access, Door, above, first_here, above_first, above_skip, Spot, standing, spot_now, Pass, Advances, free_spot, Way}
 use Rattle.rmecore.proofs.MachineSteps.{door_goes}
@@ -7,7 +7,7 @@ use Rattle.robust.proofs.FreeSteps.{stand_of, moves, way_then, way_to}
 peek_next : (limit n p j m : ℕ) → j < n → j ≢ p → access limit p (Door (above n p j) m) ≡ Some (Load Peeks (NumberOf j))
 peek_next limit n p j m lt ne = ap (λ (js : List ℕ). access limit p (Door js m)) (above_first n p j j (first_here n p j lt ne))
 
--- from j on nobody was read, with this greatest
+-- the numbers from j on are unread, and this is the greatest one read
 module _ (x y : Pass) (j m k : ℕ) (w : Way x k y (Door (above x.setup.layout.procs x.by j) m)) where
   -- the same others, by the view there
   others_there : (i : ℕ) → above x.setup.layout.procs x.by i ≡ above y.setup.layout.procs y.by i
@@ -29,7 +29,7 @@ module _ (x y : Pass) (j m k : ℕ) (w : Way x k y (Door (above x.setup.layout.p
         let step = moves y z (Door (above n y.by j) m) (Door (above n y.by (j + 1)) (max m v)) (Load Peeks (NumberOf j)) v at (peek_next y.setup.limit n y.by j m below other) adv to refl refl refl refl in
         way_to x z (k + 1) (k + 1) (Door (above n y.by (j + 1)) (max m v)) (Door (above x.setup.layout.procs x.by (j + 1)) (max m v)) refl (ap (λ (js : List ℕ). Door js (max m v)) (sym (others_there (j + 1)))) (way_then w step)
 
-  -- the process itself is passed over
+  -- the process itself is skipped
   pub passed_over : x.by < x.setup.layout.procs → j ≡ x.by → Way x k y (Door (above x.setup.layout.procs x.by (j + 1)) m)
   passed_over below e =
       let past = ap (above x.setup.layout.procs x.by) e ∙ above_skip x.setup.layout.procs x.by below ∙ ap (λ (i : ℕ). above x.setup.layout.procs x.by (i + 1)) (sym e) in

@@ -1,4 +1,4 @@
--- A worker's appends start nothing but what it sends.
+-- A worker's appends start only the calls that send its messages.
 use Rattle.std.proofs.Common.{◌≡◌, ◌⊎◌, ℕ, List, [], ◌∷◌, ◌++◌, Result, Ok, Err, IfOk, IfErr, All, refl, sym, ap, ◌∙◌, subst, inl, inr}
 use Rattle.robust.proofs.Common.{All-nil, All-cons, All-append, Reply, Answer, Call, Append, Lock, Unlock, Consistent, TakenStep, Entry as Entering, LockFault, starts, ready, CutBy, Calls, own_of}
 use Rattle.robust.proofs.Common.{Seated, began, own, WholeEnds, calls_inside, AppendFails, Comes, IsFront, IsWithin, all_left, own-append, OfStart, IsSending, AreSending, SendsOnly}

@@ -1,4 +1,4 @@
--- A worker that ends for want of numbers was answered so at one of its own steps.
+-- A worker that ends with NumbersSpent had that answer at one of its own steps.
 use Rattle.std.proofs.Common.{◌≡◌, ◌⊎◌, ℕ, List, [], ◌∷◌, ◌++◌, Result, Ok, Err, IfErr, refl, sym, ap, ◌∙◌, subst, inl, inr}
 use Rattle.robust.proofs.Common.{Reply, Answer, NumbersSpent as SpentAnswer, Call, Append, Lock, at_rest, TakenStep, LockFault, NotYet, Setup, ServedAll, answers_from, ready, own_of, HasReadRuin}
 use Rattle.robust.proofs.Common.{Seated, began, spelled, gone, WholeEnds, AppendFails, Comes, WasSpent}
@@ -7,7 +7,7 @@ use Rattle.robust.proofs.Working.{kept_ready}
 use Rattle.execution.proofs.Turned.{answers-append}
 use Rattle.execution.specs.declared.lock_fault.LockFault.TheVariants.{NumbersSpent, NotRecoverable}
 
--- a call that is answered so
+-- a call with this answer
 served_spent : (x y : Seated) (order : List Call) (answers : List Answer) (blocked : ℕ) (mine : List TakenStep) → ServedAll (began (ready x) Lock) order answers blocked y mine → answers ≡ SpentAnswer ∷ [] → WasSpent y.pass.setup (own_of y.pass)
 served_spent x y order answers blocked mine served is = subst (WasSpent s) (sym own_y) (answers_from s at_rest (own_of x.pass), [], answers-append s at_rest (own_of x.pass) mine ∙ ap (λ (l : List Answer). answers_from s at_rest (own_of x.pass) ++ l) here)
   where

@@ -14,7 +14,7 @@ use Rattle.rmecore.specs.declared.word.Word.TheVariants.{Inside as InsideOf}
 use Rattle.rmeworld.specs.declared.call.Call.TheVariants as call
 use Rattle.robust.proofs.FreeSteps.{unanswered_none, quiet_by, ended_by, quiet, ended, there_by, there, moves}
 
--- steps at the own words, which are named by an index that is the process's
+-- steps at the own words, named by an index that is the process's
 module _ (y z : Pass) (own : ℕ) (is : own ≡ y.by) where
   itself : (y.by == y.by) ≡ true
   itself = eq-eqb y.by y.by refl

@@ -13,7 +13,7 @@ pub story_within : (l : Layout) (limit : ℕ) (w : Scene) (hs : List Happening) 
 story_within l limit w [] story = All-nil _
 story_within l limit w (h ∷ hs) story = All-cons (λ (x : Happening). who x < l.procs) h hs story.0.0 (story_within l limit (onward l limit w h) hs story.1)
 
--- where one list's element falls in two lists
+-- the place of one list's element in two lists
 cut_at : {A : Type 0} (xs ys front : List A) (h : A) (back : List A) → xs ++ ys ≡ front ++ h ∷ back → ((mid : List A) × (xs ≡ front ++ h ∷ mid)) ⊎ ((mid : List A) × (front ≡ xs ++ mid) × (ys ≡ mid ++ h ∷ back))
 cut_at [] ys front h back e = inr (front, refl, e)
 cut_at (x ∷ xs) ys [] h back e = inl (xs, (let same : x ≡ h = cc in ap (λ y. y ∷ xs) same))
@@ -100,7 +100,7 @@ module _ (s : Setup) (layout : IsLayout s.layout) (asked : EveryRuinWasAsked) (l
   ordered_front : (xs ys : List TakenStep) → Ordered (xs ++ ys) → Ordered xs
   ordered_front xs ys h p below = order_front None (own p xs) (own p ys) (subst (AreInOrder None) (own-append p xs ys) (h p below))
 
-  -- who begins to unlock there has read a ruin before, and so it stood in the word
+  -- a process that starts to unlock there has read the ruin before, so the word held it
   left : (es : List TakenStep) (p : ℕ) → IsRun s es → Ordered es → IsLeftUnmended s.layout s.limit (spelled es) p → ((xs ys : List TakenStep) → es ≡ xs ++ ys → length xs < length es → cells_of s xs 0 ≡ 0) → ⊥
   left es p run ordered u before_it =
       elim (walk s None at_rest (own p b.earlier) (refl, λ e. absurd (cc)) (order_front None (own p b.earlier) (b.entry ∷ own p b.later) mine) (run_goes s b.earlier p earlier_run)) [

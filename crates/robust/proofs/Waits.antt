@@ -1,4 +1,4 @@
--- One step more of a wait.
+-- One more step of a wait.
 use Rattle.std.proofs.Common.{◌≡◌, ◌≢◌, ℕ, ◌+◌, ◌<◌, ◌≤◌, Bool, true, false, ◌==◌, ◌||◌, List, Option, Some, None, refl, sym, ap, ◌∙◌, subst, arith, eq-eqb}
 use Rattle.robust.proofs.AccessCommon.{Load, Look as Looks, Weigh as Weighs, Number as NumberOf, Choosing as ChoosingOf, place_of, access, after_access, next_access, first, Standing, at_wait, Place}
 use Rattle.robust.proofs.AccessCommon.{Wait, above, is_before, first_here, above_first, above_skip, has-first, standing, spot_now, Pass, Advances, free_spot, IsSame, Unanswered, waits_at}
@@ -42,7 +42,7 @@ module _ (y : Pass) (k j : ℕ) (lt : j < y.setup.layout.procs) (ne : j ≢ y.by
     pub looked_at : (c : Bool) → (v == 0) ≡ c → spot_now y ≡ free_spot (place_of y.setup.layout.procs y.by (AtWait k j false)) b → Advances y Looks (ChoosingOf j) v z → spot_now z ≡ free_spot (place_of y.setup.layout.procs y.by (AtWait k j c)) b
     looked_at c e at adv = there y y z 0 (unanswered_none y) before b at (Load Looks (ChoosingOf j)) v next_look adv (place_of y.setup.layout.procs y.by (AtWait k j c)) (look_goes (standing (stand_of y before b)) k j v c first_is e) refl refl
 
-    -- what is weighed with an index that is the process's own
+    -- a weigh with an index that is the process's own
     module _ (own : ℕ) (is : own ≡ y.by) where
       by_own : (c : Bool) → ((v == 0) || is_before k own v j) ≡ c → ((v == 0) || is_before k y.by v j) ≡ c
       by_own c e = ap (λ (q : ℕ). (v == 0) || is_before k q v j) (sym is) ∙ e
@@ -57,7 +57,7 @@ module _ (y : Pass) (k j : ℕ) (lt : j < y.setup.layout.procs) (ne : j ≢ y.by
 pub same_waits : (x y : Pass) (k i : ℕ) (l : Bool) (t : Place) → IsSame x y → spot_now y ≡ free_spot t (spot_now x).mended → waits_at y k i l ≡ waits_at x k i l
 same_waits x y k i l t same at = λ n. free_spot (place_of (same.0 n).layout.procs (same.1 n) (AtWait k i l)) (at n).mended
 
--- what a wait keeps: from j on nobody was passed
+-- what a wait keeps: the processes from j on are not passed
 abbrev pub KeptWait : Pass → Pass → ℕ → ℕ → ℕ → Type 0
 KeptWait x y number k j = (spot_now y ≡ waits_at x number j false) × Unanswered x k 0 y × IsSame x y × (k ≤ j + j)
 
@@ -91,7 +91,7 @@ module _ (x y : Pass) (number k j : ℕ) (h : KeptWait x y number k j) where
       (let few = h.3 in omega arith),
     )
 
-  -- the process itself is passed over
+  -- the process itself is skipped
   pub wait_over : x.by < x.setup.layout.procs → j ≡ x.by → KeptWait x y number k (j + 1)
   wait_over below e =
       let gone : above x.setup.layout.procs x.by j ≡ above x.setup.layout.procs x.by (j + 1) = ap (above x.setup.layout.procs x.by) e ∙ above_skip x.setup.layout.procs x.by below ∙ ap (λ (i : ℕ). above x.setup.layout.procs x.by (i + 1)) (sym e) in

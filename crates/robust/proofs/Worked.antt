@@ -1,4 +1,4 @@
--- What a lab has of its arena when its workers have handed their members back.
+-- The arena of a lab when its workers have handed their members back.
 use Rattle.std.proofs.Common.{◌≡◌, ℕ, zero, suc, ◌<◌, ◌≤◌, ◌==◌, ◌||◌, Bool, List, [], ◌∷◌, map, length, Result, Ok, Err, IfOk, All, refl, sym, ap, ◌∙◌, subst, inl, inr, arith}
 use Rattle.robust.proofs.Common.{cases_eq, cases_lt, true≢false, All-nil, All-cons, All-head, All-tail, TableId, IsLayout, Setup, has_member, OneArena, procs_of, IsMissing, count_from, Seated, has}
 use Rattle.robust.proofs.Common.{AllSent, Spec, IsBadSpec, Done, EndsSo, fresh_member, fresh_members, HasSent, IsNew, sizes_of, HasWorked, seat_done, seat_of, seats_of}

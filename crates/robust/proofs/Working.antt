@@ -1,4 +1,4 @@
--- A worker's calls leave its seat what it is.
+-- A worker's calls keep its seat.
 use Rattle.std.proofs.Common.{◌≡◌, ℕ, ◌+◌, ◌<◌, Bool, true, false, if◌then◌else◌, List, Result, Ok, Err, IfOk, IfErr, refl, sym, ap, ◌∙◌, subst, inl, inr, arith}
 use Rattle.robust.proofs.Common.{TableId, Reply, Call, Append, Lock, is_idle, TakenStep, LockFault, Setup, ready, spot_now, Calls, Seated, fell, began, WholeEnds, AppendFails, WholeFails, words_sent}
 use Rattle.robust.proofs.Common.{IsSending, seat_of}
@@ -7,7 +7,7 @@ either : {A : Type 0} (f : Seated → A) (b : Bool) (x : Seated) → f (fell x) 
 either f true x same = refl
 either f false x same = same
 
--- what a crash keeps is kept where a process is made ready for a lock
+-- what a crash keeps is kept by `ready`
 pub kept_ready : {A : Type 0} (f : Seated → A) (x : Seated) → f (fell x) ≡ f x → f (ready x) ≡ f x
 kept_ready f x same = either f (is_idle (spot_now x.pass)) x same
 

@@ -6,10 +6,12 @@ use Rattle.rmeworld.specs.declared.call.Call.{Call}
 use Rattle.execution.specs.declared.entry.Step.{Step}
 use Rattle.robust.specs.declared.access.owed.Owed.{Owed}
 
+-- the list isn't empty
 abbrev pub is_there : {A : Type 0} → List A → Bool
 is_there [] = false
 is_there (x ∷ xs) = true
 
+-- the first element, if there is one
 abbrev pub head_of : {A : Type 0} → List A → Option A
 head_of [] = None
 head_of (x ∷ xs) = Some x

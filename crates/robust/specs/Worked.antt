@@ -19,6 +19,7 @@ seat_done done = seat_of done.member
 abbrev pub seat_promised : HandsBack → TableId × Setup × ℕ
 seat_promised promise = seat_of promise.0.value
 
+-- the sizes of a lab's arena
 abbrev pub sizes_of : Spec → Setup
 sizes_of s = record { layout = record { procs = s.procs; cap = s.cap; width = s.width }; limit = s.limit }
 

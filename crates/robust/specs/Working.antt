@@ -8,5 +8,6 @@ use Rattle.execution.specs.Running.{Seated}
 abbrev pub seat_of : Seated → TableId × Setup × ℕ
 seat_of x = (x.pass.table, x.pass.setup, x.pass.by)
 
+-- the seats of these members
 abbrev pub seats_of : List Seated → List (TableId × Setup × ℕ)
 seats_of xs = map seat_of xs

@@ -1,4 +1,4 @@
--- How the answer of a call comes from the steps of its process.
+-- The answer of a call, from the steps of its process.
 use Rattle.std.proofs.Common.{◌≡◌, ◌≢◌, ◌↔◌, ◌+◌, ℕ, zero, suc, ◌⊎◌, Bool, true, false, Option, Some, None, IsNone, IsSome, IsTrue, List, [], ◌∷◌, length, Result, Ok, Err, OnOk, IfOk, IfErr, refl, sym, ap, ◌∙◌, subst, inl, inr, arith}
 use Rattle.one_lock.proofs.Common.{WorldState, Setup, opened, Opens, IsBlocked, Gives, first_of, further, opening_after, HasTaken, count_blocked, Suffice, spent, IsAnswered, Answered, IsReply}
 use Rattle.one_lock.proofs.Common.{EndsAtLock, reply_by, entry_by, Seat, IsTold, AreSizes}
@@ -33,7 +33,7 @@ gives named p o a b s new after n told are opens is accepted moved answer blocke
       held = subst (λ (x : WorldState). IsTrue b ↔ IsBlocked p x) is (subst (λ (x : WorldState). IsTrue b ↔ ((tally_at x.tallies p).blocked ≢ (tally_at new.tallies p).blocked)) moved blocked);
     }
 
--- a step of the world under the lock, with what comes before it
+-- a step of the world under the mutex, with its crash and start
 pub step_gives : (named : Option Setup) (p : ℕ) (o : Opening) (s new after : WorldState) (n : ℕ) (r : Result Turn Refusal) → IsTold s n → AreSizes named s.layout s.limit → Opens p o s → new ≡ opened o p s → OnOk r (advance_refusal new p ≡ None) → OnOk r (after ≡ advanced new p)
     → IfOk r (λ (turn : Turn). turn.answer ≡ (stepped new p).answer) → IfOk r (λ (turn : Turn). IsTrue turn.blocked ↔ ((tally_at after.tallies p).blocked ≢ (tally_at new.tallies p).blocked))
     → IfOk r (λ (turn : Turn). Gives named p o turn.answer turn.blocked)
@@ -137,7 +137,7 @@ one_less None left after k l some is = is ∙ ap spent l
 one_less (Some turns) left after k (zero, l, sum) some is = absurd (some l)
 one_less (Some turns) left after k (suc m, l, sum) some is = (m, is ∙ ap spent l, omega (arith, sum))
 
--- one that was blocked, with a turn left for it
+-- a step that was blocked, with a turn left for it
 pub goes_blocked : (named : Option Setup) (p : ℕ) (s : MemberState) (call : Call) (turns left after : Option ℕ) (from mid to : ℕ) (o : Opening) (a : Option Answer) (b : Bool) (new : Opening) → IsUnderWay named p s call turns left from mid o → Gives named p o a b → to ≡ mid + 1 → a ≡ None → b ≡ true → new ≡ further
     → (left ≡ Some 0 → ⊥) → after ≡ spent left → IsUnderWay named p s call turns after from to new
 goes_blocked named p s call turns left after from mid to o a false new way g one no_answer blocked is some less = absurd (true≢false (sym blocked))
@@ -152,14 +152,14 @@ pub cut_off : {T : Type 0} (named : Option Setup) (by : Option Answer → Result
 cut_off named by m call turns new e (inl crash) = record { told = inl (ap Err crash) }
 cut_off named by m call turns new e (inr memory) = record { told = inr (inl (ap Err memory)) }
 
--- one that is answered, but for its last asking
+-- a call that is answered, but for its last asking
 pub as_told : {T : Type 0} (named : Option Setup) (by : Option Answer → Result T LockFault) (m mid new : Seat) (kept lost : MemberState) (call : Call) (turns : Option ℕ) (a : Option Answer) (answer result : Result T LockFault) → IsAnswered named m.process m.standing call turns m.steps mid.steps a → answer ≡ by a
     → (((result ≡ answer) × (new ≡ record mid { standing = kept })) ⊎ ((result ≡ Err Crashed) × (new ≡ record mid { standing = lost }))) → Answered named by m call turns new result
 as_told named by m mid new kept fell call turns a answer result is told (inl (same, k)) =
     record { told = inr (inr (a, (subst (λ (n : ℕ). IsAnswered named m.process m.standing call turns m.steps n a) (ap (λ (x : Seat). x.steps) (sym k)) is, same ∙ told))) }
 as_told named by m mid new kept fell call turns a answer result is told (inr (crash, k)) = record { told = inl crash }
 
--- what a task was given is an answer
+-- the answer of a task
 pub replied_by : (named : Option Setup) (p : ℕ) (call : Call) (from to : ℕ) (a : Option Answer) (reply : Reply) → IsSome a → IsAnswered named p Mended call None from to a → reply ≡ reply_by a → IsReply named p call reply
 replied_by named p call from to None reply some is told = absurd (true≢false (sym some))
 replied_by named p call from to (Some a) reply some is told = record { answer = a; from = from; to = to; answered = is; is = told }
@@ -180,7 +180,7 @@ ends_at_lock named m turns to (Some (Found found)) is = tt
 ends_at_lock named m turns to (Some (Mail reply)) is = tt
 ends_at_lock named m turns to (Some Withdrawn) is = tt
 
--- a whole call whose lock was answered by a fault, but for its last asking
+-- a whole call whose lock was answered with a fault, but for its last asking
 pub locked_out : (named : Option Setup) (m mid new : Seat) (kept lost : MemberState) (turns : Option ℕ) (a : Option Answer) (e : LockFault) (entry : Result Entry LockFault) (result : Result Reply LockFault) → IsAnswered named m.process m.standing Lock turns m.steps mid.steps a → entry ≡ entry_by a → entry ≡ Err e
     → (((result ≡ Err e) × (new ≡ record mid { standing = kept })) ⊎ ((result ≡ Err Crashed) × (new ≡ record mid { standing = lost }))) → IfErr result (EndsAtLock named m turns new.steps)
 locked_out named m mid new kept fell turns a e entry result is told fault (inl (same, k)) =
@@ -191,7 +191,7 @@ ruined_inside : (named : Option Setup) (m : Seat) (turns : Option ℕ) (to : ℕ
 ruined_inside named m turns to (Ok reply) ruin = tt
 ruined_inside named m turns to (Err e) ruin = subst (EndsAtLock named m turns to) (sym ruin) tt
 
--- one that came in, but for its last asking
+-- a whole call whose lock entered, but for its last asking
 pub came_in : (named : Option Setup) (m new kept lost : Seat) (turns : Option ℕ) (to : ℕ) (reply result : Result Reply LockFault) → IfErr reply (λ (e : LockFault). e ≡ RuinFault) → (((result ≡ reply) × (new ≡ kept)) ⊎ ((result ≡ Err Crashed) × (new ≡ lost)))
     → IfErr result (EndsAtLock named m turns to)
 came_in named m new kept lost turns to reply result ruin (inl (same, k)) = subst (λ (r : Result Reply LockFault). IfErr r (EndsAtLock named m turns to)) (sym same) (ruined_inside named m turns to reply ruin)

@@ -1,4 +1,4 @@
--- How workers ended, by those that were looked at so far.
+-- How the workers ended that were looked at so far.
 use Rattle.std.proofs.Common.{◌≡◌, ◌≢◌, ℕ, ◌+◌, ◌<◌, ◌≤◌, inl, inr, true, List, map, length, take, get_or, slice_get, All, Contains, Option, Some, None, option_map, refl, sym, ap, ◌∙◌, subst, arith}
 use Rattle.one_lock.proofs.LabCommon.{true≢false, cases_lt, get_or-map, length-map, take_all, All-more, All-contains, All-get_or, Contains-get_or, Layout, Crashed, OutOfMemory, NotRecoverable, NotYet}
 use Rattle.one_lock.proofs.LabCommon.{AlreadyIn, NotOwner, NotInconsistent, BadIndex, BadWidth, Setup, AllSent, Fault, Refused, LabFault, BadSpec, Member, Spec, HaveAllSent, WantedMemory, fault_by}
@@ -29,7 +29,7 @@ all_more P f ds p d within before here = All-more P (map f ds) p (f d) (inside f
 pub all_of : {D : Type 0} (P : Ending → Type 0) (f : D → Ending) (ds : List D) (p : ℕ) → length ds ≤ p → All P (take p (map f ds)) → All P (map f ds)
 all_of P f ds p past before = subst (λ (es : List Ending). All P es) (take_all p (map f ds) (subst (λ (n : ℕ). n ≤ p) (sym (length-map ds f)) past)) before
 
--- the least worker that ended early
+-- the worker with the least number of those that ended early
 pub is_of_least : {D : Type 0} (f : D → Ending) (ds : List D) (p : ℕ) (d : D) (fault : LabFault) → p < length ds → HaveAllSent (take p (map f ds)) → fault_by p (f (get_or ds p d)) ≡ Some fault → IsOfLeast (map f ds) fault
 is_of_least f ds p d fault within before told =
     record {
@@ -40,14 +40,14 @@ is_of_least f ds p d fault within before told =
       told = told;
     }
 
--- a worker that wanted memory, and none
+-- whether some worker ended out of memory
 pub one_wanted : {D : Type 0} (f : D → Ending) (ds : List D) (p : ℕ) (d : D) → p < length ds → d ≡ get_or ds p d → f d ≡ Fault OutOfMemory → WantedMemory (map f ds)
 one_wanted f ds p d within is wanted = subst (Contains (map f ds)) (ends f ds p d within ∙ ap f (sym is) ∙ wanted) (Contains-get_or (map f ds) p (f d) (inside f ds p within))
 
 pub none_wanted : (es : List Ending) → All (λ e. e ≢ Fault OutOfMemory) es → WantedMemory es → ⊥
 none_wanted es none one = All-contains (λ (e : Ending). e ≢ Fault OutOfMemory) es (Fault OutOfMemory) none one refl
 
--- each worker has ended as one with its number may
+-- each worker has ended in one of its ways
 abbrev pub EachMay : Option Setup → Spec → List Ending → Type 0
 EachMay named s es = (p : ℕ) (e : Ending) → slice_get es p ≡ Some e → MayEnd named s p e
 
@@ -71,7 +71,7 @@ each_may {D = D} named s f g l n ds looked is may places p e at =
     let it : P d = subst P got (All-get_or P ds p d within may) in
     subst (MayEnd named s p) one.2 (subst (λ (k : ℕ). MayEnd named s k (f d)) (ap (λ (x : ℕ × Layout). x.0) stands) it)
 
--- the workers of a lab that were handed back so have ended as they may
+-- the workers of a lab that were handed back have ended in one of their ways
 pub lab_ended : {D : Type 0} (named : Option Setup) (s : Spec) (f : D → Ending) (g : D → Seat) (ds looked : List D) → named ≡ Some (setup_of s) → looked ≡ ds → All (λ d. MayEnd named s (g d).process (f d)) ds → map (λ d. place_of (g d)) ds ≡ map place_of (new_seats (setup_of s).layout s.procs)
     → (length (map f looked) ≡ s.procs) × EachMay (Some (setup_of s)) s (map f looked)
 lab_ended named s f g ds looked is same may places =

@@ -5,7 +5,7 @@ use Rattle.std.proofs.Math.Seq.{get_or-append_seam}
 use Rattle.one_lock.proofs.Seats.{FitAll, new_count}
 use Rattle.one_lock.specs.declared.member_state.MemberState.TheVariants.{Out}
 
--- which process has each member of a new arena
+-- the process of each member of a new arena
 pub number_at : (l : Layout) (n p : ℕ) (x : ℕ × Layout) → p < n → get_or (map place_of (new_seats l n)) p x ≡ (p, l)
 number_at l zero p x below = absurd (omega (arith, below))
 number_at l (suc n) p x below =

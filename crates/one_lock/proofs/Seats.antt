@@ -1,4 +1,4 @@
--- All members of an arena, at its making and when they are handed back.
+-- All members of an arena, when they are made and when they are handed back.
 use Rattle.std.proofs.Common.{◌≡◌, ℕ, zero, suc, ◌<◌, List, [], ◌∷◌, ◌++◌, map, length, All, refl, sym, ap, ◌∙◌, subst, append_assoc}
 use Rattle.one_lock.proofs.Common.{Layout, Seat, new_seats, AreAll}
 use Rattle.std.proofs.lemmas.List.{map-append}
@@ -28,7 +28,7 @@ new_arena l n ms made e = subst (λ (xs : List Seat). FitAll n xs) (sym made) (s
 pub new_all : (l : Layout) (n : ℕ) (ms : List Seat) → ms ≡ new_seats l l.procs → l.procs ≡ n → 0 < n → AreAll n ms
 new_all l n ms made e some = (some, ap length made ∙ new_count l l.procs ∙ e)
 
--- one more of them has been taken and handed back
+-- one more of them was taken and handed back
 pub moved_on : {A B C : Type 0} (f : A → C) (g : B → C) (done : List A) (d : A) (x : B) (left rest : List B) (all : List C) → map f done ++ map g left ≡ all → left ≡ x ∷ rest → f d ≡ g x → map f (done ++ d ∷ []) ++ map g rest ≡ all
 moved_on {A = A} {B = B} {C = C} f g done d x left rest all old is same =
     ap (λ (l : List C). l ++ map g rest) (map-append f done (d ∷ [])) ∙ append_assoc (map f done) (f d ∷ []) (map g rest) ∙ ap (λ (c : C). map f done ++ c ∷ map g rest) same ∙ ap (λ (l : List B). map f done ++ map g l) (sym is) ∙ old

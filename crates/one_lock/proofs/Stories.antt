@@ -30,7 +30,7 @@ told_more s n m e new sum takes told =
       counted = steps_more told.story e ∙ ap (λ k. steps_of (e ∷ []) + k) told.counted ∙ sum;
     }
 
--- a new world has come from nothing
+-- a new world is the end of the empty execution
 pub told_first : (s : WorldState) → s ≡ new_world s.layout s.limit → IsTold s 0
 told_first s is =
     record {

@@ -24,10 +24,12 @@ use Rattle.one_lock.specs.Member.{Seat, is_lost}
 use Rattle.execution.specs.declared.setup.Setup.{Setup}
 use Rattle.one_lock.specs.Story.{IsTold, AreSizes}
 
+-- the world after the crash of p, if there is one
 abbrev pub crash_by : Bool → ℕ → WorldState → WorldState
 crash_by true p s = crashed s p
 crash_by false p s = s
 
+-- the world after the start of p's call, if there is one
 abbrev pub start_by : Option Call → ℕ → WorldState → WorldState
 start_by None p s = s
 start_by (Some call) p s = started s p call
@@ -51,6 +53,7 @@ abbrev pub refusal_of_crash : Bool → ℕ → WorldState → Option Refusal
 refusal_of_crash true p s = crash_refusal s p
 refusal_of_crash false p s = None
 
+-- why the start before a step of p is refused
 abbrev pub refusal_of_start : Option Call → ℕ → WorldState → Option Refusal
 refusal_of_start None p s = None
 refusal_of_start (Some call) p s = start_refusal s p call
@@ -79,6 +82,7 @@ pub record Gives (named : Option Setup) (p : ℕ) (o : Opening) (answer : Option
 abbrev pub first_of : MemberState → Call → Opening
 first_of standing call = record { crash = is_lost standing; call = Some call }
 
+-- the opening of a later step: no crash and no start
 abbrev pub further : Opening
 further = record { crash = false; call = None }
 
@@ -92,6 +96,7 @@ abbrev pub HasTaken : Option Setup → ℕ → Opening → List Bool → Type 0
 HasTaken named p first [] = Unit {0}
 HasTaken named p first (b ∷ bs) = HasTaken named p first bs × Gives named p (opening_after first bs) None b
 
+-- the number of blocked steps
 abbrev pub count_blocked : List Bool → ℕ
 count_blocked [] = 0
 count_blocked (true ∷ bs) = suc (count_blocked bs)
@@ -133,18 +138,22 @@ entry_by (Some OwnerDied) = Ok OwnerDiedEntry
 entry_by (Some NumbersSpent) = Err SpentFault
 entry_by (Some _) = Err RuinFault
 
+-- the result of a recovery
 abbrev pub found_by : Option Answer → Result Found LockFault
 found_by (Some (FoundOut found)) = Ok found
 found_by _ = Ok Idle
 
+-- the result of a mending
 abbrev pub mended_by : Option Answer → Result Bool LockFault
 mended_by (Some (Mail (MendedOrNot repaired))) = Ok repaired
 mended_by _ = Err RuinFault
 
+-- the result of a reading of the board
 abbrev pub word_by : Option Answer → Result ℕ LockFault
 word_by (Some (Mail (Word word))) = Ok word
 word_by _ = Ok 0
 
+-- the reply of a task
 abbrev pub reply_by : Option Answer → Reply
 reply_by (Some (Mail reply)) = reply
 reply_by _ = Done

@@ -24,6 +24,7 @@ abbrev pub words_sent : ℕ → ℕ → ℕ → List ℕ
 words_sent p seq zero = []
 words_sent p seq (suc j) = words_sent p seq j ++ (1000000 * p + seq + j) ∷ []
 
+-- worker p's message with this number
 abbrev pub message_sent : ℕ → ℕ → ℕ → Message
 message_sent width p seq = message p seq (words_sent p seq width)
 

@@ -27,11 +27,13 @@ abbrev pub new_seats : Layout → ℕ → List Seat
 new_seats l zero = []
 new_seats l (suc n) = new_seats l n ++ record { process = n; layout = l; standing = Out; steps = 0; counted = 0 } ∷ []
 
+-- the member is in the section
 abbrev pub is_in : MemberState → Bool
 is_in Mended = true
 is_in Unmended = true
 is_in _ = false
 
+-- the member has lost its private memory
 abbrev pub is_lost : MemberState → Bool
 is_lost Lost = true
 is_lost _ = false
@@ -57,6 +59,7 @@ Goes old new = (new.process ≡ old.process) × (new.layout ≡ old.layout) × (
 abbrev pub AskedEach : Seat → Seat → ℕ → ℕ → Type 0
 AskedEach old new a b = b < 2 ^ 64 - 1 → b + old.steps ≡ a + new.steps
 
+-- the same, and the plan was asked once more
 abbrev pub AskedOnceMore : Seat → Seat → ℕ → ℕ → Type 0
 AskedOnceMore old new a b = b < 2 ^ 64 - 1 → b + old.steps ≡ a + new.steps + 1
 
@@ -65,6 +68,7 @@ AskedOnceMore old new a b = b < 2 ^ 64 - 1 → b + old.steps ≡ a + new.steps +
 abbrev pub Counts : Seat → Seat → Type 0
 Counts old new = new.counted ≡ min (new.steps - old.steps) (2 ^ 64 - 1)
 
+-- a part of a call has counted on
 abbrev pub CountsOn : Seat → Seat → Type 0
 CountsOn old new = new.counted ≡ min (old.counted + (new.steps - old.steps)) (2 ^ 64 - 1)
 
@@ -73,6 +77,7 @@ abbrev pub falls_with : LockFault → ℕ → ℕ
 falls_with Crashed f = one_more f
 falls_with _ f = f
 
+-- the falls after a call with this result
 abbrev pub falls_by : {T : Type 0} → Result T LockFault → ℕ → ℕ
 falls_by (Ok a) f = f
 falls_by (Err e) f = falls_with e f
@@ -97,6 +102,7 @@ of_steps Crashed = true
 of_steps OutOfMemory = true
 of_steps _ = false
 
+-- the faults of `consistent`
 abbrev pub of_consistent : LockFault → Bool
 of_consistent NotRecoverable = true
 of_consistent e = of_steps e
@@ -107,20 +113,24 @@ fallen_to NumbersSpent = Out
 fallen_to NotRecoverable = Out
 fallen_to _ = Lost
 
+-- the member's state after a lock with this result
 abbrev pub stands_entered : Result Entry LockFault → MemberState
 stands_entered (Ok Clean) = Mended
 stands_entered (Ok OwnerDied) = Unmended
 stands_entered (Err e) = fallen_to e
 
+-- the member's state after a call that leaves the section
 abbrev pub stands_out : {T : Type 0} → Result T LockFault → MemberState
 stands_out (Ok a) = Out
 stands_out (Err e) = fallen_to e
 
+-- the member's state after a recovery
 abbrev pub stands_found : Result Found LockFault → MemberState
 stands_found (Ok FoundInside) = Unmended
 stands_found (Ok _) = Out
 stands_found (Err e) = Lost
 
+-- the member's state after `consistent`
 abbrev pub stands_mended : Result Bool LockFault → MemberState
 stands_mended (Ok b) = Mended
 stands_mended (Err NotRecoverable) = Unmended

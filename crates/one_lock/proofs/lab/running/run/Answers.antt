@@ -47,7 +47,7 @@ unreachable-requires g c =
     let all = c.in-Ok.ensures.all in
     c.in-Err-default-NotAll.ensures.missing c.in-Err-default-NotAll.field-0-1-is (all.0, same_count c.in-Ok-members_of.members.items c.in-Ok.members.items same ∙ all.1)
 
--- what is read from the cells of an image that a run has left
+-- what is read from the cells of the image at a run's end
 are_shown : {T : Type 0} (messages_of : T → List Message) (l : Layout) (image : Image) (cells : List ℕ) (steps : ℕ) (r : Result T LabFault) → cells ≡ image.cells → IsLeftBy steps image → IsLawfulImage image
     → OnOk r (IsContent l cells) → IfOk r (λ lab. messages_of lab ≡ entries l (words_of cells) (slice_index cells 2)) → IfOk r (λ lab. AreShown l (messages_of lab))
 are_shown messages_of l image cells steps (Err e) is left lawful kept shown = tt

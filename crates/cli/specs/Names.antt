@@ -39,6 +39,7 @@ abbrev pub words_without : Reply → List (List ℕ)
 words_without (replies.Word v) = codes "word" ∷ []
 words_without reply = words_of_reply reply
 
+-- the name of a kind of step
 abbrev pub word_of_kind : Kind → List ℕ
 word_of_kind kinds.Open = codes "open"
 word_of_kind kinds.Peek = codes "peek"
@@ -53,6 +54,7 @@ word_of_kind kinds.Get = codes "get"
 word_of_kind kinds.Put = codes "put"
 word_of_kind kinds.Glance = codes "glance"
 
+-- the words of a topic's name
 abbrev pub words_of : Topic → List (List ℕ)
 words_of (Fault fault) = codes "fault" ∷ decimal (number_of_line fault) ∷ []
 words_of (Refused refusal) = words_of_refusal (number_of_refusal refusal)
@@ -66,8 +68,10 @@ words_of (Step kind) = codes "step" ∷ word_of_kind kind ∷ []
 abbrev pub name_of : Topic → List ℕ
 name_of topic = join_with_byte 32 (words_of topic)
 
+-- the name of what `recover` finds
 abbrev pub name_of_found : Found → List ℕ
 name_of_found found = name_of (OfAnswer (answers.Found found))
 
+-- the name of a task's reply
 abbrev pub name_of_reply : Reply → List ℕ
 name_of_reply reply = name_of (OfAnswer (answers.Mail reply))

@@ -5,6 +5,7 @@ use Rattle.cli.specs.declared.arguments.order.Command.TheVariants.{Replay, Run, 
 use Rattle.cli.specs.declared.arguments.order.HuntOrder.{HuntOrder}
 use Rattle.cli.specs.declared.arguments.order.RunOrder.{RunOrder}
 
+-- the numbers of a hunt are in their ranges
 abbrev pub HuntFits : HuntOrder → Type 0
 HuntFits order = ((1 ≤ order.rounds) × (order.rounds ≤ 10000)) × (1 ≤ order.steps) × (order.steps ≤ 10000)
 
@@ -12,6 +13,7 @@ HuntFits order = ((1 ≤ order.rounds) × (order.rounds ≤ 10000)) × (1 ≤ or
 abbrev pub RunFits : RunOrder → Type 0
 RunFits order = ((1 ≤ order.procs) × (order.procs ≤ 16)) × ((1 ≤ order.messages) × (order.messages ≤ 4096)) × (order.crash ≤ 50) × (1 ≤ order.width) × (order.width ≤ 8)
 
+-- the numbers of a command are in their ranges
 abbrev pub IsSized : Command → Type 0
 IsSized (Replay order) = Unit {0}
 IsSized (Run order) = RunFits order

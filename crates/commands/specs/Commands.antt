@@ -43,6 +43,7 @@ pub record TellsTrace (old new : Reading) (before now : Tape) (end : Result Endi
   pub outcome_is : outcome end ≡ outcome_told (trace_answer (parts_of text))
   pub line : Writes before now (line_told (trace_answer (parts_of text)))
 
+-- how `judge` ends
 abbrev pub JudgeEnds : Reading → Reading → Tape → Tape → Result Ending Fault → Type 0
 JudgeEnds old new before now end = (IsBroken end ⊎ TellsTrace old new before now end) × TellsReads old new end
 
@@ -59,6 +60,7 @@ pub record TellsFind (order : HuntOrder) (before now : Tape) : Type 0 where
   pub found : IsFound order.variant schedule
   pub text : TellsFound order.shrink order.variant schedule before now
 
+-- how `hunt` ends: nothing found, a schedule found, sizes out of their ranges, or a failure
 abbrev pub HuntEnds : HuntOrder → Tape → Tape → Result Ending Fault → Type 0
 HuntEnds order before now end =
     (outcome end ≡ Ok 0) × Writes before now (line_of (codes "nothing" ∷ codes "found" ∷ []))

@@ -43,6 +43,7 @@ calls_of order =
     ++ (asked order.calls.append (appends order.width order.cap)
     ++ asked order.calls.close (call.Close ∷ []))))))
 
+-- the sizes of the search's worlds
 abbrev pub layout_of : ExploreOrder → Layout
 layout_of order = record { procs = order.procs; cap = order.cap; width = order.width }
 
@@ -59,9 +60,11 @@ pub record TellsLeast (order : ExploreOrder) (before now : Tape) : Type 0 where
   pub few : length path ≤ order.moves
   pub text : Writes before now (spelling (schedule_of order path))
 
+-- the line `nothing found within K moves`
 abbrev pub within_line : ℕ → List ℕ
 within_line moves = line_of (codes "nothing" ∷ codes "found" ∷ codes "within" ∷ decimal moves ∷ codes "moves" ∷ [])
 
+-- the line `nothing found: all N states`
 abbrev pub all_line : ℕ → List ℕ
 all_line states = line_of (codes "nothing" ∷ codes "found:" ∷ codes "all" ∷ decimal states ∷ codes "states" ∷ [])
 
@@ -86,6 +89,7 @@ pub record HasTooMany (order : ExploreOrder) (before now : Tape) : Type 0 where
   pub more : HasMoreStates (rules scene_words) (first_scene order.variant (layout_of order) order.limit order.crashes (calls_of order)) order.states
   pub silent : Silent before now
 
+-- how `explore` ends
 abbrev pub ExploreEnds : ExploreOrder → Tape → Tape → Result Ending Fault → Type 0
 ExploreEnds order before now end =
     (outcome end ≡ Ok 1) × TellsLeast order before now

@@ -11,6 +11,7 @@ abbrev pub fault_of_opening : FileFault → Fault
 fault_of_opening of_file.Failed = Read
 fault_of_opening of_file.OutOfMemory = OutOfMemory
 
+-- the same for a file that wasn't written
 abbrev pub fault_of_saving : FileFault → Fault
 fault_of_saving of_file.Failed = Write
 fault_of_saving of_file.OutOfMemory = OutOfMemory

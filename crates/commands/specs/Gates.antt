@@ -10,5 +10,6 @@ use Rattle.cli.specs.declared.arguments.order.RunOrder.{RunOrder}
 abbrev pub gate_of : RunOrder → ℕ → Drawing
 gate_of order p = record { generator = pcg32_of_seed (pcg32_seed 16 ((order.seed + p) % 2 ^ 64)); per_mille = order.crash; count = unasked }
 
+-- the crash plans of all senders
 abbrev pub gates_for : RunOrder → List Drawing
 gates_for order = map (gate_of order) (range_with_len 0 order.procs)

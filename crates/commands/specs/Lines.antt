@@ -10,6 +10,7 @@ use Rattle.schedule.specs.Tapes.{Begins, Tape, Writes}
 abbrev pub words_of_place : ℕ → List ℕ → ℕ → List (List ℕ)
 words_of_place line cause number = codes "line" ∷ (decimal line ++ codes ":") ∷ cause ∷ decimal number ∷ []
 
+-- the words of a fault's line
 abbrev pub words_of_fault : Fault → List (List ℕ)
 words_of_fault (Text line number) = words_of_place line (codes "fault") number
 words_of_fault (Refused line number) = words_of_place line (codes "refused") number
@@ -22,6 +23,7 @@ words_of_fault OutOfMemory = codes "out" ∷ codes "of" ∷ codes "memory" ∷ [
 words_of_fault TooManyStates = codes "too" ∷ codes "many" ∷ codes "states" ∷ []
 words_of_fault (Member p) = codes "member" ∷ decimal p ∷ codes "failed" ∷ []
 
+-- the line of a fault on standard error
 abbrev pub fault_line : Fault → List ℕ
 fault_line fault = line_of (codes "rmelab:" ∷ words_of_fault fault)
 

@@ -40,6 +40,7 @@ pub record SavesAll (order : Command) (before now : Used) (save : Option (Vec �
   pub names : now.saved ≡ saves_all order before.saved
   pub texts : now.texts ≡ before.texts ++ option_to_list save
 
+-- nothing is written to any file
 pub record SavesNone (before now : Used) : Type 0 where
   pub names : now.saved ≡ before.saved
   pub texts : now.texts ≡ before.texts
@@ -91,6 +92,7 @@ pub record Closes (said says : Tape) (end : Result Ending Fault) (status : ℕ) 
   pub status_is : status ≡ status_ended end
   pub tells : Tells said says end
 
+-- a command is carried out, and its fault reported
 abbrev pub Obeys : Command → Used → Used → Reading → Reading → Tape → Tape → Tape → Tape → ℕ → Type 0
 Obeys order before now old new blank written said says status =
     (end : Result Ending Fault) × Does order before now old new blank written end × Closes said says end status
@@ -106,6 +108,7 @@ Helps text blank written said says status =
 abbrev pub Scolds : List ℕ → Tape → Tape → ℕ → Type 0
 Scolds text said says status = IsTold said says text × (status ≡ 2)
 
+-- what is reported for words that are no command
 abbrev pub Answers : WordsFault → Tape → Tape → Tape → Tape → ℕ → Type 0
 Answers (words.Help text) blank written said says status = Helps (string_bytes text) blank written said says status
 Answers (words.Refused text) blank written said says status = Scolds (string_bytes text) said says status

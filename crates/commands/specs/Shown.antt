@@ -8,9 +8,11 @@ use Rattle.commands.specs.declared.progress.work.Work.TheVariants.{Search, Hunt}
 abbrev pub overwriting : List ℕ → List ℕ
 overwriting text = 13 ∷ text ++ 27 ∷ 91 ∷ 75 ∷ []
 
+-- the progress line of a search
 abbrev pub search_line : ℕ → ℕ → ℕ → List ℕ
 search_line moves states speed = overwriting (decimal states ++ codes " states, " ++ decimal moves ++ codes " moves deep, " ++ decimal speed ++ codes " states a second")
 
+-- the progress line of a hunt
 abbrev pub hunt_line : ℕ → ℕ → ℕ → List ℕ
 hunt_line rounds moves speed = overwriting (decimal rounds ++ codes " rounds, " ++ decimal moves ++ codes " moves, " ++ decimal speed ++ codes " moves a second")
 

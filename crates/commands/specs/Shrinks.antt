@@ -20,6 +20,7 @@ abbrev pub shrunk_text : Option Scheduled → List ℕ
 shrunk_text (Some least) = spelling least
 shrunk_text None = verdict_line Fine
 
+-- the exit status: 1 if there was something to shrink
 abbrev pub shrunk_status : Option Scheduled → ℕ
 shrunk_status (Some least) = 1
 shrunk_status None = 0
@@ -59,6 +60,7 @@ pub record TellsText (old new : Reading) (before now : Tape) (end : Result Endin
   pub told : end ≡ Err fault
   pub silent : Silent before now
 
+-- how `shrink` ends
 abbrev pub ShrinkEnds : ShrinkOrder → Reading → Reading → Tape → Tape → Result Ending Fault → Type 0
 ShrinkEnds order old new before now end =
     ShrinksText order.variant old new before now end ⊎ (TellsText old new before now end ⊎ (status_ended end ≡ 3))

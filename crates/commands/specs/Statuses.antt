@@ -23,6 +23,7 @@ status_of (Member p) = 3
 status_of TooManyStates = 3
 status_of _ = 2
 
+-- the exit status after a verdict
 abbrev pub status_after : Verdict → ℕ
 status_after Fine = 0
 status_after (Against at fault) = 1

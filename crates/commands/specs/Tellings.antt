@@ -80,6 +80,7 @@ pub record Wants (before now : Tape) (end : Result Ending Fault) : Type 0 where
   pub silent : Silent before now
   pub memory : end ≡ Err faults.OutOfMemory
 
+-- the run is written in this manner, or there was no memory
 abbrev pub Tells : {S : Type 0} → Manner → Behaviour S → (S → Image) → State → S → Phase → Scheduled → Tape → Tape → Result Ending Fault → Type 0
 Tells (Drawn style) b picture_of start s first schedule before now end = DrawsRun b start s first style schedule before now end ⊎ Wants before now end
 Tells (Replayed each) b picture_of start s first schedule before now end = ReplaysRun each b picture_of start s first schedule before now end ⊎ Wants before now end

@@ -57,9 +57,11 @@ why_of l words chore.Close = why.Working task.Close
 why_of l words (chore.Getting i) = why.Working (task.BoardGet i)
 why_of l words (chore.Putting i v) = why.Working (task.BoardPut i v)
 
+-- the job of a script state
 abbrev pub job_of : Layout → ℕ → List ℕ → Chore → Pending
 job_of l p words c = record { layout = l; sender = p; stage = job_stage l words c }
 
+-- the script state of the world's machine
 abbrev pub errand_of : Layout → ℕ → List ℕ → Chore → Errand
 errand_of l p words c = errand.Doing (why_of l words c) (job_of l p words c)
 

@@ -29,6 +29,7 @@ abbrev pub wanted : ℕ → Access → RmeAccess
 wanted n (Load kind word) = record { store = 0; place = place n word; value = 0 }
 wanted n (Store kind word v) = record { store = 1; place = place n word; value = v }
 
+-- the code of what a recovery finds
 abbrev pub found_code : Found → ℕ
 found_code found.Idle = 23
 found_code found.Left = 24
@@ -36,6 +37,7 @@ found_code found.Doorway = 25
 found_code found.Waiting = 26
 found_code found.Inside = 27
 
+-- the code of a reply
 abbrev pub reply_code : Reply → ℕ
 reply_code reply.Stored = 28
 reply_code reply.Already = 29
@@ -50,6 +52,7 @@ reply_code (reply.Word v) = 37
 reply_code reply.Done = 38
 reply_code (reply.Ruined b) = 39
 
+-- the code of an answer
 abbrev pub answer_code : Answer → ℕ
 answer_code answer.Clean = 17
 answer_code answer.OwnerDied = 18
@@ -85,10 +88,12 @@ told_as (Some a) blocked next = answer_code a
 told_as None true next = 16
 told_as None false next = goes_as next
 
+-- the code of a step, if there is one
 abbrev pub told_by : Option Access → Outcome → Option Access → ℕ
 told_by None o next = 7
 told_by (Some a) o next = told_as o.answer o.progress.blocked next
 
+-- the code that `rme_feed` answers
 abbrev pub told : Stand → ℕ → ℕ
 told s v = told_by (next_access s) (outcome s (next_access s) v) (next_access (stepped s v))
 

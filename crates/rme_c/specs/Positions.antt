@@ -76,18 +76,22 @@ working_chore l q =
     else if q.at == 31 then (if nat_lt q.first 4 then Some (chore.Putting q.first q.second) else None)
     else None
 
+-- the first of the two that is there
 abbrev pub first_of : Option Chore → Option Chore → Option Chore
 first_of None c = c
 first_of (Some c) _ = Some c
 
+-- the script state with these numbers
 abbrev pub chore_of : Layout → RmePosition → Option Chore
 chore_of l q = first_of (short_chore q) (if is_layout l then first_of (mending_chore l q) (working_chore l q) else None)
 
+-- the position, from the stage or the script state
 abbrev pub by_parts : Option Stage → Option Chore → Position
 by_parts (Some t) c = position.Lock t
 by_parts None (Some c) = position.Within c
 by_parts None None = position.Lost
 
+-- the sizes of the mailbox of the process's world
 abbrev pub layout_of : RmeProcess → Layout
 layout_of p = record { procs = p.procs; cap = p.cap; width = p.width }
 
@@ -108,6 +112,7 @@ abbrev pub FitsAt : Layout → Position → Type 0
 FitsAt l (position.Within c) = FitsChore l c
 FitsAt l _ = Unit {0}
 
+-- the process is one of its world's, and its sizes fit the position
 abbrev pub Fits : RmeProcess → Position → Type 0
 Fits p position.Lost = Unit {0}
 Fits p (position.Lock t) = (p.index < p.procs) × (p.procs ≤ 64)
@@ -122,11 +127,13 @@ landing false t = position.Lock t
 abbrev pub standing_at : RmeProcess → Stage → Standing
 standing_at p t = record { procs = p.procs; limit = p.limit; index = p.index; place = place_of p.procs p.index t }
 
+-- the place of the lock's part at this position
 abbrev pub lock_at : ℕ → ℕ → Position → Place
 lock_at n p position.Lost = Dead
 lock_at n p (position.Lock t) = place_of n p t
 lock_at n p (position.Within c) = Inside
 
+-- the script state at this position
 abbrev pub errand_at : Layout → ℕ → List ℕ → Position → Errand
 errand_at l p words (position.Within c) = errand_of l p words c
 errand_at l p words _ = errand.Free

@@ -9,6 +9,7 @@ use Rattle.rmeworld.specs.Refused.{first_cause, start_refusal}
 use Rattle.rmeworld.specs.Stand.{Stand, spot_of}
 use Rattle.rme_c.specs.declared.process.RmeCall.{RmeCall}
 
+-- the number is from `least` to `most`
 abbrev pub within : ℕ → ℕ → ℕ → Bool
 within least most n = nat_le least n && nat_le n most
 
@@ -43,6 +44,7 @@ abbrev pub call_cause : Stand → Option Call → Option Refusal
 call_cause s None = Some BadIndex
 call_cause s (Some call) = start_refusal s.layout (spot_of s) call
 
+-- the first cause, if there is one
 abbrev pub cause_behind : Option Refusal → Option Refusal → Option Refusal
 cause_behind (Some r) _ = Some r
 cause_behind None cause = cause

@@ -18,6 +18,7 @@ use Rattle.rme_c.specs.Positions.{stand_at, stand_of, stage_of, chore_of, by_par
 abbrev pub answered : RmeProcess → Position → ℕ → Option Answer
 answered p x v = (outcome (stand_at p x) (next_access (stand_at p x)) v).answer
 
+-- whether the step with this value is blocked
 abbrev pub is_blocked : RmeProcess → Position → ℕ → Bool
 is_blocked p x v = (outcome (stand_at p x) (next_access (stand_at p x)) v).progress.blocked
 

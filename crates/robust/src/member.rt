@@ -50,6 +50,7 @@ impl Model for Member {
 }
 
 impl Member {
+    /// A member at rest, with this port.
     pub(crate) fn new(walker: Walker) -> Member
         requires { walker ≡ fresh walker.table walker.setup walker.by }
         ensures { result ≡ record { pass = walker; steps = 0 } }

@@ -23,7 +23,7 @@ use execution::LockFault;
 const MOST_STEPS: u64 = 256;
 
 impl Runner {
-    /// Takes the steps of the call under way, up to its answer or to a blocked reading (`None`).
+    /// Takes the steps of the call under way, up to its answer or to a blocked reading (`None`). `Crashed`: the plan fell.
     pub fn run<C: CrashPlan>(
         &mut self,
         plan: &mut C,
@@ -53,7 +53,7 @@ impl Runner {
         unreachable!()
     }
 
-    /// Takes the steps of a call that is never blocked, up to its answer.
+    /// Takes the steps of a call that is never blocked, up to its answer. `Crashed`: the plan fell.
     pub fn serve<C: CrashPlan>(&mut self, plan: &mut C, call: &Call) -> Result<Answer, LockFault>
         requires begun { Begun call.now self.old.pass.setup.layout.procs (spot_now self.old.pass) }
         requires pass { IsPass self.old.pass }
@@ -75,7 +75,8 @@ impl Runner {
         }
     }
 
-    /// Starts a call that is never blocked, and takes its steps up to its answer.
+    /// Starts a call that is never blocked, and takes its steps up to its answer. A refusal is answered as its fault;
+    /// `Crashed`: the plan fell.
     pub fn call<C: CrashPlan>(&mut self, plan: &mut C, call: &Call) -> Result<Answer, LockFault>
         requires idle { self.old.pass.start ≡ None }
         requires brief { call.now ≢ Lock }

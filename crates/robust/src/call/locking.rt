@@ -42,7 +42,7 @@ impl Runner {
         }
     }
 
-    /// Starts a lock, as `set_out` does.
+    /// Starts a lock, as `set_out` does. `AlreadyIn`: nothing was started.
     // Inline: once in each lock.
     #[inline(always)]
     pub fn set_out_lock(&mut self) -> Result<(), LockFault>
@@ -60,7 +60,7 @@ impl Runner {
 
     /// Takes the steps of a lock up to its answer, or until it has been blocked once more than `turns` times. Between two
     /// blocked readings it backs off. None: the process still waits in the line. The plan is not yet asked for the answer:
-    /// the caller does that.
+    /// the caller does that. `Crashed`: the plan fell.
     pub fn take_turns<C: CrashPlan>(
         &mut self,
         plan: &mut C,
@@ -92,7 +92,7 @@ impl Runner {
     }
 
     /// Takes the steps of a lock up to its answer, however often it is blocked. The plan is not yet asked for the answer:
-    /// the caller does that.
+    /// the caller does that. `Crashed`: the plan fell.
     // Inline: once in each lock.
     #[inline(always)]
     pub fn take_all<R: Wait, C: CrashPlan>(
@@ -118,7 +118,7 @@ impl Runner {
         unreachable!()
     }
 
-    /// The same as `take_turns`, and the plan is asked once more, before the answer.
+    /// The same as `take_turns`, and the plan is asked once more, before the answer. `Crashed`: the plan fell.
     pub fn wait_turns<C: CrashPlan>(
         &mut self,
         plan: &mut C,
@@ -141,7 +141,7 @@ impl Runner {
         Ok(answer)
     }
 
-    /// The same as `take_all`, and the plan is asked once more, before the answer.
+    /// The same as `take_all`, and the plan is asked once more, before the answer. `Crashed`: the plan fell.
     pub fn wait<R: Wait, C: CrashPlan>(&mut self, rt: &R, plan: &mut C) -> Result<Answer, LockFault>
         requires begun { Begun Lock self.old.pass.setup.layout.procs (spot_now self.old.pass) }
         requires pass { IsPass self.old.pass }

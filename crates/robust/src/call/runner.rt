@@ -156,7 +156,7 @@ impl Runner {
         self.process.crash();
     }
 
-    /// Asks the plan once. If it falls, the process crashes.
+    /// Asks the plan once. If it falls, the process crashes. It answers `Crashed` then.
     pub fn ask<C: CrashPlan>(&mut self, plan: &mut C) -> Result<(), LockFault>
         ensures asked { C.asked plan.new ≡ one_more (C.asked plan.old) }
         ensures goes_on { OnOk result ((self.new ≡ self.old) × (C.fallen plan.new ≡ C.fallen plan.old)) }

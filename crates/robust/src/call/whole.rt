@@ -184,7 +184,7 @@ impl Runner {
         }
     }
 
-    /// A whole mailbox call, however often it is blocked.
+    /// A whole mailbox call, however often it is blocked. Its faults are those of `Member::append`.
     pub fn mail<R: Wait, C: CrashPlan>(
         &mut self,
         rt: &R,

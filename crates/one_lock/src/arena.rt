@@ -43,7 +43,7 @@ impl Arena {
         Arena::of_sizes::<L, AnySizes>(alloc, procs, limit, cap, width, blank)
     }
 
-    /// The same as `new`, for members whose type may name the sizes.
+    /// The same as `new`, for members whose type may name the sizes. A refusal is that of `new`.
     pub fn of_sizes<L: Ledger, S: Sizes>(
         alloc: Global,
         procs: u64,

@@ -90,7 +90,9 @@ fn word_read(answer: Option<Answer>) -> u64
 
 impl<L: Ledger, S: Sizes> Member<L, S> {
     /// Enters the section, also after a crash. `OwnerDied`: the process crashed inside. `NotYet`: it was blocked once more
-    /// than `turns` times; the next lock waits on with the same number.
+    /// than `turns` times; the next lock waits on with the same number. `AlreadyIn`: the process is in the section.
+    /// `Crashed`: the plan fell. `NumbersSpent`: no number is left. `NotRecoverable`: the lock is ruined. `OutOfMemory`: a
+    /// step's deed could not be stored; the process is as after a crash.
     pub fn lock_within<R: Wait, P: CrashPlan>(
         &mut self,
         rt: &R,
@@ -110,7 +112,7 @@ impl<L: Ledger, S: Sizes> Member<L, S> {
         self.lock_by(rt, plan, Some(turns))
     }
 
-    /// Enters the section, and waits as long as it has to.
+    /// Enters the section, and waits as long as it has to. Its faults are those of `lock_within`, but for `NotYet`.
     pub fn lock<R: Wait, P: CrashPlan>(&mut self, rt: &R, plan: &mut P) -> Result<Entry, LockFault>
         ensures refused { IsErrOf result LockFault.AlreadyIn ↔ (is_in self.old.standing ≡ true) }
         ensures unasked { is_in self.old.standing ≡ true → (self.new ≡ self.old) × (P.asked plan.new ≡ P.asked plan.old) }
@@ -152,7 +154,7 @@ impl<L: Ledger, S: Sizes> Member<L, S> {
     }
 
     /// Finds out where a crash has left the process, with as few steps as possible. A process that crashed inside is inside
-    /// again, and has to mend.
+    /// again, and has to mend. `AlreadyIn`: the process is in the section. `Crashed` and `OutOfMemory` as for `lock_within`.
     #[tactic(auto, using(crate::proofs::Answered::cut_off, crate::proofs::Answered::as_told))]
     pub fn recover<R: Wait, P: CrashPlan>(
         &mut self,
@@ -177,7 +179,8 @@ impl<L: Ledger, S: Sizes> Member<L, S> {
     }
 
     /// Mends what a crash inside has left (POSIX: pthread_mutex_consistent). True: an append was cut off after its commit.
-    /// `NotRecoverable`: the lock is ruined; the member is still inside and has not mended.
+    /// `NotRecoverable`: the lock is ruined; the member is still inside and has not mended. `NotInconsistent`: there is
+    /// nothing to mend, and no step was taken. `Crashed` and `OutOfMemory` as for `lock_within`.
     #[tactic(auto, using(crate::proofs::Answered::cut_off, crate::proofs::Answered::as_told))]
     pub fn consistent<R: Wait, P: CrashPlan>(
         &mut self,
@@ -201,7 +204,8 @@ impl<L: Ledger, S: Sizes> Member<L, S> {
         self.conclude(plan, repaired, standing)
     }
 
-    /// Leaves the section. A holder that has to mend and hasn't ruins the lock.
+    /// Leaves the section. A holder that has to mend and hasn't ruins the lock. `NotOwner`: the process isn't in the
+    /// section. `Crashed` and `OutOfMemory` as for `lock_within`.
     #[tactic(auto, using(crate::proofs::Answered::cut_off, crate::proofs::Answered::as_told))]
     pub fn unlock<R: Wait, P: CrashPlan>(&mut self, rt: &R, plan: &mut P) -> Result<(), LockFault>
         ensures refused { IsErrOf result LockFault.NotOwner ↔ (is_in self.old.standing ≡ false) }
@@ -221,7 +225,8 @@ impl<L: Ledger, S: Sizes> Member<L, S> {
         self.conclude(plan, Ok(()), MemberState::Out)
     }
 
-    /// Reads a word of the board, 0 to 3. `BadIndex`: there is no such word.
+    /// Reads a word of the board, 0 to 3. `BadIndex`: there is no such word. `NotOwner`: the process isn't in the section.
+    /// `Crashed` and `OutOfMemory` as for `lock_within`.
     #[tactic(auto, using(crate::proofs::Answered::cut_off, crate::proofs::Answered::as_told))]
     pub fn get<R: Wait, P: CrashPlan>(
         &mut self,
@@ -252,7 +257,8 @@ impl<L: Ledger, S: Sizes> Member<L, S> {
         self.conclude(plan, Ok(word), standing)
     }
 
-    /// Writes a word of the board, 0 to 3. `BadIndex`: there is no such word.
+    /// Writes a word of the board, 0 to 3. `BadIndex`: there is no such word. `NotOwner`: the process isn't in the section.
+    /// `Crashed` and `OutOfMemory` as for `lock_within`.
     #[tactic(auto, using(crate::proofs::Answered::cut_off, crate::proofs::Answered::as_told))]
     pub fn put<R: Wait, P: CrashPlan>(
         &mut self,
@@ -285,7 +291,8 @@ impl<L: Ledger, S: Sizes> Member<L, S> {
     }
 
     /// Locks, mends where the owner died, stores a message with this sequence number, and unlocks. Its one answer is the
-    /// reply of the append.
+    /// reply of the append. `BadWidth`: the value has another width than the arena's. The other faults are those of
+    /// `lock_within`. After `Crashed` it may be stored or not: send it again with the same number.
     pub fn append_within<R: Wait, P: CrashPlan>(
         &mut self,
         rt: &R,
@@ -310,7 +317,8 @@ impl<L: Ledger, S: Sizes> Member<L, S> {
         self.append_by(rt, seq, value, plan, Some(turns))
     }
 
-    /// The same as `append_within`, but it waits as long as it has to.
+    /// The same as `append_within`, but it waits as long as it has to. Its faults are those of `append_within`, but for
+    /// `NotYet`.
     pub fn append<R: Wait, P: CrashPlan>(
         &mut self,
         rt: &R,
@@ -363,7 +371,8 @@ impl<L: Ledger, S: Sizes> Member<L, S> {
         self.mail_by(rt, plan, Call::Append { seq, value }, turns)
     }
 
-    /// Locks, mends where the owner died, closes the mailbox, and unlocks. Its one answer is the reply of the close.
+    /// Locks, mends where the owner died, closes the mailbox, and unlocks. Its one answer is the reply of the close. Its
+    /// faults are those of `lock_within`.
     pub fn close_within<R: Wait, P: CrashPlan>(
         &mut self,
         rt: &R,
@@ -384,7 +393,8 @@ impl<L: Ledger, S: Sizes> Member<L, S> {
         self.mail_by(rt, plan, Call::Close, Some(turns))
     }
 
-    /// The same as `close_within`, but it waits as long as it has to.
+    /// The same as `close_within`, but it waits as long as it has to. Its faults are those of `lock_within`, but for
+    /// `NotYet`.
     pub fn close<R: Wait, P: CrashPlan>(&mut self, rt: &R, plan: &mut P) -> Result<Reply, LockFault>
         ensures refused { IsErrOf result LockFault.AlreadyIn ↔ (is_in self.old.standing ≡ true) }
         ensures unasked { is_in self.old.standing ≡ true → (self.new ≡ self.old) × (P.asked plan.new ≡ P.asked plan.old) }

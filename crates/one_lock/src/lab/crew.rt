@@ -109,7 +109,7 @@ fn send<L: Ledger, S: Sizes, G: Gate, R: Wait>(
 }
 
 /// Runs all workers, each in a thread of its own, and answers them once all have ended. If a thread can't be made, it too
-/// returns once those that run have ended.
+/// returns once those that run have ended. `AllocError`: memory or a thread was refused.
 pub fn work_all<
     L: Ledger + Send + Sync,
     S: Sizes + Send + Sync,
@@ -241,7 +241,7 @@ fn least_fault<L: Ledger, S: Sizes>(ended: &[Done<L, S>]) -> Option<LabFault>
     None
 }
 
-/// The members of workers that have ended.
+/// The members of workers that have ended. `AllocError`: out of memory.
 pub fn members_of<L: Ledger, S: Sizes>(
     alloc: Global,
     ended: Vec<Done<L, S>>,

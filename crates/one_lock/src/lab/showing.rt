@@ -9,7 +9,8 @@ use crate::lab::{LabFault, LabResult};
 use redomail::{Layout, content};
 use std::alloc::Global;
 
-/// The messages that these data words show. The words have to keep the mailbox's rules.
+/// The messages that these data words show. The words have to keep the mailbox's rules. `OutOfMemory`: there was no room for
+/// the messages.
 pub fn shown(alloc: Global, layout: Layout, cells: &[u64]) -> Result<LabResult, LabFault>
     ensures messages { IfOk result (λ lab. lab.messages.items ≡ entries layout (words_of cells.now) (slice_index cells.now 2)) }
     ensures kept { OnOk result (IsContent layout cells.now) }

@@ -184,7 +184,7 @@ fn with<'a>(
     whole.subcommand(part?)
 }
 
-/// The whole command line.
+/// The whole command line. `AllocError`: out of memory.
 pub fn parser<'a>(alloc: Global) -> Result<Parser<'a>, AllocError> {
     let parts = [
         replay(alloc),

@@ -40,7 +40,8 @@ impl From<AllocError> for WordsFault {
     }
 }
 
-/// The words that the process was started with. The first one is the program's name.
+/// The words that the process was started with. The first one is the program's name. `Unreadable`: one of them isn't UTF-8
+/// text. `OutOfMemory`: there was no room for them.
 pub fn words_given<R: Env + Alloc<A = Global>>(rt: &R) -> Result<Vec<String>, WordsFault> {
     match std::env::args(rt) {
         Ok(words) => Ok(words.collect(rt.alloc())?),

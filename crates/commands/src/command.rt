@@ -81,7 +81,8 @@ fn write_found<W: Sink>(
     }
 }
 
-/// Runs `hunt`: writes the schedule that was found, or that there is none. Progress is shown on the screen.
+/// Runs `hunt`: writes the schedule that was found, or that there is none. Progress is shown on the screen. `BadSize`: a
+/// number is outside its range. Other faults are those of the writer and of memory.
 pub fn hunt_order<S: Screen, W: Sink>(
     alloc: Global,
     order: &HuntOrder,

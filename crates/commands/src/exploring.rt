@@ -149,7 +149,7 @@ fn tell_all<W: Sink>(states: u64, w: &mut W) -> Result<Ending, Fault>
 }
 
 /// Runs `explore`: writes the schedule of fewest moves that was found, or that there is none. Progress is shown on the
-/// screen.
+/// screen. `BadSize`: a size is outside its limits. `TooManyStates`: the search reached more states than it may keep.
 pub fn explore_order<S: Screen, W: Sink>(
     alloc: Global,
     order: &ExploreOrder,

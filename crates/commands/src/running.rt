@@ -38,7 +38,7 @@ fn spec_of(order: &RunOrder) -> Spec
     }
 }
 
-/// The crash plan of each sender.
+/// The crash plan of each sender. `AllocError`: out of memory.
 #[tactic(auto, using(crate::proofs::Gates::gates_more))]
 pub fn gates_of(alloc: Global, order: &RunOrder) -> Result<Vec<Seeded>, AllocError>
     ensures each { IfOk result (λ gates. gates.items ≡ gates_for order.now) }
@@ -51,7 +51,7 @@ pub fn gates_of(alloc: Global, order: &RunOrder) -> Result<Vec<Seeded>, AllocErr
     Ok(gates)
 }
 
-/// One line for each sender, and a last line with the total.
+/// One line for each sender, and a last line with the total. `AllocError`: out of memory.
 pub fn lines_of(alloc: Global, tallies: &IndexMap<u64, Tally>) -> Result<String, AllocError> {
     let mut text = String::new(alloc);
     let mut total = 0u64;
@@ -123,7 +123,8 @@ fn write_lines<W: Sink>(
     Ok(())
 }
 
-/// Runs `run`: the messages in the mailbox are counted, and the counts written.
+/// Runs `run`: the messages in the mailbox are counted, and the counts written. `BadSize`: a number is outside its range.
+/// `Member`: that sender could not go on.
 pub fn run_order<T: Threads + Wait + Sync, W: Sink>(
     rt: &T,
     alloc: Global,

@@ -81,7 +81,7 @@ fn count(
     Ok(())
 }
 
-/// The tallies of all senders, by rising number.
+/// The tallies of all senders, by rising number. `AllocError`: out of memory.
 pub fn tallied(
     alloc: Global,
     procs: u64,

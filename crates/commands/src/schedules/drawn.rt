@@ -193,7 +193,8 @@ fn draw_schedule<W: Sink>(
     }
 }
 
-/// Runs `draw`: reads the image first, then the schedule; then it draws the run and judges it.
+/// Runs `draw`: reads the image first, then the schedule; then it draws the run and judges it. A fault says what can't be
+/// read, which line the world refuses, or that a device or memory has failed.
 pub fn draw_order<R: Source, W: Sink>(
     alloc: Global,
     order: &DrawOrder,

@@ -34,7 +34,7 @@ fn spelled(alloc: Global, report: &str) -> Result<Vec<u8>, AllocError> {
     object.to_vec(alloc)
 }
 
-/// One object with the one member `report`, the list of the report's lines, and LF.
+/// One object with the one member `report`, the list of the report's lines, and LF. `AllocError`: out of memory.
 pub fn json_report(alloc: Global, report: &[u8]) -> Result<Vec<u8>, AllocError> {
     let report = characters_of(alloc, report)?;
     let mut text = spelled(alloc, &report)?;

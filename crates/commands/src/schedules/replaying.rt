@@ -278,7 +278,8 @@ fn replay_plain<R: Source, W: Sink>(alloc: Global, r: &mut R, w: &mut W) -> Resu
     })
 }
 
-/// Runs `replay`: reads the image first, then the schedule; then it plays the schedule to its verdict.
+/// Runs `replay`: reads the image first, then the schedule; then it plays the schedule to its verdict. A fault says what
+/// can't be read, which line the world refuses, or that a device or memory has failed.
 pub fn replay_order<R: Source, W: Sink>(
     alloc: Global,
     order: &ReplayOrder,

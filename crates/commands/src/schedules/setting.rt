@@ -64,7 +64,8 @@ pub fn image_read(alloc: Global, text: Option<&[u8]>) -> Result<Option<Image>, F
     }
 }
 
-/// Reads the whole text from the reader, and the schedule from it.
+/// Reads the whole text from the reader, and the schedule from it. `Text`: a line can't be read. `Read`: the reader has
+/// failed.
 #[tactic(auto, unfolding(crate::specs::Settings::IsWrongText))]
 pub fn schedule_read<R: Source>(alloc: Global, r: &mut R) -> Result<Schedule, Fault>
     ensures read { IfOk result (λ schedule. (text : List ℕ) × WasRead (R.reading r.old) (R.reading r.new) text × (schedule_at text ≡ Ok schedule)) }
@@ -110,7 +111,7 @@ pub fn fitting(alloc: Global, image: Image, schedule: &Schedule) -> Result<Image
     widened(alloc, &image, schedule)
 }
 
-/// A new world of the right lock, with the schedule's sizes.
+/// A new world of the right lock, with the schedule's sizes. A refusal of the sizes is a fault of line 1.
 pub fn new_world(alloc: Global, schedule: &Schedule) -> Result<World, Fault>
     ensures made { IfOk result (λ world. world ≡ world_of_sizes (layout_of schedule.now) schedule.now.limit) }
     ensures accepted { OnOk result (new_refusal (layout_of schedule.now) schedule.now.limit ≡ None) }
@@ -123,7 +124,7 @@ pub fn new_world(alloc: Global, schedule: &Schedule) -> Result<World, Fault>
     }
 }
 
-/// A new world of a variant of the lock, with the schedule's sizes.
+/// A new world of a variant of the lock, with the schedule's sizes. A refusal of the sizes is a fault of line 1.
 pub fn variant_world(
     alloc: Global,
     variant: Variant,
@@ -157,7 +158,7 @@ pub fn new_judge(alloc: Global, schedule: &Schedule) -> Result<Judge, Fault>
     }
 }
 
-/// The world of a lawful image, with every process crashed.
+/// The world of a lawful image, with every process crashed. It only fails out of memory.
 pub fn image_world(alloc: Global, image: &Image) -> Result<World, Fault>
     requires { IsLawfulImage image.now }
     ensures made { IfOk result (λ world. world ≡ world_of_image image.now) }
@@ -169,7 +170,7 @@ pub fn image_world(alloc: Global, image: &Image) -> Result<World, Fault>
     }
 }
 
-/// The start of the judge for the world of a lawful image.
+/// The start of the judge for the world of a lawful image. It only fails out of memory.
 pub fn start_at(alloc: Global, image: &Image) -> Result<Start, Fault>
     requires { IsLawfulImage image.now }
     ensures begins { IfOk result (IsStartOf image.now) }
@@ -182,7 +183,7 @@ pub fn start_at(alloc: Global, image: &Image) -> Result<Start, Fault>
     }
 }
 
-/// A judge that starts there.
+/// A judge that starts there. It only fails out of memory.
 pub fn started_judge(alloc: Global, start: &Start) -> Result<Judge, Fault>
     requires { IsStart start.now }
     ensures made { IfOk result (λ judge. StandsAfter (state_of start.now) [] judge) }

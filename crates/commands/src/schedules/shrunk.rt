@@ -19,7 +19,7 @@ use crashlab::shrink;
 use std::alloc::Global;
 use schedule::{Verdict, put_verdict};
 
-/// Writes the text of a schedule.
+/// Writes the text of a schedule. `Write`: the writer has failed.
 pub fn write_lines<W: Sink>(alloc: Global, schedule: &Schedule, w: &mut W) -> Result<(), Fault>
     ensures written { OnOk result (Writes (W.tape w.old) (W.tape w.new) (spelling schedule.now)) }
     ensures failed { IfErr result (λ fault. status_of fault ≡ 3) }
@@ -73,7 +73,8 @@ fn shrink_schedule<W: Sink>(
     }
 }
 
-/// Runs `shrink`: reads the schedule, plays it on the variant, and shrinks it if the verdict is against.
+/// Runs `shrink`: reads the schedule, plays it on the variant, and shrinks it if the verdict is against. A fault says what
+/// can't be read, which line the world refuses, or that a device or memory has failed.
 pub fn shrink_order<R: Source, W: Sink>(
     alloc: Global,
     order: &ShrinkOrder,

@@ -3,6 +3,7 @@
 use robust::LockFault;
 use thiserror::Error;
 
+/// Why the work wasn't done.
 #[derive(Clone, Copy, Debug, PartialEq, Eq, Error)]
 pub enum Fault {
     #[error("out of memory")]

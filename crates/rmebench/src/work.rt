@@ -17,7 +17,7 @@ use std::thread::Threads;
 /// The greatest limit of a lock's numbers.
 const MOST: u64 = 1 << 62;
 
-/// Does the work, and answers how many entries or messages there were.
+/// Does the work, and answers how many entries or messages there were. A fault says why the work stopped early.
 pub fn done<R: Threads + Wait + Sync>(rt: &R, alloc: Global, order: Order) -> Result<u64, Fault>
     requires { IsFit order }
 {
@@ -52,7 +52,7 @@ fn members<R>(rt: &R, alloc: Global, procs: u64, width: u64) -> Result<Vec<Membe
     }
 }
 
-/// Locks and unlocks `rounds` times, and counts the entries.
+/// Locks and unlocks `rounds` times, and counts the entries. A fault of a call ends it.
 pub fn enter<R: Wait>(rt: &R, mut member: Member, rounds: u64) -> Result<u64, LockFault>
     ensures { IfOk result (λ count. count ≡ rounds) }
 {
@@ -88,7 +88,8 @@ fn enter_all<R: Threads + Wait + Sync>(
     Ok(count)
 }
 
-/// Appends `rounds` messages, numbered from 1, and counts those that were stored.
+/// Appends `rounds` messages, numbered from 1, and counts those that were stored. `Refused`: a message wasn't stored.
+/// `Lock`: a call had this fault.
 pub fn send<R: Wait>(rt: &R, member: &mut Member, width: u64, rounds: u64) -> Result<u64, Fault>
     requires least { 1 ≤ width }
     requires most { width ≤ 8 }

@@ -10,6 +10,7 @@ pub struct Counted<P> {
 }
 
 impl<P: CrashPlan> Counted<P> {
+    /// Counts the askings of this plan.
     pub fn new(plan: P) -> Counted<P> {
         Counted { plan, askings: 0 }
     }

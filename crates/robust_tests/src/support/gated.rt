@@ -21,6 +21,7 @@ pub struct Progress {
 }
 
 impl Progress {
+    /// A worker that has not asked yet.
     pub fn new(alloc: Global) -> Result<Arc<Progress>, AllocError> {
         let progress = Progress {
             askings: AtomicU64::new(0),
@@ -31,6 +32,7 @@ impl Progress {
         Ok(Arc::new(alloc, progress)?)
     }
 
+    /// Whether the gate has given up waiting.
     pub fn has_given_up(&self) -> bool {
         self.gave_up.load(Ordering::SeqCst) > 0
     }

@@ -46,6 +46,7 @@ pub struct Noting {
 }
 
 impl Noting {
+    /// The gate, and its notes for the test.
     pub fn new(alloc: Global) -> Result<(Noting, Arc<Notes>), AllocError> {
         let notes = Notes {
             askings: AtomicU64::new(0),

@@ -5,8 +5,10 @@ use crate::support::invocation::all_come_to;
 use crate::support::row::invoked;
 use std::test::Fail;
 
+/// One process that locks and enters.
 pub const SMALLEST: &str = "rme 1 procs 1 limit 10 cap 1\nlock 0\nstep 0 8\n";
 
+/// Its drawing.
 pub const DRAWN: &str =
     "0                         |\n. r choosing 0            |\n. r number 0              |\n. r inside 0              |\n: w choosing=1            | begin 0\n| w number=1              | ready 0\n| w choosing=0            |\n# w inside=1              | enter 0\n# r ruined 0              | answer 0 clean\nverdict fine\n. rest  : doorway  | waiting  # section  x crash\n";
 

@@ -142,6 +142,7 @@ fn explanations(rt: HostRuntime) -> Result<(), Fail> {
     all_come_to(&rt, rt.alloc(), &rows)
 }
 
+/// What is printed for words that name no topic.
 pub const NO_NAME: &str = "error: 'fault 7' names nothing that is explained
 
 For more information, try 'rmelab explain'.

@@ -14,6 +14,7 @@ pub const TWO_INSIDE: &str =
 pub const LEAST: &str =
     "rme 1 procs 2 limit 10 cap 1\nlock 0\nlock 1\nstep 0 5\nstep 1 9\nstep 0 4\n";
 
+/// One process that locks and enters.
 pub const SMALLEST: &str = "rme 1 procs 1 limit 10 cap 1\nlock 0\nstep 0 8\n";
 
 const MENDED_FIRST: &str = "rme 1 procs 1 limit 10 cap 1\nlock 0\nstep 0 8\nconsistent 0\n";

@@ -9,14 +9,18 @@ use commands::NoScreen;
 use schedule::{Page, Text};
 use std::test::Fail;
 
+/// One process that locks and enters.
 pub const SMALLEST: &str = "rme 1 procs 1 limit 10 cap 1\nlock 0\nstep 0 8\n";
 
+/// Its report.
 pub const REPORT: &str =
     "begin 0\nready 0\nenter 0\nanswer 0 clean\nwords 0 0 1 1\nmail 0 closed 0 ruined 0\nverdict fine\n";
 
+/// Its report as JSON.
 pub const OBJECT: &str =
     "{\"report\":[\"begin 0\",\"ready 0\",\"enter 0\",\"answer 0 clean\",\"words 0 0 1 1\",\"mail 0 closed 0 ruined 0\",\"verdict fine\"]}\n";
 
+/// Its last image.
 pub const IMAGE: &str =
     "{\"cap\":1,\"data\":[0,0,0,0,0,0,0,0,0,0,0,0,0,0,0],\"limit\":10,\"lock\":[[0,1,1]],\"version\":2,\"width\":1}\n";
 
@@ -54,8 +58,10 @@ const ON_RENUMBERED: &str = "rme 1 procs 2 limit 10 cap 1\nlock 1\nstep 1 4\n";
 const ON_RENUMBERED_REPORT: &str =
     "reenter 1\nanswer 1 owner-died\nwords 0 0 3 0\nwords 1 0 2 1\nmail 0 closed 0 ruined 0\nverdict fine\n";
 
+/// Process 1 enters before 0, which was ready first.
 pub const OVERTAKEN: &str = "trace 1 procs 2 cap 1\nbegin 0\nready 0\nbegin 1\nready 1\nenter 1\n";
 
+/// Process 0, which was ready first, enters.
 pub const IN_ORDER: &str = "trace 1 procs 2 cap 1\nbegin 0\nready 0\nbegin 1\nready 1\nenter 0\n";
 
 pub const AGAINST: &str = "verdict against 4 at 5 by 1 of 0\n";

@@ -14,6 +14,7 @@ pub struct Feed<'a> {
 }
 
 impl<'a> Feed<'a> {
+    /// The bytes of this text. `fails`: the second read fails.
     pub fn new(text: &'a str, fails: bool) -> Feed<'a> {
         Feed {
             left: text.as_bytes(),
@@ -68,6 +69,7 @@ pub struct Ticking {
 }
 
 impl Ticking {
+    /// A clock that has not been read.
     pub fn new() -> Ticking {
         Ticking { read: Cell::new(0) }
     }

@@ -42,6 +42,7 @@ pub struct Fake<'a> {
 }
 
 impl<'a> Fake<'a> {
+    /// A folder with these two files, in which this fails.
     pub fn new(alloc: Global, files: [(&'a str, &'a str); 2], failing: Failing) -> Fake<'a> {
         let [(first_name, first), (second_name, second)] = files;
         Fake {

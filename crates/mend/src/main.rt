@@ -8,7 +8,7 @@ use robust::{Arena, Entry, LockFault, Member};
 use std::sync::Wait;
 use std::thread;
 
-/// Enters, mends if this process died inside, leaves, and sends a message.
+/// Enters, mends where this process died inside, leaves, and sends a message.
 fn send<R: Wait>(rt: &R, mut member: Member, value: Body) -> Result<(Entry, Reply), LockFault> {
     let mut plan = Never::new();
     let entry = member.lock(rt, &mut plan)?;

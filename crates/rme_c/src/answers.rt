@@ -68,7 +68,7 @@ pub fn wanted(procs: u64, access: Access) -> RmeAccess
     }
 }
 
-// Inline: once in each C step.
+// Inline: once in each answer.
 #[inline(always)]
 fn found_code(found: Found) -> u64
     ensures is { result ≡ code_of_found found }
@@ -83,7 +83,7 @@ fn found_code(found: Found) -> u64
     }
 }
 
-// Inline: once in each C step.
+// Inline: once in each answer.
 #[inline(always)]
 fn reply_code(reply: Reply) -> u64
     ensures is { result ≡ code_of_reply reply }
@@ -106,7 +106,7 @@ fn reply_code(reply: Reply) -> u64
 }
 
 /// The code of an answer.
-// Inline: once in each C step.
+// Inline: once in each answer.
 #[inline(always)]
 fn answer_code(answer: Answer) -> u64
     ensures is { result ≡ code_of_answer answer }
@@ -125,7 +125,7 @@ fn answer_code(answer: Answer) -> u64
 }
 
 /// The board word that was read, or 0.
-// Inline: once in each C step.
+// Inline: once in each answer.
 #[inline(always)]
 fn answer_word(answer: Answer) -> u64
     ensures { result ≡ word_of_answer answer }
@@ -137,7 +137,7 @@ fn answer_word(answer: Answer) -> u64
 }
 
 /// What `next` is after an answer.
-// Inline: once in each C step.
+// Inline: once in each answer.
 #[inline(always)]
 fn answered(answer: Answer) -> RmeAccess
     ensures { result ≡ record { store = 0; place = 0; value = word_of_answer answer } }

@@ -127,7 +127,7 @@ pub extern "C" fn rme_start(p: &mut RmeProcess, call: &RmeCall, next: &mut RmeAc
 }
 
 /// Takes a step of a script on the data words.
-// Inline: once in each C step.
+// Inline: once in each script step.
 #[inline(always)]
 fn chore_feed(p: &mut RmeProcess, chore: Chore, value: u64, next: &mut RmeAccess) -> u64
     requires here { position_of p.old ≡ PositionOf.Within chore }
@@ -144,7 +144,7 @@ fn chore_feed(p: &mut RmeProcess, chore: Chore, value: u64, next: &mut RmeAccess
 }
 
 /// Takes the step of the ruin check.
-// Inline: once in each C step.
+// Inline: once in each entry.
 #[inline(always)]
 fn check_feed(p: &mut RmeProcess, value: u64, steps: u64, next: &mut RmeAccess) -> u64
     requires here { position_of p.old ≡ PositionOf.Within ChoreOf.Checking }
@@ -199,7 +199,7 @@ fn any_feed(p: &mut RmeProcess, value: u64, next: &mut RmeAccess) -> u64
 }
 
 /// Answers 7: no call is under way, since the index is no process's.
-// Inline: once in each C step.
+// Inline: a few instructions.
 #[inline(always)]
 fn nowhere(p: &mut RmeProcess, value: u64, next: &mut RmeAccess) -> u64
     requires beyond { p.old.procs ≤ p.old.index }
@@ -214,7 +214,7 @@ fn nowhere(p: &mut RmeProcess, value: u64, next: &mut RmeAccess) -> u64
 }
 
 /// Takes the step of a scan.
-// Inline: once in each C step.
+// Inline: each scan step, the hottest.
 #[inline(always)]
 fn scan_on(p: &mut RmeProcess, stage: Stage, value: u64, steps: u64, next: &mut RmeAccess) -> u64
     requires here { position_of p.old ≡ PositionOf.Lock stage }

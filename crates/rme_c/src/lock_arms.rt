@@ -18,7 +18,7 @@ use crate::process::{RmeAccess, RmeProcess};
 use rmecore::{CoreCall, LockProcess, Stage};
 
 /// The doorway, with the processes from an index on still to be peeked at.
-// Inline: once in each lock step.
+// Inline: each scan step, the hottest.
 #[inline(always)]
 fn peeks_from(
     p: &mut RmeProcess,
@@ -58,7 +58,7 @@ fn peeks_from(
 }
 
 /// The wait, with the processes from an index on still to be passed.
-// Inline: once in each lock step.
+// Inline: each scan step, the hottest.
 #[inline(always)]
 fn looks_from(
     p: &mut RmeProcess,
@@ -100,7 +100,7 @@ fn looks_from(
 }
 
 /// After a peek, or after the step that follows the last one: a number is taken, or there is none left.
-// Inline: once in each lock step.
+// Inline: each scan step, the hottest.
 #[inline(always)]
 fn after_door(
     p: &mut RmeProcess,
@@ -144,7 +144,7 @@ fn after_door(
 
 /// Whether a waiter with this number passes process `j`, whose number was read: it does if that is 0 or its own pair is
 /// smaller (Lamport's Bakery).
-// Inline: once in each lock step.
+// Inline: each scan step, the hottest.
 #[inline(always)]
 fn passes(own: u64, number: u64, value: u64, j: u64) -> bool
     ensures { result ≡ ((value == 0) || is_before number own value j) }
@@ -153,7 +153,7 @@ fn passes(own: u64, number: u64, value: u64, j: u64) -> bool
 }
 
 /// After a look at process `j`.
-// Inline: once in each lock step.
+// Inline: each scan step, the hottest.
 #[inline(always)]
 fn after_look(
     p: &mut RmeProcess,
@@ -192,7 +192,7 @@ fn after_look(
 }
 
 /// After a weigh of process `j`.
-// Inline: once in each lock step.
+// Inline: each scan step, the hottest.
 #[inline(always)]
 fn after_weigh(
     p: &mut RmeProcess,
@@ -229,7 +229,7 @@ fn after_weigh(
 }
 
 /// After a step of a wait: a look, a weigh, or the mark after the last weigh.
-// Inline: once in each lock step.
+// Inline: each scan step, the hottest.
 #[inline(always)]
 fn after_wait(
     p: &mut RmeProcess,
@@ -271,7 +271,7 @@ fn by_machine(p: &mut RmeProcess, stage: Stage, value: u64, next: &mut RmeAccess
 }
 
 /// Takes a step of a scan. None: the stage is no scan's, and nothing changed.
-// Inline: once in each lock step.
+// Inline: each scan step, the hottest.
 #[inline(always)]
 fn scanned(
     p: &mut RmeProcess,
@@ -400,7 +400,7 @@ fn shortly(
 }
 
 /// Takes a step of the lock's part, if it is a scan's. None: it isn't, and nothing changed.
-// Inline: once in each lock step.
+// Inline: each scan step, the hottest.
 #[inline(always)]
 pub fn scan_feed(
     p: &mut RmeProcess,

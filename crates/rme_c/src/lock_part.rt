@@ -230,7 +230,7 @@ pub fn stores(
 }
 
 /// After the mark that follows the last weigh: the ruin check is next.
-// Inline: once in each lock step.
+// Inline: once in each entry.
 #[inline(always)]
 pub fn comes_in(p: &mut RmeProcess, steps: u64, next: &mut RmeAccess) -> Landing
     requires below { p.old.index < p.old.procs }
@@ -259,7 +259,7 @@ pub fn comes_in(p: &mut RmeProcess, steps: u64, next: &mut RmeAccess) -> Landing
 }
 
 /// The call ends at rest, with this answer.
-// Inline: once in each lock step.
+// Inline: once in each answer.
 #[inline(always)]
 fn ends(
     p: &mut RmeProcess,
@@ -294,7 +294,7 @@ fn ends(
 }
 
 /// No number is left to take.
-// Inline: once in each lock step.
+// Inline: once in each answer.
 #[inline(always)]
 pub fn runs_out(p: &mut RmeProcess, steps: u64, next: &mut RmeAccess) -> Landing
     requires few { p.old.procs ≤ 64 }
@@ -308,7 +308,7 @@ pub fn runs_out(p: &mut RmeProcess, steps: u64, next: &mut RmeAccess) -> Landing
 }
 
 /// After the last store of an unlock, or of the exit from a ruined lock.
-// Inline: once in each lock step.
+// Inline: once in each answer.
 #[inline(always)]
 pub fn leaves(p: &mut RmeProcess, steps: u64, next: &mut RmeAccess) -> Landing
     requires few { p.old.procs ≤ 64 }

@@ -24,7 +24,7 @@ use rmecore::{Access, Kind, Stage, Word};
 use rmeworld::Answer;
 
 /// A load of a data word.
-// Inline: once in each C step.
+// Inline: once in each script step.
 #[inline(always)]
 fn get(i: u64) -> Access
     ensures { result ≡ AccessOf.Load KindOf.Get (WordOf.Data i) }
@@ -33,7 +33,7 @@ fn get(i: u64) -> Access
 }
 
 /// The get of ruined after an entry.
-// Inline: once in each C step.
+// Inline: once in each entry.
 #[inline(always)]
 pub fn check_next(p: &RmeProcess) -> Access
     requires { Fits p.now (Position.Within Chore.Checking) }
@@ -72,7 +72,7 @@ pub fn chore_next(p: &RmeProcess, chore: Chore) -> Access
 }
 
 /// The call ends with this answer, at this stage.
-// Inline: once in each C step.
+// Inline: once in each answer.
 #[inline(always)]
 fn ends(stage: Stage, answer: Answer) -> (Position, Told)
     ensures { result ≡ (Position.Lock stage, record { answer = Some answer; blocked = false }) }
@@ -85,7 +85,7 @@ fn ends(stage: Stage, answer: Answer) -> (Position, Told)
 }
 
 /// The call ends inside, with this reply.
-// Inline: once in each C step.
+// Inline: once in each answer.
 #[inline(always)]
 fn replied(reply: Reply) -> (Position, Told)
     ensures { result ≡ (Position.Lock StageOf.Inside, record { answer = Some (AnswerOf.Mail reply); blocked = false }) }
@@ -94,7 +94,7 @@ fn replied(reply: Reply) -> (Position, Told)
 }
 
 /// The call goes on at the exit.
-// Inline: once in each C step.
+// Inline: once in each script step.
 #[inline(always)]
 fn leaves() -> (Position, Told)
     ensures { result ≡ (Position.Lock StageOf.Leaving, record { answer = None; blocked = false }) }
@@ -107,7 +107,7 @@ fn leaves() -> (Position, Told)
 }
 
 /// The call goes on with this script state.
-// Inline: once in each C step.
+// Inline: once in each script step.
 #[inline(always)]
 fn on(chore: Chore) -> (Position, Told)
     ensures { result ≡ (Position.Within chore, record { answer = None; blocked = false }) }
@@ -120,7 +120,7 @@ fn on(chore: Chore) -> (Position, Told)
 }
 
 /// After the ruin check that follows an entry.
-// Inline: once in each C step.
+// Inline: once in each entry.
 #[inline(always)]
 pub fn checked(p: &mut RmeProcess, value: u64) -> (Position, Told)
     requires { Fits p.old (Position.Within Chore.Checking) }

@@ -1,4 +1,4 @@
-//! What a member's call ends with in place of an answer.
+//! Why a member's call has no answer.
 
 use thiserror::Error;
 

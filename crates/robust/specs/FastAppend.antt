@@ -36,6 +36,6 @@ IsOf x e = (x.setup ≡ e.setup) × (x.by ≡ e.own)
 abbrev pub steps_of : NewEntry → List (ℕ × ℕ)
 steps_of e = store_steps e.setup.layout e.own (record_of e.at e.seq e.value)
 
--- its storing, with the first k puts made
+-- the storing append of this entry, with its first k puts done
 abbrev pub stored_so_far : NewEntry → ℕ → Spot
 stored_so_far e k = at_append e.seq e.value (puts (drop k (steps_of e)) (Done Stored))

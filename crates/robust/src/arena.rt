@@ -16,7 +16,7 @@ use crate::access::walker::Walker;
 use crate::access::table::Board;
 use crate::access::walker::data_words;
 
-/// Makes the members of a running lock with its mailbox.
+/// Makes the members of a running lock and its mailbox.
 pub struct Arena;
 
 impl Arena {

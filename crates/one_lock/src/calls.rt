@@ -478,7 +478,7 @@ impl<L: Ledger, S: Sizes> Member<L, S> {
         Ok(reply)
     }
 
-    /// Mends where the owner died.
+    /// Mends, if the owner died.
     fn mend<R: Wait, P: CrashPlan>(
         &mut self,
         rt: &R,

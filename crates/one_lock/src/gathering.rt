@@ -1,4 +1,4 @@
-//! Taking the members of an arena back.
+//! Gathering: the members of an arena are taken back.
 
 ghost use Rattle.std.specs.Prelude.{◌≡◌, ◌≢◌, All, IfOk, IfErr, OnOk, IfSome, IsSome, vec_len};
 ghost use Rattle.rmeworld.specs.ImageRules.{IsLawfulImage};

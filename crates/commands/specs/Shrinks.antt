@@ -40,7 +40,7 @@ pub record TellsRefused (variant : Variant) (schedule : Scheduled) (before now :
   pub told : end ≡ Err (Refused line number)
   pub silent : Silent before now
 
--- or a device or memory has failed
+-- the schedule is shrunk, a line of it is refused, or a device or memory has failed
 abbrev pub ShrinksSchedule : Variant → Scheduled → Tape → Tape → Result Ending Fault → Type 0
 ShrinksSchedule variant schedule before now end =
     TellsShrunk variant schedule before now end ⊎ (TellsRefused variant schedule before now end ⊎ (status_ended end ≡ 3))

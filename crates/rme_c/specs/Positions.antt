@@ -138,7 +138,7 @@ abbrev pub errand_at : Layout → ℕ → List ℕ → Position → Errand
 errand_at l p words (position.Within c) = errand_of l p words c
 errand_at l p words _ = errand.Free
 
--- the process state of the world's machine with these numbers, at this position
+-- the machine state of `rmeworld` with these numbers, at this position
 abbrev pub stand_at : RmeProcess → Position → Stand
 stand_at p x =
     record {
@@ -151,6 +151,6 @@ stand_at p x =
       errand = errand_at (layout_of p) p.index p.value x;
     }
 
--- the process state of the world's machine with these numbers
+-- the machine state of `rmeworld` with these numbers
 abbrev pub stand_of : RmeProcess → Stand
 stand_of p = stand_at p (position_of p)

@@ -17,20 +17,27 @@ use crate::explain::topic::{Topic, topic_named};
 use std::alloc::{AllocError, Global};
 use std::io;
 use std::rt::Env;
+use thiserror::Error;
 
 /// Why the words are no command, in the order in which it is found.
-#[derive(Debug, Drop)]
+#[derive(Debug, Drop, Error)]
 pub enum WordsFault {
     /// The help or the version that is asked for, to be printed; the status is 0.
+    #[error("{text}")]
     Help { text: String },
-    /// What `clap` says against them, or that they name no topic, to be told; the status is 2.
+    /// What `clap` says against them, or that no topic has this name; the status is 2.
+    #[error("{text}")]
     Refused { text: String },
-    /// No such variant, or one other than `right` together with an image.
+    /// No such variant, or one other than `right` together with an image; the status is 2.
+    #[error("bad variant")]
     BadVariant,
-    /// A number of `run` or `hunt` outside its range.
+    /// A number of `run` or `hunt` outside its range; the status is 2.
+    #[error("bad size")]
     BadSize,
     /// A word is no text.
+    #[error("a word is no text")]
     Unreadable,
+    #[error("out of memory")]
     OutOfMemory,
 }
 

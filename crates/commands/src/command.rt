@@ -15,7 +15,7 @@ use crashlab::{HuntFault, Variant};
 use cli::{Topic, tell_all_names, tell_topic};
 use cli::arguments::order::{Command, HuntOrder};
 use crate::progress::meter::Meter;
-use crate::progress::screen::Screen;
+use crate::progress::screen::{NoScreen, Screen};
 use crate::progress::work::Work;
 use schedule::texts::device::write_all;
 use schedule::{Schedule, Sink, Source};
@@ -164,8 +164,9 @@ pub fn ended<T: Threads + Wait + Sync, S: Screen, R: Source, W: Sink>(
     }
 }
 
-/// Carries out a command over a reader, a writer, and a second writer for the one line of a fault.
-pub fn command<T: Threads + Wait + Sync, S: Screen, R: Source, W: Sink, E: Sink>(
+/// Carries out a command over a reader, a writer, and a second writer for the one line of a fault. The progress of a search
+/// or a hunt is shown on the screen.
+pub fn command_shown<T: Threads + Wait + Sync, S: Screen, R: Source, W: Sink, E: Sink>(
     rt: &T,
     alloc: Global,
     command: &Command,
@@ -185,4 +186,20 @@ pub fn command<T: Threads + Wait + Sync, S: Screen, R: Source, W: Sink, E: Sink>
             save: None,
         },
     }
+}
+
+/// Carries out a command as `command_shown` does, and shows no progress.
+pub fn command<T: Threads + Wait + Sync, R: Source, W: Sink, E: Sink>(
+    rt: &T,
+    alloc: Global,
+    command: &Command,
+    image: Option<&[u8]>,
+    r: &mut R,
+    w: &mut W,
+    e: &mut E,
+) -> Ending
+    ensures ends { (end : Result Ending Fault) × CommandEnds command.now (option_copied image.entry) (R.reading r.old) (R.reading r.new) (W.tape w.old) (W.tape w.new) end × Closes (E.tape e.old) (E.tape e.new) end result.status }
+    ensures unsaved { is_some (save_of command.now) ≡ false → is_some result.save ≡ false }
+{
+    command_shown(rt, alloc, command, image, &mut NoScreen, r, w, e)
 }

@@ -19,3 +19,4 @@ pub mod Endings
 pub mod Owns
 pub mod Feeding
 pub mod Wants
+pub mod Results

@@ -1,9 +1,9 @@
 -- A script over a list of words: where a run of its steps has come.
-use Rattle.std.proofs.Common.{◌≡◌, ◌≢◌, ℕ, zero, suc, ◌<◌, List, length, slice_index, slice_set, refl, sym, ◌∙◌, ap, subst, inl, inr, arith, get_or-set_same, get_or-set_other}
-use Rattle.redomail.proofs.Common.{length-set, cases_eq, put, Deed, Layout, Message, Reply, Task, Words, words_of, size, Mailbox, added_by, Run, stepped_to, ran, start, Safe, Done, Put, Script, tail}
+use Rattle.std.proofs.Common.{◌≡◌, ◌≢◌, ℕ, zero, suc, ◌+◌, ◌<◌, List, length, slice_index, slice_set, refl, sym, ◌∙◌, ap, subst, inl, inr, arith, get_or-set_same, get_or-set_other}
+use Rattle.redomail.proofs.Common.{length-set, cases_eq, put, Deed, Layout, Message, held, Reply, Task, Words, words_of, size, Mailbox, added_by, Run, stepped_to, ran, start, Safe, Done, Put, Script, tail}
 use Rattle.redomail.proofs.Common.{Get, head, Shape, script}
 use Rattle.redomail.specs.declared.next.Next.TheVariants as want
-use Rattle.redomail.specs.Cells.{step_over, steps_over, outcome, IsOnWay, Ready, TaskKept, TaskAnswered}
+use Rattle.redomail.specs.Cells.{step_over, steps_over, steps_left, outcome, IsOnWay, StopsAfter, Ready, TaskKept, TaskAnswered}
 use Rattle.redomail.proofs.Words.{put-other, put-same}
 use Rattle.redomail.proofs.Keeps.{tasks_keep, stood}
 
@@ -14,11 +14,17 @@ pub record IsReached (e : Script Reply) (xs : List ℕ) (f : Script Reply) (ys :
   pub words_is : (steps_over count e xs).1 ≡ ys
   pub same : outcome f ys ≡ outcome e xs
 
+-- The same, where each of these steps was one call, and so is each that is left.
+pub record IsReachedBy (e : Script Reply) (xs : List ℕ) (f : Script Reply) (ys : List ℕ) (before now : ℕ) : Type 0 where
+  pub reached : IsReached e xs f ys
+  pub steps : reached.count + steps_left f ys ≡ steps_left e xs
+  pub calls : held now ≡ held (before + reached.count)
+
 outcome-step : (f : Script Reply) (ys : List ℕ) → outcome (step_over f ys).0 (step_over f ys).1 ≡ outcome f ys
 outcome-step (Get i next) ys = refl
 outcome-step _ ys = refl
 
-reached_step : (e : Script Reply) (xs : List ℕ) (f : Script Reply) (ys : List ℕ) → IsReached e xs f ys → IsReached e xs (step_over f ys).0 (step_over f ys).1
+abbrev reached_step : (e : Script Reply) (xs : List ℕ) (f : Script Reply) (ys : List ℕ) → IsReached e xs f ys → IsReached e xs (step_over f ys).0 (step_over f ys).1
 reached_step e xs f ys h = record {
   count = suc h.count;
   left_is = rw (h.left_is, h.words_is) refl;
@@ -63,6 +69,78 @@ reached_put e xs f ys i v f2 ys2 en ef ey h =
     let a : (step_over f ys).0 ≡ f2 = ap (λ z. z.0) s ∙ sym ef in
     let b : (step_over f ys).1 ≡ ys2 = ap (λ z. z.1) s ∙ sym ey in
     rw (← a, ← b) (reached_step e xs f ys h)
+
+-- no step is taken yet
+pub not_begun : (e : Script Reply) (xs : List ℕ) (before : ℕ) → IsReachedBy e xs e xs before before
+not_begun e xs before =
+    let same : before ≡ before + 0 = omega arith in
+    record { reached = record { count = 0; left_is = refl; words_is = refl; same = refl }; steps = omega arith; calls = ap held same }
+
+steps_of_get : (f : Script Reply) (ys : List ℕ) (i : ℕ) → want.Get i ≡ head f → steps_left f ys ≡ suc (steps_left (step_over f ys).0 (step_over f ys).1)
+steps_of_get (Get j next) ys i e = refl
+steps_of_get (Put j v rest) ys i e = cc
+steps_of_get (Done a) ys i e = cc
+
+steps_of_put : (f : Script Reply) (ys : List ℕ) (i v : ℕ) → want.Put i v ≡ head f → steps_left f ys ≡ suc (steps_left (step_over f ys).0 (step_over f ys).1)
+steps_of_put (Get j next) ys i v e = cc
+steps_of_put (Put j u rest) ys i v e = refl
+steps_of_put (Done a) ys i v e = cc
+
+-- one call more
+called_more : (before k now later : ℕ) → held now ≡ held (before + k) → later ≡ held (now + 1) → held later ≡ held (before + suc k)
+called_more before k now later here more = omega (arith, here, more)
+
+steps_more : (e : Script Reply) (xs : List ℕ) (f : Script Reply) (ys : List ℕ) (k : ℕ) (f2 : Script Reply) (ys2 : List ℕ)
+    → k + steps_left f ys ≡ steps_left e xs → steps_left f ys ≡ suc (steps_left f2 ys2) → suc k + steps_left f2 ys2 ≡ steps_left e xs
+steps_more e xs f ys k f2 ys2 here one = omega (arith, here, one)
+
+pub got_by : (e : Script Reply) (xs : List ℕ) (f : Script Reply) (ys : List ℕ) (i word : ℕ) (f2 : Script Reply) (ys2 : List ℕ) (before now later : ℕ) → want.Get i ≡ head f → word ≡ slice_index ys i → f2 ≡ tail f word → ys2 ≡ ys
+    → later ≡ held (now + 1) → IsReachedBy e xs f ys before now → IsReachedBy e xs f2 ys2 before later
+got_by e xs f ys i word f2 ys2 before now later en ew ef ey more h =
+    let s : step_over f ys ≡ (tail f (slice_index ys i), ys) = step_of_get f ys i en in
+    let a : (step_over f ys).0 ≡ f2 = ap (λ z. z.0) s ∙ sym (ef ∙ ap (tail f) ew) in
+    let b : (step_over f ys).1 ≡ ys2 = ap (λ z. z.1) s ∙ sym ey in
+    rw (← a, ← b) (record {
+      reached = reached_step e xs f ys h.reached;
+      steps = steps_more e xs f ys h.reached.count (step_over f ys).0 (step_over f ys).1 h.steps (steps_of_get f ys i en);
+      calls = called_more before h.reached.count now later h.calls more;
+    })
+
+pub put_by : (e : Script Reply) (xs : List ℕ) (f : Script Reply) (ys : List ℕ) (i v : ℕ) (f2 : Script Reply) (ys2 : List ℕ) (before now later : ℕ) → want.Put i v ≡ head f → f2 ≡ tail f 0 → ys2 ≡ slice_set ys i v
+    → later ≡ held (now + 1) → IsReachedBy e xs f ys before now → IsReachedBy e xs f2 ys2 before later
+put_by e xs f ys i v f2 ys2 before now later en ef ey more h =
+    let s : step_over f ys ≡ (tail f 0, slice_set ys i v) = step_of_put f ys i v en in
+    let a : (step_over f ys).0 ≡ f2 = ap (λ z. z.0) s ∙ sym ef in
+    let b : (step_over f ys).1 ≡ ys2 = ap (λ z. z.1) s ∙ sym ey in
+    rw (← a, ← b) (record {
+      reached = reached_step e xs f ys h.reached;
+      steps = steps_more e xs f ys h.reached.count (step_over f ys).0 (step_over f ys).1 h.steps (steps_of_put f ys i v en);
+      calls = called_more before h.reached.count now later h.calls more;
+    })
+
+-- a call of the next step stopped
+pub stops_at_get : (e : Script Reply) (xs : List ℕ) (f : Script Reply) (ys zs : List ℕ) (i before now later : ℕ) → want.Get i ≡ head f → zs ≡ ys → later ≡ held (now + 1) → IsReachedBy e xs f ys before now → StopsAfter e xs zs before later
+stops_at_get e xs f ys zs i before now later en same more h =
+    let one = steps_of_get f ys i en in
+    let steps = h.steps in
+    let calls = h.calls in
+    (h.reached.count, omega (arith, one, steps), same ∙ sym h.reached.words_is, omega (arith, calls, more))
+
+pub stops_at_put : (e : Script Reply) (xs : List ℕ) (f : Script Reply) (ys zs : List ℕ) (i v before now later : ℕ) → want.Put i v ≡ head f → zs ≡ ys → later ≡ held (now + 1) → IsReachedBy e xs f ys before now → StopsAfter e xs zs before later
+stops_at_put e xs f ys zs i v before now later en same more h =
+    let one = steps_of_put f ys i v en in
+    let steps = h.steps in
+    let calls = h.calls in
+    (h.reached.count, omega (arith, one, steps), same ∙ sym h.reached.words_is, omega (arith, calls, more))
+
+-- nothing is left, so all its steps were taken
+pub all_called : (e : Script Reply) (xs : List ℕ) (f : Script Reply) (ys : List ℕ) (a : Reply) (before now : ℕ) → f ≡ Done a → IsReachedBy e xs f ys before now → held now ≡ held (before + steps_left e xs)
+all_called e xs f ys a before now ended h =
+    let none : steps_left f ys ≡ 0 = subst (λ z. steps_left z ys ≡ 0) (sym ended) refl in
+    let steps = h.steps in
+    let calls = h.calls in
+    let same : h.reached.count ≡ steps_left e xs = omega (arith, none, steps) in
+    subst (λ k. held now ≡ held (before + k)) same calls
 
 words_of-set : (xs : List ℕ) (i v : ℕ) → i < length xs → put (words_of xs) i v ≡ words_of (slice_set xs i v)
 words_of-set xs i v l = λ t j. each j t

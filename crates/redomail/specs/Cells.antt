@@ -1,5 +1,5 @@
 -- Words that may stop before any call, and what a script leaves in them.
-use Rattle.std.specs.Prelude.{◌≡◌, ℕ, zero, suc, List, length, slice_index, slice_set}
+use Rattle.std.specs.Prelude.{◌≡◌, ℕ, zero, suc, ◌+◌, ◌<◌, List, length, slice_index, slice_set}
 use Rattle.redomail.specs.declared.deed.Deed.{Deed}
 use Rattle.redomail.specs.declared.message.Message.{Message}
 use Rattle.redomail.specs.Mailbox.{Mailbox}
@@ -7,7 +7,7 @@ use Rattle.redomail.specs.Leads.{MailLeads}
 use Rattle.redomail.specs.declared.layout.Layout.{Layout}
 use Rattle.redomail.specs.declared.task.Task.{Task}
 use Rattle.redomail.specs.declared.reply.Reply.{Reply}
-use Rattle.redomail.specs.Layout.{words_of, size}
+use Rattle.redomail.specs.Layout.{words_of, size, held}
 use Rattle.redomail.specs.Script.{Script, Get, Put, Done}
 use Rattle.redomail.specs.Tasks.{script}
 use Rattle.redomail.specs.Shape.{Shape}
@@ -40,6 +40,10 @@ steps_left (Done a) xs = 0
 -- The words are those after some of the script's steps.
 abbrev pub IsOnWay : {A : Type 0} → Script A → List ℕ → List ℕ → Type 0
 IsOnWay e old new = (k : ℕ) × (new ≡ (steps_over k e old).1)
+
+-- A call stopped after so many of the script's steps, each of which was one call: the words are those after these steps.
+abbrev pub StopsAfter : {A : Type 0} → Script A → List ℕ → List ℕ → ℕ → ℕ → Type 0
+StopsAfter e old new before now = (k : ℕ) × (k < steps_left e old) × (new ≡ (steps_over k e old).1) × (now ≡ held (before + k + 1))
 
 -- The script is this task of p, and p may begin it on these words.
 pub record Ready (l : Layout) (p : ℕ) (e : Script Reply) (xs : List ℕ) (t : Task) (s : Mailbox) : Type 0 where

@@ -2,7 +2,7 @@
 
 ghost use Rattle.std.specs.Prelude.{◌≡◌, ℕ, ◌+◌, List, slice_index, slice_set, IfOk, OnOk, OnErr};
 ghost use Rattle.redomail.specs.Layout.{held};
-ghost use Rattle.redomail.specs.Cells.{outcome, IsOnWay, TaskKept, TaskAnswered};
+ghost use Rattle.redomail.specs.Cells.{outcome, steps_left, IsOnWay, StopsAfter, TaskKept, TaskAnswered};
 ghost use Rattle.redomail.specs.Left.{left};
 
 use crate::job::Job;
@@ -23,19 +23,24 @@ pub trait Cells {
     /// How often it has stopped, held at the greatest u64.
     ghost stops: { Self → ℕ };
 
+    /// How often it was called, those calls with it that stopped, held at the greatest u64.
+    ghost calls: { Self → ℕ };
+
     /// The word at an index, 0 past the end.
     fn get(&mut self, i: u64) -> Result<u64, Stop>
         ensures word { IfOk result (λ v. v ≡ slice_index (words self.old) i) }
         ensures same { words self.new ≡ words self.old }
         ensures calm { OnOk result (stops self.new ≡ stops self.old) }
-        ensures stopped { OnErr result (stops self.new ≡ held (stops self.old + 1)) };
+        ensures stopped { OnErr result (stops self.new ≡ held (stops self.old + 1)) }
+        ensures called { calls self.new ≡ held (calls self.old + 1) };
 
     /// Changes the word at an index; past the end it changes nothing.
     fn put(&mut self, i: u64, v: u64) -> Result<(), Stop>
         ensures word { OnOk result (words self.new ≡ slice_set (words self.old) i v) }
         ensures same { OnErr result (words self.new ≡ words self.old) }
         ensures calm { OnOk result (stops self.new ≡ stops self.old) }
-        ensures stopped { OnErr result (stops self.new ≡ held (stops self.old + 1)) };
+        ensures stopped { OnErr result (stops self.new ≡ held (stops self.old + 1)) }
+        ensures called { calls self.new ≡ held (calls self.old + 1) };
 }
 
 /// Runs a task to its end, or to where it stops: each `Next` of the job is one call of the cells. It takes no memory.
@@ -45,6 +50,9 @@ pub fn run_task<C: Cells>(cells: &mut C, job: Job) -> Result<Reply, Stop>
     ensures on_way { IsOnWay (left job) (C.words cells.old) (C.words cells.new) }
     ensures calm { OnOk result (C.stops cells.new ≡ C.stops cells.old) }
     ensures stopped { OnErr result (C.stops cells.new ≡ held (C.stops cells.old + 1)) }
+    // Each step is one call: as many as the task has, or those up to the one that stopped.
+    ensures counted { OnOk result (held (C.calls cells.new) ≡ held (C.calls cells.old + steps_left (left job) (C.words cells.old))) }
+    ensures cut { OnErr result (StopsAfter (left job) (C.words cells.old) (C.words cells.new) (C.calls cells.old) (C.calls cells.new)) }
 
     // Wherever it stops, the mailbox is kept; a reply tells what became of the mailbox.
     ensures kept { TaskKept (left job) (C.words cells.old) (C.words cells.new) }

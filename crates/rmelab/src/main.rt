@@ -1,6 +1,11 @@
 //! `rmelab`: a laboratory of recoverable first-come first-served locks.
 #![tactic(auto)]
 
+pub use cli::arguments::order::Command;
+pub use cli::arguments::words::{WordsFault, read_words};
+pub use commands::command::command;
+pub use commands::schedules::ending::Ending;
+
 use commands::disk::Disk;
 use commands::program::run_program;
 use cli::arguments::words::words_given;

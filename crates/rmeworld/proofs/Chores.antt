@@ -1,5 +1,5 @@
 -- What a process's machine does is what the definition says, at whatever spot it stands.
-use Rattle.std.proofs.Common.{◌≡◌, ℕ, Bool, true, false, ◌&&◌, ◌==◌, if◌then◌else◌, [], ◌∷◌, Result, Ok, Err, OnErr, Option, Some, None, IsSome, IfSome, unwrap_or, refl, sym, ap, ◌∙◌, subst, eq-eqb}
+use Rattle.std.proofs.Common.{◌≡◌, ℕ, Bool, true, false, ◌&&◌, ◌==◌, if◌then◌else◌, [], ◌∷◌, Result, Option, Some, None, IsSome, IfSome, unwrap_or, refl, sym, ap, ◌∙◌, subst, eq-eqb}
 use Rattle.rmeworld.proofs.Common.{Access, Progress, Refusal, Standing, kind_of, word_of, progress, after_access, lock_access, carried, Place, next, Inside, Layout, Reply, Pending, left}
 use Rattle.rmeworld.proofs.Common.{begun, Script, Get as Asks, Put as Writes, Done, tail, script, Call, Lock, Unlock, Consistent, Append, Close, Chore, IsFree, Does, Why, Checking}
 use Rattle.rmeworld.proofs.Common.{by_lock, is_entry, errand_of, HasStep, Held, first_cause, start_refusal, Errand, Free, Doing, Spot, settled, errand_entered, at_lock, begun_from, moved_by}
@@ -145,7 +145,3 @@ refuses l p Inside false c Free Consistent r h = cc
 refuses l p s true c Free Lock r h = cc
 refuses l p s false c Free Lock r h = cc
 refuses l p _ _ c _ _ r h = cc
-
-pub always_err : {T E : Type 0} (r : Result T E) (P : Type 0) → P → OnErr r P
-always_err (Ok x) P h = tt
-always_err (Err e) P h = h

@@ -39,7 +39,11 @@ pub trait Machine {
         ensures accepted { IsTrue result → behaviour.advance_refusal self.old p ≡ None }
         ensures quiet { IsTrue result → ((behaviour.stepped self.old p).deed ≡ None) × ((behaviour.stepped self.old p).answer ≡ None) }
         ensures ok { IsTrue result → self.new ≡ behaviour.advanced self.old p }
-        ensures same { result ≡ false → self.new ≡ self.old };
+        ensures same { result ≡ false → self.new ≡ self.old }
+    {
+        let _ = p;
+        false
+    }
 
     /// Process p loses its private memory, and with it a call that is under way.
     fn crash(&mut self, p: u64) -> Result<Deed, Refusal>

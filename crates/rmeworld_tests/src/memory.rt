@@ -33,6 +33,7 @@ impl Memory {
     fn stops_now(&mut self) -> bool
         ensures words { self.new.words ≡ self.old.words }
         ensures stops { self.new.stops ≡ (if result then held (self.old.stops + 1) else self.old.stops) }
+        ensures calls { self.new.calls ≡ held (self.old.calls + 1) }
     {
         self.calls = self.calls.saturating_add(1);
         if self.calls != self.stop_at {
@@ -121,6 +122,8 @@ impl Cells for Memory {
     ghost words = { λ m. m.words.items };
 
     ghost stops = { λ m. m.stops };
+
+    ghost calls = { λ m. m.calls };
 
     fn get(&mut self, i: u64) -> Result<u64, Stop> {
         if self.stops_now() {

@@ -4,11 +4,13 @@ ghost use Rattle.redomail.specs.Layout.{size};
 ghost use Rattle.rmeworld.specs.Stand.{IsSize};
 ghost use Rattle.atomic_table.specs.Seated.{TableId};
 ghost use Rattle.execution.specs.Runs.{word_count};
-ghost use Rattle.robust.specs.Making.{making_refusal, fresh_members};
+ghost use Rattle.rmeworld.specs.WorldState.{new_refusal};
+ghost use Rattle.robust.specs.Making.{fresh_members};
 
 use crate::member::Member;
 use redomail::Layout;
 use rmecore::Refusal;
+use rmeworld::size::size_refusal;
 use execution::Setup;
 use std::alloc::{AllocError, Global};
 use std::sync::Arc;
@@ -35,36 +37,18 @@ impl Arena {
         width: u64,
     ) -> Result<Vec<Member>, Refusal>
         ensures made { IfOk result (λ v. (t : TableId) × (v.items ≡ fresh_members t (record { layout = record { procs = procs; cap = cap; width = width }; limit = limit }))) }
-        ensures accepted { OnOk result (making_refusal procs limit cap width ≡ None) }
-        ensures refused { IfErr result (λ e. (making_refusal procs limit cap width ≡ Some e) ⊎ ((e ≡ Refusal.OutOfMemory) × (making_refusal procs limit cap width ≡ None))) }
+        ensures accepted { OnOk result (new_refusal (record { procs = procs; cap = cap; width = width }) limit ≡ None) }
+        ensures refused { IfErr result (λ e. (new_refusal (record { procs = procs; cap = cap; width = width }) limit ≡ Some e) ⊎ ((e ≡ Refusal.OutOfMemory) × (new_refusal (record { procs = procs; cap = cap; width = width }) limit ≡ None))) }
     {
-        check(procs, limit, cap, width)?;
         let layout = Layout { procs, cap, width };
+        if let Some(refusal) = size_refusal(layout, limit) {
+            return Err(refusal);
+        }
         match made(alloc, Setup { layout, limit }) {
             Ok(members) => Ok(members),
             Err(_) => Err(Refusal::OutOfMemory),
         }
     }
-}
-
-/// Refuses sizes outside the limits. The first bad one is named.
-fn check(procs: u64, limit: u64, cap: u64, width: u64) -> Result<(), Refusal>
-    ensures accepted { OnOk result (making_refusal procs limit cap width ≡ None) }
-    ensures refused { IfErr result (λ e. making_refusal procs limit cap width ≡ Some e) }
-{
-    if procs == 0 || procs > 64 {
-        return Err(Refusal::BadProcs);
-    }
-    if limit == 0 || limit > 1 << 62 {
-        return Err(Refusal::BadLimit);
-    }
-    if cap == 0 || cap > 65536 {
-        return Err(Refusal::BadCap);
-    }
-    if width == 0 || width > 8 {
-        return Err(Refusal::BadWidth);
-    }
-    Ok(())
 }
 
 /// A new table of zeros with these sizes, and a member for each process. `AllocError`: out of memory.

@@ -2,7 +2,7 @@ pub mod LinesCommon
 pub mod Cuts
 pub mod Ranges
 pub mod Numbers
-pub mod Lines
+pub mod LineForms
 pub mod Places
 pub mod Joins
 pub mod Forms
@@ -13,7 +13,7 @@ pub mod TextsCommon
 pub mod Items
 pub mod Wholes
 pub mod Heads
-pub mod Texts
+pub mod WholeTexts
 pub mod Schedules
 pub mod Traces
 pub mod LexerCommon

@@ -8,7 +8,7 @@ use Rattle.schedule.proofs.Places.{bind_ok, ok_is}
 use Rattle.schedule.proofs.Deeds.{deed_codec}
 use Rattle.schedule.proofs.Heads.{of_width, last_width, header_takes, header_again, header_plain}
 use Rattle.schedule.proofs.Joins.{IsCodec}
-use Rattle.schedule.proofs.Texts.{text_takes, text_again}
+use Rattle.schedule.proofs.WholeTexts.{text_takes, text_again}
 
 -- a header's numbers are its sizes and, unless it is 1, its width
 made : (ss : List ℕ) (w : ℕ) → IsHeader trace_form ss w → (trace_sizes (trace_head_with (ss ++ of_width w)) ≡ ss) × ((trace_head_with (ss ++ of_width w)).width ≡ w)

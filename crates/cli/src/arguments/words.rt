@@ -17,20 +17,27 @@ use crate::explain::topic::{Topic, topic_named};
 use std::alloc::{AllocError, Global};
 use std::io;
 use std::rt::Env;
+use thiserror::Error;
 
 /// Why the words are no command. The first cause that is found is answered.
-#[derive(Debug, Drop)]
+#[derive(Debug, Drop, Error)]
 pub enum WordsFault {
     /// The help or the version that was asked for. It is printed; the exit status is 0.
+    #[error("{text}")]
     Help { text: String },
     /// The error text of `clap`, or that the words name no topic. It is printed to standard error; the exit status is 2.
+    #[error("{text}")]
     Refused { text: String },
-    /// There is no such variant, or it isn't `right` and an image is given.
+    /// There is no such variant, or it isn't `right` and an image is given; the exit status is 2.
+    #[error("bad variant")]
     BadVariant,
-    /// A number of `run` or `hunt` outside its range.
+    /// A number of `run` or `hunt` is outside its range; the exit status is 2.
+    #[error("bad size")]
     BadSize,
     /// A word isn't UTF-8 text.
+    #[error("a word is no text")]
     Unreadable,
+    #[error("out of memory")]
     OutOfMemory,
 }
 

@@ -4,34 +4,42 @@ ghost use Rattle.std.specs.Prelude.{◌≡◌, ◌≤◌};
 ghost use Rattle.commands.specs.declared.schedules.fault.Fault.TheVariants.{OutOfMemory};
 ghost use Rattle.commands.specs.Statuses.{fault_of_replay, fault_of_text};
 
-use crate::schedules::line::line_of;
 use schedule::{OutOfMemory as NoMemory, TextFault};
 use std::alloc::{AllocError, AllocFailed};
-use std::error::Error;
-use std::fmt;
 use schedule::ReplayFault;
+use thiserror::Error;
 
-/// Why a command has no verdict. Its text is the one line on standard error.
-#[derive(Clone, Copy, PartialEq, Eq)]
+/// Why a command has no verdict. Its text is the one line on standard error, after the program's name.
+#[derive(Clone, Copy, Debug, PartialEq, Eq, Error)]
 pub enum Fault {
     /// This line of the text can't be read; lines count from 1. The number is that of the line's fault.
+    #[error("line {line}: fault {number}")]
     Text { line: u64, number: u64 },
     /// The world refuses this line. The number is that of the refusal.
+    #[error("line {line}: refused {number}")]
     Refused { line: u64, number: u64 },
     /// The image breaks this rule.
+    #[error("image: rule {rule}")]
     Image { rule: u64 },
     /// There is no such variant, or it isn't `right` and an image is given.
+    #[error("bad variant")]
     BadVariant,
     /// A number is outside its range.
+    #[error("bad size")]
     BadSize,
     /// Reading from a device failed.
+    #[error("read failed")]
     Read,
     /// Writing to a device failed.
+    #[error("write failed")]
     Write,
+    #[error("out of memory")]
     OutOfMemory,
     /// This sender of a run could not go on.
+    #[error("member {p} failed")]
     Member { p: u64 },
     /// A search has reached more states than it may keep.
+    #[error("too many states")]
     TooManyStates,
 }
 
@@ -110,17 +118,3 @@ impl From<NoMemory> for Fault {
         Fault::OutOfMemory
     }
 }
-
-impl fmt::Display for Fault {
-    fn fmt<W: fmt::Write>(&self, f: &mut fmt::Formatter<W>) -> fmt::Result {
-        f.write_str(line_of(*self).as_str().trim_end())
-    }
-}
-
-impl fmt::Debug for Fault {
-    fn fmt<W: fmt::Write>(&self, f: &mut fmt::Formatter<W>) -> fmt::Result {
-        fmt::Display::fmt(self, f)
-    }
-}
-
-impl Error for Fault {}

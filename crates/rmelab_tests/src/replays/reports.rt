@@ -5,7 +5,6 @@ use commands::command::command;
 use cli::arguments::order::Command;
 use crate::support::invocation::all_come_to;
 use crate::support::row::invoked;
-use commands::NoScreen;
 use schedule::{Page, Text};
 use std::test::Fail;
 
@@ -200,7 +199,6 @@ fn a_command_alone(rt: HostRuntime) -> Result<(), Fail> {
             alloc,
             &order,
             None,
-            &mut NoScreen,
             &mut source,
             &mut out,
             &mut err,

@@ -9,60 +9,11 @@ use rmecore::Refusal;
 use rmeworld::Image;
 use robust::{Arena, GatherFault, Member, gather};
 use crate::support::counted::never;
+use memory_limit::{PIECES, Scarce};
 use crate::support::messages::{are, body};
-use std::alloc::{AllocError, Global};
+use std::alloc::Global;
 use std::process::Abort;
 use std::test::Fail;
-
-const LARGEST: usize = 8 * 1024 * 1024 * 1024;
-
-const BLOCKS: usize = 200_000;
-
-const PIECES: usize = 400;
-
-const PIECE: usize = 240;
-
-/// All memory, taken but for a reserve.
-#[derive(Drop)]
-struct Scarce {
-    reserve: Vec<Vec<u8>>,
-    taken: Vec<Vec<u8>>,
-}
-
-impl Scarce {
-    fn new(alloc: Global) -> Result<Scarce, AllocError> {
-        let mut reserve = Vec::with_capacity(alloc, PIECES)?;
-        for _ in 0..PIECES {
-            reserve.push(Vec::<u8>::with_capacity(alloc, PIECE)?)?;
-        }
-        let taken = all_that_is_left(alloc)?;
-        Ok(Scarce { reserve, taken })
-    }
-
-    /// Gives back one piece, if there is one.
-    fn give_back(&mut self) {
-        let piece = self.reserve.pop();
-        drop(piece);
-    }
-}
-
-/// Blocks of falling size, until the smallest is refused.
-fn all_that_is_left(alloc: Global) -> Result<Vec<Vec<u8>>, AllocError> {
-    let mut blocks = Vec::with_capacity(alloc, BLOCKS)?;
-    let mut size = LARGEST;
-    for _ in 0..2 * BLOCKS {
-        if blocks.len() + 1 >= BLOCKS {
-            break;
-        }
-        match Vec::<u8>::with_capacity(alloc, size) {
-            Ok(block) => blocks.push(block)?,
-            Err(_) if size <= 16 => break,
-            Err(_) if size <= 4096 => size -= 16,
-            Err(_) => size /= 2,
-        }
-    }
-    Ok(blocks)
-}
 
 #[test]
 fn a_new_arena(rt: HostRuntime) -> Result<(), Fail> {

@@ -1,12 +1,12 @@
 use Rattle.std.proofs.Common.{◌≡◌}
 use Rattle.redomail.proofs.Common.{left}
 use Rattle.redomail.specs.Cells.{steps_left}
-use Rattle.redomail.proofs.OnWay.{IsReached}
+use Rattle.redomail.proofs.OnWay.{IsReachedBy}
 use Rattle.redomail.proofs.cells.run_task.Given as goal
 
 abbrev pub invariant-loop-i : goal.invariant-loop-i
 invariant-loop-i g l = record {
-  reached : IsReached (left l.initial.job) (g.C.Cells.words l.initial.cells) (left l.job) (g.C.Cells.words l.cells);
+  by : IsReachedBy (left l.initial.job) (g.C.Cells.words l.initial.cells) (left l.job) (g.C.Cells.words l.cells) (g.C.Cells.calls l.initial.cells) (g.C.Cells.calls l.cells);
   calm : g.C.Cells.stops l.cells ≡ g.C.Cells.stops l.initial.cells;
 }
 

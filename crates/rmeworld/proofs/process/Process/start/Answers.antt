@@ -1,5 +1,6 @@
 use Rattle.rmeworld.proofs.Common.{errand_of}
-use Rattle.rmeworld.proofs.Chores.{refuses, always_err}
+use Rattle.redomail.proofs.Results.{always_err}
+use Rattle.rmeworld.proofs.Chores.{refuses}
 use Rattle.rmeworld.proofs.process.Process.start.Goals as goal
 
 pub returns-in_err-check-clause-not_allowed : goal.returns-in_err-check-clause-not_allowed

@@ -1,6 +1,6 @@
 use Rattle.schedule.proofs.TextsCommon.{schedule_at, spelling, IsScheduled}
 use Rattle.schedule.proofs.Schedules.{schedule_takes, schedule_again}
-use Rattle.schedule.proofs.Texts.{spelled_once}
+use Rattle.schedule.proofs.WholeTexts.{spelled_once}
 use Rattle.schedule.proofs.texts.laws.one_spelling.Goals as goal
 
 pub returns-clause-again : goal.returns-clause-again

@@ -1,6 +1,6 @@
 use Rattle.schedule.proofs.TextsCommon.{trace_spelling, IsTraced, trace_at}
 use Rattle.schedule.proofs.Traces.{trace_takes, trace_again}
-use Rattle.schedule.proofs.Texts.{spelled_once}
+use Rattle.schedule.proofs.WholeTexts.{spelled_once}
 use Rattle.schedule.proofs.texts.laws.one_spelling_of_traces.Goals as goal
 
 pub returns-clause-again : goal.returns-clause-again

@@ -1,6 +1,6 @@
 use Rattle.schedule.proofs.TextsCommon.{schedule_at, spelling, IsScheduled}
 use Rattle.schedule.proofs.Schedules.{schedule_takes, schedule_again}
-use Rattle.schedule.proofs.Texts.{is_found, is_only}
+use Rattle.schedule.proofs.WholeTexts.{is_found, is_only}
 use Rattle.schedule.proofs.texts.schedule.read_schedule.Goals as goal
 
 pub returns-clause-found : goal.returns-clause-found

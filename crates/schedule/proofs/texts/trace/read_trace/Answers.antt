@@ -1,5 +1,5 @@
 use Rattle.schedule.proofs.TextsCommon.{trace_spelling, IsTraced, trace_at}
-use Rattle.schedule.proofs.Texts.{is_found, is_only}
+use Rattle.schedule.proofs.WholeTexts.{is_found, is_only}
 use Rattle.schedule.proofs.Traces.{trace_takes, trace_again}
 use Rattle.schedule.proofs.texts.trace.read_trace.Goals as goal
 

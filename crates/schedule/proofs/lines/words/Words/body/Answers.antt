@@ -2,7 +2,7 @@ use Rattle.std.proofs.Common.{◌≡◌, ◌+◌, ◌<◌, ◌∷◌, [], ◌++�
 use Rattle.schedule.proofs.LinesCommon.{common_steps, many, numbers_at}
 use Rattle.std.proofs.Math.ListN.{length-set}
 use Rattle.std.proofs.lemmas.Result.{err_from_is_err_and}
-use Rattle.schedule.proofs.Lines.{goes_on, stops}
+use Rattle.schedule.proofs.LineForms.{goes_on, stops}
 use Rattle.schedule.proofs.lines.words.Words.body.Goals as goal
 
 pub loop-j-preserved : goal.loop-j-preserved

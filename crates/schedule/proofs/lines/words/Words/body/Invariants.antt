@@ -1,6 +1,6 @@
 use Rattle.std.proofs.Common.{◌≡◌, ◌-◌, take, length}
 use Rattle.schedule.proofs.LinesCommon.{many, numbers_at}
-use Rattle.schedule.proofs.Lines.{with_front}
+use Rattle.schedule.proofs.LineForms.{with_front}
 use Rattle.schedule.proofs.lines.words.Words.body.Given as goal
 
 abbrev pub invariant-loop-j : goal.invariant-loop-j

@@ -1,4 +1,4 @@
-use Rattle.schedule.proofs.Lines.{line_has_word}
+use Rattle.schedule.proofs.LineForms.{line_has_word}
 use Rattle.schedule.proofs.lines.words.Words.end.Goals as goal
 
 pub returns-in-Some : goal.returns-in-Some

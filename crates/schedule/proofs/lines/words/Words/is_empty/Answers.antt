@@ -1,5 +1,5 @@
 use Rattle.std.proofs.Common.{sym}
-use Rattle.schedule.proofs.Lines.{line_has_word}
+use Rattle.schedule.proofs.LineForms.{line_has_word}
 use Rattle.schedule.proofs.lines.words.Words.is_empty.Goals as goal
 
 pub returns-in-Some : goal.returns-in-Some

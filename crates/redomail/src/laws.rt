@@ -37,7 +37,7 @@ pub fn shown_grows()
     ensures { ShownGrows }
 {}
 
-/// The entries below count stay the same, and count never falls, whichever legal deeds happen in between.
+/// The entries below count stay the same, and count never falls, whichever legal deeds come in between.
 pub fn shown_entries_stand()
     ensures { ShownEntriesStand }
 {}

@@ -1,4 +1,4 @@
--- A judge as its users see it.
+-- A judge's state as contracts see it.
 use Rattle.judge.specs.Kept.{Kept}
 use Rattle.judge.specs.declared.judge.Judge.TheInside.{Inside}
 

@@ -1,4 +1,4 @@
--- Each script of a call ends with the number of its reply.
+-- Each script of a call ends with the table's number for its reply.
 use Rattle.std.proofs.Common.{◌≡◌, ℕ, zero, suc, ◌+◌, ◌*◌, ◌≤◌, true, ◌==◌, List, [], ◌∷◌, ◌++◌, length, Option, Some, refl, ap, ◌∙◌, arith, length-append, nat_le, nat_lt}
 use Rattle.rmeworld.proofs.Common.{cond_both, Layout, Record, Reply, Script, Get as Asks, Put as Writes, Done, puts, gets, consistent, apply_steps, store_steps, record_of, decided, append, redo}
 use Rattle.rmeworld.proofs.Common.{repair, close, length-store_steps, task_steps, mending_steps, Costs}

@@ -1,4 +1,4 @@
--- What a machine with these states does: why its calls are refused, what they answer, and what they leave.
+-- The behaviour of a machine with states of this type: which calls are refused, their results, and the state after each.
 use Rattle.std.specs.Prelude.{ℕ, Option}
 use Rattle.rmecore.specs.declared.refusal.Refusal.{Refusal}
 use Rattle.redomail.specs.declared.deed.Deed.{Deed}

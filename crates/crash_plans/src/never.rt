@@ -1,4 +1,4 @@
-//! No crash.
+//! A plan without crashes.
 
 ghost use Rattle.std.specs.Prelude.{◌≡◌, if◌then◌else◌, true, false};
 ghost use Rattle.rmecore.specs.Simulated.{one_more};

@@ -46,8 +46,7 @@ cell_set_is l cells i v filled =
       | inr past ↦ let off : nat_lt i (size l) ≡ false = le-ltb i (size l) (subst (λ n. n ≤ i) filled past) in rw (off, set_past cells i v past) refl
     ]
 
--- the words after an access
--- an own word is one of the world's
+-- a word of the process itself is a word of the world
 own_within : (n q : ℕ) (word : Word) → q < n → IsOwnWord q word → InWords n word
 own_within n q (DataAt i) below own = tt
 own_within n q _ below own = subst (λ i. i < n) (sym own) below

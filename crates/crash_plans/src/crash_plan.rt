@@ -17,7 +17,7 @@ pub trait CrashPlan {
     ghost calm: { Self → Bool } = { λ _. false };
 
     /// Whether the plan is known never to fall. If so, a process may take its steps first and count their askings
-    /// afterwards, as the lock's fast path does. The default is false, which is always right.
+    /// afterwards, as the lock's fast path does. A plan without its own answer counts as one that may fall.
     fn is_calm(&self) -> bool
         ensures { result ≡ true → calm self.now ≡ true }
     {

@@ -53,7 +53,7 @@ module _ (w : World) (p : ℕ) (words : ℕ → Own) (places : ℕ → Place) (s
 
 -- the invariant of one pair of processes
 
--- fewer are ahead
+-- fewer processes are ahead
 pub fewer : {b b' : Bool} {p : ℕ} {x : Own} {s : Place} {i : ℕ} {y : Own} {t : Place} → (b' ≡ true → b ≡ true) → Pair b p x s i y t → Pair b' p x s i y t
 fewer f h = record { passed = h.passed; looked = h.looked; ahead = λ e. h.ahead (f e) }
 
@@ -66,7 +66,7 @@ goes_on {p = p} {x = x} {i = i} {y = y} {t = t} h x' s' number inside past look 
       ahead = λ e. rw number (let k = h.ahead e in (k.0, inside k.0 ∙ k.1, k.2));
     }
 
--- p has passed and looked at nobody, and is ahead of nobody
+-- p has passed and looked at no process, and is ahead of none
 pub knows_nothing : {b : Bool} {p : ℕ} {x : Own} {s : Place} {i : ℕ} {y : Own} {t : Place} → ((0 < x.number) × (0 < x.inside) → ⊥) → (WaitsPast s i → ⊥) → (Looked s i → ⊥) → (b ≡ true → ⊥) → Pair b p x s i y t
 knows_nothing out past look nobody =
     record {
@@ -102,7 +102,7 @@ calm h x' s' phase fits mine rest first second =
       others_pairs = h.others_pairs;
     }
 
--- a place where p has passed, looked at and missed nobody
+-- a place at which p has passed, looked at and missed no process
 abbrev pub Plain : Place → Type 0
 Plain (Door unread m) = ⊥
 Plain (Wait k unpassed looked) = ⊥

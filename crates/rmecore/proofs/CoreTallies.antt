@@ -124,7 +124,7 @@ tallied_first n w tallies places is p below =
     subst (λ s. IsTallied n (w.words p) s (tally_at tallies p)) (sym (ap (λ f. f p) places))
     (subst (IsTallied n (w.words p) Rest) (sym (ap (λ ts. tally_at ts p) is ∙ get_or-replicate n p (fresh zeros) (fresh zeros) below)) (record { began = λ h. absurd h; taking = λ exact. (0, tt, refl) }))
 
--- a call under way has taken fewer steps than the most
+-- a call under way has taken fewer steps than the bound
 pub takes_fewer : (n : ℕ) (w : World) (tallies : List Tally) → AllTallied n w tallies → (p : ℕ) → IsExact (tally_at tallies p) → p < n → is_idle (w.places p) ≡ false → (tally_at tallies p).steps < most_steps n + (tally_at tallies p).blocked
 takes_fewer n w tallies all p exact below busy =
     let t = tally_at tallies p in

@@ -190,11 +190,11 @@ module _ {n : ℕ} {w : World} {a : Abstract} {p : ℕ} (below : p < n) where
       waiting : a.phase p ≡ Waiting
       waiting = h.phase ∙ phase_waiting _ _ _ _ (omega arith) h.fits.3
 
-      -- p has passed everyone
+      -- p has passed all other processes
       passed : (q : ℕ) → q < n → q ≢ p → Stands x.number p q (w.words q) (w.places q)
       passed q hq ne = (h.first q hq ne).passed (inr refl)
 
-      -- nobody has passed p, or is ahead of it
+      -- no process has passed p, or is ahead of it
       not_both : (q : ℕ) → q < n → q ≢ p → 0 < (w.words q).number → Stands (w.words q).number q p x (Wait k [] None) → ⊥
       not_both q hq ne some s = let r = passed q hq ne in omega arith
 

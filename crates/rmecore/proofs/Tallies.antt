@@ -8,7 +8,7 @@ use Rattle.rmecore.proofs.Accesses.{passed}
 use Rattle.rmecore.proofs.Payments.{Comes, pays}
 use Rattle.rmecore.proofs.Runs.{guard}
 
--- the machine never glances
+-- the machine's next step is never a glance
 pub never_glances : (limit p : ℕ) (place : Place) → IfSome (access limit p place) (λ a. is_glance (kind_of a) ≡ false)
 never_glances limit p (Door [] m) = elim (cases_Bool (nat_lt m limit)) [ inl e ↦ rw e refl | inr e ↦ rw e refl ]
 never_glances limit p (Reread call (c ∷ k ∷ i ∷ seen)) = tt
@@ -16,7 +16,7 @@ never_glances limit p (Wait k unpassed (Some j)) = refl
 never_glances limit p (Wait k (j ∷ js) None) = refl
 never_glances limit p _ = assumption
 
--- counting
+-- the counts after a step
 
 pub exact_before : (t : Tally) (b : Bool) → IsExact (counted t b) → IsExact t
 exact_before t b e = omega arith

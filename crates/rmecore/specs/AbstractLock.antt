@@ -9,6 +9,7 @@ use Rattle.rmecore.specs.declared.outer.Outer.TheVariants.{Begin, Ready as IsRea
 use Rattle.rmecore.specs.declared.phase.Phase.{Phase}
 use Rattle.rmecore.specs.declared.phase.Phase.TheVariants.{Out, Door, Ready, Inside, DeadIn}
 
+-- the state of the abstract lock
 pub record Abstract : Type 0 where
   pub phase : ℕ → Phase
   -- ahead p q: q is in p's set, and must enter or quit before p enters
@@ -18,6 +19,7 @@ pub record Abstract : Type 0 where
 abbrev pub nobody : Abstract
 nobody = record { phase = λ p. Out; ahead = λ p q. false }
 
+-- tests of a phase
 abbrev pub is_out : Phase → Bool
 is_out Out = true
 is_out _ = false
@@ -43,6 +45,7 @@ abbrev pub crashed : Phase → Phase
 crashed Inside = DeadIn
 crashed phase = phase
 
+-- the process of a deed
 abbrev pub doer : Outer → ℕ
 doer (Begin p) = p
 doer (IsReady p) = p

@@ -24,6 +24,7 @@ pub record IsLawful (n limit : ℕ) (words : ℕ → Own) : Type 0 where
 abbrev pub all_dead : (ℕ → Own) → World
 all_dead words = record { words = words; places = λ p. Dead }
 
+-- the phase of a crashed process, by its words
 abbrev pub dead_phase : (choosing number inside : ℕ) → Phase
 dead_phase zero zero i = Out
 dead_phase (suc c) zero i = Door
@@ -39,5 +40,6 @@ is_ahead Door p x q y = is_ready (phase_by y)
 is_ahead Ready p x q y = is_ready (phase_by y) && is_before y.number q x.number p
 is_ahead _ p x q y = false
 
+-- "The start of an image", the lock's part: the phases of all processes, and their ahead sets
 abbrev pub start_of : (ℕ → Own) → Abstract
 start_of words = record { phase = λ p. phase_by (words p); ahead = λ p q. is_ahead (phase_by (words p)) p (words p) q (words q) }

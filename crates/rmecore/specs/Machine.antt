@@ -58,6 +58,7 @@ access limit p Withdrawing = Some (Store Drops (NumberOf p) 0)
 access limit p (Unmarking call) = Some (Store Marks (InsideOf p) 0)
 access _ _ _ = None
 
+-- the kind and the word of an access
 abbrev pub kind_of : Access → Kind
 kind_of (Load kind word) = kind
 kind_of (Store kind word x) = kind
@@ -82,6 +83,7 @@ pub record Standing : Type 0 where
 abbrev pub absent : Standing
 absent = record { procs = 0; limit = 0; index = 0; place = Rest }
 
+-- the next step of a process
 abbrev pub next_access : Standing → Option Access
 next_access s = access s.limit s.index s.place
 
@@ -99,10 +101,12 @@ found zero zero (suc i) = None
 found zero (suc k) zero = Some (Finds Waiting)
 found zero (suc k) (suc i) = Some (Finds FoundInside)
 
+-- a Lock's answer after its rereads, if it ends with them
 abbrev pub again : ℕ → ℕ → ℕ → Option CoreDone
 again zero (suc k) (suc i) = Some InAgain
 again _ _ _ = None
 
+-- the answers of calls after their rereads, after a shut and after the mark is cleared
 abbrev pub reread_answer : CoreCall → ℕ → ℕ → ℕ → Option CoreDone
 reread_answer Lock c k i = again c k i
 reread_answer _ c k i = found c k i
@@ -132,9 +136,11 @@ is_blocked p (Wait k unpassed None) Looks v = not (v == 0)
 is_blocked p (Wait k unpassed (Some j)) Weighs v = not ((v == 0) || is_before k p v j)
 is_blocked _ _ _ _ = false
 
+-- no deed, no answer, not blocked
 abbrev pub quiet : Progress
 quiet = record { outer = None; done = None; blocked = false }
 
+-- the effects of a step: its deed, the answer, and whether it was blocked
 abbrev pub progress : Standing → Option Access → ℕ → Progress
 progress s None v = quiet
 progress s (Some a) v =
@@ -144,10 +150,11 @@ progress s (Some a) v =
       blocked = is_blocked s.index s.place (kind_of a) (carried a v);
     }
 
--- the process in its doorway, and the process that waits
+-- the process in its doorway
 abbrev pub at_door : Standing → ℕ → ℕ → Standing
 at_door s i m = record { procs = s.procs; limit = s.limit; index = s.index; place = place_of s.procs s.index (AtDoor i m) }
 
+-- the process while it waits
 abbrev pub at_wait : Standing → ℕ → ℕ → Bool → Standing
 at_wait s k i looked = record { procs = s.procs; limit = s.limit; index = s.index; place = place_of s.procs s.index (AtWait k i looked) }
 

@@ -49,6 +49,7 @@ ReadsBegun c k i (Reread call (x ∷ [])) v = v ≡ k
 ReadsBegun c k i (Reread call (x ∷ y ∷ [])) v = v ≡ i
 ReadsBegun c k i _ v = Unit {0}
 
+-- a glance is no step of a call
 abbrev pub is_glance : Kind → Bool
 is_glance Glances = true
 is_glance _ = false

@@ -29,10 +29,12 @@ pub data Place : Type 0 where
   Inside Leaving Withdrawing : Place
   Unmarking : (call : CoreCall) → Place
 
+-- j is in the set
 abbrev pub has : List ℕ → ℕ → Bool
 has [] i = false
 has (j ∷ js) i = (i == j) || has js i
 
+-- the set without j
 abbrev pub without : ℕ → List ℕ → List ℕ
 without j [] = []
 without j (i ∷ is) = if i == j then without j is else i ∷ without j is
@@ -54,6 +56,7 @@ others n p = above n p 0
 abbrev pub is_before : ℕ → ℕ → ℕ → ℕ → Bool
 is_before k p v j = nat_lt k v || ((k == v) && nat_lt p j)
 
+-- the place, if the test holds
 abbrev pub only : Bool → Place → Option Place
 only b place = if b then Some place else None
 
@@ -67,6 +70,7 @@ relocked n p zero zero (suc i) = Unmarking Lock
 relocked n p zero (suc k) zero = Wait (suc k) (others n p) None
 relocked n p zero (suc k) (suc i) = Inside
 
+-- "Restart table": what a recovery does
 abbrev pub recovered : ℕ → ℕ → ℕ → Place
 recovered (suc c) zero i = Rest
 recovered (suc c) (suc k) i = Shutting Recover (suc k)
@@ -75,14 +79,17 @@ recovered zero zero (suc i) = Unmarking Recover
 recovered zero (suc k) zero = Rest
 recovered zero (suc k) (suc i) = Inside
 
+-- "Restart table", by the call
 abbrev pub restart : ℕ → ℕ → CoreCall → ℕ → ℕ → ℕ → Place
 restart n p Lock c k i = relocked n p c k i
 restart n p _ c k i = recovered c k i
 
+-- the place after choosing := 0
 abbrev pub shut : ℕ → ℕ → CoreCall → ℕ → Place
 shut n p Lock k = Wait k (others n p) None
 shut n p _ k = Rest
 
+-- the place after inside := 0
 abbrev pub unmarked : CoreCall → Place
 unmarked Lock = Opening
 unmarked _ = Rest
@@ -122,6 +129,7 @@ started Inside Unlock = Some Leaving
 started (Wait k unpassed looked) Withdraw = Some Withdrawing
 started _ _ = None
 
+-- the process of an event
 abbrev pub process : Event → ℕ
 process (Starts p call) = p
 process (Crashes p) = p

@@ -6,6 +6,7 @@ use Rattle.rmecore.specs.declared.refusal.Refusal.TheVariants.{BadProcs, BadLimi
 use Rattle.rmecore.specs.declared.core_call.CoreCall.{CoreCall}
 use Rattle.rmecore.specs.declared.core_call.CoreCall.TheVariants.{Unlock, Withdraw}
 
+-- the number of a refusal. Out of memory has none
 abbrev pub number_of : Refusal → Option ℕ
 number_of BadProcs = Some 1
 number_of BadLimit = Some 2

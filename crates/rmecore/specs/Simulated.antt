@@ -12,6 +12,7 @@ use Rattle.rmecore.specs.declared.core_call.CoreCall.{CoreCall}
 use Rattle.rmecore.specs.declared.own.Own.{Own}
 use Rattle.rmecore.specs.declared.word.Word.{Word}
 
+-- a simulated core: its sizes, the lock words, the processes and their counts
 pub record Simulated : Type 0 where
   pub procs : ℕ
   pub limit : ℕ
@@ -26,6 +27,7 @@ zeros = record { choosing = 0; number = 0; inside = 0 }
 abbrev pub own_at : List Own → ℕ → Own
 own_at words p = slice_index_or words p zeros
 
+-- the process at an index, its place and its counts
 abbrev pub standing_at : List Standing → ℕ → Standing
 standing_at processes p = slice_index_or processes p absent
 
@@ -35,6 +37,7 @@ place_at processes p = (standing_at processes p).place
 abbrev pub tally_at : List Tally → ℕ → Tally
 tally_at tallies p = slice_index_or tallies p (record { steps = 0; blocked = 0; began = zeros })
 
+-- the world of a core
 abbrev pub world_of : Simulated → World
 world_of s = record { words = own_at s.words; places = place_at s.processes }
 
@@ -56,6 +59,7 @@ pub record Takes (old : Simulated) (event : Event) (new : Simulated) : Type 0 wh
   pub procs : new.procs ≡ old.procs
   pub limit : new.limit ≡ old.limit
 
+-- the event of a step's report
 abbrev pub event_of : ℕ → Happened → Event
 event_of p h = Steps p h.kind h.word h.value
 
@@ -63,9 +67,11 @@ event_of p h = Steps p h.kind h.word h.value
 abbrev pub ChoosesLeast : Simulated → ℕ → Happened → Type 0
 ChoosesLeast old p h = (word : Word) (v : ℕ) → IsSome (next old.procs old.limit p (place_at old.processes p) h.kind word v) → owner h.word ≤ owner word
 
+-- the refusal of a start
 abbrev pub refusal_at : Simulated → ℕ → CoreCall → Option Refusal
 refusal_at s p call = if nat_lt p s.procs then start_refusal (place_at s.processes p) call else Some NoSuchProcess
 
+-- the refusal of a step
 abbrev pub step_refusal : Simulated → ℕ → Option Refusal
 step_refusal s p = if nat_lt p s.procs then (if is_idle (place_at s.processes p) then Some NothingToDo else None) else Some NoSuchProcess
 
@@ -73,6 +79,7 @@ step_refusal s p = if nat_lt p s.procs then (if is_idle (place_at s.processes p)
 abbrev pub one_more : ℕ → ℕ
 one_more x = min (x + 1) (2 ^ 64 - 1)
 
+-- the counts after one more step
 abbrev pub counted : Tally → Bool → Tally
 counted t blocked = record { steps = one_more t.steps; blocked = if blocked then one_more t.blocked else t.blocked; began = t.began }
 
@@ -87,6 +94,7 @@ new_refusal procs limit =
     then (if nat_lt 0 limit && nat_le limit (2 ^ 62) then None else Some BadLimit)
     else Some BadProcs
 
+-- the refusal as a cause. Out of memory has none
 abbrev pub cause : Refusal → Option Refusal
 cause OutOfMemory = None
 cause e = Some e

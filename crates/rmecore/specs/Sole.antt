@@ -12,6 +12,7 @@ IsIn Inside = Unit {0}
 IsIn DeadIn = Unit {0}
 IsIn _ = ⊥
 
+-- an Enter, and a Leave
 abbrev pub IsEnter : Outer → Type 0
 IsEnter (Enter p) = Unit {0}
 IsEnter _ = ⊥

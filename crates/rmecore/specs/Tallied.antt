@@ -21,6 +21,7 @@ HasTaken n t done = (x : ℕ) × (own_steps n t.began.choosing t.began.number t.
 abbrev pub IsTaking : ℕ → Tally → Place → Type 0
 IsTaking n t place = (x : ℕ) × Pays n t.began.choosing t.began.number t.began.inside place x × (t.steps ≡ x + t.blocked)
 
+-- the process rereads its words
 abbrev pub IsRereading : Place → Type 0
 IsRereading (Reread call seen) = Unit {0}
 IsRereading _ = ⊥
@@ -30,5 +31,6 @@ pub record IsTallied (n : ℕ) (own : Own) (place : Place) (t : Tally) : Type 0 
   pub began : IsRereading place → t.began ≡ own
   pub taking : IsExact t → IsTaking n t place
 
+-- the invariant of the counts of all processes
 abbrev pub AllTallied : ℕ → World → List Tally → Type 0
 AllTallied n w tallies = (p : ℕ) → p < n → IsTallied n (w.words p) (w.places p) (tally_at tallies p)

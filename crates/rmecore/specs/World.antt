@@ -11,13 +11,16 @@ use Rattle.rmecore.specs.declared.own.Own.{Own}
 use Rattle.rmecore.specs.declared.word.Word.{Word}
 use Rattle.rmecore.specs.declared.word.Word.TheVariants.{Choosing as ChoosingOf, Number as NumberOf, Inside as InsideOf, Data as DataAt}
 
+-- the lock words and the places of all processes
 pub record World : Type 0 where
   pub words : ℕ → Own
   pub places : ℕ → Place
 
+-- the first world: all words 0, all places rest
 abbrev pub at_rest : World
 at_rest = record { words = λ p. record { choosing = 0; number = 0; inside = 0 }; places = λ p. Rest }
 
+-- the kinds that store
 abbrev pub is_store : Kind → Bool
 is_store Opens = true
 is_store Takes = true
@@ -27,12 +30,14 @@ is_store Drops = true
 is_store Puts = true
 is_store _ = false
 
+-- the current value of a lock word
 abbrev pub read : (ℕ → Own) → Word → ℕ
 read words (ChoosingOf p) = (words p).choosing
 read words (NumberOf p) = (words p).number
 read words (InsideOf p) = (words p).inside
 read words (DataAt i) = 0
 
+-- the lock words after a store
 abbrev pub write : (ℕ → Own) → Word → ℕ → ℕ → Own
 write words (ChoosingOf p) v = put words p (record (words p) { choosing = v })
 write words (NumberOf p) v = put words p (record (words p) { number = v })
@@ -53,6 +58,7 @@ stored words _ = words
 abbrev pub May : ℕ → ℕ → World → Event → Type 0
 May n limit w e = (process e < n) × IsSome (moved n limit (w.places (process e)) e) × Reads w.words e
 
+-- the world after an event
 abbrev pub after : ℕ → ℕ → World → Event → World
 after n limit w e =
     record {
@@ -81,6 +87,7 @@ step_deed p Withdrawing Drops v = Some (Quit p)
 step_deed p (Door unread m) Shuts v = Some (Quit p)
 step_deed _ _ _ _ = None
 
+-- "Deeds of a run": the deed of an event, from its process's place before it
 abbrev pub deed : Place → Event → Option Outer
 deed place (Starts p call) = None
 deed place (Crashes p) = Some (Crash p)
@@ -100,11 +107,12 @@ abbrev pub final : ℕ → ℕ → World → List Event → World
 final n limit w [] = w
 final n limit w (e ∷ es) = final n limit (after n limit w e) es
 
--- the events of one process, and its place after them
+-- the events of one process
 abbrev pub own_events : ℕ → List Event → List Event
 own_events p [] = []
 own_events p (e ∷ es) = if process e == p then e ∷ own_events p es else own_events p es
 
+-- the place after a list of events
 abbrev pub place_after : ℕ → ℕ → Place → List Event → Place
 place_after n limit place [] = place
 place_after n limit place (e ∷ es) = place_after n limit (unwrap_or (moved n limit place e) place) es

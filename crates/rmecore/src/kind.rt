@@ -1,6 +1,6 @@
 //! The kinds of steps.
 
-/// What a step is for. Each step is one load or one store of one word.
+/// The kind of a step. Each step is one load or one store of one word.
 #[derive(Clone, Copy, Debug, PartialEq, Eq)]
 pub enum Kind {
     /// Stores 1 into choosing, which begins the doorway.

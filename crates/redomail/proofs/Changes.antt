@@ -104,7 +104,7 @@ Allowed-show l p w s r h =
     let e4 : (r.at == length s.shown) ≡ true = eq-eqb r.at (length s.shown) (rw h.shown (sym (length-entries l w r.at))) in
     (refl, (e3, (e4, tt)))
 
--- the shown list after a Show is that of the words after the put of count
+-- the messages shown after a Show are those of the words after the put of count
 pub Whole-from_half : (l : Layout) (p : ℕ) (w : Words) (s : Mailbox) (r : Record) → entry l w r.at ≡ message p r.seq r.value → w (last_at l p) ≡ r.seq → Half l p w s r
     → Whole l p (put w 2 (r.at + 1)) (done s (deed.Show p r.at r.seq r.value)) r
 Whole-from_half l p w s r whole last h =

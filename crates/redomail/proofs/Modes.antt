@@ -3,7 +3,7 @@ use Rattle.std.proofs.Common.{◌≡◌, ◌≢◌, ℕ, ◌+◌, ◌<◌, ◌�
 use Rattle.redomail.proofs.Common.{cond_both, Layout, Record, row, Words, last_at, IsLayout, message, Mailbox, entry, entries, count_of, IsNumbered, Shape, bit, recorded, RecordRule, ListRule}
 use Rattle.redomail.proofs.Common.{Unshown, Shown, pending_in}
 
--- what every mode has
+-- the facts of every mode
 pub record Base (l : Layout) (p : ℕ) (w : Words) (s : Mailbox) : Type 0 where
   pub layout : IsLayout l
   pub process : p < l.procs

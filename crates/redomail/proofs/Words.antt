@@ -28,7 +28,7 @@ pub place_small : (l : Layout) (a : ℕ) → IsLayout l → a ≤ 65536 → plac
 unfolding place_at
 place_small l a h small = grind arith
 
--- Rows.
+-- Ranges of words.
 pub row-alike : (v w : Words) (i n : ℕ) → ((j : ℕ) → i ≤ j → j < i + n → v j ≡ w j) → row v i n ≡ row w i n
 row-alike v w i zero alike = refl
 row-alike v w i (suc n) alike =

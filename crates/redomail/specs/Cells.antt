@@ -70,6 +70,7 @@ pub record Answered (l : Layout) (p : ℕ) (m : Message) (s : Mailbox) (reply : 
   pub disarmed : Disarms reply (words_of xs)
   pub tells : Tells l p m s reply state
 
+-- the meaning of any task's reply, whichever mailbox the words had at its beginning
 abbrev pub TaskAnswered : Script Reply → List ℕ → Reply → List ℕ → Type 0
 TaskAnswered e old reply new =
     (l : Layout) (p : ℕ) (t : Task) (s : Mailbox) → Ready l p e old t s → Answered l p (added_by l t p (words_of old)) s reply new

@@ -10,6 +10,7 @@ use Rattle.redomail.specs.Layout.{board_at, last_at}
 use Rattle.redomail.specs.Script.{Script, Get, Put, Done, puts, gets}
 use Rattle.redomail.specs.Tasks.{store_steps, decided, append, repair, consistent, redo, close}
 
+-- the script that a stage leaves
 abbrev pub left_at : Layout → ℕ → Stage → Script Reply
 left_at l p (stage.AskClosed seq value) = append l p seq value
 left_at l p (stage.AskCount seq value closed) =
@@ -39,11 +40,12 @@ value_width l (stage.AskLast seq value closed count) = length value
 value_width l (stage.Write r step answer) = length r.value
 value_width l _ = l.width
 
--- the size of a repair's buffer, and the number of words read into it
+-- the size of a repair's buffer
 abbrev pub buffer_width : Stage → ℕ
 buffer_width (stage.AskValue at seq words read) = length words
 buffer_width _ = 8
 
+-- the number of words read into it
 abbrev pub words_read : Stage → ℕ
 words_read (stage.AskValue at seq words read) = read
 words_read _ = 0
@@ -53,6 +55,7 @@ abbrev pub steps_done : Stage → ℕ
 steps_done (stage.Write r step answer) = step
 steps_done _ = 0
 
+-- the board index in a stage. Without one it is 0
 abbrev pub board_index : Stage → ℕ
 board_index (stage.GetBoard i) = i
 board_index (stage.PutBoard i v) = i

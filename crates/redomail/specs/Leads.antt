@@ -18,6 +18,7 @@ IsOwn p (Show q at seq v) = q ≡ p
 IsOwn p (Close q) = q ≡ p
 IsOwn p (Ruin q) = q ≡ p
 
+-- deeds of the mailbox by p
 abbrev pub AreOwn : ℕ → List Deed → Type 0
 AreOwn p [] = Unit {0}
 AreOwn p (d ∷ ds) = IsOwn p d × AreOwn p ds

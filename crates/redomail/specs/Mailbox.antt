@@ -9,6 +9,7 @@ use Rattle.redomail.specs.declared.deed.Deed.{Deed}
 use Rattle.redomail.specs.declared.deed.Deed.TheVariants.{Outer, Commit, Show, Close, Ruin}
 use Rattle.redomail.specs.declared.message.Message.{Message}
 
+-- the state of the mailbox
 pub record Mailbox : Type 0 where
   pub shown : List Message
   pub pending : Option Message
@@ -21,6 +22,7 @@ nothing_shown = record { shown = []; pending = None; closed = false; ruined = fa
 abbrev pub message : ℕ → ℕ → List ℕ → Message
 message p seq v = record { sender = p; seq = seq; value = v }
 
+-- the message's sender is p
 abbrev pub is_by : ℕ → Message → Bool
 is_by p m = m.sender == p
 
@@ -36,6 +38,7 @@ abbrev pub is_pending : Option Message → ℕ → ℕ → List ℕ → Bool
 is_pending None p seq v = false
 is_pending (Some m) p seq v = (m.sender == p) && (m.seq == seq) && bytes_eq m.value v
 
+-- the process of a deed
 abbrev pub doer : Deed → ℕ
 doer (Outer d) = lock_doer d
 doer (Commit p seq v) = p

@@ -17,6 +17,7 @@ abbrev pub is_other_width : ℕ → Task → Bool
 is_other_width width (task.Append seq value) = not (length value == width)
 is_other_width width _ = false
 
+-- the refusal of a task of p, if any
 abbrev pub refused : Layout → ℕ → Task → Option Refusal
 refused l p t =
     if l.procs == 0 || nat_lt 64 l.procs then Some BadProcs

@@ -36,6 +36,7 @@ abbrev pub ran : {A : Type 0} → Layout → ℕ → ℕ → Run A → Run A
 ran l p zero x = x
 ran l p (suc k) x = stepped l p (ran l p k x)
 
+-- the beginning of a script's run
 abbrev pub start : {A : Type 0} → Script A → Words → Run A
 start left w = record { left = left; words = w; deeds = [] }
 
@@ -83,6 +84,7 @@ Allowed l (task.BoardPut i v) w s = i < 4
 Allowed l task.Ruin w s = Unit {0}
 Allowed l task.Check w s = Unit {0}
 
+-- The process p may begin this task on words of this mailbox.
 pub record MayBegin (l : Layout) (p : ℕ) (t : Task) (w : Words) (s : Mailbox) : Type 0 where
   pub layout : IsLayout l
   pub process : p < l.procs

@@ -52,6 +52,7 @@ pub record RecordRule (l : Layout) (p : ℕ) (w : Words) : Type 0 where
   pub room : w 4 < l.cap
   pub rule : Unshown l p w ⊎ Shown l p w
 
+-- a flag as a word
 abbrev pub bit : Bool → ℕ
 bit b = cond b 1 0
 

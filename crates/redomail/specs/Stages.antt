@@ -8,6 +8,7 @@ use Rattle.redomail.specs.declared.task.Task.{Task}
 use Rattle.redomail.specs.declared.task.Task.TheVariants as task
 use Rattle.redomail.specs.Tasks.{record_of}
 
+-- the first stage of a task
 abbrev pub first_stage : Task → Stage
 first_stage (task.Append seq value) = stage.AskClosed seq value
 first_stage task.Close = stage.AskOpen
@@ -33,6 +34,7 @@ read_stage l at seq words read =
     if nat_lt read l.width then stage.AskValue at seq words read
     else stage.Write (record_of at seq (take read words)) (3 + read) (reply.Mended true)
 
+-- the stage after a step with this word
 abbrev pub stage_after : Layout → Stage → ℕ → Stage
 stage_after l (stage.AskClosed seq value) word = stage.AskCount seq value word
 stage_after l (stage.AskCount seq value closed) word = stage.AskLast seq value closed word

@@ -32,13 +32,16 @@ decided l p seq value closed count last =
     else if count == l.cap then Done Full
     else puts (store_steps l p (record_of count seq value)) (Done Stored)
 
+-- "Append": the three gets, then the first condition that holds
 abbrev pub append : Layout → ℕ → ℕ → List ℕ → Script Reply
 append l p seq value =
     Get 1 (λ closed. Get 2 (λ count. Get (last_at l p) (λ last. decided l p seq value closed count last)))
 
+-- the apply steps of a record that was read, and the reply
 abbrev pub redo : Layout → ℕ → ℕ → ℕ → List ℕ → Script Reply
 redo l p at seq value = puts (apply_steps l p (record_of at seq value)) (Done (Mended true))
 
+-- "Repair"
 abbrev pub repair : Layout → ℕ → Script Reply
 repair l p =
     Get 3 (λ armed. if armed == 0 then Done (Mended false)
@@ -48,9 +51,11 @@ repair l p =
 abbrev pub consistent : Layout → ℕ → Script Reply
 consistent l p = Get 0 (λ ruined. if ruined == 1 then Done (Ruined true) else repair l p)
 
+-- "Close"
 abbrev pub close : Script Reply
 close = Get 1 (λ closed. if closed == 1 then Done AlreadyClosed else Put 1 1 (Done ClosedNow))
 
+-- the script of each task
 abbrev pub script : Layout → ℕ → Task → Script Reply
 script l p (task.Append seq value) = append l p seq value
 script l p task.Close = close

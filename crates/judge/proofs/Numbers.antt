@@ -1,4 +1,4 @@
--- Lists read by index.
+-- Members of lists by their position.
 use Rattle.std.proofs.Common.{◌≡◌, ℕ, ◌+◌, ◌<◌, ◌≤◌, List, [], ◌∷◌, ◌++◌, take, length, count_by, slice_get, map, IfSome, refl, sym, ◌∙◌, ap, subst, inl, inr, arith, get_or, set, below_more}
 use Rattle.judge.proofs.Common.{cases_lt, take_more, get_or-map, Message, is_by, Lists, IsNext, AreNumbered}
 use Rattle.std.proofs.lemmas.Option.{slice_get-get_or, slice_get_past}

@@ -24,6 +24,7 @@ IsEndOf p d = (d ≡ deed.Outer (Leave p)) ⊎ (d ≡ deed.Outer (Quit p))
 abbrev pub IsGoneOf : ℕ → Deed → Type 0
 IsGoneOf p d = (d ≡ deed.Outer (Enter p)) ⊎ (d ≡ deed.Outer (Quit p))
 
+-- a Show
 abbrev pub is_show : Deed → Bool
 is_show (deed.Show p at seq v) = true
 is_show _ = false

@@ -1,4 +1,4 @@
--- "Where a judge stands": the histories that lead to a judge's state.
+-- The histories that lead to a judge's state (the judge's part of "Definitions met").
 use Rattle.std.specs.Prelude.{◌≡◌, List, length, count_by}
 use Rattle.redomail.specs.declared.deed.Deed.{Deed}
 use Rattle.redomail.specs.Mailbox.{is_by}

@@ -9,6 +9,7 @@ use Rattle.redomail.specs.Mailbox.{Mailbox, nothing_shown, doer, row as mail_row
 use Rattle.redomail.specs.declared.deed.Deed.{Deed}
 use Rattle.redomail.specs.declared.deed.Deed.TheVariants.{Outer}
 
+-- the state of the judge table: the sizes, the abstract lock and the mailbox list
 pub record State : Type 0 where
   pub procs : ℕ
   pub cap : ℕ
@@ -32,6 +33,7 @@ mail_needs s d = mail_row s.cap (is_inside (s.lock.phase (doer d))) s.mail d
 abbrev pub needs : State → Deed → List (Bool × Fault)
 needs s d = (nat_lt (doer d) s.procs, OutOfPlace) ∷ lock_needs s d ++ mail_needs s d
 
+-- the lock after a deed. Deeds of the mailbox don't change it
 abbrev pub lock_after : Abstract → Deed → Abstract
 lock_after a (Outer d) = lock_done a d
 lock_after a _ = a

@@ -2,6 +2,7 @@
 use Rattle.judge.specs.Kept.{Kept}
 use Rattle.judge.specs.declared.judge.Judge.TheInside.{Inside}
 
+-- the state of a judge
 abbrev pub kept_of : Inside → Kept
 kept_of judge = record {
   procs = judge.procs;

@@ -23,7 +23,7 @@ impl Model for Askings {
 impl Askings {
     ghost use Rattle.crash_plans.specs.Plans.{next_asking, unasked, so_many_more};
 
-    /// Before the first asking.
+    /// The counts before the first asking.
     pub fn new() -> Askings
         ensures { result ≡ unasked }
     {

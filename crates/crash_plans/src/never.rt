@@ -24,6 +24,7 @@ impl Model for Never {
 impl Never {
     ghost use Rattle.crash_plans.specs.Plans.{unasked};
 
+    /// The plan before its first asking.
     pub fn new() -> Never
         ensures { result ≡ unasked }
     {

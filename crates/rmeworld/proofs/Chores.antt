@@ -132,7 +132,7 @@ failing_both true test q r e spot h = failing test r e spot h
 failing_both false true q r e spot h = refl
 failing_both false false q r e spot h = refl
 
--- a start that is refused isn't allowed
+-- a start that is refused is not allowed by the definition
 pub refuses : (l : Layout) (p : ℕ) (s : Place) (b c : Bool) (e : Errand) (call : Call) (r : Refusal)
     → start_refusal l (record { lock = s; mended = b; barred = c; errand = e }) call ≡ Some r → begun_from l p s b e call ≡ None
 refuses l p s b c (Doing why left) call r h = refl

@@ -35,7 +35,7 @@ lock_deeds_are l limit w (e ∷ es) =
     lock_deeds-append (event_deeds l w e) (deeds l limit (onward l limit w e) es) ∙ ap (λ (xs : List Outer). lock_deeds (event_deeds l w e) ++ xs) (lock_deeds_are l limit (onward l limit w e) es)
     ∙ one_lock_deed (outer (w.spots (who e)) e) (mail_deeds l w.cells e) (outers l limit (onward l limit w e) es) (own_none (who e) (mail_deeds l w.cells e) (mail_own l w.cells e))
 
--- a deed that isn't p's Leave leaves p in
+-- after a deed other than p's Leave, p is still in
 abbrev Stays : ℕ → List Outer → Type 0
 Stays p [] = Unit {0}
 Stays p (d ∷ ds) = (d ≡ Leave p → ⊥) × Stays p ds

@@ -11,7 +11,7 @@ record_is_numbered l p w r = elim r.rule [ inl h ↦ h.numbered | inr h ↦ h.li
 not_both : (k p v q : ℕ) → is_before k p v q ≡ true → is_before v q k p ≡ true → ⊥
 not_both k p v q = grind (arith, nat_tests)
 
--- At most one is in the section.
+-- At most one process is in the section.
 pub only_one : (n limit : ℕ) (words : ℕ → Own) (p q : ℕ) → IsLawful n limit words → p < n → q < n → 0 < (words p).number → 0 < (words p).inside → 0 < (words q).number → 0 < (words q).inside → p ≡ q
 only_one n limit words p q h lp lq kp ip kq iq =
     elim (cases_eq p q) [

@@ -62,7 +62,7 @@ cells_by_is l cells p q (Store kind _ x) v filled own = rw (own.0) refl
 
 -- a step of process p
 module _ (s : WorldState) (p : ℕ) (a : Access) where
-  -- what is known of it
+  -- the facts about it
   pub record IsStep : Type 0 where
     pub filled : length s.cells ≡ size s.layout
     pub seated : IsSeated s.layout s.limit s.words s.processes s.tallies

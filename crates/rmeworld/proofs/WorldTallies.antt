@@ -12,7 +12,7 @@ use Rattle.rmeworld.proofs.CallBounds.{fewer_at}
 use Rattle.rmeworld.proofs.CallSteps.{more, guard_spot, To, step_by, start_to}
 use Rattle.rmeworld.proofs.WorldSteps.{IsStep, step_takes}
 
--- the machine never glances
+-- the machine's next step is never a glance
 pub glances_never : (limit p : ℕ) (s : Place) (e : Errand) → IfSome (access_by limit p s e) (λ a. is_glance (kind_of a) ≡ false)
 glances_never limit p s Free = never_glances limit p s
 glances_never limit p s (Doing why (Asks i rest)) = refl

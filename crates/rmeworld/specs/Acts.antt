@@ -3,6 +3,7 @@ use Rattle.std.specs.Prelude.{ℕ, Option, Some, None}
 use Rattle.rmecore.specs.declared.refusal.Refusal.{Refusal}
 use Rattle.rmeworld.specs.declared.call.Call.{Call}
 
+-- an act on a world
 pub data Act : Type 0 where
   Starts : (p : ℕ) → (call : Call) → Act
   Steps : (p : ℕ) → Act

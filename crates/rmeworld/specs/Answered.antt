@@ -39,6 +39,7 @@ by_reply Mending mended (Ruined ruined) = Some NotRecoverable
 by_reply Mending mended reply = Some (Mail reply)
 by_reply (Working task) mended reply = Some (Mail reply)
 
+-- the answer when this script is left
 abbrev pub by_script : Why → Bool → Script Reply → Option Answer
 by_script why mended (Done reply) = by_reply why mended reply
 by_script why mended _ = None

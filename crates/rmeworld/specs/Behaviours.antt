@@ -6,6 +6,7 @@ use Rattle.rmeworld.specs.declared.call.Call.{Call}
 use Rattle.rmeworld.specs.declared.image.Image.{Image}
 use Rattle.rmeworld.specs.declared.stepped.Stepped.{Stepped}
 
+-- refusals, results and states after, for each function of a machine
 pub record Behaviour (S : Type 0) : Type 0 where
   pub start_refusal : S → ℕ → Call → Option Refusal
   pub started : S → ℕ → Call → S

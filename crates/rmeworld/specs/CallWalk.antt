@@ -11,6 +11,7 @@ use Rattle.rmeworld.specs.Paid.{PaysAt}
 use Rattle.rmeworld.specs.Spot.{Spot, Happening, Begins, Moves, next_spot}
 use Rattle.rmeworld.specs.UnderWay.{call_at}
 
+-- the process state after an event. An event that is not allowed changes nothing
 abbrev pub next_or_same : Layout → ℕ → Spot → Happening → Spot
 next_or_same l limit spot e = unwrap_or (next_spot l limit spot e) spot
 
@@ -24,6 +25,7 @@ abbrev pub Walks : Layout → ℕ → ℕ → Own → Spot → List Happening �
 Walks l limit p began spot [] = Unit {0}
 Walks l limit p began spot (e ∷ es) = IsOwnStep p began spot e × IsSome (next_spot l limit spot e) × Walks l limit p began (next_or_same l limit spot e) es
 
+-- whether an event is a blocked step
 abbrev pub is_blocked : Spot → Happening → Bool
 is_blocked spot (Moves p kind word v) = blocked_by p spot.lock spot.errand kind v
 is_blocked spot _ = false
@@ -37,6 +39,7 @@ abbrev pub and_answer : Option Answer → List Answer → List Answer
 and_answer None answers = answers
 and_answer (Some a) answers = a ∷ answers
 
+-- the answer of an event
 abbrev pub answer_to : Spot → Happening → Option Answer
 answer_to spot (Moves p kind word v) = answer_at spot kind v
 answer_to spot _ = None
@@ -46,6 +49,7 @@ abbrev pub answers_in : Layout → ℕ → Spot → List Happening → List Answ
 answers_in l limit spot [] = []
 answers_in l limit spot (e ∷ es) = and_answer (answer_to spot e) (answers_in l limit (next_or_same l limit spot e) es)
 
+-- the process state after the events
 abbrev pub last_spot : Layout → ℕ → Spot → List Happening → Spot
 last_spot l limit spot [] = spot
 last_spot l limit spot (e ∷ es) = last_spot l limit (next_or_same l limit spot e) es

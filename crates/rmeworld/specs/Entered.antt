@@ -15,6 +15,7 @@ is_entry_at _ _ = false
 abbrev pub is_entry : Place → Place → Bool
 is_entry s t = is_entry_at t s
 
+-- the same from the core's answer: the ruin check comes after it, and the holder is mended
 abbrev pub checks_done : Option CoreDone → Bool
 checks_done (Some In) = true
 checks_done (Some InAgain) = true

@@ -11,6 +11,7 @@ use Rattle.serde_json.specs.Read.{read}
 use Rattle.serde_json.specs.View.{items_of}
 use Rattle.serde_json.specs.Written.{compact_text}
 
+-- the JSON data of a number, of a list of numbers, of a process's lock words, and of all lock words
 abbrev pub whole_data : ℕ → Data
 whole_data n = number (unsigned n)
 

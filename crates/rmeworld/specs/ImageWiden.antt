@@ -13,6 +13,7 @@ use Rattle.rmeworld.specs.ImageRules.{layout_of, IsLawfulImage, IsFirstBroken}
 abbrev pub padded : ℕ → List ℕ → List ℕ
 padded n xs = xs ++ zeros (n - length xs)
 
+-- a message with a wider value
 abbrev pub widened : ℕ → Message → Message
 widened n m = record m { value = padded n m.value }
 

@@ -55,6 +55,7 @@ Sound l limit w s [] = Sits l w.cells s
 Sound l limit w s (e ∷ es) =
     Sits l w.cells s × ((t : State) × Leads s (event_deeds l w e) t × Tells w e t.mail.shown × Sound l limit (onward l limit w e) t es)
 
+-- every execution from the first global state is sound, and all its deeds are legal
 abbrev pub EveryStoryIsSound : Type 0
 EveryStoryIsSound =
     (l : Layout) (limit : ℕ) (story : List Happening) → IsLayout l → Story l limit at_first story

@@ -22,6 +22,7 @@ abbrev pub and_more : ℕ → Option ℕ → Option ℕ
 and_more k None = None
 and_more k (Some x) = Some (x + k)
 
+-- the first number that exists
 abbrev pub either : Option ℕ → Option ℕ → Option ℕ
 either None o = o
 either (Some x) o = Some x
@@ -43,9 +44,11 @@ is_reply (task.BoardGet i) (reply.Word v) = true
 is_reply (task.BoardPut i v) reply.Done = true
 is_reply _ _ = false
 
+-- the mailbox's table, for a call of the mailbox or the board
 abbrev pub task_steps : Layout → Task → Reply → Option ℕ
 task_steps l t answer = if is_reply t answer then Some (steps_of l t answer) else None
 
+-- the mailbox's table, for `consistent`
 abbrev pub mending_steps : Layout → Reply → Option ℕ
 mending_steps l (reply.Mended repaired) = Some (consistent_steps l (reply.Mended repaired))
 mending_steps l (reply.Ruined true) = Some (consistent_steps l (reply.Ruined true))

@@ -28,6 +28,7 @@ Costs table (Done reply) steps = table reply ≡ Some steps
 abbrev pub entry_of : Bool → CoreDone
 entry_of mended = if mended then In else InAgain
 
+-- the steps of a lock up to the end of its ruin check
 abbrev pub checked_steps : Layout → Own → Bool → Option ℕ
 checked_steps l began mended = and_more 1 (core_steps l began (entry_of mended))
 

@@ -25,6 +25,7 @@ abbrev pub is_waiting : Place → Bool
 is_waiting (Wait k unpassed looked) = true
 is_waiting _ = false
 
+-- a list of tests, each with its refusal
 abbrev pub Needs : Type 0
 Needs = List (Bool × Refusal)
 

@@ -27,6 +27,7 @@ use Rattle.rmeworld.specs.Stand.{Stand, next_access, outcome, stepped as stand_s
 use Rattle.rmeworld.specs.World.{reading, put_deeds, event_deeds}
 use Rattle.rmeworld.specs.WorldState.{WorldState, stand_at, spot_at, scene_of}
 
+-- the refusal of a start
 abbrev pub start_refusal : WorldState → ℕ → Call → Option Refusal
 start_refusal s p call = if nat_lt p s.layout.procs then spot_refusal s.layout (spot_at s.processes p) call else Some NoSuchProcess
 
@@ -38,6 +39,7 @@ started s p call =
       tallies = slice_set s.tallies p (fresh (own_at s.words p));
     }
 
+-- the refusal of a step
 abbrev pub advance_refusal : WorldState → ℕ → Option Refusal
 advance_refusal s p = if nat_lt p s.layout.procs then (if is_idle (spot_at s.processes p) then Some NothingToDo else None) else Some NoSuchProcess
 
@@ -45,6 +47,7 @@ advance_refusal s p = if nat_lt p s.layout.procs then (if is_idle (spot_at s.pro
 abbrev pub value_of : WorldState → Access → ℕ
 value_of s a = carried a (reading (scene_of s) (word_of a))
 
+-- the world event of an access
 abbrev pub happening : WorldState → ℕ → Access → Happening
 happening s p a = Moves p (kind_of a) (word_of a) (value_of s a)
 
@@ -59,6 +62,7 @@ abbrev pub cells_set : List ℕ → Word → ℕ → List ℕ
 cells_set cells (DataAt i) v = slice_set cells i v
 cells_set cells word v = cells
 
+-- the words after an access
 abbrev pub words_by : List Own → Access → List Own
 words_by words (Load kind word) = words
 words_by words (Store kind word v) = words_set words word v
@@ -82,6 +86,7 @@ abbrev pub list_of : Option Deed → List Deed
 list_of None = []
 list_of (Some d) = d ∷ []
 
+-- the first deed of a list
 abbrev pub the_deed : List Deed → Option Deed
 the_deed [] = None
 the_deed (d ∷ ds) = Some d
@@ -139,12 +144,15 @@ stepped s p = stepped_if s p (next_access (stand_at s.processes p))
 abbrev pub advanced : WorldState → ℕ → WorldState
 advanced s p = advanced_if s p (next_access (stand_at s.processes p))
 
+-- the refusal of a crash
 abbrev pub crash_refusal : WorldState → ℕ → Option Refusal
 crash_refusal s p = if nat_lt p s.layout.procs then None else Some NoSuchProcess
 
+-- the deed of a crash
 abbrev pub crash_deed : ℕ → Deed
 crash_deed p = OuterDeed (Crash p)
 
+-- the world after a crash
 abbrev pub crashed : WorldState → ℕ → WorldState
 crashed s p =
     record s { processes = slice_set s.processes p (stand_crashed (stand_at s.processes p)); history = s.history ++ crash_deed p ∷ [] }

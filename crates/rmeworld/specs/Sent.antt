@@ -45,20 +45,23 @@ IsAsked l limit story (deed.Close p) = Contains story (Begins p Close)
 IsAsked l limit story (deed.Ruin p) = IsLeftUnmended l limit story p
 IsAsked l limit story _ = Unit {0}
 
+-- each deed of the mailbox belongs to the start of such a call
 abbrev pub EveryDeedWasAsked : Type 0
 EveryDeedWasAsked =
     (l : Layout) (limit : ℕ) (story : List Happening) → IsLayout l → Story l limit at_first story → All (IsAsked l limit story) (deeds l limit at_first story)
 
+-- each message shown is one that its sender began to append
 abbrev pub EveryMessageWasSent : Type 0
 EveryMessageWasSent =
     (l : Layout) (limit : ℕ) (story : List Happening) → IsLayout l → Story l limit at_first story → All (IsSent story) (mail_after l limit story).shown
 
+-- if the mailbox is closed, some process began to close it
 abbrev pub EveryCloseWasAsked : Type 0
 EveryCloseWasAsked =
     (l : Layout) (limit : ℕ) (story : List Happening) → IsLayout l → Story l limit at_first story → (mail_after l limit story).closed ≡ true
     → (p : ℕ) × Contains story (Begins p Close)
 
--- the data word 0 is ruined
+-- if the lock is ruined (data word 0), some holder began to unlock before it had mended
 abbrev pub EveryRuinWasAsked : Type 0
 EveryRuinWasAsked =
     (l : Layout) (limit : ℕ) (story : List Happening) → IsLayout l → Story l limit at_first story → (last_scene l limit at_first story).cells 0 ≢ 0
@@ -80,6 +83,7 @@ pub record EndsAppend (spot : Spot) (kind : Kind) (v seq : ℕ) (reply : Reply) 
   pub append : spot.errand ≡ Doing (Working (task.Append seq value)) left
   pub answer : answer_at spot kind v ≡ Some (Mail reply)
 
+-- the reply of an append is right about the mailbox at its last step
 abbrev pub RepliesTell : Type 0
 RepliesTell =
     (l : Layout) (limit : ℕ) (front : List Happening) (p : ℕ) (kind : Kind) (word : Word) (v : ℕ) (back : List Happening) (seq : ℕ) (reply : Reply) → IsLayout l

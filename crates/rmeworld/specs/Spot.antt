@@ -28,6 +28,7 @@ pub data Errand : Type 0 where
   Free : Errand
   Doing : (why : Why) → (left : Script Reply) → Errand
 
+-- the state of a process
 pub record Spot : Type 0 where
   pub lock : Place
   -- nothing has to be mended. A holder that entered again is not mended before `consistent` has answered so
@@ -36,6 +37,7 @@ pub record Spot : Type 0 where
   pub barred : Bool
   pub errand : Errand
 
+-- a process at rest
 abbrev pub at_rest : Spot
 at_rest = record { lock = Rest; mended = true; barred = false; errand = Free }
 
@@ -50,22 +52,25 @@ pub data Happening : Type 0 where
   Moves : (p : ℕ) → (kind : Kind) → (word : Word) → (value : ℕ) → Happening
   Glances : (p : ℕ) → (word : Word) → (value : ℕ) → Happening
 
+-- the process of an event
 abbrev pub who : Happening → ℕ
 who (Begins p call) = p
 who (Falls p) = p
 who (Moves p kind word v) = p
 who (Glances p word v) = p
 
--- the end of a script: inside or at the exit, mended or not, and whether the lock was found ruined
+-- the end of a script: the place, inside or at the start of the exit
 abbrev pub end_place : Why → Reply → Place
 end_place Checking (Ruined true) = Leaving
 end_place Ruining _ = Leaving
 end_place _ _ = Inside
 
+-- the end of a script: whether the holder is mended
 abbrev pub end_mended : Why → Bool → Reply → Bool
 end_mended Mending b (Mended repaired) = true
 end_mended _ b _ = b
 
+-- the end of a script: whether the lock was found ruined
 abbrev pub end_barred : Why → Bool → Reply → Bool
 end_barred Checking c (Ruined true) = true
 end_barred _ c _ = c
@@ -94,9 +99,11 @@ abbrev pub at_lock : Layout → ℕ → Place → Bool → Bool → Option Place
 at_lock l p s b c None = None
 at_lock l p s b c (Some t) = Some (record { lock = t; mended = mended_entered b s t; barred = c; errand = errand_entered l p s t })
 
+-- the process state, if the test holds
 abbrev pub only_spot : Bool → Spot → Option Spot
 only_spot b spot = if b then Some spot else None
 
+-- the process state after a step: of the lock's part, or of the script, which allows its next access alone
 abbrev pub moved_by : Layout → ℕ → ℕ → Place → Bool → Bool → Errand → Kind → Word → ℕ → Option Spot
 moved_by l limit p s b c Free kind word v = at_lock l p s b c (next l.procs limit p s kind word v)
 moved_by l limit p s b c (Doing why (Asks j rest)) Gets (DataAt i) v = only_spot (i == j) (settled b c why (rest v))
@@ -138,6 +145,7 @@ abbrev pub outer_by : ℕ → Place → Errand → Kind → ℕ → Option Outer
 outer_by p s Free kind v = step_deed p s kind v
 outer_by p s _ kind v = None
 
+-- the deed of the lock of an event
 abbrev pub outer : Spot → Happening → Option Outer
 outer spot (Begins p call) = None
 outer spot (Falls p) = Some (Crash p)

@@ -43,10 +43,11 @@ pub record Stand : Type 0 where
 abbrev pub spot_of : Stand → Spot
 spot_of s = record { lock = s.lock; mended = s.mended; barred = s.barred; errand = errand_of s.errand }
 
--- at rest, and crashed
+-- at rest
 abbrev pub resting : Layout → ℕ → ℕ → Stand
 resting l limit p = record { layout = l; limit = limit; index = p; lock = Rest; mended = true; barred = false; errand = IsFree }
 
+-- after a crash
 abbrev pub crashed : Stand → Stand
 crashed s = record s { lock = Dead; mended = true; barred = false; errand = IsFree }
 
@@ -67,6 +68,7 @@ access_by limit p s (Doing why (Asks i rest)) = Some (Load Gets (DataAt i))
 access_by limit p s (Doing why (Writes i v rest)) = Some (Store Puts (DataAt i) v)
 access_by limit p s (Doing why (Done reply)) = None
 
+-- the next access of a machine
 abbrev pub next_access : Stand → Option Access
 next_access s = access_by s.limit s.index s.lock (errand_of s.errand)
 
@@ -79,6 +81,7 @@ abbrev pub after_at : Layout → ℕ → ℕ → Spot → Option Access → ℕ 
 after_at l limit p spot None v = spot
 after_at l limit p spot (Some a) v = unwrap_or (next_spot l limit spot (Moves p (kind_of a) (word_of a) (carried a v))) spot
 
+-- the same for a machine
 abbrev pub spot_after : Stand → Option Access → ℕ → Spot
 spot_after s o v = after_at s.layout s.limit s.index (spot_of s) o v
 
@@ -121,6 +124,7 @@ StoresOwn p (Store kind word x) = (is_store kind ≡ true) × IsOwnWord p word
 -- The machine exactly: its state after a step and after a start. The contracts of these calls say that it is the
 -- definition's process state.
 
+-- after a step of the lock's part to place t
 abbrev pub lock_moved : Stand → Place → Stand
 lock_moved s t =
     record s {

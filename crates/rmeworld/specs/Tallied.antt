@@ -27,5 +27,6 @@ pub record IsTallied (l : Layout) (own : Own) (spot : Spot) (t : Tally) : Type 0
   pub began : IsRereading spot.lock → t.began ≡ own
   pub taking : IsExact t → IsTaking l spot t
 
+-- the invariant of the counts of all processes
 abbrev pub AllTallied : Layout → Scene → List Tally → Type 0
 AllTallied l w tallies = (p : ℕ) → p < l.procs → IsTallied l (w.words p) (w.spots p) (tally_at tallies p)

@@ -36,6 +36,7 @@ part_call (Some core.Withdraw) barred = Some Withdraw
 part_call (Some core.Unlock) true = Some Lock
 part_call (Some core.Unlock) false = Some Unlock
 
+-- the call of a task, and of a script's purpose
 abbrev pub task_call : Task → Option Call
 task_call (task.Append seq value) = Some (Append seq value)
 task_call task.Close = Some Close

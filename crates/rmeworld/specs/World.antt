@@ -14,6 +14,7 @@ use Rattle.redomail.specs.Layout.{Words, size}
 use Rattle.redomail.specs.Deeds.{deeds_of_put}
 use Rattle.rmeworld.specs.Spot.{Spot, at_rest, dead, Happening, Moves, Glances, who, next_spot, outer}
 
+-- a global state: the lock words, the data words and the states of all processes
 pub record Scene : Type 0 where
   pub words : ℕ → Own
   pub cells : Words
@@ -31,6 +32,7 @@ abbrev pub reading_of : (ℕ → Own) → Words → Word → ℕ
 reading_of words cells (DataAt i) = cells i
 reading_of words cells word = read words word
 
+-- the current value of a word
 abbrev pub reading : Scene → Word → ℕ
 reading w word = reading_of w.words w.cells word
 
@@ -50,6 +52,7 @@ abbrev pub put_cell : Layout → Words → Word → ℕ → Words
 put_cell l cells (DataAt i) v = if nat_lt i (size l) then put cells i v else cells
 put_cell l cells word v = cells
 
+-- the data words after an event
 abbrev pub cells_after : Layout → Words → Happening → Words
 cells_after l cells (Moves p kind word v) = if is_store kind then put_cell l cells word v else cells
 cells_after l cells _ = cells
@@ -58,6 +61,7 @@ cells_after l cells _ = cells
 abbrev pub Can : Layout → ℕ → Scene → Happening → Type 0
 Can l limit w e = (who e < l.procs) × IsSome (next_spot l limit (w.spots (who e)) e) × Reads w e
 
+-- the global state after an event
 abbrev pub onward : Layout → ℕ → Scene → Happening → Scene
 onward l limit w e =
     record {
@@ -85,6 +89,7 @@ abbrev pub put_deeds : Layout → ℕ → Words → Word → ℕ → List Deed
 put_deeds l p cells (DataAt i) v = deeds_of_put l p cells i v
 put_deeds l p cells word v = []
 
+-- the deeds of an event that is a put
 abbrev pub mail_deeds : Layout → Words → Happening → List Deed
 mail_deeds l cells (Moves p kind word v) = if is_store kind then put_deeds l p cells word v else []
 mail_deeds l cells _ = []
@@ -98,11 +103,12 @@ abbrev pub deeds : Layout → ℕ → Scene → List Happening → List Deed
 deeds l limit w [] = []
 deeds l limit w (e ∷ es) = event_deeds l w e ++ deeds l limit (onward l limit w e) es
 
--- the events of one process, and its state after them
+-- the events of one process
 abbrev pub own_happenings : ℕ → List Happening → List Happening
 own_happenings p [] = []
 own_happenings p (e ∷ es) = if who e == p then e ∷ own_happenings p es else own_happenings p es
 
+-- the process state after a list of events
 abbrev pub spot_after : Layout → ℕ → Spot → List Happening → Spot
 spot_after l limit spot [] = spot
 spot_after l limit spot (e ∷ es) = spot_after l limit (unwrap_or (next_spot l limit spot e) spot) es

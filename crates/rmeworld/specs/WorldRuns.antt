@@ -7,11 +7,13 @@ use Rattle.rmeworld.specs.Replayed.{start_refusal, started, advance_refusal, adv
 use Rattle.rmeworld.specs.WorldState.{WorldState, new_world, new_refusal, image_world}
 use Rattle.rmeworld.specs.declared.image.Image.{Image}
 
+-- the world after an act
 abbrev pub acted : WorldState → Act → WorldState
 acted s (Starts p call) = unless (start_refusal s p call) s (started s p call)
 acted s (Steps p) = unless (advance_refusal s p) s (advanced s p)
 acted s (Crashes p) = unless (crash_refusal s p) s (crashed s p)
 
+-- the world after a list of acts
 abbrev pub run_of : WorldState → List Act → WorldState
 run_of s [] = s
 run_of s (act ∷ acts) = run_of (acted s act) acts

@@ -17,6 +17,7 @@ use Rattle.rmeworld.specs.declared.image.Image.{Image}
 use Rattle.rmeworld.specs.ImageRules.{layout_of}
 use Rattle.rmeworld.specs.World.{Scene, Can, onward, event_deeds}
 
+-- a world: its sizes, its words, the machines and counts of its processes, and its history
 pub record WorldState : Type 0 where
   pub layout : Layout
   pub limit : ℕ
@@ -30,12 +31,14 @@ pub record WorldState : Type 0 where
 abbrev pub absent : Stand
 absent = resting (record { procs = 0; cap = 0; width = 0 }) 0 0
 
+-- the process at an index, and its state
 abbrev pub stand_at : List Stand → ℕ → Stand
 stand_at processes p = slice_index_or processes p absent
 
 abbrev pub spot_at : List Stand → ℕ → Spot
 spot_at processes p = spot_of (stand_at processes p)
 
+-- the global state of a world
 abbrev pub scene_of : WorldState → Scene
 scene_of s = record { words = own_at s.words; cells = words_of s.cells; spots = spot_at s.processes }
 
@@ -59,6 +62,7 @@ pub record Takes (old : WorldState) (e : Happening) (new : WorldState) : Type 0 
   pub layout : new.layout ≡ old.layout
   pub limit : new.limit ≡ old.limit
 
+-- the event of a step's report
 abbrev pub happening_of : ℕ → Happened → Happening
 happening_of p h = Moves p h.kind h.word h.value
 

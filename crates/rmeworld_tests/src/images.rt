@@ -17,7 +17,7 @@ const SMALLEST: &str =
 const TORN: &str =
     "{\"cap\":2,\"data\":[0,0,0,1,0,1,77,0,0,0,0,0,0,0,0,0,0,0],\"limit\":10,\"lock\":[[0,1,1]],\"version\":2,\"width\":1}\n";
 
-/// The same, with values of two words.
+/// The image above with values of two words.
 const WIDENED_TORN: &str =
     "{\"cap\":2,\"data\":[0,0,0,1,0,1,77,0,0,0,0,0,0,0,0,0,0,0,0,0,0],\"limit\":10,\"lock\":[[0,1,1]],\"version\":2,\"width\":2}\n";
 

@@ -192,7 +192,7 @@ fn limits(rt: HostRuntime) {
 
 /// A start, read from a text. `sizes 3 2` comes first. Then a line for each process has its phase and the processes ahead of
 /// it, as in `ready 0 1`. `lone out` is a phase without a set, `set 1` a set without a phase. `shown` and `pending` have a
-/// message. `closed` and `ruined` stand alone.
+/// message. `closed` and `ruined` have no value.
 #[derive(Drop)]
 struct Parts {
     procs: u64,
@@ -377,7 +377,7 @@ fn messages_of_starts(rt: HostRuntime) {
         ("sizes 1 2; out; shown 0 1 7; pending 0 1 7", Some(11)),
         ("sizes 1 2; out; shown 0 1 7; pending 0 3 7", Some(11)),
         ("sizes 1 2; out; shown 0 1 7; pending 1 1 7", Some(11)),
-        // no room
+        // no room for the pending message
         (
             "sizes 1 2; out; shown 0 1 7; shown 0 2 7; pending 0 3 7",
             Some(11),

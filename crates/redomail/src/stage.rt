@@ -119,8 +119,8 @@ impl Stage {
         }
     }
 
-    // Inline: one call a step.
     /// Takes one step, with the word that was read. A stage that stores a record is changed in place.
+    // Inline: one call a step.
     #[inline(always)]
     pub(crate) fn go_on(&mut self, layout: Layout, sender: u64, word: u64)
         requires lawful { IsLayout layout }
@@ -144,6 +144,7 @@ impl Stage {
     }
 
     // A step of a stage that stores no record.
+    // Apart: keeps the caller small.
     #[inline(never)]
     fn ask_on(&mut self, layout: Layout, sender: u64, word: u64)
         requires lawful { IsLayout layout }
@@ -158,6 +159,7 @@ impl Stage {
     }
 
     // The stage after one that stores no record, with the word that was read.
+    // Inline: its one caller is apart.
     #[inline(always)]
     fn after(&self, layout: Layout, sender: u64, word: u64) -> Stage
         requires lawful { IsLayout layout }

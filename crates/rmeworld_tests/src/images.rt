@@ -268,7 +268,8 @@ fn by_hand(alloc: Global, version: u64, width: u64) -> Result<Image, Refusal> {
     })
 }
 
-/// Whether the image breaks this rule, and widening it is refused for the same rule.
+/// Whether the image breaks this rule, and widening it is refused for it. None: widening it to 9 words is refused as
+/// `BadWidth`.
 fn breaks(alloc: Global, image: &Image, rule: Option<u64>) -> bool {
     let refused = match rule {
         Some(rule) => Refusal::BadImage { rule },

@@ -63,6 +63,7 @@ impl Process {
                 job.feed(value);
                 let reply = reply_of(job)?;
                 let why = *why;
+                // For the proof alone: its value is read.
                 let same = why;
                 let answer = reply_answer(same, self.mended, reply);
                 self.errand = Errand::Free;

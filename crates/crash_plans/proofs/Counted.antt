@@ -1,4 +1,4 @@
--- So many more askings.
+-- k more askings.
 use Rattle.std.proofs.Common.{◌≡◌, ℕ, zero, suc, ◌+◌, ◌-◌, ◌^◌, ◌≤◌, min, refl, ap, ◌∙◌, arith}
 use Rattle.rmecore.specs.Simulated.{one_more}
 use Rattle.crash_plans.specs.Plans.{so_many_more}

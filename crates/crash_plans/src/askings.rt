@@ -1,11 +1,11 @@
-//! What a plan was asked.
+//! The askings of a plan.
 
 ghost use Rattle.std.specs.Prelude.{◌≡◌, if◌then◌else◌};
 ghost use Rattle.rmecore.specs.Simulated.{one_more};
 
 use std::marker::Model;
 
-/// How often a plan was asked, and how often it fell, each held at 2^64 - 1.
+/// The number of askings, and the number of those at which the plan fell. Each saturates at 2^64 - 1.
 #[derive(Debug, Drop)]
 pub struct Askings {
     asked: u64,
@@ -23,7 +23,7 @@ impl Model for Askings {
 impl Askings {
     ghost use Rattle.crash_plans.specs.Plans.{next_asking, unasked, so_many_more};
 
-    /// Before the first asking.
+    /// The counts before the first asking.
     pub fn new() -> Askings
         ensures { result ≡ unasked }
     {
@@ -33,21 +33,21 @@ impl Askings {
         }
     }
 
-    /// The number of the asking that comes next, from 1. After 2^64 - 1 askings no further one has a number.
+    /// The number of the next asking, from 1. None: there were 2^64 - 1 askings or more.
     pub fn next(&self) -> Option<u64>
         ensures { result ≡ next_asking self.now }
     {
         self.asked.checked_add(1)
     }
 
-    /// So many more askings, at none of which the plan falls.
+    /// Counts askings at which the plan does not fall.
     pub fn count_calm(&mut self, askings: u64)
         ensures { self.new ≡ record self.old { asked = so_many_more askings self.old.asked } }
     {
         self.asked = self.asked.saturating_add(askings);
     }
 
-    /// One more asking, at which the plan falls or not.
+    /// Counts one asking, and whether the plan falls there.
     pub fn count(&mut self, falls: bool)
         ensures { self.new ≡ record { asked = one_more self.old.asked; fallen = if falls then one_more self.old.fallen else self.old.fallen } }
     {

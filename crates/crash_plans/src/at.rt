@@ -1,4 +1,4 @@
-//! A crash at one asking.
+//! A plan with a crash at one asking.
 
 ghost use Rattle.std.specs.Prelude.{◌≡◌, ◌↔◌, Some, if◌then◌else◌, IsTrue};
 ghost use Rattle.rmecore.specs.Simulated.{one_more};
@@ -7,7 +7,7 @@ use crate::askings::Askings;
 use crate::crash_plan::CrashPlan;
 use std::marker::Model;
 
-/// A plan that falls once, at an asking of a given number.
+/// A plan that falls once, at a given asking.
 #[derive(Debug, Drop)]
 pub struct At {
     place: u64,
@@ -25,7 +25,7 @@ impl Model for At {
 impl At {
     ghost use Rattle.crash_plans.specs.Plans.{unasked};
 
-    /// Falls at asking `place`, counted from 1; at 0 never.
+    /// A plan that falls at asking `place`, counted from 1. With 0 it never falls.
     pub fn new(place: u64) -> At
         ensures { result ≡ record { place = place; count = unasked } }
     {

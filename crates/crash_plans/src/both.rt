@@ -1,4 +1,4 @@
-//! A crash at two askings.
+//! A plan with crashes at two askings.
 
 ghost use Rattle.std.specs.Prelude.{◌≡◌, ◌+◌, ◌⊎◌, ◌↔◌, Some, if◌then◌else◌, IsTrue};
 ghost use Rattle.rmecore.specs.Simulated.{one_more};
@@ -7,7 +7,7 @@ use crate::askings::Askings;
 use crate::crash_plan::CrashPlan;
 use std::marker::Model;
 
-/// A plan that falls twice: at an asking of a given number, and so many askings later.
+/// A plan that falls twice: at a given asking, and a given number of askings after it.
 #[derive(Debug, Drop)]
 pub struct Both {
     place: u64,
@@ -26,8 +26,8 @@ impl Model for Both {
 impl Both {
     ghost use Rattle.crash_plans.specs.Plans.{unasked};
 
-    /// Falls at the askings `place` and `place + later`, counted from 1. With `place` 0 it falls at asking `later`
-    /// alone, with `later` 0 at asking `place` alone, and a sum above 2^64 - 1 is never reached.
+    /// A plan that falls at the askings `place` and `place + later`, counted from 1. With `place` 0 it falls at asking
+    /// `later` alone. With `later` 0 it falls at asking `place` alone. A sum above 2^64 - 1 is never reached.
     pub fn new(place: u64, later: u64) -> Both
         ensures { result ≡ record { place = place; later = later; count = unasked } }
     {

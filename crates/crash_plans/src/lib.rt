@@ -1,4 +1,4 @@
-//! Plans of crashes: at each asking a plan says whether its process crashes there.
+//! Crash plans: at each asking a plan decides whether its process crashes there.
 #![tactic(auto)]
 
 mod askings;

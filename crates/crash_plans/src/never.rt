@@ -1,4 +1,4 @@
-//! No crash.
+//! A plan without crashes.
 
 ghost use Rattle.std.specs.Prelude.{◌≡◌, if◌then◌else◌, true, false};
 ghost use Rattle.rmecore.specs.Simulated.{one_more};
@@ -24,6 +24,7 @@ impl Model for Never {
 impl Never {
     ghost use Rattle.crash_plans.specs.Plans.{unasked};
 
+    /// The plan before its first asking.
     pub fn new() -> Never
         ensures { result ≡ unasked }
     {

@@ -1,4 +1,4 @@
-//! Crashes that are drawn.
+//! A plan with pseudo-random crashes.
 
 ghost use Rattle.std.specs.Prelude.{◌≡◌, ◌%◌, ◌<◌, ◌↔◌, if◌then◌else◌, IsTrue};
 ghost use Rattle.rmecore.specs.Simulated.{one_more};
@@ -11,7 +11,7 @@ use rand_core::utils::NextWord;
 use rand_pcg::Lcg64Xsh32;
 use std::marker::Model;
 
-/// A plan that draws a number at each asking, the same numbers for the same seed.
+/// A plan that draws a number at each asking. The same seed gives the same numbers.
 #[derive(Drop)]
 pub struct Seeded {
     generator: Lcg64Xsh32,
@@ -32,8 +32,8 @@ impl Seeded {
     ghost use Rattle.rand_pcg.specs.Pcg.{pcg32_of_seed};
     ghost use Rattle.rand_core.specs.Pcg32Seed.{pcg32_seed};
 
-    /// Falls where the next draw modulo 1,000 is below `per_mille`: at 0 never, from 1,000 on always. The generator is
-    /// PCG XSH RR 64/32 (O'Neill, 2014), seeded as `rand` does.
+    /// A plan that falls where the next draw modulo 1,000 is below `per_mille`. With 0 it never falls, from 1,000 on always.
+    /// The generator is PCG XSH RR 64/32 (O'Neill, 2014), seeded as `rand` does.
     pub fn new(seed: u64, per_mille: u64) -> Seeded
         ensures { result ≡ record { generator = pcg32_of_seed (pcg32_seed 16 seed); per_mille = per_mille; count = unasked } }
     {

@@ -1,4 +1,4 @@
-//! Histories that only proofs read.
+//! Histories for proofs alone.
 #![tactic(auto)]
 
 pub mod log;

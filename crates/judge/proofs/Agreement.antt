@@ -1,4 +1,4 @@
--- Only the processes count: where two abstract locks agree below n, they allow the same deeds of n processes.
+-- Only the processes below n matter: two abstract locks that agree on them allow the same deeds of n processes.
 use Rattle.std.proofs.Common.{◌≡◌, ℕ, zero, suc, ◌<◌, Bool, false, ◌||◌, ◌==◌, if◌then◌else◌, List, [], ◌∷◌, refl, sym, ◌∙◌, ap, subst, inl, inr, arith, ltb-true, eq-eqb, ne_eqb}
 use Rattle.judge.proofs.Common.{cases_eq, cond-true, cond-false, Fault, OutOfPlace, TwoInside, NotReentered, Overtaken, Outer, Begin, Ready as IsReady, Enter, Crash, Reenter, Leave, Quit, Phase, Out}
 use Rattle.judge.proofs.Common.{Door, Inside, Abstract, Legal, done, is_out, is_door, is_ready, is_inside, is_dead_in, crashed, lock_doer, AllHold, least, put, Deed, Mailbox, doer, row as mail_row}
@@ -36,7 +36,7 @@ row-agree n a b (Quit p) l h = ap (λ x. (is_door x || is_ready x, OutOfPlace) �
 put-agree : {A : Type 0} (f g : ℕ → A) (p q : ℕ) (x y : A) → x ≡ y → f q ≡ g q → put f p x q ≡ put g p y q
 put-agree f g p q x y e h = ap (λ z. if q == p then z else f q) e ∙ ap (λ z. if q == p then y else z) h
 
--- the same, of a row
+-- the same for a row
 put-row-agree : (f g : ℕ → ℕ → Bool) (p q k : ℕ) (x y : ℕ → Bool) → x k ≡ y k → f q k ≡ g q k → put f p x q k ≡ put g p y q k
 put-row-agree f g p q k x y e h = elim (cases_eq q p) [
   | inl same ↦

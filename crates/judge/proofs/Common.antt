@@ -1,4 +1,4 @@
--- What proof files of this crate cite from modules that two or more of them share, passed on from one place. Declares nothing.
+-- Imports that two or more proof files of this crate share. Declares nothing.
 pub use Rattle.std.proofs.lemmas.Bool.{cases_eq, cond-true, cond-false, cases_Bool, or_cases, false_from_ne_true, false≢true, and_parts, not-true, cases_lt, eqb-false, cond_both}
 pub use Rattle.std.proofs.lemmas.List.{take_more, get_or-map, get_or_append_left, get_or_push, get_or_past, get_or-replicate, take-append-le, length-map, get_or_default}
 pub use Rattle.std.proofs.lemmas.List.Folds.{list_any_at, list_any_more}

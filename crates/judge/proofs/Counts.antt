@@ -1,4 +1,4 @@
--- Counts of a list that grows by one.
+-- Counts of a list that is one longer.
 use Rattle.std.proofs.Common.{◌≡◌, ◌≢◌, ℕ, ◌+◌, ◌<◌, ◌≤◌, Bool, List, [], ◌∷◌, ◌++◌, length, count_by, cond, ◌==◌, refl, sym, inl, inr, arith, get_or, set, get_or-set_same, get_or-set_other, eq-eqb, ne_eqb}
 use Rattle.judge.proofs.Common.{cases_eq, cond-true, cond-false, Message, is_by, Lists}
 use Rattle.std.proofs.lemmas.List.Sums.{sum_by-append}
@@ -10,7 +10,7 @@ count_cons f x xs = let e = sum_by-append (λ y. cond (f y) 1 0) (x ∷ []) xs i
 pub count_push : {X : Type 0} (f : X → Bool) (xs : List X) (x : X) → count_by f (xs ++ x ∷ []) ≡ count_by f xs + one_if (f x)
 count_push f xs x = let e = sum_by-append (λ y. cond (f y) 1 0) xs (x ∷ []) in omega (arith, e)
 
--- one more message of p is one more in p's count alone
+-- one more message of p adds one to p's count alone
 pub Lists-counted : (counts : List ℕ) (n : ℕ) (shown : List Message) (m : Message) (v : ℕ) → n ≤ length counts → m.sender < n
     → v ≡ get_or counts m.sender v → Lists counts n (λ k. count_by (is_by k) shown)
     → Lists (set counts m.sender (v + 1)) n (λ k. count_by (is_by k) (shown ++ m ∷ []))

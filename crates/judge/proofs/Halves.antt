@@ -1,4 +1,4 @@
--- The lock's half and the mailbox's half of a list of deeds.
+-- The lock's part and the mailbox's part of a list of deeds.
 use Rattle.std.proofs.Common.{◌≡◌, ℕ, Bool, true, List, [], ◌∷◌, ◌++◌, map, Some, None, is_none, Ok, refl, sym, ◌∙◌, ap, subst}
 use Rattle.judge.proofs.Common.{cond-true, Fault, Outer, Leave, Abstract, Legal, done, is_inside, lock_doer, nobody, AllHold, first_fault, Deed, Mailbox, row, nothing_shown, MailAllows, outers}
 use Rattle.judge.proofs.Common.{all_after, and_then, judged_all, Leads, State, lock_needs, mail_needs, needs, after, empty, unless, judged}
@@ -30,7 +30,7 @@ Leads-allowed s [] ok = refl
 Leads-allowed s (d ∷ ds) ok =
     ap (λ r. and_then r (λ t. judged_all t ds)) (judged-allowed s d ok.0) ∙ Leads-allowed (after s d) ds ok.1
 
--- both halves together
+-- both parts together
 pub Allowed-halves : (s : State) (ds : List Deed) → Legal s.procs s.lock (outers ds) → MailAllows s.procs s.cap s.lock s.mail ds → Allowed s ds
 Allowed-halves s [] lock mail = tt
 Allowed-halves s (deed.Outer d ∷ ds) lock mail = ((mail.0, AllHold-append _ _ lock.0.1 mail.1), Allowed-halves (after s (deed.Outer d)) ds lock.1 mail.2)
@@ -51,7 +51,7 @@ pub mail_half : (s : State) (ds : List Deed) → Allowed s ds → MailAllows s.p
 mail_half s [] ok = tt
 mail_half s (d ∷ ds) ok = (ok.0.0, AllHold-right (lock_needs s d) (mail_needs s d) ok.0.1, mail_half (after s d) ds ok.1)
 
--- where nothing is pending, the mailbox allows each deed of the lock
+-- if nothing is pending, the mailbox allows each deed of the lock
 mail_of_outer : (cap : ℕ) (inside : Bool) (m : Mailbox) (d : Outer) → is_none m.pending ≡ true → AllHold (row cap inside m (deed.Outer d))
 mail_of_outer cap inside m (Leave p) e = (rw e refl, tt)
 mail_of_outer cap inside m _ e = tt
@@ -65,11 +65,11 @@ pub outers-map : (ds : List Outer) → outers (map deed.Outer ds) ≡ ds
 outers-map [] = refl
 outers-map (d ∷ ds) = ap (λ es. d ∷ es) (outers-map ds)
 
--- the deeds of the lock alone, beside a mailbox with nothing in it
+-- deeds of the lock alone, beside an empty mailbox
 pub Allowed-outers : (n cap : ℕ) (ds : List Outer) → Legal n nobody ds → Allowed (empty n cap) (map deed.Outer ds)
 Allowed-outers n cap ds legal =
     Allowed-halves (empty n cap) (map deed.Outer ds) (subst (Legal n nobody) (sym (outers-map ds)) legal) (MailAllows-outers n cap nobody nothing_shown ds refl legal)
 
--- the state to which deeds lead
+-- the state after legal deeds
 pub state_led : (s t : State) (ds : List Deed) → Leads s ds t → t ≡ all_after s ds
 state_led s t ds e = same_state t (all_after s ds) (sym e ∙ Leads-allowed s ds (Allowed-from_leads s t ds e))

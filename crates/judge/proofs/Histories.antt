@@ -10,7 +10,7 @@ goes_on : (r : Result State Fault) (t : State) (f : State → Result State Fault
 goes_on (Ok u) t f g x each e = each u e
 goes_on (Err fault) t f g x each e = cc
 
--- what comes after a legal history is judged from the state that it leads to
+-- deeds after a legal history are judged from the state at its end
 pub judged_all-append : (s t : State) (history deeds : List Deed) → Leads s history t → judged_all s (history ++ deeds) ≡ judged_all t deeds
 judged_all-append s t [] deeds e = ap (λ u. judged_all u deeds) (same_state s t e)
 judged_all-append s t (d ∷ ds) deeds e =

@@ -1,4 +1,4 @@
--- Nobody enters while another is inside, and after a crash inside nobody but the one that crashed.
+-- No process enters while another is inside, and after a crash inside only the crashed process enters.
 use Rattle.std.proofs.Common.{◌≡◌, ℕ, zero, suc, ◌<◌, true, false, List, [], ◌∷◌, refl, ◌⊎◌, sym, ◌∙◌, ap, subst, inl, inr, arith, true≢false}
 use Rattle.judge.proofs.Common.{Begin, Ready, Enter, Crash, Reenter, Leave, Quit, Phase, is_inside, is_dead_in, crashed, AllHold, put, none_below, put_same, Deed, NoneBefore, IsEntryOf, IsExitOf}
 use Rattle.judge.proofs.Common.{IsEntry, At, Stands, NoneBetween, NoTwoInside, DeadReenters, State, needs, after, empty}
@@ -6,7 +6,7 @@ use Rattle.redomail.specs.declared.deed.Deed.TheVariants as deed
 use Rattle.rmecore.specs.declared.phase.Phase.TheVariants as phase
 use Rattle.judge.proofs.Steps.{Allowed, put_cases, none_below-at, procs-after, doer_below, inside_stays, dead_stays}
 
--- inside, alive or dead
+-- inside, alive or crashed
 abbrev pub Holds : Phase → Type 0
 Holds x = (is_inside x ≡ true) ⊎ (is_dead_in x ≡ true)
 
@@ -14,7 +14,7 @@ Holds x = (is_inside x ≡ true) ⊎ (is_dead_in x ≡ true)
 abbrev pub Sole : State → Type 0
 Sole s = (p q : ℕ) → p < s.procs → q < s.procs → Holds (s.lock.phase p) → Holds (s.lock.phase q) → p ≡ q
 
--- who holds after a move has held before it
+-- a process that holds the lock after a move held it before
 held : (f : ℕ → Phase) (q : ℕ) (x : Phase) → (Holds x → Holds (f q)) → (p : ℕ) → Holds (put f q x p) → Holds (f p)
 held f q x back p =
     put_cases f q p x (λ y. Holds y → Holds (f p)) (λ same h. subst (λ k. Holds (f k)) (sym same) (back h)) (λ _ h. h)
@@ -27,11 +27,11 @@ none_holds : (x : Phase) → is_inside x ≡ false → is_dead_in x ≡ false �
 none_holds x i d (inl e) = true≢false (sym e ∙ i)
 none_holds x i d (inr e) = true≢false (sym e ∙ d)
 
--- what held before holds still
+-- processes that held the lock before still hold it
 kept : (s : State) (f : ℕ → Phase) → ((p : ℕ) → Holds (f p) → Holds (s.lock.phase p)) → Sole s → (p q : ℕ) → p < s.procs → q < s.procs → Holds (f p) → Holds (f q) → p ≡ q
 kept s f back sole p q lp lq hp hq = sole p q lp lq (back p hp) (back q hq)
 
--- with nobody in and nobody dead in, the one that enters is the only one
+-- if no process is in or dead in, the one that enters is the only one
 enters_alone : (s : State) (r : ℕ) → none_below s.procs (λ q. is_inside (s.lock.phase q)) ≡ true → none_below s.procs (λ q. is_dead_in (s.lock.phase q)) ≡ true → (p : ℕ) → p < s.procs → Holds (put s.lock.phase r phase.Inside p) → p ≡ r
 enters_alone s r alive dead p lp =
     put_cases s.lock.phase r p phase.Inside (λ y. Holds y → p ≡ r) (λ same _. same)
@@ -59,7 +59,7 @@ Sole-after s _ h sole = sole
 pub Sole-empty : (procs cap : ℕ) → Sole (empty procs cap)
 Sole-empty procs cap p q lp lq hp hq = absurd (none_holds phase.Out refl refl hp)
 
--- an entry leaves its process inside
+-- after an entry its process is inside
 pub entered : (s : State) (d : Deed) (p : ℕ) → AllHold (needs s d) → IsEntryOf p d → ((after s d).lock.phase p ≡ phase.Inside) × (p < (after s d).procs)
 entered s d p h (inl e) =
     let P : Deed → Type 0 = λ k. AllHold (needs s k) → ((after s k).lock.phase p ≡ phase.Inside) × (p < (after s k).procs) in
@@ -68,12 +68,12 @@ entered s d p h (inr e) =
     let P : Deed → Type 0 = λ k. AllHold (needs s k) → ((after s k).lock.phase p ≡ phase.Inside) × (p < (after s k).procs) in
     subst P (sym e) (λ k. (put_same s.lock.phase p phase.Inside, doer_below s (deed.Outer (Reenter p)) k)) h
 
--- Enter needs that nobody holds the lock
+-- Enter needs that no process holds the lock
 no_enter : (s : State) (p q : ℕ) → AllHold (needs s (deed.Outer (Enter q))) → p < s.procs → Holds (s.lock.phase p) → ⊥
 no_enter s p q h lp (inl e) = none_below-at s.procs (λ r. is_inside (s.lock.phase r)) p h.1.1.0 lp e
 no_enter s p q h lp (inr e) = none_below-at s.procs (λ r. is_dead_in (s.lock.phase r)) p h.1.1.1.0 lp e
 
--- while p holds the lock, an entry is the re-entry of p, which is dead
+-- while p holds the lock, an entry is the re-entry of p, which is dead in
 reenters : (s : State) (d : Deed) (p : ℕ) → Sole s → AllHold (needs s d) → p < s.procs → Holds (s.lock.phase p) → IsEntry d → (d ≡ deed.Outer (Reenter p)) × (is_dead_in (s.lock.phase p) ≡ true)
 reenters s d p sole h lp holds (q, inl e) =
     let P : Deed → Type 0 = λ k. AllHold (needs s k) in
@@ -84,7 +84,7 @@ reenters s d p sole h lp holds (q, inr e) =
     let same : q ≡ p = sole q p (doer_below s (deed.Outer (Reenter q)) g) lp (inr g.1.0) holds in
     (e ∙ ap (λ k. deed.Outer (Reenter k)) same, subst (λ k. is_dead_in (s.lock.phase k) ≡ true) same g.1.0)
 
--- while p is inside and doesn't leave or crash, nobody enters
+-- while p is inside and doesn't leave or crash, no process enters
 none_enters : (s : State) (p : ℕ) (ds : List Deed) (j : ℕ) → Sole s → p < s.procs → s.lock.phase p ≡ phase.Inside → Allowed s ds → NoneBefore ds j (IsExitOf p) → At ds j IsEntry → ⊥
 none_enters s p [] j sole lp e ok none here = here
 none_enters s p (d ∷ ds) zero sole lp e ok none here =
@@ -112,7 +112,7 @@ next_is_own s p (d ∷ ds) (suc j) sole lp e ok none here =
     next_is_own (after s d) p ds j (Sole-after s d ok.0 sole) (rw (procs-after s d) lp)
     (dead_stays s d p ok.0 e (λ k. none zero (omega arith) (p, k))) ok.1 (λ k l. none (suc k) (omega arith)) here
 
--- p is inside, and crashes at c
+-- p is inside and crashes at position c
 dead_after : (s : State) (p : ℕ) (ds : List Deed) (c j : ℕ) → Sole s → p < s.procs → s.lock.phase p ≡ phase.Inside → Allowed s ds → NoneBefore ds c (IsExitOf p) → Stands ds c (deed.Outer (Crash p))
     → c < j → NoneBetween ds c j IsEntry → At ds j IsEntry → Stands ds j (deed.Outer (Reenter p))
 dead_after s p [] c j sole lp e ok none crash l quiet here = here

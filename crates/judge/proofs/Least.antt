@@ -1,4 +1,4 @@
--- The least number with a test.
+-- The least number for which a test holds.
 use Rattle.std.proofs.Common.{◌≡◌, ℕ, zero, suc, ◌<◌, Bool, true, false, not, List, [], ◌∷◌, length, refl, sym, ◌∙◌, ap, inl, inr, arith, get_or, true≢false}
 use Rattle.judge.proofs.Common.{cases_Bool, or_cases, false_from_ne_true, false≢true, list_any_at, least, none_below, Lists}
 use Rattle.std.specs.List.{list_any}
@@ -15,7 +15,7 @@ least-at (suc n) test (suc q) h e below =
 pub none_below-some : (n : ℕ) (test : ℕ → Bool) (q : ℕ) → q < n → test q ≡ true → none_below n test ≡ false
 none_below-some n test q h e = false_from_ne_true (none_below n test) (λ none. none_below-at n test q none h e)
 
--- where some element has the test, it stands somewhere
+-- if the test holds for some member, that member has a position
 any_at : {X : Type 0} (t : X → Bool) (xs : List X) (d : X) → list_any t xs ≡ true → (k : ℕ) × (k < length xs) × (t (get_or xs k d) ≡ true)
 any_at t [] d e = absurd (false≢true e)
 any_at t (x ∷ xs) d e = elim (or_cases (t x) (list_any t xs) e) [
@@ -23,7 +23,7 @@ any_at t (x ∷ xs) d e = elim (or_cases (t x) (list_any t xs) e) [
   | inr later ↦ (let w = any_at t xs d later in (suc w.0, omega (arith, w.1), w.2))
 ]
 
--- none of the elements has the test
+-- the test holds for no member
 pub none_below-any : {X : Type 0} (t : X → Bool) (xs : List X) (n : ℕ) (f : ℕ → X) → length xs ≡ n → Lists xs n f → not (list_any t xs) ≡ none_below n (λ q. t (f q))
 none_below-any t xs n f len lists = elim (cases_Bool (list_any t xs)) [
   | inl e ↦

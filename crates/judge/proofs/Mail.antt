@@ -1,4 +1,5 @@
--- The mailbox: the Shows of each sender are numbered from 1, committed before, placed by their count, and none follows a Close.
+-- The mailbox: the Shows of each sender are numbered from 1, committed before, and placed by their count. None follows a
+-- Close.
 use Rattle.std.proofs.Common.{◌≡◌, ℕ, zero, suc, ◌+◌, ◌<◌, true, ◌&&◌, ◌==◌, bytes_eq, List, [], ◌∷◌, length, take, count_by, Option, Some, None, is_none, refl, ◌⊎◌, sym, ◌∙◌, subst, inl, inr, arith, length-append, true≢false, eqb-true}
 use Rattle.judge.proofs.Common.{false≢true, and_parts, not-true, Begin, AllHold, Deed, Message, is_by, is_pending, message, Stands, is_show, is_show_of, StandsBefore, MailInOrder, State, needs, after}
 use Rattle.judge.proofs.Common.{empty}
@@ -7,7 +8,7 @@ use Rattle.redomail.specs.declared.deed.Deed.TheVariants as deed
 use Rattle.judge.proofs.Counts.{one_if, count_cons, count_push}
 use Rattle.judge.proofs.Steps.{Allowed}
 
--- how many messages of p are shown
+-- the number of p's messages shown
 abbrev shown_of : State → ℕ → ℕ
 shown_of s p = count_by (is_by p) s.mail.shown
 
@@ -21,7 +22,7 @@ MailSound-empty procs cap p seq v e = absurd (false≢true e)
 same_words : (xs ys : List ℕ) → bytes_eq xs ys ≡ true → xs ≡ ys
 same_words xs ys e = (bytes_eq-Decides xs ys).0 e
 
--- what a message is, whose parts are tested
+-- the parts of a message, from tests of the parts
 pub message_parts : (a b : ℕ) (c : List ℕ) (p seq : ℕ) (v : List ℕ) → ((a == p) && (b == seq) && bytes_eq c v) ≡ true → (a ≡ p) × (b ≡ seq) × (c ≡ v)
 message_parts a b c p seq v e =
     let h = and_parts ((a == p) && (b == seq)) (bytes_eq c v) e in
@@ -41,7 +42,7 @@ MailSound-after s (deed.Show q at n w) h sound = λ p seq v e. absurd (false≢t
 MailSound-after s (deed.Outer (Begin q)) h sound = sound
 MailSound-after s _ h sound = sound
 
--- only a Show adds to what is shown
+-- only a Show adds to the messages shown
 shown_of-after : (s : State) (d : Deed) (p : ℕ) → shown_of (after s d) p ≡ shown_of s p + one_if (is_show_of p d)
 shown_of-after s (deed.Show q at n w) p = count_push (is_by p) s.mail.shown (message q n w)
 shown_of-after s (deed.Outer (Begin q)) p = omega arith
@@ -52,11 +53,11 @@ length-after s (deed.Show q at n w) = omega (arith, length-append s.mail.shown (
 length-after s (deed.Outer (Begin q)) = omega arith
 length-after s _ = omega arith
 
--- what a Show needed
+-- the needs of a Show, as facts
 shows : (s : State) (d : Deed) (p at seq : ℕ) (v : List ℕ) → AllHold (needs s d) → d ≡ deed.Show p at seq v → AllHold (needs s (deed.Show p at seq v))
 shows s d p at seq v h e = let P : Deed → Type 0 = λ k. AllHold (needs s k) in subst P e h
 
--- Seen from a state, a Show's number counts the messages shown there and the Shows since.
+-- From any state, a Show's number counts the messages shown in it and the Shows since.
 pub numbered : (s : State) (ds : List Deed) → MailSound s → Allowed s ds → (p i at seq : ℕ) (v : List ℕ) → Stands ds i (deed.Show p at seq v) → seq ≡ shown_of s p + count_by (is_show_of p) (take i ds) + 1
 numbered s [] sound ok p i at seq v here = absurd here
 numbered s (d ∷ ds) sound ok p zero at seq v here =
@@ -73,7 +74,7 @@ placed s (d ∷ ds) ok p (suc i) at seq v here =
     let ih = placed (after s d) ds ok.1 p i at seq v here in
     omega (arith, ih, length-after s d, count_cons is_show d (take i ds))
 
--- what is pending after a deed was pending before it, or is what it commits
+-- a message pending after a deed was pending before it, or the deed commits it
 pending_since : (s : State) (d : Deed) (p seq : ℕ) (v : List ℕ) → is_pending (after s d).mail.pending p seq v ≡ true → (is_pending s.mail.pending p seq v ≡ true) ⊎ (d ≡ deed.Commit p seq v)
 pending_since s (deed.Commit q n w) p seq v e =
     let parts = message_parts q n w p seq v e in
@@ -83,7 +84,7 @@ pending_since s (deed.Show q at n w) p seq v e = absurd (false≢true e)
 pending_since s (deed.Outer (Begin q)) p seq v e = inl e
 pending_since s _ p seq v e = inl e
 
--- Seen from a state, what is shown was pending there or is committed since.
+-- From any state, a message that is shown was pending in it or is committed since.
 pub committed : (s : State) (ds : List Deed) → Allowed s ds → (p i at seq : ℕ) (v : List ℕ) → Stands ds i (deed.Show p at seq v) → (is_pending s.mail.pending p seq v ≡ true) ⊎ StandsBefore ds i (deed.Commit p seq v)
 committed s [] ok p i at seq v here = absurd here
 committed s (d ∷ ds) ok p zero at seq v here = inl (shows s d p at seq v ok.0 here).1.1.0
@@ -108,7 +109,7 @@ no_commit_now s p seq v h quiet = true≢false (sym quiet.0 ∙ not-true s.mail.
 no_show_now : (s : State) (p at seq : ℕ) (v : List ℕ) → AllHold (needs s (deed.Show p at seq v)) → Quiet s → ⊥
 no_show_now s p at seq v h quiet = none_pending s.mail.pending p seq v quiet.1 h.1.1.0
 
--- a Close leaves it closed, with nothing pending
+-- a Close leaves the mailbox closed, with nothing pending
 closes : (s : State) (d : Deed) (q : ℕ) → AllHold (needs s d) → d ≡ deed.Close q → Quiet (after s d)
 closes s d q h e =
     let P : Deed → Type 0 = λ k. AllHold (needs s k) → Quiet (after s k) in
@@ -121,7 +122,7 @@ Quiet-after s (deed.Close q) h quiet = (refl, quiet.1)
 Quiet-after s (deed.Outer (Begin q)) h quiet = quiet
 Quiet-after s _ h quiet = quiet
 
--- neither stands later than a Close
+-- neither comes after a Close
 pub none_after : (s : State) (ds : List Deed) → Quiet s → Allowed s ds → (p j at seq : ℕ) (v : List ℕ) → (Stands ds j (deed.Commit p seq v) → ⊥) × (Stands ds j (deed.Show p at seq v) → ⊥)
 none_after s [] quiet ok p j at seq v = (λ here. here, λ here. here)
 none_after s (d ∷ ds) quiet ok p zero at seq v =

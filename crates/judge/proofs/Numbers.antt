@@ -1,10 +1,10 @@
--- Lists read by index.
+-- Members of lists by their position.
 use Rattle.std.proofs.Common.{◌≡◌, ℕ, ◌+◌, ◌<◌, ◌≤◌, List, [], ◌∷◌, ◌++◌, take, length, count_by, slice_get, map, IfSome, refl, sym, ◌∙◌, ap, subst, inl, inr, arith, get_or, set, below_more}
 use Rattle.judge.proofs.Common.{cases_lt, take_more, get_or-map, Message, is_by, Lists, IsNext, AreNumbered}
 use Rattle.std.proofs.lemmas.Option.{slice_get-get_or, slice_get_past}
 use Rattle.judge.proofs.Counts.{Lists-counted}
 
--- what is known of the element at a place
+-- a fact about the member at a position
 pub IfSome-at : {X : Type 0} (xs : List X) (i : ℕ) (m : X) (P : X → Type 0) → i < length xs → m ≡ get_or xs i m → IfSome (slice_get xs i) P → P m
 IfSome-at xs i m P l e h = subst P (sym e) (subst (λ o. IfSome o P) (slice_get-get_or xs i m l) h)
 
@@ -14,7 +14,7 @@ IfSome-here xs i m P l e h = subst (λ o. IfSome o P) (sym (slice_get-get_or xs 
 IfSome-past : {X : Type 0} (xs : List X) (i : ℕ) (P : X → Type 0) → length xs ≤ i → IfSome (slice_get xs i) P
 IfSome-past xs i P l = subst (λ o. IfSome o P) (sym (slice_get_past xs i l)) tt
 
--- the first i messages are their senders' next ones
+-- the first i messages have their senders' next numbers
 abbrev pub Numbered : ℕ → List Message → ℕ → Type 0
 Numbered procs shown i = (k : ℕ) → k < i → IfSome (slice_get shown k) (IsNext procs (take k shown))
 
@@ -38,6 +38,6 @@ Lists-more counts n shown i m le below l e lists =
     let grown : take (i + 1) shown ≡ take i shown ++ m ∷ [] = take_more shown i m l ∙ subst (λ x. take i shown ++ x ∷ [] ≡ take i shown ++ m ∷ []) e refl in
     subst (λ xs. Lists (set counts m.sender (v + 1)) n (λ k. count_by (is_by k) xs)) (sym grown) (Lists-counted counts n (take i shown) m v le below same lists)
 
--- a set of a list of them
+-- one set of a list of sets
 pub set_here : {V : Type 0} (f : V → List ℕ) (sets : List V) (i : ℕ) (v : V) (names d : List ℕ) → i < length sets → v ≡ get_or sets i v → names ≡ f v → get_or (map f sets) i d ≡ names
 set_here f sets i v names d l e n = get_or-map f sets i v d l ∙ (ap f (sym e) ∙ sym n)

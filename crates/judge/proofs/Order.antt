@@ -1,4 +1,4 @@
--- First come, first served: who is ready when another begins enters or quits before that one enters.
+-- First come, first served: a process that is ready when another begins enters or quits before that one enters.
 use Rattle.std.proofs.Common.{◌≡◌, ℕ, zero, suc, ◌<◌, true, false, List, [], ◌∷◌, sym, ◌∙◌, ap, subst, inl, inr, arith}
 use Rattle.judge.proofs.Common.{Begin, Enter, Quit, is_ready, AllHold, put_same, Deed, doer, NoneBefore, Stands, NoneBetween, GoneBefore, IsEndOf, IsGoneOf, GoneBetween, FirstComeFirstServed, State}
 use Rattle.judge.proofs.Common.{needs, after}
@@ -31,7 +31,7 @@ ahead_stays s (deed.Outer (Quit r)) p q e a other =
     put_cases (s.lock.ahead q) r p false (λ b. b ≡ true) (λ same. absurd (other (inr (ap (λ k. deed.Outer (Quit k)) (sym same))))) (λ _. a)
 ahead_stays s _ p q e a other = a
 
--- p is ready and q waits for it: p is gone before q enters
+-- p is ready and q waits for it: p enters or quits before q enters
 pub gone_ahead : (s : State) (p q : ℕ) (ds : List Deed) (e : ℕ) → p < s.procs → s.lock.phase p ≡ phase.Ready → s.lock.ahead q p ≡ true → Allowed s ds → Stands ds e (deed.Outer (Enter q)) → GoneBefore ds p e
 gone_ahead s p q [] e lp r a ok here = absurd here
 gone_ahead s p q (d ∷ ds) zero lp r a ok here =
@@ -46,7 +46,7 @@ gone_ahead s p q (d ∷ ds) (suc e) lp r a ok here =
           (gone_ahead (after s d) p q ds e (rw (procs-after s d) lp) (ready_stays s d p ok.0 r other) (ahead_stays s d p q r a other) ok.1 here)
     ]
 
--- p is ready, and q begins at b and enters at e: p is gone before that
+-- p is ready, and q begins at b and enters at e: p enters or quits before e
 pub gone_first : (s : State) (p q : ℕ) (ds : List Deed) (b e : ℕ) → p < s.procs → s.lock.phase p ≡ phase.Ready → Allowed s ds → Stands ds b (deed.Outer (Begin q)) → b < e → Stands ds e (deed.Outer (Enter q)) → GoneBefore ds p e
 gone_first s p q [] b e lp r ok begins l here = absurd here
 gone_first s p q (d ∷ ds) b zero lp r ok begins l here = absurd (omega arith)
@@ -68,7 +68,7 @@ gone_first s p q (d ∷ ds) (suc b) (suc e) lp r ok begins l here =
           (gone_first (after s d) p q ds b e (rw (procs-after s d) lp) (ready_stays s d p ok.0 r other) ok.1 begins (omega arith) here)
     ]
 
--- from positions behind the first deed to positions in the whole list
+-- from positions after the first deed to positions in the whole list
 whole : (d : Deed) (ds : List Deed) (p e : ℕ) → GoneBefore ds p e → GoneBetween (d ∷ ds) p 0 (suc e)
 whole d ds p e w = record {
   place = suc w.place;

@@ -8,7 +8,7 @@ use Rattle.std.proofs.Math.Pow.{pow-lt, pow_mono}
 pub mod-pow-suc : (row n : ℕ) → row % 2 ^ suc n ≡ (bit_at row n) * 2 ^ n + row % 2 ^ n
 mod-pow-suc row n = let e : suc n ≡ 1 + n = omega arith in rw e (mod-pow-add row 1 n)
 
--- the first n bits of a row that has the function's values there
+-- the first n bits of a row with the function's values
 pub mod-row_word : (row n : ℕ) (f : ℕ → Bool) → HasBits row n f → row % 2 ^ n ≡ row_word n f
 mod-row_word row zero f h = mod-one row
 mod-row_word row (suc n) f h =
@@ -41,7 +41,7 @@ row_word-top n f =
     let none : n - n ≡ 0 = omega arith in
     cut ∙ (rw none (bit_at_lowest (if f n then 1 else 0) ∙ bit-mod (f n)))
 
--- it has these
+-- it has these bits
 pub row_word-bits : (n : ℕ) (f : ℕ → Bool) → HasBits (row_word n f) n f
 row_word-bits zero f q l = omega arith
 row_word-bits (suc n) f q l =
@@ -50,14 +50,14 @@ row_word-bits (suc n) f q l =
       | inr d ↦ bit_at_cat_low (if f n then 1 else 0) n (row_word n f) q (omega arith) ∙ row_word-bits n f q (omega arith)
     ]
 
--- a power that a word holds
+-- a power of two that fits in a word
 pub low-pow : (n : ℕ) → n < 64 → 1 * 2 ^ n % 18446744073709551616 ≡ 2 ^ n
 low-pow n l =
     let below : 2 ^ n < 18446744073709551616 = pow-lt l in
     let one : 1 * 2 ^ n ≡ 2 ^ n = omega arith in
     rw one (mod-eq_of_lt below)
 
--- all of a word
+-- all bits of a word
 pub all-mod : (row n : ℕ) → row < 18446744073709551616 → 64 ≤ n → row % 2 ^ n ≡ row
 all-mod row n fits l =
     let above : 18446744073709551616 ≤ 2 ^ n = pow_mono l in

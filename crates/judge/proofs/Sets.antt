@@ -20,7 +20,7 @@ HasBits-more row one i names l here others bits q lq =
     ] in
     rw (bit_at_or, bits q lq, added, more) (either (is_named (take i names) q) (get_or names i 0 == q))
 
--- rows with one more
+-- rows with one more row
 abbrev pub RowsHold : List ℕ → ℕ → (ℕ → ℕ → Bool) → Type 0
 RowsHold rows i f = (length rows ≡ i) × ((p : ℕ) → p < i → HasBits (slice_index rows p) 64 (f p))
 

@@ -11,11 +11,11 @@ use Rattle.judge.proofs.Inside.{Sole, NoTwoInside-from_allowed, DeadReenters-fro
 use Rattle.judge.proofs.Order.{FirstComeFirstServed-from_allowed, gone_first, gone_ahead}
 use Rattle.judge.proofs.Mail.{message_parts, numbered, placed, committed, none_after, after_close}
 
--- one with the test is counted
+-- a member that passes the test is counted
 counted_one : {X : Type 0} (f : X → Bool) (x : X) (xs : List X) → f x ≡ true → count_by f (x ∷ xs) ≡ 1 + count_by f xs
 counted_one f x xs e = let one : one_if (f x) ≡ 1 = cond-true (f x) _ _ e in omega (arith, count_cons f x xs, one)
 
--- where none is counted, none has the test
+-- if the count is 0, no member passes the test
 none_has : {X : Type 0} (f : X → Bool) (xs : List X) (i : ℕ) (d : X) → count_by f xs ≡ 0 → i < length xs → f (get_or xs i d) ≡ true → ⊥
 none_has f [] i d none l e = omega arith
 none_has f (x ∷ xs) zero d none l e = omega (arith, counted_one f x xs e, none)
@@ -23,7 +23,7 @@ none_has f (x ∷ xs) (suc i) d none l e =
     let rest : count_by f xs ≡ 0 = omega (arith, count_cons f x xs, none) in
     none_has f xs i d rest (omega arith) e
 
--- where one at most is counted, those that have the test stand at one place
+-- if the count is at most one, the members that pass the test are at one position
 one_has : {X : Type 0} (f : X → Bool) (xs : List X) (i j : ℕ) (d : X) → count_by f xs ≤ 1 → i < length xs → j < length xs → f (get_or xs i d) ≡ true → f (get_or xs j d) ≡ true → i ≡ j
 one_has f [] i j d most li lj ei ej = absurd (omega arith)
 one_has f (x ∷ xs) zero zero d most li lj ei ej = refl
@@ -37,7 +37,7 @@ one_has f (x ∷ xs) (suc i) (suc j) d most li lj ei ej =
     let rest : count_by f xs ≤ 1 = omega (arith, count_cons f x xs, most) in
     ap suc (one_has f xs i j d rest (omega arith) (omega arith) ei ej)
 
--- who isn't out stands in the list
+-- a process that isn't out is in the list
 within : (phases : List Phase) (p : ℕ) (x : Phase) → phase_in phases p ≡ x → is_out x ≡ false → p < length phases
 within phases p x e other = elim (cases_lt p (length phases)) [
   | inl l ↦ l
@@ -50,7 +50,7 @@ Sole-start start h p q lp lq (inr e) (inl f) = absurd (true≢false (sym (list_a
 Sole-start start h p q lp lq (inr e) (inr f) =
     one_has is_dead_in start.phases p q phase.Out h.one_dead (omega (arith, lp, h.phases)) (omega (arith, lq, h.phases)) e f
 
--- what is pending has its sender's next number
+-- the pending message has its sender's next number
 next_pending : (o : Option Message) (procs cap : ℕ) (shown : List Message) → IfSome o (λ m. IsNext procs shown m × (length shown < cap)) → (p seq : ℕ) (v : List ℕ) → is_pending o p seq v ≡ true → seq ≡ count_by (is_by p) shown + 1
 next_pending None procs cap shown h p seq v e = absurd (false≢true e)
 next_pending (Some m) procs cap shown h p seq v e =

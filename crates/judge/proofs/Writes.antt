@@ -1,4 +1,4 @@
--- What a judge keeps at the start, and after a write.
+-- A judge's state at the start, and after a write.
 use Rattle.std.proofs.Common.{◌≡◌, ◌≢◌, ℕ, ◌<◌, ◌≤◌, Bool, false, List, ◌++◌, take, drop, length, refl, sym, ◌∙◌, ap, subst, arith, get_or, set, replicate, get_or-set_same, get_or-set_other}
 use Rattle.judge.proofs.Common.{get_or-replicate, take-append-le, bit_at-zero, Phase, put, Kept, Lists, HasBits, IsSound, HasRows, Keeps, State}
 use Rattle.std.proofs.Math.Seq.{take-length}
@@ -17,7 +17,7 @@ Lists-set xs n p f x le lists k d l =
 pub HasRows-replicate : (rows : List ℕ) (n : ℕ) → rows ≡ replicate n 0 → HasRows rows n (λ p q. false)
 HasRows-replicate rows n e p lp q lq = let zero : ℕ = 0 in rw (e, get_or-replicate n p zero zero lp) (bit_at-zero q)
 
--- the judge's phases, under another name
+-- the judge's phases under another name
 pub phases_kept : (phases : List Phase) (judge : Kept) (s : State) → phases ≡ judge.phases → IsSound judge → Keeps judge s → (length phases ≡ s.procs) × Lists phases s.procs s.lock.phase
 phases_kept phases judge s e sound kept = (
   ap length e ∙ (sound.phases ∙ kept.procs),
@@ -31,6 +31,6 @@ HasRows-set rows n p a f row le has bits k l =
     (λ same. let h : p < length rows = omega arith in rw (same, get_or-set_same) bits)
     (λ other. let ne : k ≢ p = other in rw get_or-set_other (has k l))
 
--- a vector whose elements are all written anew
+-- a vector whose members are all overwritten
 pub take-refilled : {X : Type 0} (n : ℕ) (ws items : List X) → length ws ≡ n → take n (ws ++ drop (length ws) items) ≡ ws
 take-refilled n ws items e = rw (← e) (take-append-le (length ws) ws (drop (length ws) items) (omega arith) ∙ take-length ws)

@@ -1,4 +1,4 @@
--- A legal history is a list of deeds that the abstract lock and the mailbox list both allow.
+-- "Legal history": the abstract lock and the mailbox list both allow its deeds.
 use Rattle.std.specs.Prelude.{◌≡◌, ℕ, ◌<◌, true, nat_lt, List, [], ◌∷◌}
 use Rattle.rmecore.specs.Needs.{AllHold}
 use Rattle.rmecore.specs.AbstractLock.{Abstract, is_inside}
@@ -14,8 +14,8 @@ outers [] = []
 outers (deed.Outer d ∷ ds) = d ∷ outers ds
 outers (_ ∷ ds) = outers ds
 
--- Each of these deeds is by one of n processes and allowed by the mailbox list with cap places, where whoever is inside
--- is so by the phases. It is owed for the lock's deeds too: Leave needs that nothing is pending.
+-- Each of these deeds is by one of n processes, and the mailbox list with cap places allows it. The phases decide whether
+-- its process is inside. Leave has a need of the mailbox too: nothing is pending.
 abbrev pub MailAllows : ℕ → ℕ → Abstract → Mailbox → List Deed → Type 0
 MailAllows n cap a m [] = Unit {0}
 MailAllows n cap a m (d ∷ ds) =
@@ -23,12 +23,12 @@ MailAllows n cap a m (d ∷ ds) =
     × AllHold (row cap (is_inside (a.phase (doer d))) m d)
     × MailAllows n cap (lock_after a d) (done m d) ds
 
--- what deeds leave
+-- the state after these deeds
 abbrev pub all_after : State → List Deed → State
 all_after s [] = s
 all_after s (d ∷ ds) = all_after (after s d) ds
 
--- two abstract locks have the same phases and sets below n
+-- two abstract locks have the same phases and sets for the processes below n
 pub record Agree (n : ℕ) (a b : Abstract) : Type 0 where
   pub phases : (p : ℕ) → p < n → a.phase p ≡ b.phase p
   pub ahead : (p q : ℕ) → p < n → q < n → a.ahead p q ≡ b.ahead p q

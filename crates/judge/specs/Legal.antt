@@ -1,4 +1,4 @@
--- Legal histories: the lists of deeds that the judge table allows, one after another.
+-- "Legal history": a list of deeds that the judge table allows, one after another.
 use Rattle.std.specs.Prelude.{◌≡◌, ℕ, List, [], ◌∷◌, Result, Ok, Err}
 use Rattle.rmecore.specs.declared.fault.Fault.{Fault}
 use Rattle.redomail.specs.declared.deed.Deed.{Deed}
@@ -13,10 +13,10 @@ abbrev pub judged_all : State → List Deed → Result State Fault
 judged_all s [] = Ok s
 judged_all s (d ∷ ds) = and_then (judged s d) (λ t. judged_all t ds)
 
--- the deeds lead from this state to that one
+-- the deeds are legal from state s, and t is the state after them
 abbrev pub Leads : State → List Deed → State → Type 0
 Leads s deeds t = judged_all s deeds ≡ Ok t
 
--- a legal history of a new lock with this many processes, and room for this many messages
+-- a legal history of a new lock with procs processes and a capacity of cap messages
 abbrev pub IsLegal : ℕ → ℕ → List Deed → Type 0
 IsLegal procs cap deeds = (t : State) × Leads (empty procs cap) deeds t

@@ -1,4 +1,4 @@
--- Plain properties of a list of deeds, by positions in it. They know no state.
+-- "Plain properties" of a list of deeds, by positions in it. They know no state.
 use Rattle.std.specs.Prelude.{◌≡◌, ℕ, ◌+◌, ◌<◌, Bool, true, false, ◌==◌, List, take, count_by, slice_get, MatchOption, ◌⊎◌}
 use Rattle.rmecore.specs.declared.outer.Outer.TheVariants.{Begin, Ready, Enter, Crash, Reenter, Leave, Quit}
 use Rattle.redomail.specs.declared.deed.Deed.{Deed}
@@ -8,7 +8,7 @@ use Rattle.redomail.specs.declared.deed.Deed.TheVariants as deed
 abbrev pub IsEntryOf : ℕ → Deed → Type 0
 IsEntryOf p d = (d ≡ deed.Outer (Enter p)) ⊎ (d ≡ deed.Outer (Reenter p))
 
--- an Enter or a Reenter of anyone
+-- an Enter or a Reenter of any process
 abbrev pub IsEntry : Deed → Type 0
 IsEntry d = (p : ℕ) × IsEntryOf p d
 
@@ -20,10 +20,11 @@ IsExitOf p d = (d ≡ deed.Outer (Leave p)) ⊎ (d ≡ deed.Outer (Crash p))
 abbrev pub IsEndOf : ℕ → Deed → Type 0
 IsEndOf p d = (d ≡ deed.Outer (Leave p)) ⊎ (d ≡ deed.Outer (Quit p))
 
--- Enter p or Quit p, after which nobody waits for p
+-- Enter p or Quit p, after which no process waits for p
 abbrev pub IsGoneOf : ℕ → Deed → Type 0
 IsGoneOf p d = (d ≡ deed.Outer (Enter p)) ⊎ (d ≡ deed.Outer (Quit p))
 
+-- a Show
 abbrev pub is_show : Deed → Bool
 is_show (deed.Show p at seq v) = true
 is_show _ = false
@@ -33,15 +34,15 @@ abbrev pub is_show_of : ℕ → Deed → Bool
 is_show_of q (deed.Show p at seq v) = p == q
 is_show_of q _ = false
 
--- the deed at this place has P
+-- the list has a deed at position i, and it has P
 abbrev pub At : List Deed → ℕ → (Deed → Type 0) → Type 0
 At deeds i P = MatchOption (slice_get deeds i) ⊥ P
 
--- this deed stands at this place
+-- this deed is at position i
 abbrev pub Stands : List Deed → ℕ → Deed → Type 0
 Stands deeds i d = At deeds i (λ e. e ≡ d)
 
--- no deed between these places has P
+-- no deed between positions i and j has P
 abbrev pub NoneBetween : List Deed → ℕ → ℕ → (Deed → Type 0) → Type 0
 NoneBetween deeds i j P = (k : ℕ) → i < k → k < j → At deeds k P → ⊥
 
@@ -49,17 +50,17 @@ NoneBetween deeds i j P = (k : ℕ) → i < k → k < j → At deeds k P → ⊥
 abbrev pub NoneBefore : List Deed → ℕ → (Deed → Type 0) → Type 0
 NoneBefore deeds j P = (k : ℕ) → k < j → At deeds k P → ⊥
 
--- (a) Between an entry of p and the next Leave p or Crash p stands no entry of anyone.
+-- "Plain properties" (a): between an entry of p and the next Leave p or Crash p there is no entry of any process.
 abbrev pub NoTwoInside : List Deed → Type 0
 NoTwoInside deeds = (p i j : ℕ) → At deeds i (IsEntryOf p) → i < j → NoneBetween deeds i j (IsExitOf p) → At deeds j IsEntry → ⊥
 
--- (b) After a Crash p that stands while p is in, the next entry of anyone is Reenter p.
+-- "Plain properties" (b): after a Crash p while p is in, the next entry of any process is Reenter p.
 abbrev pub DeadReenters : List Deed → Type 0
 DeadReenters deeds =
     (p i c j : ℕ) → At deeds i (IsEntryOf p) → i < c → NoneBetween deeds i c (IsExitOf p) → Stands deeds c (deed.Outer (Crash p))
     → c < j → NoneBetween deeds c j IsEntry → At deeds j IsEntry → Stands deeds j (deed.Outer (Reenter p))
 
--- the super-passage of p that i is in has its Enter, or the Quit that ends it, after i and before e
+-- p's super-passage at position i has its Enter, or the Quit that ends it, after i and before e
 pub record GoneBetween (deeds : List Deed) (p i e : ℕ) : Type 0 where
   pub place : ℕ
   pub later : i < place
@@ -67,26 +68,26 @@ pub record GoneBetween (deeds : List Deed) (p i e : ℕ) : Type 0 where
   pub gone : At deeds place (IsGoneOf p)
   pub same : NoneBetween deeds i place (IsEndOf p)
 
--- the super-passage that p was in before the list has its Enter, or the Quit that ends it, before e
+-- p's super-passage from before the list has its Enter, or the Quit that ends it, before e
 pub record GoneBefore (deeds : List Deed) (p e : ℕ) : Type 0 where
   pub place : ℕ
   pub before : place < e
   pub gone : At deeds place (IsGoneOf p)
   pub same : NoneBefore deeds place (IsEndOf p)
 
--- (c) Whose Ready stands before the Begin of another super-passage that has its Enter: it enters before that Enter, or it
--- quits before it.
+-- "Plain properties" (c): if p is Ready before the Begin of q's super-passage, and q enters in it, then p enters or quits
+-- before that Enter.
 abbrev pub FirstComeFirstServed : List Deed → Type 0
 FirstComeFirstServed deeds =
     (p q r b e : ℕ) → Stands deeds r (deed.Outer (Ready p)) → r < b → Stands deeds b (deed.Outer (Begin q))
     → b < e → NoneBetween deeds b e (IsEndOf q) → Stands deeds e (deed.Outer (Enter q)) → GoneBetween deeds p r e
 
--- this deed stands at some place before i
+-- this deed is at some position before i
 abbrev pub StandsBefore : List Deed → ℕ → Deed → Type 0
 StandsBefore deeds i d = (k : ℕ) × (k < i) × Stands deeds k d
 
--- (d) The Shows of a sender are numbered from 1, each was committed, each Show's place is the number of Shows before it,
--- and no Commit and no Show stands after a Close.
+-- "Plain properties" (d): the Shows of a sender are numbered from 1, and each was committed before. Each Show's place is the
+-- number of Shows before it. No Commit and no Show comes after a Close.
 pub record MailInOrder (deeds : List Deed) : Type 0 where
   pub numbered : (p i at seq : ℕ) (v : List ℕ) → Stands deeds i (deed.Show p at seq v) → seq ≡ count_by (is_show_of p) (take i deeds) + 1
   pub placed : (p i at seq : ℕ) (v : List ℕ) → Stands deeds i (deed.Show p at seq v) → at ≡ count_by is_show (take i deeds)
@@ -94,13 +95,13 @@ pub record MailInOrder (deeds : List Deed) : Type 0 where
   pub no_commit : (p q i j seq : ℕ) (v : List ℕ) → Stands deeds i (deed.Close q) → i < j → Stands deeds j (deed.Commit p seq v) → ⊥
   pub no_show : (p q i j at seq : ℕ) (v : List ℕ) → Stands deeds i (deed.Close q) → i < j → Stands deeds j (deed.Show p at seq v) → ⊥
 
--- the properties that the lock's deeds alone have
+-- (a) to (c), the properties of the lock's deeds
 pub record LockInOrder (deeds : List Deed) : Type 0 where
   pub no_two_inside : NoTwoInside deeds
   pub dead_reenters : DeadReenters deeds
   pub first_come : FirstComeFirstServed deeds
 
--- all four
+-- (a) to (d)
 pub record IsPlain (deeds : List Deed) : Type 0 where
   pub lock : LockInOrder deeds
   pub mail : MailInOrder deeds

@@ -1,6 +1,6 @@
--- The plain properties of a list of deeds that goes on from a start. What the start tells of counts as having come before
--- the list: who is dead in, what is shown and pending, and whether it is closed. Its ready ones were Ready before each
--- Begin of the list; p was Ready before the Begin of a q that is in the doorway or ready there, where p is ahead of q.
+-- "Plain properties" from a start. The start counts as deeds before the list: what is dead in, shown, pending and closed.
+-- Its ready processes are Ready before each Begin of the list. If q is in the doorway or ready there and p is ahead of q, p
+-- is Ready before q's Begin.
 use Rattle.std.specs.Prelude.{◌≡◌, ℕ, ◌+◌, ◌<◌, true, List, take, length, count_by, ◌⊎◌}
 use Rattle.rmecore.specs.declared.outer.Outer.TheVariants.{Begin, Enter, Reenter}
 use Rattle.redomail.specs.declared.deed.Deed.{Deed}
@@ -11,7 +11,7 @@ use Rattle.judge.specs.Plain.{At, Stands, StandsBefore, NoneBefore, NoneBetween,
 use Rattle.judge.specs.Starts.{phase_in, is_ahead}
 use Rattle.judge.specs.declared.start.Start.{Start}
 
--- (a) to (c): those of the list alone, and those with what came before it
+-- (a) to (c), within the list and together with the start
 pub record LockInOrderFrom (start : Start) (deeds : List Deed) : Type 0 where
   pub alone : LockInOrder deeds
   pub dead_reenters : (p j : ℕ) → phase_in start.phases p ≡ phase.DeadIn → NoneBefore deeds j IsEntry → At deeds j IsEntry → Stands deeds j (deed.Outer (Reenter p))
@@ -30,7 +30,7 @@ pub record MailInOrderFrom (start : Start) (deeds : List Deed) : Type 0 where
   pub closed_no_commit : (p j seq : ℕ) (v : List ℕ) → start.closed ≡ true → Stands deeds j (deed.Commit p seq v) → ⊥
   pub closed_no_show : (p j at seq : ℕ) (v : List ℕ) → start.closed ≡ true → Stands deeds j (deed.Show p at seq v) → ⊥
 
--- all four
+-- (a) to (d)
 pub record IsPlainFrom (start : Start) (deeds : List Deed) : Type 0 where
   pub lock : LockInOrderFrom start deeds
   pub mail : MailInOrderFrom start deeds

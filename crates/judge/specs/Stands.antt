@@ -1,4 +1,4 @@
--- The histories after which a judge stands.
+-- The histories that lead to a judge's state (the judge's part of "Definitions met").
 use Rattle.std.specs.Prelude.{◌≡◌, List, length, count_by}
 use Rattle.redomail.specs.declared.deed.Deed.{Deed}
 use Rattle.redomail.specs.Mailbox.{is_by}
@@ -6,7 +6,7 @@ use Rattle.judge.specs.Table.{State}
 use Rattle.judge.specs.Legal.{Leads}
 use Rattle.judge.specs.Kept.{Kept, Lists, HasRows}
 
--- a judge that keeps this state: its phases, ahead sets, pending, closed, ruined and the number shown of each sender
+-- the judge's state is this one: phases, ahead sets, pending, closed, ruined and the number shown of each sender
 pub record Keeps (judge : Kept) (s : State) : Type 0 where
   pub procs : judge.procs ≡ s.procs
   pub cap : judge.cap ≡ s.cap
@@ -18,7 +18,7 @@ pub record Keeps (judge : Kept) (s : State) : Type 0 where
   pub closed : judge.closed ≡ s.mail.closed
   pub ruined : judge.ruined ≡ s.mail.ruined
 
--- a judge that stands after this history from that start: the history is legal, and it keeps the state that it leads to
+-- the history is legal from this start, and the judge's state is the one after it
 pub record StandsAfter (start : State) (history : List Deed) (judge : Kept) : Type 0 where
   pub state : State
   pub legal : Leads start history state

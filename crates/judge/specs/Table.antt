@@ -1,5 +1,5 @@
--- The judge table: the abstract lock and the mailbox list put together. A deed's needs in order, each with its fault, and
--- what it does.
+-- "The judge table", the abstract lock and the mailbox list together: a deed's needs in order, each with its fault, and its
+-- effect.
 use Rattle.std.specs.Prelude.{ℕ, Bool, nat_lt, List, [], ◌∷◌, ◌++◌, Option, Some, None, Result, Ok, Err}
 use Rattle.rmecore.specs.Needs.{first_fault}
 use Rattle.rmecore.specs.AbstractLock.{Abstract, nobody, is_inside, row as lock_row, done as lock_done}
@@ -9,38 +9,40 @@ use Rattle.redomail.specs.Mailbox.{Mailbox, nothing_shown, doer, row as mail_row
 use Rattle.redomail.specs.declared.deed.Deed.{Deed}
 use Rattle.redomail.specs.declared.deed.Deed.TheVariants.{Outer}
 
+-- the state of the judge table: the sizes, the abstract lock and the mailbox list
 pub record State : Type 0 where
   pub procs : ℕ
   pub cap : ℕ
   pub lock : Abstract
   pub mail : Mailbox
 
--- everyone is out, and nothing is shown
+-- all processes out, nothing shown
 abbrev pub empty : ℕ → ℕ → State
 empty procs cap = record { procs = procs; cap = cap; lock = nobody; mail = nothing_shown }
 
--- what the lock needs for a deed
+-- the lock's needs of a deed
 abbrev pub lock_needs : State → Deed → List (Bool × Fault)
 lock_needs s (Outer d) = lock_row s.procs s.lock d
 lock_needs s _ = []
 
--- what the mailbox needs for it
+-- the mailbox's needs of a deed
 abbrev pub mail_needs : State → Deed → List (Bool × Fault)
 mail_needs s d = mail_row s.cap (is_inside (s.lock.phase (doer d))) s.mail d
 
--- what a deed needs: a process below procs, then what the lock needs, then what the mailbox needs
+-- the needs of a deed: a process below procs, the lock's needs, the mailbox's needs
 abbrev pub needs : State → Deed → List (Bool × Fault)
 needs s d = (nat_lt (doer d) s.procs, OutOfPlace) ∷ lock_needs s d ++ mail_needs s d
 
+-- the lock after a deed. Deeds of the mailbox don't change it
 abbrev pub lock_after : Abstract → Deed → Abstract
 lock_after a (Outer d) = lock_done a d
 lock_after a _ = a
 
--- what a deed does
+-- the effect of a deed
 abbrev pub after : State → Deed → State
 after s d = record s { lock = lock_after s.lock d; mail = mail_done s.mail d }
 
--- this state, unless there is a fault
+-- the state, unless there is a fault
 abbrev pub unless : Option Fault → State → Result State Fault
 unless None s = Ok s
 unless (Some fault) s = Err fault

@@ -1,7 +1,8 @@
--- A judge as its users see it.
+-- A judge's state as contracts see it.
 use Rattle.judge.specs.Kept.{Kept}
 use Rattle.judge.specs.declared.judge.Judge.TheInside.{Inside}
 
+-- the state of a judge
 abbrev pub kept_of : Inside → Kept
 kept_of judge = record {
   procs = judge.procs;

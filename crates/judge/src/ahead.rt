@@ -1,10 +1,11 @@
-//! For each process, who is ahead of it.
+//! The ahead sets of a start.
 
 ghost use Rattle.std.specs.Prelude.{◌≡◌, map};
 
 use std::marker::Model;
 
-/// For each process the names of those ahead of it; order and doubles don't count. Contracts see it as a list of lists.
+/// For each process the set of processes ahead of it. Order and repeated names don't matter. In contracts it is a list of
+/// lists.
 #[derive(Debug, Drop)]
 pub struct Ahead {
     sets: Vec<Vec<u64>>,
@@ -19,21 +20,21 @@ impl Model for Ahead {
 }
 
 impl Ahead {
-    /// The sets of a vector of vectors.
+    /// The sets, made from a vector for each process.
     pub fn new(sets: Vec<Vec<u64>>) -> Ahead
         ensures { result ≡ map (λ names. names.items) sets.items }
     {
         Ahead { sets }
     }
 
-    /// Them, to be read.
+    /// The sets, for reading.
     pub fn as_slice(&self) -> &[Vec<u64>]
         ensures { map (λ names. names.items) result.now ≡ self.now }
     {
         self.sets.as_slice()
     }
 
-    /// The vectors that they were made of.
+    /// The vectors of the sets.
     pub fn into_vec(self) -> Vec<Vec<u64>>
         ensures { map (λ names. names.items) result.items ≡ self }
     {

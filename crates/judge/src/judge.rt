@@ -1,4 +1,4 @@
-//! The judge at work: it is fed one deed after another, and takes no memory for it.
+//! The judge: it checks one deed of a history after another, without allocating.
 
 ghost use Rattle.std.specs.Prelude.{◌≡◌, ℕ, ◌+◌, ◌==◌, count_by, nat_lt, length, ◌<◌, ◌≤◌, ◌↔◌, ◌⊎◌, Bool, true, is_some, List, [], ◌∷◌, ◌++◌, IfNone, IfSome, IsSome, All, slice_index, IsTrue, IfOk, IfErr, IsErrOf, MatchResult, OnErr, OnOk, Ok, Err, false};
 ghost use Rattle.rmecore.specs.AbstractLock.{is_inside, is_dead_in, doer as lock_doer};
@@ -18,8 +18,8 @@ use rmecore::{Body, Fault, Outer, Phase, Refusal};
 use std::alloc::Global;
 use std::marker::Model;
 
-/// A judge of one list of deeds, which stands after those that it has taken. Of the messages shown it keeps how many there
-/// are of each sender, and no message.
+/// The judge of one list of deeds. Its state is that after the deeds it has accepted. Of the messages shown it keeps the
+/// number for each sender, not the messages.
 #[derive(Debug, Drop)]
 pub struct Judge {
     procs: u64,
@@ -45,7 +45,7 @@ impl Model for Judge {
     ghost invariant = { λ judge. IsSound (kept_of judge) };
 }
 
-/// The fault of the first need that isn't met.
+/// The fault of the first need that is not met.
 fn first_fault(needs: &[(bool, Fault)]) -> Option<Fault>
     ensures { result ≡ fault_of needs.now }
 {
@@ -57,7 +57,7 @@ fn first_fault(needs: &[(bool, Fault)]) -> Option<Fault>
     None
 }
 
-/// Is just this message pending?
+/// Whether the pending message is exactly this one.
 fn is_pending(pending: Option<Message>, p: u64, seq: u64, v: Body) -> bool
     ensures { result ≡ is_pending_in pending p seq v }
 {
@@ -67,7 +67,7 @@ fn is_pending(pending: Option<Message>, p: u64, seq: u64, v: Body) -> bool
     }
 }
 
-/// Whose deed it is.
+/// The process that does the deed.
 fn doer(deed: &Deed) -> u64
     ensures { result ≡ doer_of deed.now }
 {
@@ -87,8 +87,9 @@ fn doer(deed: &Deed) -> u64
 }
 
 impl Judge {
-    /// A judge of a new lock, before any deed: of 1 to 64 processes, and of a mailbox with room for 1 to 65,536 messages
-    /// (`cap`). It takes all the memory that it will ever need: `OutOfMemory` where that is refused.
+    /// A judge of a new lock, before any deed. `procs` is 1 to 64, `cap`, the mailbox's capacity in messages, 1 to 65,536.
+    ///
+    /// `BadProcs` and `BadCap`: a size outside these limits. `OutOfMemory`: an allocation failed. No later call allocates.
     pub fn new(alloc: Global, procs: u64, cap: u64) -> Result<Judge, Refusal>
         ensures made { IfOk result (λ judge. StandsAfter (empty procs cap) [] judge) }
         ensures procs { IsErrOf result Refusal.BadProcs ↔ ((procs ≡ 0) ⊎ (64 < procs)) }
@@ -118,8 +119,10 @@ impl Judge {
         })
     }
 
-    /// A judge of a list that goes on from a start, as that of an image, before any deed of it. `BadShape` means that no
-    /// earlier deeds could have left this start. What is shown is read once and not kept.
+    /// A judge of a history that continues from a start, for example the start of an image. The start's messages are read
+    /// once and not kept.
+    ///
+    /// `BadProcs`, `BadCap` and `OutOfMemory` as for `new`. `BadShape`: no earlier deeds could have led to this start.
     pub fn from_start(alloc: Global, start: &Start) -> Result<Judge, Refusal>
         ensures made { IfOk result (λ judge. StandsAfter (state_of start.now) [] judge) }
         ensures start { OnOk result (IsStart start.now) }
@@ -153,7 +156,7 @@ impl Judge {
         })
     }
 
-    /// Where p is.
+    /// The phase of p.
     fn phase(&self, p: u64) -> Phase
         requires { p < self.now.procs }
         ensures { (s : State) → Keeps self.now s → result ≡ s.lock.phase p }
@@ -161,7 +164,7 @@ impl Judge {
         self.phases[p as usize]
     }
 
-    /// Is this the number of p's next message?
+    /// Whether `seq` is the number of p's next message.
     fn is_next(&self, p: u64, seq: u64) -> bool
         requires { p < self.now.procs }
         ensures { (s : State) → Keeps self.now s → result ≡ (seq == count_by (is_by p) s.mail.shown + 1) }
@@ -169,7 +172,7 @@ impl Judge {
         seq == self.counts[p as usize] + 1
     }
 
-    /// Is there room for one more message?
+    /// Whether the mailbox has room for one more message.
     fn has_room(&self) -> bool
         ensures room { (s : State) → Keeps self.now s → result ≡ nat_lt (length s.mail.shown) s.cap }
         ensures below { IsTrue result → self.now.shown < self.now.cap }
@@ -177,7 +180,7 @@ impl Judge {
         self.shown < self.cap
     }
 
-    /// The least process ahead of p, or the number of processes.
+    /// The least process ahead of p, or the number of processes if there is none.
     fn least_ahead(&self, p: u64) -> u64
         requires { p < self.now.procs }
         ensures { (s : State) → Keeps self.now s → result ≡ least s.procs (s.lock.ahead p) }
@@ -185,14 +188,14 @@ impl Judge {
         rows::least_in(self.ahead[p as usize], self.procs)
     }
 
-    /// Nobody is inside.
+    /// Whether no process is inside.
     fn none_inside(&self) -> bool
         ensures { (s : State) → Keeps self.now s → result ≡ none_below s.procs (λ q. is_inside (s.lock.phase q)) }
     {
         !place::anyone_inside(&self.phases)
     }
 
-    /// Nobody died inside.
+    /// Whether no process is dead in.
     fn none_dead_in(&self) -> bool
         ensures { (s : State) → Keeps self.now s → result ≡ none_below s.procs (λ q. is_dead_in (s.lock.phase q)) }
     {
@@ -201,7 +204,7 @@ impl Judge {
 }
 
 impl Judge {
-    /// The fault of a deed of the lock, if there is one.
+    /// The fault of a deed of the lock, if any.
     fn lock_fault(&self, p: u64, deed: Outer) -> Option<Fault>
         requires below { p < self.now.procs }
         requires own { p ≡ lock_doer deed }
@@ -233,7 +236,7 @@ impl Judge {
         }
     }
 
-    /// The fault of a Commit with this number, if there is one.
+    /// The fault of a Commit with this number, if any.
     fn commit_fault(&self, p: u64, seq: u64) -> Option<Fault>
         requires { p < self.now.procs }
         ensures fault { (s : State) (v : List ℕ) → Keeps self.now s → result ≡ fault_of (mail_needs s (Deed.Commit p seq v)) }
@@ -249,7 +252,7 @@ impl Judge {
         ])
     }
 
-    /// The fault of a deed, if there is one.
+    /// The fault of a deed, if any.
     fn fault(&self, deed: &Deed) -> Option<Fault>
         ensures fault { (s : State) → Keeps self.now s → result ≡ fault_of (needs s deed.now) }
         ensures room { IfNone result (HasRoom self.now deed.now) }
@@ -278,7 +281,7 @@ impl Judge {
         }
     }
 
-    /// Moves p to this phase.
+    /// Sets the phase of p.
     fn move_to(&mut self, p: u64, phase: Phase)
         requires { p < self.old.procs }
         ensures { (s : State) → Keeps self.old s → Keeps self.new (record s { lock = record s.lock { phase = put s.lock.phase p phase } }) }
@@ -286,7 +289,7 @@ impl Judge {
         self.phases[p as usize] = phase;
     }
 
-    /// p begins, behind all that are ready.
+    /// p begins its doorway. All processes that are ready now are ahead of it.
     fn begin(&mut self, p: u64)
         requires { p < self.old.procs }
         ensures { (s : State) → Keeps self.old s → Keeps self.new (after s (Deed.Outer (Outer.Begin p))) }
@@ -295,7 +298,7 @@ impl Judge {
         self.phases[p as usize] = Phase::Door;
     }
 
-    /// p moves to this phase, and is ahead of nobody.
+    /// Sets the phase of p, and takes p out of all ahead sets.
     fn pass(&mut self, p: u64, phase: Phase)
         requires { p < self.old.procs }
         ensures { (s : State) → Keeps self.old s → Keeps self.new (record s { lock = record { phase = put s.lock.phase p phase; ahead = λ q. put (s.lock.ahead q) p false } }) }
@@ -304,7 +307,7 @@ impl Judge {
         self.phases[p as usize] = phase;
     }
 
-    /// One more message of p is shown, and nothing is pending.
+    /// Counts one more message of p as shown. No message is pending after it.
     fn show(&mut self, p: u64)
         requires below { p < self.old.procs }
         requires pending { is_some self.old.pending ≡ true }
@@ -315,7 +318,7 @@ impl Judge {
         self.pending = None;
     }
 
-    /// Does what the deed does.
+    /// Applies a deed.
     fn take(&mut self, deed: &Deed)
         requires { HasRoom self.old deed.now }
         ensures { (s : State) → Keeps self.old s → Keeps self.new (after s deed.now) }
@@ -344,8 +347,9 @@ impl Judge {
         }
     }
 
-    /// Takes the next deed of the history, or says what is wrong with it: the first of its needs that fails. After a fault
-    /// another deed may be fed. It takes no memory, and goes over the processes at most four times.
+    /// Judges the next deed of the history and applies it. The fault is that of the deed's first need that fails. After a
+    /// fault the judge is unchanged, and may be fed another deed. It does not allocate. It looks through the processes at
+    /// most four times.
     pub fn feed(&mut self, deed: Deed) -> Result<(), Fault>
         ensures judged { (s : State) → Keeps self.old s → MatchResult result (λ _. (judged s deed ≡ Ok (after s deed)) × Keeps self.new (after s deed)) (λ fault. judged s deed ≡ Err fault) }
         ensures fed { (start : State) (history : List Deed) → StandsAfter start history self.old → MatchResult result (λ _. StandsAfter start (history ++ deed ∷ []) self.new) (λ fault. judged_all start (history ++ deed ∷ []) ≡ Err fault) }
@@ -354,7 +358,8 @@ impl Judge {
         self.feed_from(&deed)
     }
 
-    /// As `feed`, with a deed that stands elsewhere.
+    /// As `feed`, for a borrowed deed: the replay judges a deed where its history holds it.
+    // Inline: one call a deed.
     #[inline(always)]
     pub fn feed_from(&mut self, deed: &Deed) -> Result<(), Fault>
         ensures judged { (s : State) → Keeps self.old s → MatchResult result (λ _. (judged s deed.now ≡ Ok (after s deed.now)) × Keeps self.new (after s deed.now)) (λ fault. judged s deed.now ≡ Err fault) }
@@ -369,7 +374,7 @@ impl Judge {
     }
 }
 
-// None of the counts is above this.
+// Whether all counts are at most `most`.
 fn all_within(counts: &[u64], most: u64) -> bool
     ensures { IsTrue result ↔ ((p : ℕ) → p < length counts.now → slice_index counts.now p ≤ most) }
 {
@@ -384,29 +389,29 @@ fn all_within(counts: &[u64], most: u64) -> bool
 impl Judge {
     ghost use Rattle.judge.specs.Kept.{IsSound, row_word, told};
 
-    /// How many processes it judges.
+    /// The number of processes.
     pub fn procs(&self) -> u64
         ensures { result ≡ self.now.procs }
     {
         self.procs
     }
 
-    /// A seam of this workspace, for who writes states down: where each process is.
+    /// For this workspace alone, to encode a judge's state: the phase of each process.
     pub fn seam_phases(&self) -> &[Phase]
         ensures { result.now ≡ self.now.phases }
     {
         self.phases.as_slice()
     }
 
-    /// A seam of this workspace, as `seam_phases`: how many messages of each process are shown.
+    /// For this workspace alone, as `seam_phases`: the number of messages shown, for each sender.
     pub fn seam_counts(&self) -> &[u64]
         ensures { result.now ≡ self.now.counts }
     {
         self.counts.as_slice()
     }
 
-    /// A seam of this workspace, as `seam_phases`: who is ahead of p, as a row of bits. Judges that keep the same state have
-    /// the same row here.
+    /// For this workspace alone, as `seam_phases`: the set ahead of p, as a row of bits. Judges with the same state have the
+    /// same row. None: there is no process p.
     pub fn seam_ahead(&self, p: u64) -> Option<u64>
         ensures some { IsSome result ↔ (p < self.now.procs) }
         ensures row { (s : State) → Keeps self.now s → IfSome result (λ row. row ≡ row_word s.procs (s.lock.ahead p)) }
@@ -417,7 +422,7 @@ impl Judge {
         Some(rows::only_first(self.ahead[p as usize], self.procs))
     }
 
-    /// A seam of this workspace, as `seam_phases`: what it keeps of the mailbox.
+    /// For this workspace alone, as `seam_phases`: the state of the mailbox.
     pub fn seam_mail(&self) -> MailPart
         ensures { result ≡ record { shown = self.now.shown; pending = self.now.pending; closed = self.now.closed; ruined = self.now.ruined } }
     {
@@ -429,7 +434,7 @@ impl Judge {
         }
     }
 
-    /// Whether a judge of this size may keep this.
+    /// Whether this is a state within the sizes of this judge.
     fn may_keep(&self, phases: &[Phase], ahead: &[u64], counts: &[u64], mail: &MailPart) -> bool
         ensures { IsTrue result ↔ IsSound (told self.now phases.now ahead.now counts.now mail.now) }
     {
@@ -442,8 +447,8 @@ impl Judge {
             && all_within(counts, mail.shown)
     }
 
-    /// A seam of this workspace, the other way: the judge keeps this from now on, in the memory that it has. It answers false
-    /// and stays as it is where no judge of its size keeps that. It takes any such state, also one that no deeds lead to.
+    /// For this workspace alone, the inverse of `seam_phases` and the others: sets the judge's state, without allocating.
+    /// False: the state is outside the judge's sizes, and nothing changed. It accepts a state that no deeds lead to.
     pub fn seam_set(
         &mut self,
         phases: &[Phase],

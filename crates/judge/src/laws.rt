@@ -1,4 +1,4 @@
-//! Laws over every list of deeds. Each is the contract of a function that does nothing.
+//! Laws over every list of deeds. Each law is the contract of a function with an empty body.
 
 ghost use Rattle.std.specs.Prelude.{◌≡◌, ◌<◌, ◌^◌, ◌↔◌, ℕ, Bool, List, [], ◌∷◌, ◌++◌, map, Ok};
 ghost use Rattle.rmecore.specs.AbstractLock.{Abstract, Legal};
@@ -20,18 +20,18 @@ use crate::start::Start;
 use redomail::Deed;
 use rmecore::Outer;
 
-/// Every legal history of a new lock, of any number of processes and any room, has the plain properties.
+/// Every legal history of a new lock has the plain properties, for any number of processes and any capacity.
 pub fn legal_histories_are_plain()
     ensures { (procs cap : ℕ) (history : List Deed) → IsLegal procs cap history → IsPlain history }
 {}
 
-/// So has every history that goes on from a start that `Judge::from_start` accepts, counting what came before it.
+/// Every history that continues from a start which `Judge::from_start` accepts has the plain properties from that start.
 pub fn histories_from_a_start_are_plain()
     ensures { (start : Start) (history : List Deed) (t : State) → IsStart start → Leads (state_of start) history t → IsPlainFrom start history }
 {}
 
-/// The deeds of every run of the core from all words 0, of any number of processes and any limit, are legal beside a
-/// mailbox of any room, and have the plain properties of the lock.
+/// The deeds of every run of the core from all words 0 are legal beside a mailbox of any capacity, and have the lock's plain
+/// properties. It holds for any number of processes and any limit.
 pub fn core_runs_are_legal()
     ensures legal { (n limit cap : ℕ) (events : List Event) → Run n limit at_rest events → IsLegal n cap (map Deed.Outer (deeds n limit at_rest events)) }
     ensures plain { (n limit : ℕ) (events : List Event) → Run n limit at_rest events → LockInOrder (map Deed.Outer (deeds n limit at_rest events)) }
@@ -39,8 +39,8 @@ pub fn core_runs_are_legal()
     rmecore::laws::every_run_is_legal();
 }
 
-/// A list of deeds leads from a state where the abstract lock allows its deeds of the lock, and the mailbox list allows
-/// each deed; and only there.
+/// A list of deeds is legal from a state exactly if the abstract lock allows its deeds of the lock and the mailbox list
+/// allows each deed.
 pub fn histories_have_two_halves()
     ensures together { (s : State) (history : List Deed) → Legal s.procs s.lock (outers history) → MailAllows s.procs s.cap s.lock s.mail history → Leads s history (all_after s history) }
     ensures lock { (s t : State) (history : List Deed) → Leads s history t → Legal s.procs s.lock (outers history) }
@@ -48,28 +48,29 @@ pub fn histories_have_two_halves()
     ensures state { (s t : State) (history : List Deed) → Leads s history t → t ≡ all_after s history }
 {}
 
-/// A deed is allowed where its process is one of the n, and the lock and the mailbox both allow it; then the state is what
-/// the deed leaves. A history grows by such a deed, and one history goes on from another.
+/// A deed of one of the n processes is legal if the lock and the mailbox both allow it. The state after it is the one that
+/// the judge table gives. A legal history with one more legal deed is legal, and so is one followed by another that
+/// continues from its end.
 pub fn histories_grow()
     ensures deed { (s : State) (deed : Deed) → doer deed < s.procs → AllHold (lock_needs s deed) → AllHold (mail_needs s deed) → judged s deed ≡ Ok (after s deed) }
     ensures grow { (s t u : State) (history : List Deed) (deed : Deed) → Leads s history t → judged t deed ≡ Ok u → Leads s (history ++ deed ∷ []) u }
     ensures go_on { (s t u : State) (history later : List Deed) → Leads s history t → Leads t later u → Leads s (history ++ later) u }
 {}
 
-/// Only the processes below n count: a list of deeds that leads from a state leads also from one whose lock agrees there,
-/// as that of a `Start` does with the words that it was made of.
+/// Only the processes below n matter. If a list of deeds is legal from a state, it is legal from every state whose lock
+/// agrees on these processes.
 pub fn only_the_processes_count()
     ensures lock { (n : ℕ) (a b : Abstract) (deeds : List Outer) → Agree n a b → Legal n a deeds → Legal n b deeds }
     ensures history { (s t : State) (b : Abstract) (history : List Deed) → Agree s.procs s.lock b → Leads s history t → Leads (record s { lock = b }) history (all_after (record s { lock = b }) history) }
 {}
 
-/// The number of a row of bits has these bits, and no others.
+/// The number of a row of bits has these bits and no others.
 pub fn rows_are_told()
     ensures bits { (n : ℕ) (f : ℕ → Bool) → HasBits (row_word n f) n f }
     ensures below { (n : ℕ) (f : ℕ → Bool) → row_word n f < 2 ^ n }
 {}
 
-/// States that are alike have the same verdicts on every deed, and stay alike. So are any two that one judge keeps.
+/// Alike states give the same verdict on every deed, and are alike after it. Any two states of one judge are alike.
 pub fn alike_states_stay_alike()
     ensures kept { (judge : Kept) (s t : State) → Keeps judge s → Keeps judge t → AreAlike s t }
     ensures verdict { (s t : State) (d : Deed) → AreAlike s t → first_fault (needs s d) ≡ first_fault (needs t d) }

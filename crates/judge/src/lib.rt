@@ -1,4 +1,4 @@
-//! The judge: which lists of deeds a recoverable first-come first-served lock with a mailbox could have made.
+//! The judge: it decides which lists of deeds a recoverable first-come first-served lock with a mailbox can have made.
 #![tactic(auto)]
 
 pub mod ahead;

@@ -1,11 +1,11 @@
-//! What a judge keeps of the mailbox.
+//! The mailbox part of a judge's state.
 
 use redomail::Message;
 
-/// What a judge keeps of the mailbox, but for how many messages of each sender are shown.
+/// The mailbox part of a judge's state, without the number of messages for each sender.
 #[derive(Clone, Copy, Debug, PartialEq, Eq)]
 pub struct MailPart {
-    /// How many messages are shown.
+    /// The number of messages shown.
     pub shown: u64,
     pub pending: Option<Message>,
     pub closed: bool,

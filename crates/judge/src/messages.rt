@@ -5,7 +5,7 @@ ghost use Rattle.std.specs.Prelude.{◌≡◌};
 use redomail::Message;
 use std::marker::Model;
 
-/// Messages by rising place. Contracts see them as a list.
+/// Messages by rising place. In contracts they are a list.
 #[derive(Debug, Drop)]
 pub struct Messages {
     items: Vec<Message>,
@@ -28,14 +28,14 @@ impl Messages {
         Messages { items }
     }
 
-    /// Them, to be read.
+    /// The messages, for reading.
     pub fn as_slice(&self) -> &[Message]
         ensures { result.now ≡ self.now }
     {
         self.items.as_slice()
     }
 
-    /// The vector that they were made of.
+    /// The vector of the messages.
     pub fn into_vec(self) -> Vec<Message>
         ensures { result.items ≡ self }
     {

@@ -5,7 +5,7 @@ ghost use Rattle.std.specs.Prelude.{◌≡◌};
 use rmecore::Phase;
 use std::marker::Model;
 
-/// Phases, the first process's first. Contracts see them as a list.
+/// The phases of all processes, by rising index. In contracts they are a list.
 #[derive(Debug, Drop)]
 pub struct Phases {
     items: Vec<Phase>,
@@ -28,14 +28,14 @@ impl Phases {
         Phases { items }
     }
 
-    /// Them, to be read.
+    /// The phases, for reading.
     pub fn as_slice(&self) -> &[Phase]
         ensures { result.now ≡ self.now }
     {
         self.items.as_slice()
     }
 
-    /// The vector that they were made of.
+    /// The vector of the phases.
     pub fn into_vec(self) -> Vec<Phase>
         ensures { result.items ≡ self }
     {

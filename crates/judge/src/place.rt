@@ -1,4 +1,4 @@
-//! Where a process is.
+//! Tests of a process's phase.
 
 ghost use Rattle.std.specs.Prelude.{◌≡◌};
 ghost use Rattle.std.specs.List.{list_any};
@@ -6,42 +6,42 @@ ghost use Rattle.rmecore.specs.AbstractLock.{is_out as is_at_out, is_door as is_
 
 use rmecore::Phase;
 
-/// It is outside.
+/// The process is out.
 pub(crate) fn is_out(phase: Phase) -> bool
     ensures { result ≡ is_at_out phase }
 {
     matches!(phase, Phase::Out)
 }
 
-/// It is in the doorway.
+/// The process is in the doorway.
 pub(crate) fn is_door(phase: Phase) -> bool
     ensures { result ≡ is_at_door phase }
 {
     matches!(phase, Phase::Door)
 }
 
-/// It has finished the doorway.
+/// The process is ready.
 pub(crate) fn is_ready(phase: Phase) -> bool
     ensures { result ≡ is_at_ready phase }
 {
     matches!(phase, Phase::Ready)
 }
 
-/// It is inside.
+/// The process is inside.
 pub(crate) fn is_inside(phase: Phase) -> bool
     ensures { result ≡ is_at_inside phase }
 {
     matches!(phase, Phase::Inside)
 }
 
-/// It died inside.
+/// The process crashed inside.
 pub(crate) fn is_dead_in(phase: Phase) -> bool
     ensures { result ≡ is_at_dead_in phase }
 {
     matches!(phase, Phase::DeadIn)
 }
 
-/// Where a crash leaves it.
+/// The phase after a crash.
 pub(crate) fn crashed(phase: Phase) -> Phase
     ensures { result ≡ crashed_from phase }
 {
@@ -51,14 +51,14 @@ pub(crate) fn crashed(phase: Phase) -> Phase
     }
 }
 
-/// Is anyone inside?
+/// Whether a process is inside.
 pub(crate) fn anyone_inside(phases: &[Phase]) -> bool
     ensures { result ≡ list_any is_at_inside phases.now }
 {
     phases.contains(&Phase::Inside)
 }
 
-/// Did anyone die inside?
+/// Whether a process is dead in.
 pub(crate) fn anyone_dead_in(phases: &[Phase]) -> bool
     ensures { result ≡ list_any is_at_dead_in phases.now }
 {

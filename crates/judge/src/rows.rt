@@ -1,4 +1,4 @@
-//! The ahead sets as rows of bits: process q is ahead where bit q is set.
+//! The ahead sets as rows of bits: process q is in the set if bit q is set.
 
 ghost use Rattle.std.specs.Prelude.{◌≡◌, ◌≢◌, ℕ, ◌<◌, ◌≤◌, Bool, true, false, ◌==◌, if◌then◌else◌, length, map, slice_index, slice_index_or, [], All, IfOk, IfErr};
 ghost use Rattle.std.specs.Int.{bit_at};
@@ -11,7 +11,7 @@ use crate::place;
 use rmecore::{Phase, Refusal};
 use std::alloc::Global;
 
-/// Is the bit set?
+/// Whether bit q is set.
 fn has(row: u64, q: u64) -> bool
     requires { q < 64 }
     ensures { result ≡ (bit_at row q == 1) }
@@ -19,7 +19,7 @@ fn has(row: u64, q: u64) -> bool
     (row >> q) & 1 == 1
 }
 
-/// The least process in the row, or their number where it is empty.
+/// The least process in the row, or `procs` if the row has none.
 pub(crate) fn least_in(row: u64, procs: u64) -> u64
     requires { procs ≤ 64 }
     ensures { (f : ℕ → Bool) → HasBits row procs f → result ≡ least procs f }
@@ -32,7 +32,7 @@ pub(crate) fn least_in(row: u64, procs: u64) -> u64
     procs
 }
 
-/// The row with no bits but those of the processes.
+/// The row with the bits of the first `procs` processes alone.
 pub(crate) fn only_first(row: u64, procs: u64) -> u64
     requires { procs ≤ 64 }
     ensures { (f : ℕ → Bool) → HasBits row procs f → result ≡ row_word procs f }
@@ -40,7 +40,7 @@ pub(crate) fn only_first(row: u64, procs: u64) -> u64
     if procs < 64 { row % (1 << procs) } else { row }
 }
 
-/// The row with at most this one bit.
+/// The row with bit q alone, if `holds`. Else the empty row.
 pub(crate) fn flag(holds: bool, q: u64) -> u64
     requires { q < 64 }
     ensures bit { bit_at result q ≡ (if holds then 1 else 0) }
@@ -49,7 +49,7 @@ pub(crate) fn flag(holds: bool, q: u64) -> u64
     if holds { 1 << q } else { 0 }
 }
 
-/// The row of those that are ready.
+/// The row of the processes that are ready.
 pub(crate) fn ready_row(phases: &[Phase]) -> u64
     requires { length phases.now ≤ 64 }
     ensures { (n : ℕ) (f : ℕ → Phase) → length phases.now ≡ n → Lists phases.now n f → HasBits result n (λ q. is_ready (f q)) }
@@ -61,7 +61,7 @@ pub(crate) fn ready_row(phases: &[Phase]) -> u64
     row
 }
 
-/// The row of these names.
+/// The row of these processes.
 fn row_of(names: &[u64]) -> u64
     requires { All (λ q. q < 64) names.now }
     ensures { HasBits result 64 (is_named names.now) }
@@ -73,7 +73,7 @@ fn row_of(names: &[u64]) -> u64
     row
 }
 
-/// A row of each set.
+/// The row of each set.
 pub(crate) fn rows_of(alloc: Global, sets: &[Vec<u64>]) -> Result<Vec<u64>, Refusal>
     requires { All (All (λ q. q < 64)) (map (λ names. names.items) sets.now) }
     ensures len { IfOk result (λ rows. length rows.items ≡ length sets.now) }
@@ -87,7 +87,7 @@ pub(crate) fn rows_of(alloc: Global, sets: &[Vec<u64>]) -> Result<Vec<u64>, Refu
     Ok(rows)
 }
 
-/// Takes p out of each row.
+/// Takes process p out of each row.
 pub(crate) fn clear_column(rows: &mut [u64], p: u64)
     requires few { length rows.old ≤ 64 }
     requires below { p < length rows.old }

@@ -1,4 +1,4 @@
-//! What a judge can start from, as tests that take no memory.
+//! Checks of a start. They do not allocate.
 
 ghost use Rattle.std.specs.Prelude.{◌≡◌, ℕ, ◌+◌, ◌<◌, ◌≤◌, ◌↔◌, true, All, IsTrue, IfSome, IsSome, length, count_by, map, slice_index, is_none};
 ghost use Rattle.rmecore.specs.AbstractLock.{is_ready as is_at_ready, is_dead_in as is_at_dead_in};
@@ -11,14 +11,14 @@ use crate::start::Start;
 use redomail::Message;
 use rmecore::Phase;
 
-/// A process's phase; one past the list is out.
+/// A process's phase. An index past the list is out.
 fn phase_at(phases: &[Phase], p: u64) -> Phase
     ensures { result ≡ phase_in phases.now p }
 {
     phases.get(p as usize).copied().unwrap_or(Phase::Out)
 }
 
-/// How many died inside.
+/// The number of processes that are dead in.
 fn dead_in(phases: &[Phase]) -> usize
     ensures { result ≡ count_by is_at_dead_in phases.now }
 {
@@ -31,7 +31,7 @@ fn dead_in(phases: &[Phase]) -> usize
     count
 }
 
-/// Are all these ready?
+/// Whether all these processes are ready.
 fn all_ready(phases: &[Phase], names: &[u64]) -> bool
     ensures { IsTrue result ↔ All (λ q. is_at_ready (phase_in phases.now q) ≡ true) names.now }
 {
@@ -43,7 +43,7 @@ fn all_ready(phases: &[Phase], names: &[u64]) -> bool
     true
 }
 
-/// Is it its sender's next message, behind as many as counted?
+/// Whether the message has its sender's next number, for these counts.
 fn is_next(counts: &[u64; 64], procs: u64, message: &Message) -> bool
     requires { procs ≤ 64 }
     ensures { IsTrue result ↔ ((message.now.sender < procs) × (message.now.seq ≡ slice_index counts.now message.now.sender + 1)) }
@@ -51,7 +51,7 @@ fn is_next(counts: &[u64; 64], procs: u64, message: &Message) -> bool
     message.sender < procs && message.seq.checked_sub(1) == Some(counts[message.sender as usize])
 }
 
-/// No message of anyone.
+/// A count of 0 for each sender.
 fn nothing_counted() -> [u64; 64]
     ensures none { Lists result 64 (λ p. 0) }
     ensures len { length result ≡ 64 }
@@ -59,7 +59,7 @@ fn nothing_counted() -> [u64; 64]
     [0; 64]
 }
 
-/// How many messages of each sender there are, where each is its sender's next one.
+/// The number of messages of each sender. None: some message does not have its sender's next number.
 fn counted(procs: u64, shown: &[Message]) -> Option<[u64; 64]>
     requires { procs ≤ 64 }
     ensures counts { IfSome result (λ counts. Lists counts 64 (λ p. count_by (is_by p) shown.now)) }
@@ -75,7 +75,7 @@ fn counted(procs: u64, shown: &[Message]) -> Option<[u64; 64]>
     Some(counts)
 }
 
-/// Are all of all these sets ready?
+/// Whether every set has ready processes alone.
 fn all_sets_ready(phases: &[Phase], sets: &[Vec<u64>]) -> bool
     ensures { IsTrue result ↔ All (All (λ q. is_at_ready (phase_in phases.now q) ≡ true)) (map (λ names. names.items) sets.now) }
 {
@@ -87,7 +87,7 @@ fn all_sets_ready(phases: &[Phase], sets: &[Vec<u64>]) -> bool
     true
 }
 
-/// Can a judge start from these phases and sets?
+/// Whether a judge can start from these phases and sets.
 fn lock_holds(start: &Start) -> bool
     ensures { IsTrue result ↔ LockHolds start.now }
 {
@@ -100,7 +100,7 @@ fn lock_holds(start: &Start) -> bool
         && all_sets_ready(phases, sets)
 }
 
-/// Can this be pending?
+/// Whether the start's pending message is possible.
 fn pending_holds(start: &Start, counts: &[u64; 64]) -> bool
     requires few { start.now.procs ≤ 64 }
     requires counts { Lists counts.now 64 (λ p. count_by (is_by p) start.now.shown) }
@@ -116,7 +116,7 @@ fn pending_holds(start: &Start, counts: &[u64; 64]) -> bool
     }
 }
 
-/// How many messages of each sender are shown, where a judge can start from what is shown and pending.
+/// The number of messages shown, for each sender. None: what is shown and pending is not possible.
 fn mail_counts(start: &Start) -> Option<[u64; 64]>
     requires { start.now.procs ≤ 64 }
     ensures counts { IfSome result (λ counts. Lists counts 64 (λ p. count_by (is_by p) start.now.shown)) }
@@ -130,7 +130,7 @@ fn mail_counts(start: &Start) -> Option<[u64; 64]>
     Some(counts)
 }
 
-/// How many messages of each sender are shown, where a judge of at most 64 processes can start from this.
+/// The number of messages shown, for each sender. None: no judge of at most 64 processes can start from this.
 pub(crate) fn counts(start: &Start) -> Option<[u64; 64]>
     requires { start.now.procs ≤ 64 }
     ensures counts { IfSome result (λ counts. Lists counts 64 (λ p. count_by (is_by p) start.now.shown)) }

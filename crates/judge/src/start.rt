@@ -1,27 +1,27 @@
-//! What a judge starts from, where deeds came before its list.
+//! The start of a history that earlier deeds came before.
 
 use crate::ahead::Ahead;
 use crate::messages::Messages;
 use crate::phases::Phases;
 use redomail::Message;
 
-/// What earlier deeds have left: the state that `Judge::from_start` takes up, as that of an image.
+/// The state that earlier deeds left, from which `Judge::from_start` continues. The start of an image is one.
 #[derive(Debug, Drop)]
 pub struct Start {
-    /// How many processes the lock has.
+    /// The number of processes, 1 to 64.
     pub procs: u64,
-    /// How many messages there is room for.
+    /// The mailbox's capacity in messages, 1 to 65,536.
     pub cap: u64,
-    /// Where each process is.
+    /// The phase of each process.
     pub phases: Phases,
-    /// Who is ahead of each.
+    /// The set of processes ahead of each process.
     pub ahead: Ahead,
     /// The messages shown, by rising place.
     pub shown: Messages,
     /// The message that is committed and not shown yet.
     pub pending: Option<Message>,
-    /// Is the mailbox closed?
+    /// Whether the mailbox is closed.
     pub closed: bool,
-    /// Is the lock ruined?
+    /// Whether the lock is ruined.
     pub ruined: bool,
 }

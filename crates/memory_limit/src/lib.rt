@@ -1,5 +1,5 @@
-//! All memory is taken, but for a reserve that is given back piece by piece: so each request for memory is refused in turn,
-//! until a call meets no refusal. For tests.
+//! A memory limit for tests: it takes all memory except a reserve, and gives the reserve back piece by piece. So each
+//! allocation of a call fails in turn, until the call succeeds.
 #![tactic(auto)]
 
 use std::alloc::{AllocError, Global};
@@ -8,12 +8,12 @@ const LARGEST: usize = 8 * 1024 * 1024 * 1024;
 
 const BLOCKS: usize = 200_000;
 
-/// How many pieces the reserve has.
+/// The number of pieces in the reserve.
 pub const PIECES: usize = 400;
 
 const PIECE: usize = 240;
 
-/// All memory but for a reserve.
+/// All memory, taken, with a reserve.
 #[derive(Drop)]
 pub struct Scarce {
     reserve: Vec<Vec<u8>>,
@@ -21,7 +21,7 @@ pub struct Scarce {
 }
 
 impl Scarce {
-    /// Takes all memory that there is.
+    /// Takes all memory that is free. `AllocError`: there is not even enough for the reserve.
     pub fn new(alloc: Global) -> Result<Scarce, AllocError> {
         let mut reserve = Vec::with_capacity(alloc, PIECES)?;
         for _ in 0..PIECES {
@@ -31,13 +31,13 @@ impl Scarce {
         Ok(Scarce { reserve, taken })
     }
 
-    /// Gives back one piece, while there is one.
+    /// Frees one piece of the reserve, if one is left.
     pub fn give_back(&mut self) {
         let piece = self.reserve.pop();
         drop(piece);
     }
 
-    /// Gives everything back.
+    /// Frees everything.
     pub fn end(self) {
         let Scarce { reserve, taken } = self;
         drop(reserve);
@@ -45,7 +45,7 @@ impl Scarce {
     }
 }
 
-/// Blocks that shrink, until the smallest is refused.
+/// Allocates smaller and smaller blocks, until the smallest fails.
 fn all_that_is_left(alloc: Global) -> Result<Vec<Vec<u8>>, AllocError> {
     let mut blocks = Vec::with_capacity(alloc, BLOCKS)?;
     let mut size = LARGEST;

@@ -1,4 +1,4 @@
--- Numbers that are shown.
+-- The numbers of the messages that are shown.
 use Rattle.std.proofs.Common.{◌≡◌, ℕ, zero, suc, ◌+◌, ◌==◌, List, [], ◌∷◌, ◌++◌, refl, sym, ap, ◌∙◌, subst, inl, inr, arith, eqb-true, append_assoc, nat_le, leb-true, leb-false}
 use Rattle.redomail.proofs.Common.{cases_Bool, Message, row, place_at, message, IsAmong, Safe, Done, entry, entries, count_of, IsNumbered}
 use Rattle.redomail.specs.declared.reply.Reply.TheVariants.{Stored, Already}

@@ -1,4 +1,4 @@
--- The apply steps and storing are safe.
+-- The apply steps and the storing of a record are safe.
 use Rattle.std.proofs.Common.{◌≡◌, ℕ, suc, ◌+◌, ◌-◌, true, false, ◌==◌, List, [], ◌∷◌, ◌++◌, length, refl, sym, ◌∙◌, subst, inl, inr, arith, eq-eqb, ne_eqb}
 use Rattle.redomail.proofs.Common.{cond_both, put, Layout, Message, Record, Reply, deeds_of_put, row, Words, held, last_at, place_at, message, Mailbox, done, Safe, Added, Done, Put, puts, entry}
 use Rattle.redomail.proofs.Common.{apply_steps, store_steps}
@@ -50,7 +50,7 @@ module _ (l : Layout) (p : ℕ) (m : Message) (s0 : Mailbox) where
   abbrev last_steps : Record → List (ℕ × ℕ)
   last_steps r = (last_at l p, r.seq) ∷ (2, held (r.at + 1)) ∷ (3, 0) ∷ []
 
-  -- a record that is shown already: nothing changes but the flag
+  -- a record that is shown already: nothing changes except armed
   count_of_whole : (r : Record) (a : Reply) (w : Words) (s : Mailbox) → IsApplied a → Whole l p w s r → Tells l p m s0 a s → Safe l p m s0 (Put 2 (held (r.at + 1)) (Put 3 0 (Done a))) w s
   count_of_whole r a w s is h tells =
       let low = place_low l l.cap in
@@ -75,7 +75,7 @@ module _ (l : Layout) (p : ℕ) (m : Message) (s0 : Mailbox) where
       (subst (λ x. Safe l p m s0 (Put 2 (held (r.at + 1)) (Put 3 0 (Done a))) x s) (sym (put-nothing w (last_at l p) r.seq (Whole-last l p w s r h)))
       (count_of_whole r a w s is h tells))
 
-  -- the row of the entry, that stands
+  -- the words of the entry, which are there already
   stands : (r : Record) (w : Words) → length r.value ≡ l.width → entry l w r.at ≡ message p r.seq r.value → row w (place_at l r.at) (length (p ∷ r.seq ∷ r.value)) ≡ p ∷ r.seq ∷ r.value
   stands r w wide e = rw wide (row-from_entry l w r.at p r.seq r.value e)
 
@@ -94,7 +94,7 @@ module _ (l : Layout) (p : ℕ) (m : Message) (s0 : Mailbox) where
       let minus : r.at + 1 - 1 ≡ r.at = omega arith in
       rw (n, minus, s, v) refl
 
-  -- a record that isn't shown, its entry and p's last number put
+  -- a record that isn't shown, after the puts of its entry and of p's last number
   count_of_half : (r : Record) (a : Reply) (w : Words) (s : Mailbox) → IsApplied a → message p r.seq r.value ≡ m → s.shown ≡ s0.shown → Half l p w s r
       → entry l w r.at ≡ message p r.seq r.value → w (last_at l p) ≡ r.seq → Safe l p m s0 (Put 2 (held (r.at + 1)) (Put 3 0 (Done a))) w s
   count_of_half r a w s is mine same h whole last =

@@ -1,4 +1,4 @@
--- Each task is safe, where the process inside may begin it.
+-- Each task is safe if the process inside may begin it.
 use Rattle.std.proofs.Common.{◌≡◌, ℕ, zero, suc, ◌+◌, ◌<◌, ◌≤◌, Bool, true, false, ◌==◌, nat_lt, nat_le, List, [], ◌∷◌, ◌++◌, length, refl, not, sym, ◌∙◌, ap, subst, inl, inr, arith, append_assoc, eqb-true, leb-true, leb-false, ltb-true, ltb-false, true≢false, append-nil}
 use Rattle.redomail.proofs.Common.{cond_both, eqb-false, put, Layout, Message, Reply, Task, deeds_of_put, row, Words, last_at, board_at, MailLeads, message, IsAmong, Mailbox, done, MayBegin, added_by}
 use Rattle.redomail.proofs.Common.{Safe, Seen, Done, Put, Script, gets, entry, entries, count_of, Shape, bit, recorded, RecordRule, ListRule, record_of, redo, decided, append, close, repair, script}
@@ -16,7 +16,7 @@ use Rattle.redomail.proofs.Applies.{store, apply_half, apply_whole}
 closed_on : (s : Mailbox) (x : ℕ) → x ≡ bit s.closed → x ≡ 1 → s.closed ≡ true
 closed_on s x e one = cond_both s.closed 1 0 (λ y. x ≡ y → s.closed ≡ true) (λ h _. h) (λ _ h. absurd (omega arith)) e
 
--- an append that asks
+-- an append before it has read its words
 record Fresh (l : Layout) (p : ℕ) (m : Message) (s0 : Mailbox) (seq : ℕ) (value : List ℕ) (w : Words) (s : Mailbox) : Type 0 where
   pub idle : Idle l p w s
   pub same : s.shown ≡ s0.shown
@@ -85,7 +85,7 @@ module _ (l : Layout) (p : ℕ) (m : Message) (s0 : Mailbox) where
             )),
       )
 
-  -- gets of a row
+  -- gets of several words in a row
   gets_safe : (i n : ℕ) (read : List ℕ) (next : List ℕ → Script Reply) (w : Words) (s : Mailbox) → Seen l p m s0 w s → Safe l p m s0 (next (read ++ row w i n)) w s → Safe l p m s0 (gets i n read next) w s
   gets_safe i zero read next w s look h =
       let P : List ℕ → Type 0 = λ xs. Safe l p m s0 (next xs) w s in subst P (append-nil read) h
@@ -100,7 +100,7 @@ module _ (l : Layout) (p : ℕ) (m : Message) (s0 : Mailbox) where
   repair_idle w s h same =
       let look = seen_idle w s h same in (look, rw h.disarmed (look, same, h.disarmed))
 
--- words that differ in the board, or in ruined, alone
+-- words that differ only on the board or in ruined
 pub Shape-alike : (l : Layout) (p : ℕ) (v w : Words) (s t : Mailbox) → ((j : ℕ) → 0 < j → j < 6 + l.width → v j ≡ w j) → ((j : ℕ) → 10 + l.width ≤ j → v j ≡ w j) → v 0 ≡ bit t.ruined
     → t.closed ≡ s.closed → t.shown ≡ s.shown → t.pending ≡ s.pending → (t.ruined ≡ false → s.ruined ≡ false) → Shape l p w s → Shape l p v t
 Shape-alike l p v w s t low high ruined closed shown pending less h =

@@ -1,4 +1,4 @@
--- What a put leaves of a mode, and which mode a deed leads to.
+-- What a put keeps of a mode, and the mode after a deed.
 use Rattle.std.proofs.Common.{◌≡◌, ℕ, zero, suc, ◌+◌, ◌<◌, ◌≤◌, true, false, not, ◌==◌, nat_lt, cond, List, [], ◌∷◌, ◌++◌, length, is_none, refl, sym, ◌∙◌, ap, inl, inr, arith, add-one, length-append, below_more, eq-eqb, ne_eqb, lt-ltb}
 use Rattle.redomail.proofs.Common.{cases_eq, bytes_eq-Decides, put, AllHold, Layout, Message, Record, row, Words, last_at, place_at, message, Mailbox, done, is_by, is_pending, entry, entries}
 use Rattle.redomail.proofs.Common.{count_of, bit}
@@ -28,7 +28,7 @@ Base-put l p w s t i v h ruined closed b = record {
   closed = put-other w i v 1 (λ e. omega arith) ∙ b.closed ∙ ap bit (sym closed);
 }
 
--- Idle, and a put of a record word
+-- Idle, after a put of a record word
 pub Idle-put : (l : Layout) (p : ℕ) (w : Words) (s : Mailbox) (i v : ℕ) → 3 < i → i < 10 + l.width → Idle l p w s → Idle l p (put w i v) s
 Idle-put l p w s i v a b h =
     let alike : (j : ℕ) → 10 + l.width ≤ j → j < place_at l (w 2) → put w i v j ≡ w j = λ j x y. put-other w i v j (λ e. omega arith) in
@@ -54,7 +54,7 @@ Armed-put l p w s r i v a h = record {
   value = row-alike (put w i v) w 6 l.width (λ j x y. put-other w i v j (λ e. omega arith)) ∙ h.value;
 }
 
--- Half, with p's last number not yet put, and a put of the entry at the record's place
+-- Half, before the put of p's last number, after a put of the entry at the record's place
 pub Half-put : (l : Layout) (p : ℕ) (w : Words) (s : Mailbox) (r : Record) (i v : ℕ) → place_at l r.at ≤ i → Half l p w s r × (w (last_at l p) + 1 ≡ r.seq) → Half l p (put w i v) s r × (put w i v (last_at l p) + 1 ≡ r.seq)
 Half-put l p w s r i v a g =
     let h = g.0 in
@@ -75,7 +75,7 @@ Half-put l p w s r i v a g =
       low,
     )
 
--- Half, with the entry whole, and a put of p's last number
+-- Half with a complete entry, after the put of p's last number
 pub Half-put-last : (l : Layout) (p : ℕ) (w : Words) (s : Mailbox) (r : Record) → entry l w r.at ≡ message p r.seq r.value → Half l p w s r → Half l p (put w (last_at l p) r.seq) s r
 Half-put-last l p w s r whole h =
     let process = h.armed.base.process in
@@ -104,7 +104,7 @@ Allowed-show l p w s r h =
     let e4 : (r.at == length s.shown) ≡ true = eq-eqb r.at (length s.shown) (rw h.shown (sym (length-entries l w r.at))) in
     (refl, (e3, (e4, tt)))
 
--- the shown list after a Show is that of the words after the put of count
+-- the messages shown after a Show are those of the words after the put of count
 pub Whole-from_half : (l : Layout) (p : ℕ) (w : Words) (s : Mailbox) (r : Record) → entry l w r.at ≡ message p r.seq r.value → w (last_at l p) ≡ r.seq → Half l p w s r
     → Whole l p (put w 2 (r.at + 1)) (done s (deed.Show p r.at r.seq r.value)) r
 Whole-from_half l p w s r whole last h =
@@ -147,7 +147,7 @@ Whole-from_half l p w s r whole last h =
       pending = refl;
     }
 
--- no record is armed any more
+-- no record is armed after it
 pub Idle-from_whole : (l : Layout) (p : ℕ) (w : Words) (s : Mailbox) (r : Record) → Whole l p w s r → Idle l p (put w 3 0) s
 Idle-from_whole l p w s r h =
     let b = h.armed.base in
@@ -163,7 +163,7 @@ Idle-from_whole l p w s r h =
       pending = h.pending;
     }
 
--- what an append has found, and knows of its record
+-- an append that has read its words, and what it knows of its record
 pub record Ready (l : Layout) (p : ℕ) (w : Words) (s : Mailbox) (r : Record) : Type 0 where
   pub idle : Idle l p w s
   pub at : r.at ≡ w 2

@@ -1,4 +1,4 @@
--- What proof files of this crate cite from modules that two or more of them share, passed on from one place. Declares nothing.
+-- Imports that two or more proof files of this crate share. Declares nothing.
 pub use Rattle.std.proofs.Math.ListN.{length-set, get_or-append}
 pub use Rattle.std.proofs.lemmas.Bool.{cases_Bool, cond_both, eqb-false, cases_eq, or_right, cond-true, cond-false, false≢true}
 pub use Rattle.std.proofs.lemmas.Slice.Eq.{bytes_eq-Decides}

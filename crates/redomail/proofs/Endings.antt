@@ -1,4 +1,4 @@
--- What the tasks leave in the words ruined and armed.
+-- The words ruined and armed after the tasks.
 use Rattle.std.proofs.Common.{◌≡◌, ℕ, ◌+◌, true, ◌==◌, List, [], ◌∷◌, ◌++◌, refl, sym, ap, ◌∙◌, arith, append_assoc, nat_le, nat_lt, eqb-true}
 use Rattle.redomail.proofs.Common.{cond_both, eqb-false, put, Layout, Record, Reply, row, Words, held, last_at, board_at, place_at, final, written, Done, puts, Script, in_row, apply_steps}
 use Rattle.redomail.proofs.Common.{store_steps, record_of, redo, decided, close, repair}
@@ -12,7 +12,7 @@ written-other : (xs : List (ℕ × ℕ)) (w : Words) (i : ℕ) → Outside xs i 
 written-other [] w i out = refl
 written-other (x ∷ xs) w i out = written-other xs (put w x.0 x.1) i out.1 ∙ put-other w x.0 x.1 i out.0
 
--- a script leaves ruined as it was, and no record armed
+-- a script keeps ruined and leaves no record armed
 abbrev Ends : Words → Script Reply → Type 0
 Ends w e = (final e w 0 ≡ w 0) × (final e w 3 ≡ 0)
 

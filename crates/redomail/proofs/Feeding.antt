@@ -1,4 +1,4 @@
--- A job that was given one more word: it fits its layout still, and what is left of it is the tail of its script.
+-- A job after one more word: it still fits its layout, and the rest of it is the tail of its script.
 use Rattle.std.proofs.Common.{◌≡◌, ℕ, ◌+◌, ◌-◌, ◌*◌, ◌<◌, ◌≤◌, Bool, true, false, ◌==◌, nat_lt, nat_le, if◌then◌else◌, List, length, take, slice_set, refl, sym, ap, ◌∙◌, inl, inr, arith, length-take, length-set, ltb-true, ltb-false}
 use Rattle.redomail.proofs.Common.{cases_Bool, Layout, Reply, Task, left_at, value_width, buffer_width, words_read, steps_done, board_index, FitsStage, IsLayout, Done, puts, tail, store_steps}
 use Rattle.redomail.proofs.Common.{record_of, redo, decided}
@@ -10,7 +10,7 @@ use Rattle.redomail.specs.Stages.{first_stage, stage_after, decided_stage, read_
 use Rattle.redomail.proofs.Scripts.{store-on, store-end, store-redo, read-on, read-end}
 
 module _ (l : Layout) (lawful : IsLayout l) where
-  -- a stage that holds nothing but a value of the layout's width
+  -- a stage whose only data is a value of the layout's width
   fits : (x : Stage) → value_width l x ≡ l.width → buffer_width x ≡ 8 → words_read x ≡ 0 → steps_done x ≡ 0 → board_index x ≡ 0 → FitsStage l x
   fits x value buffer read step board =
       let least = lawful.least in
@@ -19,7 +19,7 @@ module _ (l : Layout) (lawful : IsLayout l) where
   fits_ended : (a : Reply) → FitsStage l (stage.Ended a)
   fits_ended a = fits (stage.Ended a) refl refl refl refl refl
 
-  -- a task that no job is refused for its index or its value
+  -- a task that is not refused for its index or its value
   abbrev pub FitsTask : Task → Type 0
   FitsTask (task.Append seq value) = length value ≡ l.width
   FitsTask (task.BoardGet i) = i < 4
@@ -38,7 +38,7 @@ module _ (l : Layout) (lawful : IsLayout l) where
   pub fits_usable : FitsStage l stage.AskUsable
   fits_usable = fits stage.AskUsable refl refl refl refl refl
 
-  -- an append that knows the three words
+  -- an append that has read its three words
   fits_decided : (seq : ℕ) (value : List ℕ) (closed count last : ℕ) → length value ≡ l.width → FitsStage l (decided_stage l seq value closed count last)
   fits_decided seq value closed count last wide = by (seq == 0) (nat_le seq last) (nat_lt (last + 1) seq) (closed == 1) (count == l.cap)
     where
@@ -64,7 +64,7 @@ module _ (l : Layout) (lawful : IsLayout l) where
       by false false false false true = refl
       by false false false false false = refl
 
-  -- a repair that was given one more word of the record's value
+  -- a repair after one more word of the record's value
   fits_read : (at seq : ℕ) (words : List ℕ) (read word : ℕ) → length words ≡ 8 → read < l.width → FitsStage l (read_stage l at seq (slice_set words read word) (read + 1))
   fits_read at seq words read word room within =
       let most = lawful.most in

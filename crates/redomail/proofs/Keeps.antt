@@ -1,4 +1,4 @@
--- A run of a safe script keeps the mailbox, and entries below count stand.
+-- A run of a safe script keeps the mailbox and the entries below count.
 use Rattle.std.proofs.Common.{ℕ, zero, suc, List, refl, subst, sym}
 use Rattle.redomail.proofs.Common.{Deed, Layout, Message, Reply, Task, deeds_of_put, Words, MailLeads, Mailbox, MayBegin, added_by, StepKept, Run, stepped_to, ran, start, Kept, Safe, Done, Put}
 use Rattle.redomail.proofs.Common.{Script, tail, Get, script}
@@ -9,7 +9,7 @@ use Rattle.redomail.proofs.Safe.{seen}
 use Rattle.redomail.proofs.Begins.{begun_safe}
 
 module _ (l : Layout) (p : ℕ) (m : Message) (s0 : Mailbox) where
-  -- after some steps: the deeds so far are allowed, and what is left is safe
+  -- after some steps: the deeds so far are allowed, and the rest is safe
   abbrev pub Stood : Run Reply → Type 0
   Stood x = (s : Mailbox) × MailLeads l.cap s0 x.deeds s × Safe l p m s0 x.left x.words s
 

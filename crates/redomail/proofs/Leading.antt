@@ -1,4 +1,4 @@
--- Deeds of the mailbox one after another.
+-- Lists of mailbox deeds, one after another.
 use Rattle.std.proofs.Common.{◌≡◌, ℕ, true, List, [], ◌∷◌, ◌++◌, refl, sym, subst}
 use Rattle.redomail.proofs.Common.{AllHold, Deed, MailLeads, Mailbox, done}
 use Rattle.redomail.specs.Mailbox.{row}

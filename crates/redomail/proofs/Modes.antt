@@ -1,9 +1,9 @@
--- The three modes of the words while a task runs: no record is armed, one is and isn't shown, one is and is shown.
+-- The three modes of the words during a task: no record is armed, one is armed and not shown, one is armed and shown.
 use Rattle.std.proofs.Common.{◌≡◌, ◌≢◌, ℕ, ◌+◌, ◌<◌, ◌≤◌, false, Some, None, refl, ◌⊎◌, sym, ◌∙◌, ap, subst, inl, inr, arith, length, zero, suc, eq-eqb, ne_eqb}
 use Rattle.redomail.proofs.Common.{cond_both, Layout, Record, row, Words, last_at, IsLayout, message, Mailbox, entry, entries, count_of, IsNumbered, Shape, bit, recorded, RecordRule, ListRule}
 use Rattle.redomail.proofs.Common.{Unshown, Shown, pending_in}
 
--- what every mode has
+-- the facts of every mode
 pub record Base (l : Layout) (p : ℕ) (w : Words) (s : Mailbox) : Type 0 where
   pub layout : IsLayout l
   pub process : p < l.procs
@@ -31,7 +31,7 @@ pub record Armed (l : Layout) (p : ℕ) (w : Words) (s : Mailbox) (r : Record) :
   pub wide : length r.value ≡ l.width
   pub room : r.at < l.cap
 
--- and isn't shown
+-- it isn't shown
 pub record Half (l : Layout) (p : ℕ) (w : Words) (s : Mailbox) (r : Record) : Type 0 where
   pub armed : Armed l p w s r
   pub count : w 2 ≡ r.at
@@ -42,7 +42,7 @@ pub record Half (l : Layout) (p : ℕ) (w : Words) (s : Mailbox) (r : Record) : 
   pub last : (w (last_at l p) + 1 ≡ r.seq) ⊎ ((w (last_at l p) ≡ r.seq) × (entry l w r.at ≡ message p r.seq r.value))
   pub pending : s.pending ≡ Some (message p r.seq r.value)
 
--- or is
+-- it is shown
 pub record Whole (l : Layout) (p : ℕ) (w : Words) (s : Mailbox) (r : Record) : Type 0 where
   pub armed : Armed l p w s r
   pub count : w 2 ≡ r.at + 1
@@ -72,7 +72,7 @@ Shape-from_idle l p w s h = record {
   pending = λ _. rw h.disarmed h.pending;
 }
 
--- an armed record with its rule, and what is shown
+-- an armed record with its rule, and the messages shown
 Shape-from_armed : (l : Layout) (p : ℕ) (w : Words) (s : Mailbox) (r : Record) → Armed l p w s r → w 2 ≤ l.cap → s.shown ≡ entries l w (w 2) → Unshown l p w ⊎ Shown l p w → s.pending ≡ pending_in l p w → Shape l p w s
 Shape-from_armed l p w s r h room shown rule pending = record {
   ruined = h.base.sound ∙ sym (bit_of_unruined s h.base.unruined);
@@ -111,7 +111,7 @@ Shape-from_whole l p w s r h =
     })
     (h.pending ∙ (rw (h.armed.armed, ne_eqb (w 2) (w 4) (λ e. omega arith)) refl))
 
--- From the shape to the modes, for a process that is inside a lock that isn't ruined.
+-- From the shape to the modes, for the process inside a lock that isn't ruined.
 
 pub closed_off : (s : Mailbox) (x : ℕ) → x ≡ bit s.closed → (x ≡ 1 → ⊥) → s.closed ≡ false
 closed_off s x e other = cond_both s.closed 1 0 (λ y. x ≡ y → s.closed ≡ false) (λ _ h. absurd (other h)) (λ h _. h) e

@@ -1,4 +1,4 @@
--- A script over a list of words: where a run of its steps has come.
+-- A script over a list of words: the state after some of its steps.
 use Rattle.std.proofs.Common.{◌≡◌, ◌≢◌, ℕ, zero, suc, ◌+◌, ◌<◌, List, length, slice_index, slice_set, refl, sym, ◌∙◌, ap, subst, inl, inr, arith, get_or-set_same, get_or-set_other}
 use Rattle.redomail.proofs.Common.{length-set, cases_eq, put, Deed, Layout, Message, held, Reply, Task, Words, words_of, size, Mailbox, added_by, Run, stepped_to, ran, start, Safe, Done, Put, Script, tail}
 use Rattle.redomail.proofs.Common.{Get, head, Shape, script}
@@ -7,7 +7,7 @@ use Rattle.redomail.specs.Cells.{step_over, steps_over, steps_left, outcome, IsO
 use Rattle.redomail.proofs.Words.{put-other, put-same}
 use Rattle.redomail.proofs.Keeps.{tasks_keep, stood}
 
--- Some steps lead to what is left and these words, and from there to the same outcome.
+-- Some steps lead to this rest and these words, and from there to the same outcome.
 pub record IsReached (e : Script Reply) (xs : List ℕ) (f : Script Reply) (ys : List ℕ) : Type 0 where
   pub count : ℕ
   pub left_is : (steps_over count e xs).0 ≡ f
@@ -32,7 +32,7 @@ reached_step e xs f ys h = record {
   same = outcome-step f ys ∙ h.same;
 }
 
--- what a script wants shows what it is
+-- the next access decides which kind of script it is
 step_of_get : (f : Script Reply) (ys : List ℕ) (i : ℕ) → want.Get i ≡ head f → step_over f ys ≡ (tail f (slice_index ys i), ys)
 step_of_get (Get j next) ys i e =
     let same : i ≡ j = cc in rw same refl
@@ -53,7 +53,7 @@ is_done (Put j u rest) a e = cc
 is_done (Done b) a e =
     let same : a ≡ b = cc in rw same refl
 
--- one more step, with the equations that a loop over the words has
+-- one more step, in the form that a loop over the words needs
 pub reached_got : (e : Script Reply) (xs : List ℕ) (f : Script Reply) (ys : List ℕ) (i word : ℕ) (f2 : Script Reply) (ys2 : List ℕ) → want.Get i ≡ head f → word ≡ slice_index ys i → f2 ≡ tail f word → ys2 ≡ ys
     → IsReached e xs f ys → IsReached e xs f2 ys2
 reached_got e xs f ys i word f2 ys2 en ew ef ey h =
@@ -151,7 +151,7 @@ words_of-set xs i v l = λ t j. each j t
       | inr ne ↦ put-other (words_of xs) i v j ne ∙ (let d : j ≢ i = ne in rw get_or-set_other refl)
     ]
 
--- the run over the list is the run over the words
+-- the run over the list is the run over the words as a function
 record Agrees (l : Layout) (x : Run Reply) (f : Script Reply) (ys : List ℕ) : Type 0 where
   pub left_is : x.left ≡ f
   pub words_is : x.words ≡ words_of ys

@@ -1,4 +1,4 @@
--- Whose deeds a put's are.
+-- The process of a put's deeds.
 use Rattle.std.proofs.Common.{◌&&◌, ◌==◌, refl}
 use Rattle.redomail.proofs.Common.{cond_both, AreOwn}
 use Rattle.redomail.specs.Laws.{PutsAreOwn}

@@ -1,4 +1,4 @@
--- The shape passes from one process inside to the next, where one may leave.
+-- The shape carries over from one process inside to the next, wherever a process may leave.
 use Rattle.std.proofs.Common.{true, None, is_none, ◌≡◌, ℕ, refl, sym, ◌∙◌, inl, inr, arith, true≢false}
 use Rattle.redomail.proofs.Common.{cases_Bool, or_right, Layout, Words, pending_in}
 use Rattle.redomail.specs.Laws.{MayLeave, ShapePassesOn}

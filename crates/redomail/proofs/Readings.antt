@@ -25,7 +25,7 @@ pub slice-length : (xs : List ℕ) (i n : ℕ) → i + n ≤ length xs → row (
 slice-length xs i n h =
     let e : i + n - i ≡ n = omega arith in rw e (row-slice xs i n h)
 
--- a place stands within the words
+-- the words of a place are within the words
 pub place_within : (l : Layout) (xs : List ℕ) (a : ℕ) → HeadsHold l xs → a < l.cap → (10 + l.width ≤ place_at l a) × (place_at l a + 2 + l.width ≤ length xs)
 place_within l xs a h room =
     let low = place_low l a in

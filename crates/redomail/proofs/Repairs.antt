@@ -1,4 +1,4 @@
--- A repair writes all apply steps, whatever front of them stands already.
+-- A repair writes all apply steps, however many of them are written already.
 use Rattle.std.proofs.Common.{◌≡◌, ℕ, zero, suc, ◌+◌, ◌<◌, ◌≤◌, true, List, [], ◌∷◌, ◌++◌, take, refl, ◌⊎◌, sym, ◌∙◌, ap, subst, inl, inr, arith, append_assoc, append-nil}
 use Rattle.redomail.proofs.Common.{cases_eq, put, Layout, Record, Reply, row, Words, held, last_at, place_at, final, written, Done, puts, Script, gets, in_row, apply_steps, record_of, redo, repair}
 use Rattle.redomail.specs.declared.reply.Reply.TheVariants as reply
@@ -18,13 +18,13 @@ pub Outside-in_row : (at : ℕ) (vs : List ℕ) (i : ℕ) → i < at → i < 100
 Outside-in_row at [] i a b = tt
 Outside-in_row at (v ∷ vs) i a b = ((λ e. omega arith), Outside-in_row (at + 1) vs i (omega arith) b)
 
--- a front of the puts changes no word but theirs
+-- the first j puts change no word but their own
 front_other : (j : ℕ) (xs : List (ℕ × ℕ)) (w : Words) (i : ℕ) → Outside xs i → written (take j xs) w i ≡ w i
 front_other zero xs w i out = refl
 front_other (suc j) [] w i out = refl
 front_other (suc j) (x ∷ xs) w i out = front_other j xs (put w x.0 x.1) i out.1 ∙ put-other w x.0 x.1 i out.0
 
--- words that differ only where the puts write are alike after all of them
+-- words that agree wherever the puts don't write agree everywhere after them
 written-same : (xs : List (ℕ × ℕ)) (v w : Words) → ((i : ℕ) → Outside xs i → v i ≡ w i) → (i : ℕ) → written xs v i ≡ written xs w i
 written-same [] v w same i = same i tt
 written-same (x ∷ xs) v w same i =
@@ -49,7 +49,7 @@ final-gets i zero read next w = ap (λ xs. final (next xs) w) (sym (append-nil r
 final-gets i (suc n) read next w =
     final-gets (i + 1) n (read ++ w i ∷ []) next w ∙ ap (λ xs. final (next xs) w) (append_assoc read (w i ∷ []) (row w (i + 1) n))
 
--- a front of the puts before the last one, or all of them
+-- the first j puts without the last one, or all of them
 front_or_all : (j : ℕ) (xs : List (ℕ × ℕ)) (y : ℕ × ℕ) → ((w : Words) (i : ℕ) → Outside xs i → written (take j (xs ++ y ∷ [])) w i ≡ w i) ⊎ (take j (xs ++ y ∷ []) ≡ xs ++ y ∷ [])
 front_or_all zero xs y = inl (λ w i out. refl)
 front_or_all (suc zero) [] y = inr refl
@@ -61,7 +61,7 @@ front_or_all (suc j) (x ∷ xs) y =
     ]
 
 module _ (l : Layout) (p : ℕ) (r : Record) where
-  -- the apply steps but for the last, that clears the flag
+  -- the apply steps without the last, which clears armed
   abbrev front_steps : List (ℕ × ℕ)
   front_steps = in_row (place_at l r.at) (p ∷ r.seq ∷ r.value) ++ (last_at l p, r.seq) ∷ (2, held (r.at + 1)) ∷ []
 

@@ -1,4 +1,4 @@
--- Scripts that are safe, put by put.
+-- Safety of a script, put by put.
 use Rattle.std.proofs.Common.{◌≡◌, ℕ, ◌+◌, ◌<◌, ◌≤◌, List, [], ◌∷◌, ◌++◌, length, refl, sym, ◌∙◌, subst, arith}
 use Rattle.redomail.proofs.Common.{put, Layout, Message, Reply, row, Words, held, IsLayout, size, Mailbox, Safe, Seen, Put, puts, Script, in_row, Get}
 use Rattle.redomail.proofs.Leading.{no_deed}
@@ -17,7 +17,7 @@ module _ (l : Layout) (p : ℕ) (m : Message) (s0 : Mailbox) where
   pub quiet : (i v : ℕ) (e : Script Reply) (w : Words) (s : Mailbox) → 3 < i → i < size l → Seen l p m s0 w s → Safe l p m s0 e (put w i v) s → Safe l p m s0 (Put i v e) w s
   quiet i v e w s low high look h = (look, high, (s, no_deed l.cap s _ (deeds_of_put-none l p w i v low), h))
 
-  -- a row that stands already
+  -- puts of values that the words have already
   pub same_row : (i : ℕ) (vs : List ℕ) (ys : List (ℕ × ℕ)) (e : Script Reply) (w : Words) (s : Mailbox) → IsLayout l → 3 < i → i + length vs ≤ size l
       → row w i (length vs) ≡ vs → Safe l p m s0 (puts ys e) w s → Safe l p m s0 (puts (in_row i vs ++ ys) e) w s
   same_row i [] ys e w s layout low high stands h = h
@@ -31,7 +31,7 @@ module _ (l : Layout) (p : ℕ) (m : Message) (s0 : Mailbox) where
       subst P (sym same) (quiet i v _ w s low (omega arith) (seen _ w s rest)
       (subst (λ x. Safe l p m s0 (puts (in_row (i + 1) vs ++ ys) e) x s) (sym (put-nothing w i v here)) rest))
 
-  -- a row of puts that keep what is known
+  -- several puts in a row that keep what is known
   pub row_of : (Known : Words → Type 0) (low high : ℕ) (s : Mailbox) → IsLayout l → 3 < low → high ≤ size l
       → ((w : Words) → Known w → Seen l p m s0 w s) → ((w : Words) (i v : ℕ) → low ≤ i → i < high → Known w → Known (put w i v))
       → (i : ℕ) (vs : List ℕ) (ys : List (ℕ × ℕ)) (e : Script Reply) (w : Words) → low ≤ i → i + length vs ≤ high → Known w

@@ -1,4 +1,4 @@
--- Puts and gets in a row, from some step on.
+-- Puts and gets in a row, after some of their steps.
 use Rattle.std.proofs.Common.{◌≡◌, ℕ, zero, suc, ◌+◌, ◌-◌, ◌*◌, ◌<◌, ◌≤◌, List, [], ◌∷◌, ◌++◌, length, take, drop, slice_index, slice_set, refl, sym, ◌∙◌, ap, arith, length-append}
 use Rattle.redomail.proofs.Common.{Layout, Record, Reply, held, last_at, place_at, puts, Script, gets, in_row, tail, apply_steps, store_steps}
 use Rattle.std.proofs.lemmas.List.{take_more_set}
@@ -104,7 +104,7 @@ store-redo l p r k h = past_commit l p r k 0 (omega arith)
 pub gets-on : (i n m : ℕ) (read : List ℕ) (next : List ℕ → Script Reply) (x : ℕ) → n ≡ suc m → tail (gets i n read next) x ≡ gets (i + 1) m (read ++ x ∷ []) next
 gets-on i n m read next x h = rw h refl
 
--- a repair that was given one more word, and the last word
+-- a repair after one more word, and after the last word
 pub read-on : (width read : ℕ) (words : List ℕ) (x : ℕ) (next : List ℕ → Script Reply) → read + 1 ≤ width → read < length words
     → gets (6 + (read + 1)) (width - (read + 1)) (take (read + 1) (slice_set words read x)) next ≡ tail (gets (6 + read) (width - read) (take read words) next) x
 read-on width read words x next h room =

@@ -1,4 +1,4 @@
--- What is shown stays, and so do the entries below count.
+-- Messages shown stay shown, and entries below count stay the same.
 use Rattle.std.proofs.Common.{◌≡◌, ℕ, zero, suc, ◌+◌, ◌<◌, ◌≤◌, List, [], ◌∷◌, ◌++◌, length, refl, sym, ◌∙◌, ap, subst, inl, inr, arith, length-append, append_assoc, get_or, append-nil}
 use Rattle.redomail.proofs.Common.{get_or-append, cases_eq, Deed, Layout, Message, Words, message, Mailbox, done, entry, entries, recorded}
 use Rattle.std.proofs.Math.Seq.{get_or-append_seam}
@@ -31,7 +31,7 @@ get_or-entries l w (suc k) a d h =
           get_or-append (entries l w k) (entry l w k ∷ []) d a (omega (arith, other)) ∙ get_or-entries l w k a d (omega (arith, other))
     ]
 
--- of a list that was prolonged, the old entries stand
+-- a longer list keeps the old entries
 pub stand_by : (l : Layout) (v w : Words) (k n : ℕ) (more : List Message) → entries l v n ≡ entries l w k ++ more → (k ≤ n) × ((a : ℕ) → a < k → entry l v a ≡ entry l w a)
 stand_by l v w k n more e =
     let x = length-entries l v n in

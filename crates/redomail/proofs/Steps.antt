@@ -1,4 +1,4 @@
--- How many steps each task takes.
+-- The number of steps of each task.
 use Rattle.std.proofs.Common.{subst, false, inl, inr, ◌≡◌, ℕ, zero, suc, ◌+◌, ◌*◌, true, ◌==◌, List, [], ◌∷◌, ◌++◌, length, refl, sym, ◌∙◌, ap, arith, length-append, Bool, not, if◌then◌else◌, nat_le, nat_lt}
 use Rattle.redomail.proofs.Common.{cases_Bool, cond_both, Layout, Record, Reply, Words, held, last_at, place_at, steps, answer, steps_of, Done, puts, Script, gets, in_row, Get, apply_steps}
 use Rattle.redomail.proofs.Common.{store_steps, record_of, redo, decided, repair}

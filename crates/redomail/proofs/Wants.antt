@@ -1,4 +1,4 @@
--- A job that has not ended wants something yet.
+-- A job that has not ended has a next access.
 use Rattle.std.proofs.Common.{◌≡◌, ℕ, zero, suc, ◌+◌, ◌-◌, ◌*◌, ◌<◌, List, [], ◌∷◌, None, length, take, drop, refl, arith}
 use Rattle.redomail.specs.declared.layout.Layout.{Layout}
 use Rattle.redomail.specs.declared.record.Record.{Record}

@@ -1,4 +1,4 @@
--- Words after a put, rows of words, places, and what of the list rule a put leaves alone.
+-- Words after a put, ranges of words, places, and the words of the list rule that a put does not change.
 use Rattle.std.proofs.Common.{◌≡◌, ℕ, zero, suc, ◌+◌, ◌<◌, ◌≤◌, ◌==◌, List, [], ◌∷◌, refl, sym, ◌∙◌, ap, subst, arith, eqb-true, eq-eqb, ne_eqb}
 use Rattle.redomail.proofs.Common.{cond_both, cond-true, cond-false, put, Layout, deeds_of_put, row, Words, last_at, IsLayout, place_at, message, entry, entries, IsNumbered, ListRule}
 
@@ -8,14 +8,14 @@ put-other w i v j ne = cond-false (j == i) v (w j) (ne_eqb j i ne)
 pub put-same : (w : Words) (i v j : ℕ) → j ≡ i → put w i v j ≡ v
 put-same w i v j e = cond-true (j == i) v (w j) (eq-eqb j i e)
 
--- a put of what stands already changes no word
+-- a put of a word's own value changes nothing
 pub put-nothing : (w : Words) (i v : ℕ) → w i ≡ v → put w i v ≡ w
 put-nothing w i v e = λ t j. each j t
   where
     each : (j : ℕ) → put w i v j ≡ w j
     each j = cond_both (j == i) v (w j) (λ x. x ≡ w j) (λ h. sym e ∙ ap w (sym (eqb-true j i h))) (λ _. refl)
 
--- Places are apart.
+-- Places don't overlap.
 pub place_low : (l : Layout) (a : ℕ) → 10 + l.width + l.procs ≤ place_at l a
 unfolding place_at
 place_low l a = omega arith
@@ -28,7 +28,7 @@ pub place_small : (l : Layout) (a : ℕ) → IsLayout l → a ≤ 65536 → plac
 unfolding place_at
 place_small l a h small = grind arith
 
--- Rows.
+-- Ranges of words.
 pub row-alike : (v w : Words) (i n : ℕ) → ((j : ℕ) → i ≤ j → j < i + n → v j ≡ w j) → row v i n ≡ row w i n
 row-alike v w i zero alike = refl
 row-alike v w i (suc n) alike =
@@ -36,7 +36,7 @@ row-alike v w i (suc n) alike =
     let b = row-alike v w (i + 1) n (λ j x y. alike j (omega arith) (omega arith)) in
     rw (a, b) refl
 
--- the words of an entry, in a row
+-- the words of an entry, as a range
 pub entry-from_row : (l : Layout) (w : Words) (a p seq : ℕ) (value : List ℕ) → row w (place_at l a) (suc (suc l.width)) ≡ p ∷ seq ∷ value → entry l w a ≡ message p seq value
 entry-from_row l w a p seq value e =
     let two : place_at l a + 1 + 1 ≡ place_at l a + 2 = omega arith in

@@ -1,4 +1,4 @@
--- Words that may stop before any call, and what a script leaves in them.
+-- A script run over a list of data words, with stops between its steps.
 use Rattle.std.specs.Prelude.{◌≡◌, ℕ, zero, suc, ◌+◌, ◌<◌, List, length, slice_index, slice_set}
 use Rattle.redomail.specs.declared.deed.Deed.{Deed}
 use Rattle.redomail.specs.declared.message.Message.{Message}
@@ -15,7 +15,7 @@ use Rattle.redomail.specs.Replies.{Tells, Disarms}
 use Rattle.redomail.specs.Safe.{Added}
 use Rattle.redomail.specs.Runs.{MayBegin, added_by}
 
--- a script and the words that it stands over: one step, and this many steps
+-- one step of a script over its words, and several steps
 abbrev pub step_over : {A : Type 0} → Script A → List ℕ → Script A × List ℕ
 step_over (Get i next) xs = (next (slice_index xs i), xs)
 step_over (Put i v rest) xs = (rest, slice_set xs i v)
@@ -25,23 +25,23 @@ abbrev pub steps_over : {A : Type 0} → ℕ → Script A → List ℕ → Scrip
 steps_over zero e xs = (e, xs)
 steps_over (suc k) e xs = step_over (steps_over k e xs).0 (steps_over k e xs).1
 
--- the reply and the words that a script ends with
+-- the reply and the words at the script's end
 abbrev pub outcome : {A : Type 0} → Script A → List ℕ → A × List ℕ
 outcome (Get i next) xs = outcome (next (slice_index xs i)) xs
 outcome (Put i v rest) xs = outcome rest (slice_set xs i v)
 outcome (Done a) xs = (a, xs)
 
--- how many steps it has
+-- the number of steps to the script's end
 abbrev pub steps_left : {A : Type 0} → Script A → List ℕ → ℕ
 steps_left (Get i next) xs = suc (steps_left (next (slice_index xs i)) xs)
 steps_left (Put i v rest) xs = suc (steps_left rest (slice_set xs i v))
 steps_left (Done a) xs = 0
 
--- The words are those after some of the script's steps.
+-- the words after some of the script's steps
 abbrev pub IsOnWay : {A : Type 0} → Script A → List ℕ → List ℕ → Type 0
 IsOnWay e old new = (k : ℕ) × (new ≡ (steps_over k e old).1)
 
--- A call stopped after so many of the script's steps, each of which was one call: the words are those after these steps.
+-- A call stopped after k of the script's steps, each of which was one call. The words are those after these steps.
 abbrev pub StopsAfter : {A : Type 0} → Script A → List ℕ → List ℕ → ℕ → ℕ → Type 0
 StopsAfter e old new before now = (k : ℕ) × (k < steps_left e old) × (new ≡ (steps_over k e old).1) × (now ≡ held (before + k + 1))
 
@@ -51,7 +51,7 @@ pub record Ready (l : Layout) (p : ℕ) (e : Script Reply) (xs : List ℕ) (t : 
   pub size : length xs ≡ size l
   pub may : MayBegin l p t (words_of xs) s
 
--- The words still stand for a mailbox, to which legal deeds lead, with the messages shown of before, or with this one more.
+-- The words have the shape of a mailbox that legal deeds lead to. It shows the messages from before, or these and m.
 pub record MailboxKept (l : Layout) (p : ℕ) (m : Message) (s : Mailbox) (xs : List ℕ) : Type 0 where
   pub state : Mailbox
   pub deeds : List Deed
@@ -60,12 +60,12 @@ pub record MailboxKept (l : Layout) (p : ℕ) (m : Message) (s : Mailbox) (xs : 
   pub shape : Shape l p (words_of xs) state
   pub shown : Added m s state
 
--- What any call of a task keeps: the mailbox, for whatever mailbox the words stood before.
+-- "Mailbox clause" for any call of a task, whichever mailbox the words had at its beginning.
 abbrev pub TaskKept : Script Reply → List ℕ → List ℕ → Type 0
 TaskKept e old new =
     (l : Layout) (p : ℕ) (t : Task) (s : Mailbox) → Ready l p e old t s → MailboxKept l p (added_by l t p (words_of old)) s new
 
--- A task that was answered: its reply tells of the mailbox, and one of the mailbox leaves no record armed.
+-- A task that replied: the reply is true of the mailbox, and a task of the mailbox leaves no record armed.
 pub record Answered (l : Layout) (p : ℕ) (m : Message) (s : Mailbox) (reply : Reply) (xs : List ℕ) : Type 0 where
   pub state : Mailbox
   pub deeds : List Deed
@@ -74,6 +74,7 @@ pub record Answered (l : Layout) (p : ℕ) (m : Message) (s : Mailbox) (reply : 
   pub disarmed : Disarms reply (words_of xs)
   pub tells : Tells l p m s reply state
 
+-- the meaning of any task's reply, whichever mailbox the words had at its beginning
 abbrev pub TaskAnswered : Script Reply → List ℕ → Reply → List ℕ → Type 0
 TaskAnswered e old reply new =
     (l : Layout) (p : ℕ) (t : Task) (s : Mailbox) → Ready l p e old t s → Answered l p (added_by l t p (words_of old)) s reply new

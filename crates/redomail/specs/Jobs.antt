@@ -1,4 +1,4 @@
--- A job, seen as the script that is left of its task.
+-- The script that is left of a job, by its stage.
 use Rattle.std.specs.Prelude.{◌≡◌, ℕ, ◌+◌, ◌-◌, ◌*◌, ◌<◌, ◌==◌, [], length, take, drop}
 use Rattle.redomail.specs.declared.reply.Reply.{Reply}
 use Rattle.redomail.specs.declared.layout.Layout.{Layout}
@@ -10,6 +10,7 @@ use Rattle.redomail.specs.Layout.{board_at, last_at}
 use Rattle.redomail.specs.Script.{Script, Get, Put, Done, puts, gets}
 use Rattle.redomail.specs.Tasks.{store_steps, decided, append, repair, consistent, redo, close}
 
+-- the script that a stage leaves
 abbrev pub left_at : Layout → ℕ → Stage → Script Reply
 left_at l p (stage.AskClosed seq value) = append l p seq value
 left_at l p (stage.AskCount seq value closed) =
@@ -31,7 +32,7 @@ left_at l p stage.PutRuined = Put 0 1 (Done reply.Done)
 left_at l p stage.AskRuined = Get 0 (λ x. Done (Ruined (x == 1)))
 left_at l p (stage.Ended answer) = Done answer
 
--- how many words the value that a stage holds has
+-- the width of the value in a stage. Without a value it is the layout's width
 abbrev pub value_width : Layout → Stage → ℕ
 value_width l (stage.AskClosed seq value) = length value
 value_width l (stage.AskCount seq value closed) = length value
@@ -39,26 +40,28 @@ value_width l (stage.AskLast seq value closed count) = length value
 value_width l (stage.Write r step answer) = length r.value
 value_width l _ = l.width
 
--- the room for the words that a repair reads, and how many it has read
+-- the size of a repair's buffer
 abbrev pub buffer_width : Stage → ℕ
 buffer_width (stage.AskValue at seq words read) = length words
 buffer_width _ = 8
 
+-- the number of words read into it
 abbrev pub words_read : Stage → ℕ
 words_read (stage.AskValue at seq words read) = read
 words_read _ = 0
 
--- how many of the steps of storing stand
+-- the number of puts done, while a record is stored
 abbrev pub steps_done : Stage → ℕ
 steps_done (stage.Write r step answer) = step
 steps_done _ = 0
 
+-- the board index in a stage. Without one it is 0
 abbrev pub board_index : Stage → ℕ
 board_index (stage.GetBoard i) = i
 board_index (stage.PutBoard i v) = i
 board_index _ = 0
 
--- What a stage keeps, so that its values fit the layout.
+-- The bounds of a stage's values for a layout.
 pub record FitsStage (l : Layout) (x : Stage) : Type 0 where
   pub value : value_width l x ≡ l.width
   pub buffer : buffer_width x ≡ 8

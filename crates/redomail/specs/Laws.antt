@@ -1,4 +1,4 @@
--- The laws of the mailbox: what holds of its definitions, over every run.
+-- The laws of the mailbox, over every run of its definitions.
 use Rattle.std.specs.Prelude.{◌≡◌, ℕ, not, ◌+◌, ◌*◌, ◌<◌, ◌≤◌, true, false, ◌==◌, if◌then◌else◌, List, [], ◌++◌, length, take, slice_index, ◌⊎◌}
 use Rattle.rmecore.specs.Needs.{AllHold}
 use Rattle.rmecore.specs.declared.outer.Outer.TheVariants.{Leave}
@@ -22,28 +22,28 @@ use Rattle.redomail.specs.Safe.{Seen, Goes, Safe}
 use Rattle.redomail.specs.Endings.{FindsArmed, ruined_after, armed_after}
 use Rattle.redomail.specs.Runs.{stepped_to, ran, start, final, answer, steps, steps_of, written, added_by, FitsTask, MayBegin, Kept}
 
--- Each task that may begin is safe.
+-- Each task that may begin is a safe script.
 abbrev pub TasksAreSafe : Type 0
 TasksAreSafe =
     (l : Layout) (p : ℕ) (t : Task) (w : Words) (s : Mailbox) → MayBegin l p t w s → Safe l p (added_by l t p w) s (script l p t) w s
 
--- `consistent` is safe whenever a process is inside.
+-- `consistent` is a safe script whenever a process is inside.
 abbrev pub ConsistentIsSafe : Type 0
 ConsistentIsSafe =
     (l : Layout) (p : ℕ) (w : Words) (s : Mailbox) → IsLayout l → p < l.procs → Shape l p w s → Safe l p (recorded l p w) s (consistent l p) w s
 
--- Over the words of a safe script the shape holds.
+-- While a safe script runs, the words have the shape.
 abbrev pub SafeIsSeen : Type 0
 SafeIsSeen =
     (l : Layout) (p : ℕ) (m : Message) (old : Mailbox) (e : Script Reply) (w : Words) (now : Mailbox) → Safe l p m old e w now → Seen l p m old w now
 
--- A step of a safe script: its deeds are allowed and lead to where the rest is safe.
+-- A step of a safe script does allowed deeds, after which the rest of the script is safe.
 abbrev pub StepsStaySafe : Type 0
 StepsStaySafe =
     (l : Layout) (p : ℕ) (m : Message) (old : Mailbox) (e : Script Reply) (w : Words) (now : Mailbox) → Safe l p m old e w now
     → let x = stepped_to l p e w [] in Goes l now x.deeds (Safe l p m old x.left x.words)
 
--- A put's deeds are the mailbox's, by the process that puts.
+-- A put's deeds are deeds of the mailbox, by the process that puts.
 abbrev pub PutsAreOwn : Type 0
 PutsAreOwn = (l : Layout) (p : ℕ) (w : Words) (i v : ℕ) → AreOwn p (deeds_of_put l p w i v)
 
@@ -53,97 +53,97 @@ TasksKeep =
     (l : Layout) (p : ℕ) (t : Task) (w : Words) (s : Mailbox) (k : ℕ) → MayBegin l p t w s
     → Kept l p (added_by l t p w) s (ran l p k (start (script l p t) w))
 
--- Deeds take no message away that is shown.
+-- No deed removes a message that is shown.
 abbrev pub ShownGrows : Type 0
 ShownGrows =
     (cap : ℕ) (s t : Mailbox) (deeds : List Deed) → MailLeads cap s deeds t → (more : List Message) × (t.shown ≡ s.shown ++ more)
 
--- Words that stand for a mailbox, and words that stand for one to which deeds lead from there, whoever did them: the entries
--- below count are the same, and count is no lower.
+-- From words of one mailbox to words of another that legal deeds of any processes lead to: the entries below the old count
+-- are the same, and count is not lower.
 abbrev pub ShownEntriesStand : Type 0
 ShownEntriesStand =
     (l : Layout) (p q : ℕ) (w v : Words) (s t : Mailbox) (deeds : List Deed) → Shape l p w s → MailLeads l.cap s deeds t
     → Shape l q v t → (w 2 ≤ v 2) × ((a : ℕ) → a < w 2 → entry l v a ≡ entry l w a)
 
--- Entries below count never change under any number of a task's steps, and count does not fall.
+-- Under any number of a task's steps the entries below count stay the same, and count does not fall.
 abbrev pub EntriesStand : Type 0
 EntriesStand =
     (l : Layout) (p : ℕ) (t : Task) (w : Words) (s : Mailbox) (k : ℕ) → MayBegin l p t w s
     → let v = (ran l p k (start (script l p t) w)).words in
     (w 2 ≤ v 2) × ((a : ℕ) → a < w 2 → entry l v a ≡ entry l w a)
 
--- Repair completes: begun on any front of the apply steps of the record that is armed, it ends in the words that all of them give.
+-- A repair that begins after some of the apply steps of the armed record ends with the words after all of them.
 abbrev pub RepairCompletes : Type 0
 RepairCompletes =
     (l : Layout) (p : ℕ) (r : Record) (w : Words) (j : ℕ) → IsLayout l → p < l.procs → r.at < l.cap
     → w 3 ≡ 1 → w 4 ≡ r.at → w 5 ≡ r.seq → row w 6 l.width ≡ r.value
     → (i : ℕ) → final (repair l p) (written (take j (apply_steps l p r)) w) i ≡ written (apply_steps l p r) w i
 
--- The steps of each task, whatever the words are.
+-- "Tasks": the number of steps of each task, for any words.
 abbrev pub StepsTold : Type 0
 StepsTold =
     (l : Layout) (p : ℕ) (t : Task) (w : Words) → FitsTask l t → steps (script l p t) w ≡ steps_of l t (answer (script l p t) w)
 
--- how many steps `consistent` has taken that gives this reply
+-- the number of steps of a `consistent` with this reply
 abbrev pub consistent_steps : Layout → Reply → ℕ
 consistent_steps l (Mended true) = 9 + 2 * l.width
 consistent_steps l (Mended false) = 2
 consistent_steps l _ = 1
 
--- The steps of `consistent`, and its reply: whether the lock is ruined, else whether a record was armed.
+-- `consistent`: its number of steps, and its reply. A ruined lock is reported, else whether a record was armed.
 abbrev pub ConsistentTold : Type 0
 ConsistentTold =
     (l : Layout) (p : ℕ) (w : Words)
     → (steps (consistent l p) w ≡ consistent_steps l (answer (consistent l p) w))
     × (answer (consistent l p) w ≡ (if w 0 == 1 then Ruined true else Mended (not (w 3 == 0))))
 
--- What the tasks leave in the words ruined and armed, on any words.
+-- The words ruined and armed after each task, for any words.
 abbrev pub TasksEnd : Type 0
 TasksEnd =
     (l : Layout) (p : ℕ) (t : Task) (w : Words) → FindsArmed t (w 3)
     → (final (script l p t) w 0 ≡ ruined_after t (w 0)) × (final (script l p t) w 3 ≡ armed_after t (w 3))
 
--- `consistent` leaves ruined as it was and no record armed, unless the lock is ruined, and then it changes nothing.
+-- `consistent` keeps ruined, and leaves no record armed. If the lock is ruined it changes nothing.
 abbrev pub ConsistentEnds : Type 0
 ConsistentEnds =
     (l : Layout) (p : ℕ) (w : Words)
     → (final (consistent l p) w 0 ≡ w 0) × ((w 0 ≡ 1 → ⊥) → final (consistent l p) w 3 ≡ 0)
     × (w 0 ≡ 1 → final (consistent l p) w ≡ w)
 
--- Of numbered entries the numbers 1 to the count of p are shown.
+-- Of numbered entries, those of p have the numbers 1 to their count.
 abbrev pub NumbersAreShown : Type 0
 NumbersAreShown =
     (l : Layout) (w : Words) (p seq k : ℕ) → IsNumbered l w k → 0 < seq → seq ≤ count_of p (entries l w k) → IsAmong p seq (entries l w k)
 
--- Where an append is answered Stored or Already, its number is among its sender's messages shown.
+-- If an append replies Stored or Already, its number is among its sender's messages shown.
 abbrev pub AnsweredIsShown : Type 0
 AnsweredIsShown =
     (l : Layout) (p seq : ℕ) (value : List ℕ) (old now : Mailbox) (reply : Reply) (w : Words)
     → Safe l p (message p seq value) old (Done reply) w now → (reply ≡ Stored) ⊎ (reply ≡ Already) → IsAmong p seq now.shown
 
--- Words that are all 0 stand for an empty mailbox, whoever is inside.
+-- Words that are all 0 have the shape of an empty mailbox, whichever process is inside.
 abbrev pub NewWords : Type 0
 NewWords = (l : Layout) (p : ℕ) (w : Words) → ((i : ℕ) → w i ≡ 0) → Shape l p w nothing_shown
 
--- Where no record is armed, or the lock is ruined, the words have the shape for whoever comes inside.
+-- If no record is armed, or the lock is ruined, the words have the shape for every process inside.
 abbrev pub ShapePassesOn : Type 0
 ShapePassesOn =
     (l : Layout) (p q : ℕ) (w : Words) (s : Mailbox) → (w 3 ≡ 0) ⊎ (s.ruined ≡ true) → Shape l p w s → Shape l q w s
 
--- There the mailbox lets a process leave.
+-- If no record is armed, or the lock is ruined, the mailbox lets a process leave.
 abbrev pub MayLeave : Type 0
 MayLeave =
     (l : Layout) (p q cap : ℕ) (w : Words) (s : Mailbox) → (w 3 ≡ 0) ⊎ (s.ruined ≡ true) → Shape l p w s
     → AllHold (needs_of cap true s (Outer (Leave q)))
 
--- Words with the shape keep the rules of the content, and their content is what the mailbox shows.
+-- Words with the shape keep the rules of the content, and their content is the messages shown.
 abbrev pub ShapeIsContent : Type 0
 ShapeIsContent =
     (l : Layout) (p : ℕ) (xs : List ℕ) (s : Mailbox) → IsLayout l → length xs ≡ size l → Shape l p (words_of xs) s
     → IsContent l xs × (entries l (words_of xs) (slice_index xs 2) ≡ s.shown)
 
--- Words that keep the rules of the content have the shape for p, of the mailbox that they tell of, where an armed record of a
--- lock that isn't ruined is p's.
+-- Words that keep the rules of the content have the shape for p, of the mailbox that they describe, provided that an armed
+-- record of a lock that isn't ruined is p's.
 abbrev pub ContentIsShape : Type 0
 ContentIsShape =
     (l : Layout) (p : ℕ) (xs : List ℕ) → IsContent l xs → p < l.procs

@@ -1,11 +1,11 @@
--- Deeds of the mailbox, done by whoever is inside.
+-- Lists of mailbox deeds by the processes inside.
 use Rattle.std.specs.Prelude.{◌≡◌, ℕ, true, List, [], ◌∷◌}
 use Rattle.rmecore.specs.Needs.{AllHold}
 use Rattle.redomail.specs.Mailbox.{Mailbox, row, done}
 use Rattle.redomail.specs.declared.deed.Deed.{Deed}
 use Rattle.redomail.specs.declared.deed.Deed.TheVariants.{Outer, Commit, Show, Close, Ruin}
 
--- These deeds, each by a process that is inside, are allowed one after another and lead from this mailbox to that one.
+-- These deeds, each by a process inside, are allowed one after another and lead from mailbox m to mailbox t.
 abbrev pub MailLeads : ℕ → Mailbox → List Deed → Mailbox → Type 0
 MailLeads cap m [] t = m ≡ t
 MailLeads cap m (d ∷ ds) t = AllHold (row cap true m d) × MailLeads cap (done m d) ds t
@@ -18,6 +18,7 @@ IsOwn p (Show q at seq v) = q ≡ p
 IsOwn p (Close q) = q ≡ p
 IsOwn p (Ruin q) = q ≡ p
 
+-- deeds of the mailbox by p
 abbrev pub AreOwn : ℕ → List Deed → Type 0
 AreOwn p [] = Unit {0}
 AreOwn p (d ∷ ds) = IsOwn p d × AreOwn p ds

@@ -1,4 +1,4 @@
--- What contracts see of a job, and what is left of its task.
+-- A job as contracts see it, and the rest of its script.
 use Rattle.std.specs.Prelude.{ℕ}
 use Rattle.redomail.specs.declared.layout.Layout.{Layout}
 use Rattle.redomail.specs.declared.reply.Reply.{Reply}
@@ -9,24 +9,24 @@ use Rattle.redomail.specs.Script.{Script}
 use Rattle.redomail.specs.Jobs.{left_at}
 use Rattle.redomail.specs.Stages.{first_stage, stage_after}
 
--- a job's sizes, its process, and how far it has come
+-- a job: its sizes, its process and its stage
 pub record Pending : Type 0 where
   pub layout : Layout
   pub sender : ℕ
   pub stage : Stage
 
--- the script that is left of it
+-- the rest of its script
 abbrev pub left : Pending → Script Reply
 left job = left_at job.layout job.sender job.stage
 
--- a task, not yet begun
+-- a task at its first step
 abbrev pub begun : Layout → ℕ → Task → Pending
 begun l p t = record { layout = l; sender = p; stage = first_stage t }
 
--- the call consistent, not yet begun
+-- the call consistent at its first step
 abbrev pub mending : Layout → ℕ → Pending
 mending l p = record { layout = l; sender = p; stage = AskUsable }
 
--- the job once it was given this word
+-- the job after a step with this word
 abbrev pub fed : Pending → ℕ → Pending
 fed job word = record job { stage = stage_after job.layout job.stage word }

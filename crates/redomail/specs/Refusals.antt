@@ -1,4 +1,4 @@
--- Which job is refused, and why: the first cause in this order.
+-- Which jobs are refused, and why: the first cause in this order.
 use Rattle.std.specs.Prelude.{ℕ, Bool, false, not, ◌||◌, ◌==◌, nat_lt, nat_le, length, Option, Some, None, if◌then◌else◌}
 use Rattle.rmecore.specs.declared.refusal.Refusal.{Refusal}
 use Rattle.rmecore.specs.declared.refusal.Refusal.TheVariants.{BadProcs, BadCap, NoSuchProcess, BadIndex, BadWidth}
@@ -6,17 +6,18 @@ use Rattle.redomail.specs.declared.layout.Layout.{Layout}
 use Rattle.redomail.specs.declared.task.Task.{Task}
 use Rattle.redomail.specs.declared.task.Task.TheVariants as task
 
--- a board index of the task is past the board
+-- the task's board index is not below 4
 abbrev pub is_off_board : Task → Bool
 is_off_board (task.BoardGet i) = nat_le 4 i
 is_off_board (task.BoardPut i v) = nat_le 4 i
 is_off_board _ = false
 
--- a value of the task hasn't this many words
+-- the task's value has another width
 abbrev pub is_other_width : ℕ → Task → Bool
 is_other_width width (task.Append seq value) = not (length value == width)
 is_other_width width _ = false
 
+-- the refusal of a task of p, if any
 abbrev pub refused : Layout → ℕ → Task → Option Refusal
 refused l p t =
     if l.procs == 0 || nat_lt 64 l.procs then Some BadProcs

@@ -1,4 +1,4 @@
--- What the replies of the tasks tell.
+-- What the replies of the tasks say of the mailbox.
 use Rattle.std.specs.Prelude.{◌≡◌, ℕ, ◌+◌, ◌<◌, ◌≤◌, true, false, [], ◌∷◌, ◌++◌, length, ◌⊎◌}
 use Rattle.redomail.specs.declared.message.Message.{Message}
 use Rattle.redomail.specs.Mailbox.{Mailbox, IsAmong}
@@ -8,7 +8,7 @@ use Rattle.redomail.specs.declared.reply.Reply.TheVariants.{Stored, Already, Out
 use Rattle.redomail.specs.Layout.{Words}
 use Rattle.redomail.specs.Shape.{count_of}
 
--- Of a task of p that was to add m: what its reply tells of the mailbox before it and after it.
+-- the meaning of a reply of p's task that may add m, for the mailbox before and after the task
 abbrev pub Tells : Layout → ℕ → Message → Mailbox → Reply → Mailbox → Type 0
 Tells l p m old Stored new = new.shown ≡ old.shown ++ m ∷ []
 Tells l p m old Already new =
@@ -24,7 +24,7 @@ Tells l p m old (Word v) new = new.shown ≡ old.shown
 Tells l p m old Done new = new.shown ≡ old.shown
 Tells l p m old (Ruined ruined) new = (new.shown ≡ old.shown) × (ruined ≡ new.ruined)
 
--- after a reply of the mailbox no record is armed
+-- with this reply no record is armed
 abbrev pub Disarms : Reply → Words → Type 0
 Disarms (Word v) w = Unit {0}
 Disarms Done w = Unit {0}

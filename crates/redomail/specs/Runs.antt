@@ -1,4 +1,4 @@
--- Runs of a script over the words, with the deeds of its puts, and when a task may begin.
+-- A script's run over the words, the deeds of its puts, and the condition under which a task may begin.
 use Rattle.std.specs.Prelude.{◌≡◌, ℕ, zero, suc, ◌+◌, ◌<◌, true, false, List, [], ◌∷◌, ◌++◌, length, ◌*◌}
 use Rattle.redomail.specs.declared.deed.Deed.{Deed}
 use Rattle.redomail.specs.declared.message.Message.{Message}
@@ -16,13 +16,13 @@ use Rattle.redomail.specs.Script.{Script, Get, Put, Done}
 use Rattle.redomail.specs.Safe.{Added, Goes, Safe}
 use Rattle.redomail.specs.Shape.{Shape, recorded}
 
--- A script under way: what is left of it, the words, and the deeds of its puts so far.
+-- A script in progress: the rest of it, the words, and the deeds of its puts so far.
 pub record Run (A : Type 0) : Type 0 where
   pub left : Script A
   pub words : Words
   pub deeds : List Deed
 
--- one step, and this many steps
+-- one step, and k steps
 abbrev pub stepped_to : {A : Type 0} → Layout → ℕ → Script A → Words → List Deed → Run A
 stepped_to l p (Get i next) w ds = record { left = next (w i); words = w; deeds = ds }
 stepped_to l p (Put i v rest) w ds =
@@ -36,44 +36,45 @@ abbrev pub ran : {A : Type 0} → Layout → ℕ → ℕ → Run A → Run A
 ran l p zero x = x
 ran l p (suc k) x = stepped l p (ran l p k x)
 
+-- the beginning of a script's run
 abbrev pub start : {A : Type 0} → Script A → Words → Run A
 start left w = record { left = left; words = w; deeds = [] }
 
--- the word that a script is given: after a get the one that was read, after a put any
+-- the word passed to a script: after a get the word that was read, after a put any
 abbrev pub IsGiven : {A : Type 0} → Script A → Words → ℕ → Type 0
 IsGiven (Get i next) w x = x ≡ w i
 IsGiven _ w x = Unit {0}
 
--- What the mailbox clause says of one step, from this script to that, given this word: wherever the script was safe, the
--- step's deeds are allowed and lead to where the rest is safe, over the words after the step.
+-- "Mailbox clause" for one step with word x, from script e to the rest: if e was safe, the step's deeds are allowed, and
+-- after them the rest is safe over the new words.
 abbrev pub StepKept : Script Reply → ℕ → Script Reply → Type 0
 StepKept e x rest =
     (l : Layout) (p : ℕ) (m : Message) (old : Mailbox) (w : Words) (now : Mailbox) → Safe l p m old e w now → IsGiven e w x
     → let y = stepped_to l p e w [] in Goes l now y.deeds (Safe l p m old rest y.words)
 
--- the words once a script is done
+-- the words at a script's end
 abbrev pub final : {A : Type 0} → Script A → Words → Words
 final (Get i next) w = final (next (w i)) w
 final (Put i v rest) w = final rest (put w i v)
 final (Done a) w = w
 
--- how many steps it takes
+-- the number of a script's steps
 abbrev pub steps : {A : Type 0} → Script A → Words → ℕ
 steps (Get i next) w = suc (steps (next (w i)) w)
 steps (Put i v rest) w = suc (steps rest (put w i v))
 steps (Done a) w = 0
 
--- the message that a task may add: its own, or that of the record
+-- the message that a task may add: its own, or the record's
 abbrev pub added_by : Layout → Task → ℕ → Words → Message
 added_by l (task.Append seq value) p w = message p seq value
 added_by l _ p w = recorded l p w
 
--- a value that is appended has the layout's width
+-- the value of an append has the layout's width
 abbrev pub FitsTask : Layout → Task → Type 0
 FitsTask l (task.Append seq value) = length value ≡ l.width
 FitsTask l _ = Unit {0}
 
--- when the process inside may begin a task
+-- "Mailbox clause": when the process inside may begin a task
 abbrev pub Allowed : Layout → Task → Words → Mailbox → Type 0
 Allowed l (task.Append seq value) w s = (s.ruined ≡ false) × (w 3 ≡ 0) × (length value ≡ l.width)
 Allowed l task.Close w s = (s.ruined ≡ false) × (w 3 ≡ 0)
@@ -83,14 +84,15 @@ Allowed l (task.BoardPut i v) w s = i < 4
 Allowed l task.Ruin w s = Unit {0}
 Allowed l task.Check w s = Unit {0}
 
+-- The process p may begin this task on words of this mailbox.
 pub record MayBegin (l : Layout) (p : ℕ) (t : Task) (w : Words) (s : Mailbox) : Type 0 where
   pub layout : IsLayout l
   pub process : p < l.procs
   pub shape : Shape l p w s
   pub allowed : Allowed l t w s
 
--- What stands after some steps of the task: the deeds of its puts are allowed and lead to a mailbox that the words stand for,
--- and the messages shown are those from before, or these with one more.
+-- After some steps of a task: the deeds of its puts are allowed and lead to the mailbox of the words. It shows the messages
+-- from before, or these and m.
 pub record Kept (l : Layout) (p : ℕ) (m : Message) (s : Mailbox) (x : Run Reply) : Type 0 where
   pub state : Mailbox
   pub legal : MailLeads l.cap s x.deeds state
@@ -102,13 +104,13 @@ abbrev pub written : List (ℕ × ℕ) → Words → Words
 written [] w = w
 written (x ∷ xs) w = written xs (put w x.0 x.1)
 
--- the reply of a script
+-- the reply at a script's end
 abbrev pub answer : {A : Type 0} → Script A → Words → A
 answer (Get i next) w = answer (next (w i)) w
 answer (Put i v rest) w = answer rest (put w i v)
 answer (Done a) w = a
 
--- how many steps a task has taken that gives this reply
+-- "Tasks": the number of steps of a task with this reply
 abbrev pub steps_of : Layout → Task → Reply → ℕ
 steps_of l (task.Append seq value) Stored = 11 + 2 * l.width
 steps_of l (task.Append seq value) _ = 3

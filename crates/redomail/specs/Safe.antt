@@ -1,5 +1,5 @@
--- A safe script: what a process that is inside may do to the data words, step by step. It speaks of the words and the
--- mailbox list alone, so it stands still while other processes move.
+-- A safe script: what the process inside may do to the data words, step by step. It speaks of the words and the mailbox list
+-- alone. So steps of other processes don't affect it.
 use Rattle.std.specs.Prelude.{◌≡◌, ℕ, ◌<◌, List, [], ◌∷◌, ◌++◌, ◌⊎◌}
 use Rattle.rmecore.specs.Needs.{put}
 use Rattle.redomail.specs.declared.deed.Deed.{Deed}
@@ -14,21 +14,21 @@ use Rattle.redomail.specs.Shape.{Shape}
 use Rattle.redomail.specs.Deeds.{deeds_of_put}
 use Rattle.redomail.specs.Replies.{Tells, Disarms}
 
--- the messages shown are those of before, or these with one more
+-- the messages shown are those from before, or these and m
 abbrev pub Added : Message → Mailbox → Mailbox → Type 0
 Added m old now = (now.shown ≡ old.shown) ⊎ (now.shown ≡ old.shown ++ m ∷ [])
 
--- the words have the shape, and the messages shown are those of before, or these with one more
+-- the words have the shape, and the messages shown are those from before, or these and m
 abbrev pub Seen : Layout → ℕ → Message → Mailbox → Words → Mailbox → Type 0
 Seen l p m old w now = Shape l p w now × Added m old now
 
--- these deeds are allowed, and lead to a mailbox of which this stands
+-- these deeds are allowed, and lead to a mailbox with this property
 abbrev pub Goes : Layout → Mailbox → List Deed → (Mailbox → Type 0) → Type 0
 Goes l now deeds Stands = (then : Mailbox) × MailLeads l.cap now deeds then × Stands then
 
--- The script is safe for p, over these words that stand for the mailbox `now`; it began where the mailbox was `old`, and m is
--- the message that it may add. At each of its steps the words have the shape; each put is within the words, its deeds are
--- allowed and lead to the mailbox that the words stand for then; and its reply tells what became of the mailbox.
+-- The script is safe for p over words of the mailbox `now`. It began with the mailbox `old`, and m is the message that it
+-- may add. Before each step the words have the shape. Each put is within the words, and its deeds are allowed and lead to
+-- the mailbox of the new words. The reply is true of the mailbox.
 abbrev pub Safe : Layout → ℕ → Message → Mailbox → Script Reply → Words → Mailbox → Type 0
 Safe l p m old (Get i next) w now = Seen l p m old w now × Safe l p m old (next (w i)) w now
 Safe l p m old (Put i v rest) w now =

@@ -1,4 +1,4 @@
--- The shape of the data words: what they say of the mailbox, with a record under way or without.
+-- "Shape" of the data words: the mailbox that they describe, with an armed record or without.
 use Rattle.std.specs.Prelude.{◌≡◌, ◌≢◌, ℕ, zero, suc, ◌+◌, ◌<◌, ◌≤◌, Bool, false, ◌&&◌, ◌==◌, cond, if◌then◌else◌, List, [], ◌∷◌, ◌++◌, count_by, Option, Some, None, ◌⊎◌}
 use Rattle.redomail.specs.declared.message.Message.{Message}
 use Rattle.redomail.specs.Mailbox.{Mailbox, is_by, message}
@@ -14,25 +14,26 @@ abbrev pub entries : Layout → Words → ℕ → List Message
 entries l w zero = []
 entries l w (suc k) = entries l w k ++ entry l w k ∷ []
 
--- how many messages of q are among them
+-- the number of q's messages among them
 abbrev pub count_of : ℕ → List Message → ℕ
 count_of q messages = count_by (is_by q) messages
 
--- Each of the first k entries has a sender, and a number one more than that sender has entries before it.
+-- Each of the first k entries has a sender, and a number one more than the number of earlier entries of that sender.
 abbrev pub IsNumbered : Layout → Words → ℕ → Type 0
 IsNumbered l w k =
     (a : ℕ) → a < k → (w (place_at l a) < l.procs) × (w (place_at l a + 1) ≡ count_of (w (place_at l a)) (entries l w a) + 1)
 
--- The list rule: the first k entries are numbered, and each process's last number is how many of them are its own.
+-- "List rule": the first k entries are numbered, and each process's last number is the number of its entries.
 pub record ListRule (l : Layout) (w : Words) (k : ℕ) : Type 0 where
   pub numbered : IsNumbered l w k
   pub counted : (q : ℕ) → q < l.procs → w (last_at l q) ≡ count_of q (entries l w k)
 
--- the record's message of p
+-- the record's message, with sender p
 abbrev pub recorded : Layout → ℕ → Words → Message
 recorded l p w = message p (w 5) (row w 6 l.width)
 
--- The record isn't shown: it has the number after p's last one, and p's last number may already be written, behind the entry.
+-- "Record rule", case (a), not shown yet: the record has the number after those of p's entries. p's last number is the one
+-- before, or the record's where the entry is written already.
 pub record Unshown (l : Layout) (p : ℕ) (w : Words) : Type 0 where
   pub count : w 2 ≡ w 4
   pub numbered : IsNumbered l w (w 2)
@@ -40,25 +41,26 @@ pub record Unshown (l : Layout) (p : ℕ) (w : Words) : Type 0 where
   pub next : w 5 ≡ count_of p (entries l w (w 2)) + 1
   pub last : (w (last_at l p) + 1 ≡ w 5) ⊎ ((w (last_at l p) ≡ w 5) × (entry l w (w 4) ≡ recorded l p w))
 
--- The record is shown already.
+-- "Record rule", case (b), shown already.
 pub record Shown (l : Layout) (p : ℕ) (w : Words) : Type 0 where
   pub count : w 2 ≡ w 4 + 1
   pub listed : ListRule l w (w 2)
   pub entry : entry l w (w 4) ≡ recorded l p w
 
--- The record rule for p.
+-- "Record rule" for p.
 pub record RecordRule (l : Layout) (p : ℕ) (w : Words) : Type 0 where
   pub room : w 4 < l.cap
   pub rule : Unshown l p w ⊎ Shown l p w
 
+-- a flag as a word
 abbrev pub bit : Bool → ℕ
 bit b = cond b 1 0
 
--- what the words say is pending: the record of p, where it is armed and isn't shown
+-- the pending message of the words: p's record, if it is armed and not shown
 abbrev pub pending_in : Layout → ℕ → Words → Option Message
 pending_in l p w = if (w 3 == 1) && (w 2 == w 4) then Some (recorded l p w) else None
 
--- what the words say of the mailbox, with p inside
+-- the mailbox that the words describe, with p inside
 abbrev pub mailbox_of : Layout → ℕ → Words → Mailbox
 mailbox_of l p w = record {
   shown = entries l w (w 2);
@@ -67,8 +69,8 @@ mailbox_of l p w = record {
   ruined = w 0 == 1;
 }
 
--- The shape: the words stand for this mailbox, with p inside. That there are as many as the layout has is said beside it,
--- where the words are a list.
+-- "Shape": the words are those of this mailbox, with p inside. Where the words are a list, their number is stated
+-- separately.
 pub record Shape (l : Layout) (p : ℕ) (w : Words) (s : Mailbox) : Type 0 where
   pub ruined : w 0 ≡ bit s.ruined
   pub closed : w 1 ≡ bit s.closed

@@ -1,5 +1,4 @@
--- How far a job has come, once it was given one more word: what its machine keeps. What this means for its task is the
--- script that is left (`Jobs`).
+-- The stage after a step with one more word. `Jobs` says what script a stage leaves.
 use Rattle.std.specs.Prelude.{ℕ, ◌+◌, ◌*◌, ◌==◌, true, false, nat_lt, nat_le, if◌then◌else◌, List, take, replicate, slice_set}
 use Rattle.redomail.specs.declared.layout.Layout.{Layout}
 use Rattle.redomail.specs.declared.reply.Reply.TheVariants as reply
@@ -9,6 +8,7 @@ use Rattle.redomail.specs.declared.task.Task.{Task}
 use Rattle.redomail.specs.declared.task.Task.TheVariants as task
 use Rattle.redomail.specs.Tasks.{record_of}
 
+-- the first stage of a task
 abbrev pub first_stage : Task → Stage
 first_stage (task.Append seq value) = stage.AskClosed seq value
 first_stage task.Close = stage.AskOpen
@@ -18,7 +18,7 @@ first_stage (task.BoardPut i v) = stage.PutBoard i v
 first_stage task.Ruin = stage.PutRuined
 first_stage task.Check = stage.AskRuined
 
--- an append that knows the three words
+-- an append that has read its three words
 abbrev pub decided_stage : Layout → ℕ → List ℕ → ℕ → ℕ → ℕ → Stage
 decided_stage l seq value closed count last =
     if seq == 0 then stage.Ended reply.OutOfOrder
@@ -28,12 +28,13 @@ decided_stage l seq value closed count last =
     else if count == l.cap then stage.Ended reply.Full
     else stage.Write (record_of count seq value) 0 reply.Stored
 
--- a repair that knows these words of the record's value
+-- a repair that has read these words of the record's value
 abbrev pub read_stage : Layout → ℕ → ℕ → List ℕ → ℕ → Stage
 read_stage l at seq words read =
     if nat_lt read l.width then stage.AskValue at seq words read
     else stage.Write (record_of at seq (take read words)) (3 + read) (reply.Mended true)
 
+-- the stage after a step with this word
 abbrev pub stage_after : Layout → Stage → ℕ → Stage
 stage_after l (stage.AskClosed seq value) word = stage.AskCount seq value word
 stage_after l (stage.AskCount seq value closed) word = stage.AskLast seq value closed word
@@ -53,7 +54,7 @@ stage_after l stage.PutRuined word = stage.Ended reply.Done
 stage_after l stage.AskRuined word = stage.Ended (reply.Ruined (word == 1))
 stage_after l (stage.Ended answer) word = stage.Ended answer
 
--- it is not one of those at which a record is stored
+-- a stage that stores no record
 abbrev pub StoresNothing : Stage → Type 0
 StoresNothing (stage.Write entry step answer) = ⊥
 StoresNothing _ = Unit {0}

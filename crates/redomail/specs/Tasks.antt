@@ -1,4 +1,4 @@
--- The tasks, each as its script.
+-- "Tasks", each as its script.
 use Rattle.std.specs.Prelude.{ℕ, ◌+◌, true, false, ◌==◌, nat_lt, nat_le, if◌then◌else◌, List, [], ◌∷◌, ◌++◌}
 use Rattle.redomail.specs.declared.reply.Reply.{Reply}
 use Rattle.redomail.specs.declared.layout.Layout.{Layout}
@@ -13,16 +13,16 @@ use Rattle.redomail.specs.Script.{Script, Get, Put, Done, puts, in_row, gets}
 abbrev pub record_of : ℕ → ℕ → List ℕ → Record
 record_of at seq value = record { at = at; seq = seq; value = value }
 
--- The apply steps of p's record: the entry, p's last number, the count, and the record is armed no more.
+-- "Apply steps" of p's record: the entry, p's last number, count, and armed := 0.
 abbrev pub apply_steps : Layout → ℕ → Record → List (ℕ × ℕ)
 apply_steps l p r =
     in_row (place_at l r.at) (p ∷ r.seq ∷ r.value) ++ (last_at l p, r.seq) ∷ (2, held (r.at + 1)) ∷ (3, 0) ∷ []
 
--- Storing: the record, the commit that arms it, the apply steps.
+-- Storing: the record, armed := 1 (the commit), the apply steps.
 abbrev pub store_steps : Layout → ℕ → Record → List (ℕ × ℕ)
 store_steps l p r = in_row 4 (r.at ∷ r.seq ∷ r.value) ++ (3, 1) ∷ apply_steps l p r
 
--- An append that knows the three words: the first condition that holds.
+-- "Append" after its three gets: the first condition that holds decides.
 abbrev pub decided : Layout → ℕ → ℕ → List ℕ → ℕ → ℕ → ℕ → Script Reply
 decided l p seq value closed count last =
     if seq == 0 then Done OutOfOrder
@@ -32,25 +32,30 @@ decided l p seq value closed count last =
     else if count == l.cap then Done Full
     else puts (store_steps l p (record_of count seq value)) (Done Stored)
 
+-- "Append": the three gets, then the first condition that holds
 abbrev pub append : Layout → ℕ → ℕ → List ℕ → Script Reply
 append l p seq value =
     Get 1 (λ closed. Get 2 (λ count. Get (last_at l p) (λ last. decided l p seq value closed count last)))
 
+-- the apply steps of a record that was read, and the reply
 abbrev pub redo : Layout → ℕ → ℕ → ℕ → List ℕ → Script Reply
 redo l p at seq value = puts (apply_steps l p (record_of at seq value)) (Done (Mended true))
 
+-- "Repair"
 abbrev pub repair : Layout → ℕ → Script Reply
 repair l p =
     Get 3 (λ armed. if armed == 0 then Done (Mended false)
     else Get 4 (λ at. Get 5 (λ seq. gets 6 l.width [] (redo l p at seq))))
 
--- What `consistent` does: a ruined lock is told, else what a crash cut off is mended.
+-- "Consistent": reports a ruined lock, else repairs.
 abbrev pub consistent : Layout → ℕ → Script Reply
 consistent l p = Get 0 (λ ruined. if ruined == 1 then Done (Ruined true) else repair l p)
 
+-- "Close"
 abbrev pub close : Script Reply
 close = Get 1 (λ closed. if closed == 1 then Done AlreadyClosed else Put 1 1 (Done ClosedNow))
 
+-- the script of each task
 abbrev pub script : Layout → ℕ → Task → Script Reply
 script l p (task.Append seq value) = append l p seq value
 script l p task.Close = close

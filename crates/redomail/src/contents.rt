@@ -1,4 +1,4 @@
-//! The messages that data words show, where they keep their rules.
+//! Reads the messages from data words, and checks the words.
 
 ghost use Rattle.std.specs.Prelude.{◌≡◌, ℕ, ◌+◌, ◌<◌, ◌≤◌, ◌^◌, ◌↔◌, ◌⊎◌, IsTrue, IfOk, OnOk, OnErr, IfErr, IsErrOf, IfSome, IsSome, IsNone, IfNone, MatchOption, length, slice_index};
 ghost use Rattle.redomail.specs.Layout.{words_of, row, last_at, place_at};
@@ -11,8 +11,10 @@ use rmecore::simulated::MOST_PROCS;
 use rmecore::{Body, Refusal};
 use std::alloc::{AllocError, Allocator};
 
-/// The messages shown, by rising place. `BadShape` says that the words break a rule of the content for this layout, which may
-/// also be one outside the limits; any other refusal is want of memory.
+/// The messages below count, by rising place ("Content" of the mailbox).
+///
+/// `BadShape`: the words break a rule of this layout. The layout may be outside the limits too. `OutOfMemory`: an allocation
+/// failed.
 pub fn content<A: Allocator + Clone>(
     alloc: A,
     layout: Layout,
@@ -31,8 +33,7 @@ pub fn content<A: Allocator + Clone>(
     Ok(shown(alloc, layout, words)?)
 }
 
-// Do the entries and the record keep their rules? It takes memory for a layout of more processes than a lock has, and for
-// no other.
+// Whether the entries and the record keep their rules. It allocates only for a layout with more than 64 processes.
 fn has_entries<A: Allocator + Clone>(
     alloc: &A,
     layout: Layout,
@@ -51,7 +52,7 @@ fn has_entries<A: Allocator + Clone>(
     Ok(entries_hold(layout, words, &mut counts))
 }
 
-// Do the entries and the record keep their rules? There is a counter, 0 at first, for each process.
+// Whether the entries and the record keep their rules. `counts` has a zero for each process.
 fn entries_hold(layout: Layout, words: &[u64], counts: &mut [u64]) -> bool
     requires heads { HeadsHold layout words.now }
     requires each { length counts.old ≡ layout.procs }
@@ -68,21 +69,21 @@ fn entries_hold(layout: Layout, words: &[u64], counts: &mut [u64]) -> bool
     }
 }
 
-/// A counter for each process that a lock can have.
+/// A counter for each of the most processes that a lock can have, all 0.
 pub fn counters() -> [u64; 64]
     ensures { (q : ℕ) → slice_index result q ≡ 0 }
 {
     [0; 64]
 }
 
-// A word, 0 past the end.
+// The word at an index, 0 past the end.
 fn word(words: &[u64], i: u64) -> u64
     ensures { result ≡ slice_index words.now i }
 {
     words.get(i as usize).copied().unwrap_or(0)
 }
 
-/// Are the length, the width, the flags and the count such as words of this layout have?
+/// Whether the length, the width, the flags and count are within the bounds of this layout.
 pub fn heads_hold(layout: Layout, words: &[u64]) -> bool
     ensures { IsTrue result ↔ HeadsHold layout words.now }
 {
@@ -100,7 +101,7 @@ pub fn heads_hold(layout: Layout, words: &[u64]) -> bool
     word(words, RUINED) <= 1 && word(words, COUNT) <= layout.cap
 }
 
-/// The index of the entry at a place.
+/// The index of the first word of the entry at place `a`.
 pub fn place(layout: Layout, words: &[u64], a: u64) -> u64
     requires heads { HeadsHold layout words.now }
     requires room { a < layout.cap }
@@ -111,7 +112,7 @@ pub fn place(layout: Layout, words: &[u64], a: u64) -> u64
     layout.place(a, 0)
 }
 
-/// A row of words, as a value.
+/// The `width` words from index `i` on, as a value.
 pub fn value_at(words: &[u64], i: u64, width: u64) -> Body
     requires least { 1 ≤ width }
     requires most { width ≤ 8 }
@@ -124,7 +125,7 @@ pub fn value_at(words: &[u64], i: u64, width: u64) -> Body
     value
 }
 
-// Are two rows of words the same?
+// Whether two ranges of words are equal.
 fn same_rows(words: &[u64], i: u64, j: u64, width: u64) -> bool
     requires first { i + width ≤ length words.now }
     requires second { j + width ≤ length words.now }
@@ -147,7 +148,7 @@ fn entry(layout: Layout, words: &[u64], a: u64) -> Message
     }
 }
 
-// The entries below count.
+// The messages of the entries below count.
 fn shown<A: Allocator>(
     alloc: A,
     layout: Layout,
@@ -163,8 +164,8 @@ fn shown<A: Allocator>(
     Ok(messages)
 }
 
-/// Are the entries below count numbered? Then these are each process's messages among them, counted. It takes no memory:
-/// there is a counter, 0 at first, for each process.
+/// Whether the entries below count are numbered for each sender. If so, `counts` has each sender's number of messages.
+/// `counts` has a zero for each process at first. It does not allocate.
 pub fn count_entries(layout: Layout, words: &[u64], counts: &mut [u64]) -> bool
     requires heads { HeadsHold layout words.now }
     requires each { length counts.old ≡ layout.procs }
@@ -185,7 +186,7 @@ pub fn count_entries(layout: Layout, words: &[u64], counts: &mut [u64]) -> bool
     true
 }
 
-/// Are the last numbers of all processes but one these counts?
+/// Whether the last numbers of all processes except `but` equal these counts.
 pub fn lasts_are(layout: Layout, words: &[u64], counts: &[u64], but: u64) -> bool
     requires heads { HeadsHold layout words.now }
     requires counts { length counts.now ≡ layout.procs }
@@ -199,7 +200,7 @@ pub fn lasts_are(layout: Layout, words: &[u64], counts: &[u64], but: u64) -> boo
     true
 }
 
-// Is the entry at the record's place the record's message of p?
+// Whether the entry at the record's place is the record's message, sent by p.
 fn is_recorded(layout: Layout, words: &[u64], p: u64) -> bool
     requires heads { HeadsHold layout words.now }
     requires room { slice_index words.now 4 < layout.cap }
@@ -211,7 +212,7 @@ fn is_recorded(layout: Layout, words: &[u64], p: u64) -> bool
         && same_rows(words, at + 2, RECORD + 2, layout.width)
 }
 
-/// Does the record rule hold for p?
+/// Whether the record rule holds for p.
 pub fn has_record(layout: Layout, words: &[u64], counts: &[u64], p: u64) -> bool
     requires heads { HeadsHold layout words.now }
     requires numbered { IsNumbered layout (words_of words.now) (slice_index words.now 2) }
@@ -237,7 +238,7 @@ pub fn has_record(layout: Layout, words: &[u64], counts: &[u64], p: u64) -> bool
         && is_recorded(layout, words, p)
 }
 
-/// Does the record rule hold for some process?
+/// Whether the record rule holds for some process.
 pub fn any_record(layout: Layout, words: &[u64], counts: &[u64]) -> bool
     requires heads { HeadsHold layout words.now }
     requires numbered { IsNumbered layout (words_of words.now) (slice_index words.now 2) }

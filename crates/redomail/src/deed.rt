@@ -1,19 +1,19 @@
-//! What a process does that others can see.
+//! The deeds of a run.
 
 use rmecore::{Body, Outer};
 
-/// A deed of the lock or of its mailbox. `Commit` and `Show` carry the number and the value of the record as they stand in
-/// the data words at that step, and not what the process holds of them.
+/// A deed of the lock or of its mailbox: a step that other processes can observe. `Commit` and `Show` carry the record's
+/// number and value as the data words have them at that step, not as the process's private memory has them.
 #[derive(Clone, Copy, Debug, PartialEq, Eq)]
 pub enum Deed {
     /// A deed of the lock.
     Outer(Outer),
-    /// A message is committed: from now on a crash can't lose it.
+    /// Commits a message. No crash can lose it any more.
     Commit { p: u64, seq: u64, v: Body },
-    /// The committed message is shown at a place of the mailbox.
+    /// Shows the committed message at place `at` of the mailbox.
     Show { p: u64, at: u64, seq: u64, v: Body },
-    /// The mailbox takes no more messages.
+    /// Closes the mailbox. It takes no more messages.
     Close { p: u64 },
-    /// The lock is made unusable for good.
+    /// Ruins the lock. It is unusable for good.
     Ruin { p: u64 },
 }

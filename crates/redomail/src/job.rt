@@ -17,8 +17,8 @@ use rmecore::Refusal;
 use std::fmt;
 use std::marker::Model;
 
-/// A task of a process, which wants one data word after another. It holds no memory. Contracts see it as the script that is
-/// left.
+/// A process's task in progress. It asks for one access of a data word after another, and its caller performs them. It does
+/// not allocate. In contracts it is the rest of its script.
 #[derive(Clone, Copy)]
 pub struct Job {
     layout: Layout,
@@ -50,7 +50,10 @@ impl Model for Job {
 impl Job {
     ghost use Rattle.redomail.specs.Left.{left, begun, mending, fed};
 
-    /// A task of a process, not yet begun.
+    /// A task of process `sender`, at its first step.
+    ///
+    /// The first cause in this order is the answer: `BadProcs`, `BadCap`, `NoSuchProcess` (a sender that is no process of
+    /// the layout), `BadIndex` (a board index that is not below 4), `BadWidth` (of the layout, or of the task's value).
     pub fn new(layout: Layout, sender: u64, task: Task) -> Result<Job, Refusal>
         ensures made { IfOk result (λ job. left job ≡ script layout sender task) }
         ensures exact { IfOk result (λ job. job ≡ begun layout sender task) }
@@ -66,8 +69,8 @@ impl Job {
         })
     }
 
-    /// A seam of this workspace: the call consistent of a process, not yet begun. It is no task of the mailbox, since it asks
-    /// before its repair whether the lock is ruined.
+    /// For this workspace alone: the call `consistent` at its first step. It is no task of the mailbox, since it first reads
+    /// whether the lock is ruined.
     pub fn seam_mending(layout: Layout, sender: u64) -> Job
         requires lawful { IsLayout layout }
         requires below { sender < layout.procs }
@@ -81,14 +84,15 @@ impl Job {
         }
     }
 
-    /// What the job wants next.
+    /// The next access, or the reply.
     pub fn next(&self) -> Next
         ensures { result ≡ head (left self.now) }
     {
         self.stage.next(self.layout, self.sender)
     }
 
-    /// The reply, where it wants nothing more. It is what `next` answers then.
+    /// The reply, if the job is done. It is the reply that `next` gives then.
+    // Inline: one call a step.
     #[inline(always)]
     pub fn reply(&self) -> Option<Reply>
         ensures { result ≡ reply_in (head (left self.now)) }
@@ -96,7 +100,9 @@ impl Job {
         self.stage.reply()
     }
 
-    /// Goes on: after a `Get` with the word that was read, after a `Put` with any value. After `Done` it changes nothing.
+    /// Takes one step. After a `Get` the caller passes the word that was read, after a `Put` any value. After `Done` nothing
+    /// changes.
+    // Inline: one call a step.
     #[inline(always)]
     pub fn feed(&mut self, value: u64)
         ensures left { left self.new ≡ tail (left self.old) value }
@@ -113,22 +119,22 @@ impl Job {
         self.layout
     }
 
-    /// Whose task it is.
+    /// The process whose task it is.
     pub fn sender(&self) -> u64
         ensures { result ≡ self.now.sender }
     {
         self.sender
     }
 
-    /// A seam of this workspace, for who writes the states of processes down: how far the job has come.
+    /// For this workspace alone: the job's stage, for a caller that encodes a process's state.
     pub fn seam_stage(&self) -> Stage
         ensures { result ≡ self.now.stage }
     {
         self.stage
     }
 
-    /// A seam of this workspace, as `seam_stage`, the other way: a job of these sizes and this process that has come so far,
-    /// if there is one. It takes any stage, also one that no word leads to.
+    /// For this workspace alone, the inverse of `seam_stage`: a job of this process at this stage. None: the sizes or the
+    /// stage's values are outside the limits. It accepts a stage that no run reaches.
     pub fn seam_at(layout: Layout, sender: u64, stage: Stage) -> Option<Job>
         ensures at { IfSome result (λ job. job ≡ record { layout = layout; sender = sender; stage = stage }) }
         ensures some { IsSome result ↔ (IsLayout layout × (sender < layout.procs) × FitsStage layout stage) }
@@ -144,7 +150,7 @@ impl Job {
     }
 }
 
-// Refuses what no job is made of, with the first cause.
+// The first cause to refuse this task.
 fn check(layout: &Layout, sender: u64, task: &Task) -> Result<(), Refusal>
     ensures allowed { OnOk result (refusal_of layout.now sender task.now ≡ None) }
     ensures refused { IfErr result (λ refusal. refusal_of layout.now sender task.now ≡ Some refusal) }

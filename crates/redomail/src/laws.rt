@@ -1,108 +1,108 @@
-//! What holds of the mailbox's definitions, over every run.
+//! Laws of the mailbox, over every run of its definitions. Each law is the contract of a function with an empty body.
 
 ghost use Rattle.redomail.specs.Laws.{TasksAreSafe, ConsistentIsSafe, SafeIsSeen, StepsStaySafe, PutsAreOwn, TasksKeep, ShownGrows, ShownEntriesStand, EntriesStand, RepairCompletes, StepsTold, ConsistentTold, TasksEnd, ConsistentEnds, NumbersAreShown, AnsweredIsShown, NewWords, ShapePassesOn, MayLeave, ShapeIsContent, ContentIsShape};
 
-/// Each task that may begin is safe.
+/// Each task that may begin is a safe script.
 pub fn tasks_are_safe()
     ensures { TasksAreSafe }
 {}
 
-/// So is `consistent`, whenever a process is inside.
+/// `consistent` is a safe script whenever a process is inside.
 pub fn consistent_is_safe()
     ensures { ConsistentIsSafe }
 {}
 
-/// Over the words of a safe script the shape holds.
+/// While a safe script runs, the words have the shape.
 pub fn safe_is_seen()
     ensures { SafeIsSeen }
 {}
 
-/// A step of a safe script has allowed deeds, and leads to where the rest is safe.
+/// A step of a safe script does allowed deeds only, and the rest of the script is safe again.
 pub fn steps_stay_safe()
     ensures { StepsStaySafe }
 {}
 
-/// A put's deeds are the mailbox's, by the process that puts.
+/// A put does deeds of the mailbox only, and they are those of the process that puts.
 pub fn puts_are_own()
     ensures { PutsAreOwn }
 {}
 
-/// A task keeps the mailbox and the shape of its words after any number of its steps.
+/// After any number of a task's steps the words have the shape of a mailbox that legal deeds lead to.
 pub fn tasks_keep()
     ensures { TasksKeep }
 {}
 
-/// Deeds take no message away that is shown.
+/// No deed removes a message that is shown.
 pub fn shown_grows()
     ensures { ShownGrows }
 {}
 
-/// Entries below count stand, and count doesn't fall, whatever deeds lie between.
+/// The entries below count stay the same, and count never falls, whichever legal deeds come in between.
 pub fn shown_entries_stand()
     ensures { ShownEntriesStand }
 {}
 
-/// Entries below count never change under a task's steps, and count doesn't fall.
+/// Under any number of a task's steps the entries below count stay the same, and count does not fall.
 pub fn entries_stand()
     ensures { EntriesStand }
 {}
 
-/// A repair ends what any front of the apply steps began.
+/// A repair completes the apply steps, however many of them were done before the crash.
 pub fn repair_completes()
     ensures { RepairCompletes }
 {}
 
-/// How many steps each task takes, by its reply.
+/// The number of steps of each task, by its reply.
 pub fn steps_told()
     ensures { StepsTold }
 {}
 
-/// How many steps `consistent` takes, and what it replies.
+/// The number of steps of `consistent`, and its reply.
 pub fn consistent_told()
     ensures { ConsistentTold }
 {}
 
-/// What each task leaves in the words ruined and armed.
+/// The words ruined and armed after each task.
 pub fn tasks_end()
     ensures { TasksEnd }
 {}
 
-/// What `consistent` leaves in them.
+/// The words ruined and armed after `consistent`.
 pub fn consistent_ends()
     ensures { ConsistentEnds }
 {}
 
-/// The numbers 1 to the count of a process are shown.
+/// Of each process, the messages shown have the numbers 1 to their count.
 pub fn numbers_are_shown()
     ensures { NumbersAreShown }
 {}
 
-/// Where an append is answered Stored or Already, its number is among its sender's messages shown.
+/// If an append replies Stored or Already, a message with its number is among its sender's messages shown.
 pub fn answered_is_shown()
     ensures { AnsweredIsShown }
 {}
 
-/// New words have the shape.
+/// Words that are all 0 have the shape of an empty mailbox.
 pub fn new_words()
     ensures { NewWords }
 {}
 
-/// Where no record is armed, or the lock is ruined, the shape passes on to whoever comes inside.
+/// If no record is armed, or the lock is ruined, the words have the shape for the next process inside too.
 pub fn shape_passes_on()
     ensures { ShapePassesOn }
 {}
 
-/// There the mailbox lets a process leave.
+/// If no record is armed, or the lock is ruined, the mailbox lets a process leave.
 pub fn may_leave()
     ensures { MayLeave }
 {}
 
-/// Words with the shape keep the rules of the content, and show the mailbox.
+/// Words with the shape keep the rules of `content`, and their content is the messages that the mailbox shows.
 pub fn shape_is_content()
     ensures { ShapeIsContent }
 {}
 
-/// Words that keep the rules of the content have the shape.
+/// Words that keep the rules of `content` have the shape.
 pub fn content_is_shape()
     ensures { ContentIsShape }
 {}

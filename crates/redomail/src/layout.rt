@@ -1,10 +1,10 @@
-//! Where the data words stand.
+//! The indexes of the data words.
 
 ghost use Rattle.std.specs.Prelude.{◌≡◌, ◌+◌, ◌<◌, ◌≤◌, ◌^◌, ◌↔◌, IsTrue};
 ghost use Rattle.redomail.specs.Layout.{IsLayout, held, place_at, size, last_at as last_index, board_at as board_index};
 
-/// Where the data words stand: for so many processes (1 to 64), so many places (1 to 65,536), and values of so many words
-/// (1 to 8). A layout outside these limits has indexes too, held at the greatest u64.
+/// The sizes of a mailbox, which decide the index of each data word: 1 to 64 processes, a capacity of 1 to 65,536 places,
+/// and 1 to 8 words for each value. A layout outside these limits has indexes too. They saturate at the greatest u64.
 #[derive(Clone, Copy, PartialEq, Eq, Debug)]
 pub struct Layout {
     pub procs: u64,
@@ -12,26 +12,26 @@ pub struct Layout {
     pub width: u64,
 }
 
-/// Is the lock ruined?
+/// Index of the word ruined: 1 if the lock is ruined.
 pub const RUINED: u64 = 0;
-/// Is the mailbox closed?
+/// Index of the word closed: 1 if the mailbox is closed.
 pub const CLOSED: u64 = 1;
-/// How many messages are shown.
+/// Index of the word count: the number of messages shown.
 pub const COUNT: u64 = 2;
-/// Is a record armed?
+/// Index of the word armed: 1 while a committed record is being applied.
 pub const ARMED: u64 = 3;
-/// The place of the record's message; then its number and the words of its value.
+/// Index of the record's place. Its number and the words of its value come after it.
 pub const RECORD: u64 = 4;
 
 impl Layout {
-    /// Whether a mailbox may have these sizes.
+    /// Whether the sizes are at most those of a mailbox, and the width is 1 to 8.
     pub(crate) fn is_lawful(&self) -> bool
         ensures { IsTrue result ↔ IsLayout self.now }
     {
         self.procs <= 64 && self.cap <= 65_536 && self.width >= 1 && self.width <= 8
     }
 
-    /// The index of a word of the board.
+    /// The index of board word `i`, 0 to 3.
     pub fn board(&self, i: u64) -> u64
         requires narrow { self.now.width ≤ 8 }
         requires below { i < 4 }
@@ -40,7 +40,7 @@ impl Layout {
         6 + self.width + i
     }
 
-    /// The index of the word that holds the last number of a process.
+    /// The index of process `q`'s last number.
     pub fn last(&self, q: u64) -> u64
         requires narrow { self.now.width ≤ 8 }
         requires below { q < 2 ^ 63 }
@@ -49,7 +49,7 @@ impl Layout {
         10 + self.width + q
     }
 
-    /// The index of a word of the entry at a place: its sender, its number, then the words of its value.
+    /// The index of word `k` of the entry at place `a`: 0 is the sender, 1 its number, then the words of the value.
     #[tactic(auto, unfolding(crate::specs::Layout::place_at))]
     pub fn place(&self, a: u64, k: u64) -> u64
         requires narrow { self.now.width ≤ 8 }
@@ -61,7 +61,7 @@ impl Layout {
             .saturating_add(self.procs)
     }
 
-    /// How many data words there are.
+    /// The number of data words.
     pub fn words(&self) -> u64
         requires narrow { self.now.width ≤ 8 }
         ensures { result ≡ held (size self.now) }

@@ -1,14 +1,14 @@
-//! What a job wants next.
+//! The next access of a job.
 
 use crate::reply::Reply;
 
-/// What a job wants next: a data word, a data word's new value, or nothing more.
+/// What a job needs next from its caller.
 #[derive(Clone, Copy, Debug, PartialEq, Eq)]
 pub enum Next {
-    /// The data word at an index.
+    /// Load the data word at this index.
     Get(u64),
-    /// A new value for the data word at an index.
+    /// Store this value (second) into the data word at this index (first).
     Put(u64, u64),
-    /// Nothing more: this is the reply.
+    /// Nothing more. This is the reply.
     Done(Reply),
 }

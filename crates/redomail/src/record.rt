@@ -7,7 +7,7 @@ ghost use Rattle.redomail.specs.Tasks.{store_steps};
 use crate::layout::{ARMED, COUNT, Layout, RECORD};
 use rmecore::Body;
 
-/// The redo record: where the message goes, its number and its value.
+/// The redo record: the message's place, its number and its value.
 #[derive(Clone, Copy)]
 pub struct Record {
     pub at: u64,
@@ -16,7 +16,7 @@ pub struct Record {
 }
 
 impl Record {
-    // A word of the row that begins with `first`: then come the number and the words of the value.
+    // Word `j` of a row: `first`, the number, then the words of the value.
     fn word(&self, first: u64, j: u64) -> u64
         ensures { result ≡ slice_index (first ∷ self.now.seq ∷ self.now.value) j }
     {
@@ -27,7 +27,7 @@ impl Record {
         }
     }
 
-    /// The put that is this step of storing the record: an index and its new value.
+    /// Step `step` of storing the record: the index and the value of its put. Storing is 8 + 2 * width puts.
     pub(crate) fn put(&self, layout: Layout, sender: u64, step: u64) -> (u64, u64)
         requires lawful { IsLayout layout }
         requires below { sender < layout.procs }

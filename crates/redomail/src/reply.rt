@@ -1,28 +1,28 @@
-//! What a task answers.
+//! The replies of tasks.
 
-/// What a task answers, with its last step.
+/// A task's reply. It comes with the task's last step.
 #[derive(Clone, Copy, Debug, PartialEq, Eq)]
 pub enum Reply {
     /// The message is committed and shown.
     Stored,
-    /// The sender's message with this number is there.
+    /// A message of the sender with this number is there already. Nothing was stored.
     Already,
-    /// The number is 0, or not the sender's next one.
+    /// The number is 0, or above the sender's next one.
     OutOfOrder,
-    /// There is no place left.
+    /// All places are in use.
     Full,
-    /// The mailbox takes no more messages.
+    /// The mailbox is closed.
     Closed,
-    /// The mailbox was open, and is closed from now on.
+    /// This call closed the mailbox.
     ClosedNow,
-    /// The mailbox was closed before.
+    /// The mailbox was closed before this call.
     AlreadyClosed,
-    /// Whether there was something to mend.
+    /// The repair is done. True: it completed an append that a crash had interrupted.
     Mended(bool),
-    /// The board word that was asked for.
+    /// The board word's value.
     Word(u64),
-    /// The board word is put, or the lock is made unusable.
+    /// The board word is written, or the lock is ruined.
     Done,
-    /// Whether the lock is ruined.
+    /// True: the lock is ruined.
     Ruined(bool),
 }

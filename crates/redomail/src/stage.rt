@@ -1,4 +1,4 @@
-//! How far a job has come.
+//! The stages of a job.
 
 ghost use Rattle.std.specs.Prelude.{◌≡◌, ℕ, ◌<◌, ◌+◌, ◌↔◌, None, IsTrue, length, slice_set};
 ghost use Rattle.redomail.specs.Layout.{IsLayout};
@@ -15,28 +15,28 @@ use crate::reply::Reply;
 use crate::task::Task;
 use rmecore::Body;
 
-/// How far a job has come: what it does next, with what it knows.
+/// The stage of a job: its next step, and the values that the steps before it have read.
 #[derive(Clone, Copy)]
 pub enum Stage {
-    /// An append asks whether the mailbox is closed, with its number and its value.
+    /// Append, with its number and value: reads closed.
     AskClosed(u64, Body),
-    /// It asks for count, and knows closed.
+    /// Append: reads count. The last field is closed.
     AskCount(u64, Body, u64),
-    /// It asks for the sender's last number, and knows closed and count.
+    /// Append: reads the sender's last number. The last fields are closed and count.
     AskLast(u64, Body, u64, u64),
-    /// Consistent asks whether the lock is ruined. The repair comes behind it.
+    /// `consistent`: reads ruined. The repair comes after it.
     AskUsable,
-    /// A repair asks whether the record is armed.
+    /// Repair: reads armed.
     AskArmed,
-    /// It asks for the record's place.
+    /// Repair: reads the record's place.
     AskAt,
-    /// It asks for the record's number, and knows the place.
+    /// Repair: reads the record's number. The field is the place.
     AskSeq(u64),
-    /// It asks for the record's value, and knows the place, the number and so many words of the value.
+    /// Repair: reads the record's value. The fields are the place, the number, the words read so far, and how many they are.
     AskValue(u64, u64, [u64; 8], u64),
-    /// This many steps of storing the record stand; then comes the reply.
+    /// Stores the record: the number of puts done, and the reply after the last of them.
     Write(Record, u64, Reply),
-    /// A close asks whether the mailbox is closed.
+    /// Close: reads closed.
     AskOpen,
     PutClosed,
     GetBoard(u64),
@@ -65,7 +65,7 @@ impl Stage {
         }
     }
 
-    /// Whether a job of these sizes may have come here.
+    /// Whether the stage's values are within the bounds of this layout.
     pub(crate) fn fits(&self, layout: Layout) -> bool
         requires { IsLayout layout }
         ensures { IsTrue result ↔ FitsStage layout self.now }
@@ -91,7 +91,7 @@ impl Stage {
         }
     }
 
-    /// What the task wants next.
+    /// The next access of process `sender`, or the reply.
     pub(crate) fn next(&self, layout: Layout, sender: u64) -> Next
         requires lawful { IsLayout layout }
         requires below { sender < layout.procs }
@@ -119,7 +119,8 @@ impl Stage {
         }
     }
 
-    /// Goes on, given the word that was asked for. A record that is stored stays in its place.
+    /// Takes one step, with the word that was read. A stage that stores a record is changed in place.
+    // Inline: one call a step.
     #[inline(always)]
     pub(crate) fn go_on(&mut self, layout: Layout, sender: u64, word: u64)
         requires lawful { IsLayout layout }
@@ -142,7 +143,8 @@ impl Stage {
         }
     }
 
-    // Goes on from a stage that stores nothing, to a stage of another size.
+    // A step of a stage that stores no record.
+    // Apart: keeps the caller small.
     #[inline(never)]
     fn ask_on(&mut self, layout: Layout, sender: u64, word: u64)
         requires lawful { IsLayout layout }
@@ -156,7 +158,8 @@ impl Stage {
         *self = self.after(layout, sender, word);
     }
 
-    // The stage after one that stores nothing, given the word that was asked for.
+    // The stage after one that stores no record, with the word that was read.
+    // Inline: its one caller is apart.
     #[inline(always)]
     fn after(&self, layout: Layout, sender: u64, word: u64) -> Stage
         requires lawful { IsLayout layout }
@@ -191,7 +194,8 @@ impl Stage {
         }
     }
 
-    /// The reply, where nothing more is wanted.
+    /// The reply, if the job has ended.
+    // Inline: one call a step.
     #[inline(always)]
     pub(crate) fn reply(&self) -> Option<Reply>
         ensures { (l : Layout) (p : ℕ) → FitsStage l self.now → result ≡ reply_in (head (left_at l p self.now)) }
@@ -203,16 +207,17 @@ impl Stage {
     }
 }
 
-// A repair that has read this many words into this room has one to read yet.
+// Whether a repair that has read `read` words of the record's value has one more to read.
 fn is_short(layout: Layout, words: [u64; 8], read: u64) -> bool
     ensures short { IsTrue result ↔ (read < layout.width) }
     ensures room { length words ≡ 8 }
 {
+    // For the proof alone: its value is read.
     let _ = words;
     read < layout.width
 }
 
-// A repair that was given one more word of the record's value.
+// The stage of a repair after one more word of the record's value.
 fn read_on(layout: Layout, at: u64, seq: u64, words: [u64; 8], read: u64, word: u64) -> Stage
     requires lawful { IsLayout layout }
     requires within { read < layout.width }
@@ -233,7 +238,7 @@ fn read_on(layout: Layout, at: u64, seq: u64, words: [u64; 8], read: u64, word: 
     Stage::Write(Record { at, seq, value }, 3 + read, Reply::Mended(true))
 }
 
-// What an append does once it knows the three words.
+// What an append does after it has read its three words: the first condition that holds decides.
 fn decided(layout: Layout, seq: u64, value: Body, closed: u64, count: u64, last: u64) -> Stage
     requires lawful { IsLayout layout }
     requires fits { length value ≡ layout.width }

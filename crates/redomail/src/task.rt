@@ -1,22 +1,22 @@
-//! What a process does in the section.
+//! The tasks of the mailbox.
 
 use rmecore::Body;
 
-/// What a process does with the data words while it is inside.
+/// A call on the data words by the process inside.
 #[derive(Clone, Copy, Debug, PartialEq, Eq)]
 pub enum Task {
-    /// Stores a message with this number of its sender.
+    /// Stores a message. `seq` is its sender's number for it, from 1.
     Append { seq: u64, value: Body },
     /// Closes the mailbox for good.
     Close,
-    /// Ends what a crash has cut off behind its commit.
+    /// Completes an append that a crash interrupted after its commit.
     Repair,
-    /// Reads a board word, 0 to 3.
+    /// Reads the board word at an index, 0 to 3.
     BoardGet(u64),
-    /// Writes a board word, 0 to 3.
+    /// Writes a value (second) to the board word at an index (first), 0 to 3.
     BoardPut(u64, u64),
-    /// Makes the lock unusable.
+    /// Ruins the lock: it is unusable for good.
     Ruin,
-    /// Asks whether it is.
+    /// Reads whether the lock is ruined.
     Check,
 }

@@ -1,4 +1,4 @@
--- The next step is allowed, whatever is read; it is the least that is; and its word is one of the lock's.
+-- The next step is allowed, whatever a load reads. It is the least that is allowed. Its word is a lock word.
 use Rattle.std.proofs.Common.{◌≡◌, ℕ, ◌+◌, ◌<◌, ◌≤◌, Bool, true, false, ◌&&◌, ◌==◌, nat_lt, nat_le, List, [], ◌∷◌, Option, Some, None, IsSome, IfSome, refl, sym, subst, inl, inr, arith, eqb-true, le-leb, ltb-false}
 use Rattle.rmecore.proofs.Common.{cases_Bool, and_parts, Store, Take as Takes, Shut as Shuts, Word, Choosing as ChoosingOf, Number as NumberOf, InsideOf, first, place_of, access, kind_of, word_of}
 use Rattle.rmecore.proofs.Common.{carried, Standing, next_access, owner, InLock, IsLeast, IsAllowed, StoresOwn, Place, Rest, Dead, Reread, Opening, Door, Shutting, Wait, Inside, Leaving, Withdrawing}
@@ -101,7 +101,7 @@ within n limit p (Wait k (j ∷ js) None) below h = h.below j (has-first j js)
 within n limit p (Reread call (c ∷ k ∷ i ∷ seen)) below h = tt
 within n limit p _ below h = assumption
 
--- a fact of each value, under the option
+-- a fact for each value, moved under the option
 gathered : {A : Type 0} (o : Option A) (P : ℕ → A → Type 0) → ((v : ℕ) → IfSome o (P v)) → IfSome o (λ a. (v : ℕ) → P v a)
 gathered None P h = tt
 gathered (Some a) P h = h

@@ -1,4 +1,4 @@
--- What the needs of a deed say, as facts of the abstract lock, and back.
+-- The needs of a deed as facts about the abstract lock, in both directions.
 use Rattle.std.proofs.Common.{◌≡◌, ◌≢◌, ℕ, zero, suc, ◌<◌, Bool, true, false, if◌then◌else◌, ◌==◌, ◌⊎◌, refl, ap, inl, inr, arith, eq-eqb, eqb-true, lt-ltb, ltb-true, ◌≤◌}
 use Rattle.rmecore.proofs.Common.{cases_Bool, or_cases, false_from_ne_true, cond_both, Outer, Begin, Enter, Crash, Reenter, Leave, Quit, Phase, Out, AtDoor as Door, Ready, Within as Inside, DeadIn, Abstract}
 use Rattle.rmecore.proofs.Common.{is_out, is_door, is_ready, is_inside, is_dead_in, needs, AllHold, least, none_below, put}
@@ -52,9 +52,9 @@ needs_hold n a (Reenter p) h = (lt-ltb p n h.0, (ap is_dead_in h.1, tt))
 needs_hold n a (Leave p) h = (lt-ltb p n h.0, (ap is_inside h.1, tt))
 needs_hold n a (Quit p) h = (lt-ltb p n h.0, (elim h.1 [ inl e ↦ rw e refl | inr e ↦ rw e refl ], tt))
 
--- and back
+-- the other direction
 
--- the least number is no more than any that has the test
+-- the least number with the test is at most every number with the test
 pub least-le : (n : ℕ) (test : ℕ → Bool) (k : ℕ) → k < n → test k ≡ true → least n test ≤ k
 least-le zero test k h e = absurd (omega arith)
 least-le (suc n) test zero h e = rw e (omega arith)
@@ -71,7 +71,7 @@ inside-not phase e is = let f : is_inside phase ≡ true = ap is_inside is in cc
 dead-not : (phase : Phase) → is_dead_in phase ≡ false → phase ≢ DeadIn
 dead-not phase e is = let f : is_dead_in phase ≡ true = ap is_dead_in is in cc
 
--- what the needs of a deed tell
+-- from the needs of a deed to the facts
 pub allows_from : (n : ℕ) (a : Abstract) (d : Outer) → AllHold (needs n a d) → Allows n a d
 allows_from n a (Begin p) h = (ltb-true p n h.0, is_out-from _ h.1.0)
 allows_from n a (IsReady p) h = (ltb-true p n h.0, is_door-from _ h.1.0)
@@ -82,7 +82,7 @@ allows_from n a (Reenter p) h = (ltb-true p n h.0, is_dead_in-from _ h.1.0)
 allows_from n a (Leave p) h = (ltb-true p n h.0, is_inside-from _ h.1.0)
 allows_from n a (Quit p) h = (ltb-true p n h.0, elim (or_cases _ _ h.1.0) [ inl e ↦ inl (is_door-from _ e) | inr e ↦ inr (is_ready-from _ e) ])
 
--- who leaves all ahead sets
+-- a process that was taken out of the ahead sets
 pub put_false : (f : ℕ → Bool) (p i : ℕ) → put f p false i ≡ true → f i ≡ true
 put_false f p i e = elim (cases_Bool (i == p)) [ inl here ↦ (let no : false ≡ true = rw here at e in cc) | inr away ↦ rw away at e ]
 

@@ -67,7 +67,7 @@ module _ (limit : ℕ) where
   within_if true t s h k = h
   within_if false t s h k = k
 
-  -- what a store writes fits its word
+  -- what a store writes is within the bounds of its word
   fitting : (n p : ℕ) (s : Place) (kind : Kind) (word : Word) (v : ℕ) → IsSome (next n limit p s kind word v) → is_store kind ≡ true → Fitting word v
   fitting n p Opening Opens (ChoosingOf q) v some e = let is : v ≡ 1 = eqb-true v 1 (last (q == p) (v == 1) (Door (others n p) 0) some) in omega arith
   fitting n p (Door [] m) Takes (NumberOf q) v some e =

@@ -1,9 +1,9 @@
--- A step of process p changes p's words and place alone. What has to hold of p for everything to hold, and what keeps it.
+-- A step of process p changes p's words and place alone. What p must keep for the invariant to hold again.
 use Rattle.std.proofs.Common.{◌≡◌, ◌≢◌, ℕ, ◌<◌, Bool, true, false, ◌⊎◌, Some, None, refl, sym, ◌∙◌, subst, inl, inr, arith}
 use Rattle.rmecore.proofs.Common.{cases_eq, Own, Phase, Abstract, Place, Door, Wait, World}
 use Rattle.rmecore.proofs.Invariant.{Fits, phase_of, Before, Counted, Stands, WaitsPast, Looked, Pair, Tied}
 
--- p has words x and place s, all others are as in w, and everything holds
+-- p has words x and place s, all others are as in w, and the invariant holds
 pub record Here (n : ℕ) (w : World) (a : Abstract) (p : ℕ) (x : Own) (s : Place) : Type 0 where
   pub fits : Fits x s
   pub phase : a.phase p ≡ phase_of x s
@@ -28,7 +28,7 @@ here_of n w a p below t =
     }
 
 module _ (w : World) (p : ℕ) (words : ℕ → Own) (places : ℕ → Place) (s : Place) (same : (q : ℕ) → q ≢ p → words q ≡ w.words q) (there : places p ≡ s) (elsewhere : (q : ℕ) → q ≢ p → places q ≡ w.places q) where
-  -- what holds of p as it is now, and of all others as they were, holds of all
+  -- what holds of p now, and of the others before, holds of all
   at_each : (Q : ℕ → Own → Place → Type 0) → Q p (words p) s → ((q : ℕ) → q ≢ p → Q q (w.words q) (w.places q)) → (q : ℕ) → Q q (words q) (places q)
   at_each Q now before q =
       elim (cases_eq q p) [
@@ -51,13 +51,13 @@ module _ (w : World) (p : ℕ) (words : ℕ → Own) (places : ℕ → Place) (s
             (λ i away h h' ne. here.others_pairs q i h h' ne far away));
       }
 
--- one pair
+-- the invariant of one pair of processes
 
--- fewer are ahead
+-- fewer processes are ahead
 pub fewer : {b b' : Bool} {p : ℕ} {x : Own} {s : Place} {i : ℕ} {y : Own} {t : Place} → (b' ≡ true → b ≡ true) → Pair b p x s i y t → Pair b' p x s i y t
 fewer f h = record { passed = h.passed; looked = h.looked; ahead = λ e. h.ahead (f e) }
 
--- p goes on, with the same number
+-- p's place changes, its number does not
 pub goes_on : {b : Bool} {p : ℕ} {x : Own} {s : Place} {i : ℕ} {y : Own} {t : Place} → Pair b p x s i y t → (x' : Own) (s' : Place) → x'.number ≡ x.number → (0 < x.number → x'.inside ≡ x.inside) → (WaitsPast s' i → Stands x.number p i y t) → (Looked s' i → Counted x.number p t) → Pair b p x' s' i y t
 goes_on {p = p} {x = x} {i = i} {y = y} {t = t} h x' s' number inside past look =
     record {
@@ -66,7 +66,7 @@ goes_on {p = p} {x = x} {i = i} {y = y} {t = t} h x' s' number inside past look 
       ahead = λ e. rw number (let k = h.ahead e in (k.0, inside k.0 ∙ k.1, k.2));
     }
 
--- p has passed and looked at nobody, and is ahead of nobody
+-- p has passed and looked at no process, and is ahead of none
 pub knows_nothing : {b : Bool} {p : ℕ} {x : Own} {s : Place} {i : ℕ} {y : Own} {t : Place} → ((0 < x.number) × (0 < x.inside) → ⊥) → (WaitsPast s i → ⊥) → (Looked s i → ⊥) → (b ≡ true → ⊥) → Pair b p x s i y t
 knows_nothing out past look nobody =
     record {
@@ -75,7 +75,7 @@ knows_nothing out past look nobody =
       ahead = λ e. absurd (nobody e);
     }
 
--- what another one knows of p, where p's number and place change
+-- what another process knows of p, when p's number and place change
 pub stays_behind : {b : Bool} {q : ℕ} {z : Own} {u : Place} {p : ℕ} {x : Own} {s : Place} → Pair b q z u p x s → (x' : Own) (s' : Place) → (Counted z.number q s → Counted z.number q s') → (Stands z.number q p x s → (x'.number ≡ 0) ⊎ Before z.number q x'.number p) → Pair b q z u p x' s'
 stays_behind {q = q} {z = z} {p = p} {x = x} {s = s} h x' s' counted less =
     let on = λ (k : Stands z.number q p x s). let r : Stands z.number q p x' s' = record { less = less k; counted = counted k.counted } in r in
@@ -85,7 +85,7 @@ stays_behind {q = q} {z = z} {p = p} {x = x} {s = s} h x' s' counted less =
       ahead = λ e. let k = h.ahead e in (k.0, k.1, on k.2);
     }
 
--- p's step, with nobody more or less ahead
+-- a step of p that changes no ahead set
 pub calm : {n : ℕ} {w : World} {a : Abstract} {p : ℕ} {x : Own} {s : Place} → Here n w a p x s → (x' : Own) (s' : Place) (phase : ℕ → Phase) → Fits x' s' → phase p ≡ phase_of x' s' → ((q : ℕ) → q ≢ p → phase q ≡ a.phase q)
     → ((i : ℕ) → i < n → i ≢ p → Pair (a.ahead i p) p x s i (w.words i) (w.places i) → Pair (a.ahead i p) p x' s' i (w.words i) (w.places i))
     → ((q : ℕ) → q < n → q ≢ p → Pair (a.ahead p q) q (w.words q) (w.places q) p x s → Pair (a.ahead p q) q (w.words q) (w.places q) p x' s')
@@ -102,7 +102,7 @@ calm h x' s' phase fits mine rest first second =
       others_pairs = h.others_pairs;
     }
 
--- a place where p has passed, looked at and missed nobody
+-- a place at which p has passed, looked at and missed no process
 abbrev pub Plain : Place → Type 0
 Plain (Door unread m) = ⊥
 Plain (Wait k unpassed looked) = ⊥
@@ -124,7 +124,7 @@ plain_counted (Door unread m) k q h = absurd h
 plain_counted (Wait k' unpassed looked) k q h = tt
 plain_counted _ k q h = tt
 
--- p comes to a plain place with the same number
+-- p reaches a plain place with the same number
 pub quiet : {n : ℕ} {w : World} {a : Abstract} {p : ℕ} {x : Own} {s : Place} → Here n w a p x s → (x' : Own) (s' : Place) (phase : ℕ → Phase) → Plain s' → Fits x' s' → phase p ≡ phase_of x' s' → ((q : ℕ) → q ≢ p → phase q ≡ a.phase q)
     → x'.number ≡ x.number → (0 < x.number → x'.inside ≡ x.inside) → Here n w (record { phase = phase; ahead = a.ahead }) p x' s'
 quiet h x' s' phase plain fits mine rest number inside =

@@ -1,4 +1,4 @@
--- What proof files of this crate cite from modules that two or more of them share, passed on from one place. Declares nothing.
+-- Imports that two or more proof files of this crate share. Declares nothing.
 pub use Rattle.std.proofs.Math.Seq.{take-append_seam}
 pub use Rattle.std.proofs.lemmas.Bool.{cases_Bool, and_parts, or_cases, false_from_ne_true, cond_both, cases_eq, cases_lt, and_from, or_left, or_right, and_right}
 pub use Rattle.std.proofs.lemmas.List.{get_or_default, get_or_past, get_or-replicate, length-replicate}

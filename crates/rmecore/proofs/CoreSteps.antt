@@ -51,7 +51,7 @@ pub reads : (words : ℕ → Own) (a : Access) (v : ℕ) → KindFits a → v �
 reads words (Load kind word) v fits e load = sym e
 reads words (Store kind word y) v fits e load = cc
 
--- what a process's machine did, over the words and among the others
+-- a step of one process's machine, over the words and beside the other processes
 pub record Moves (n limit p : ℕ) (words words' : List Own) (processes : List Standing) (s s' : Standing) (a : Access) (v : ℕ) : Type 0 where
   pub here : standing_at processes p ≡ s
   pub seat : HasSeat n limit p s
@@ -113,7 +113,7 @@ pub seated_set :
     → length words' ≡ n → HasSeat n limit p s' → IsSeated n limit words' (slice_set processes p s') (slice_set tallies p t)
 seated_set {p = p} seated below words' s' t each seat = seated_more (seated_process seated below s' seat) p words' t each
 
--- what an index gives
+-- the value at an index
 pub at_here : {A : Type 0} (xs : List A) (p n : ℕ) (x d : A) → x ≡ slice_index_or xs p x → p < n → length xs ≡ n → slice_index_or xs p d ≡ x
 at_here xs p n x d is below each = get_or_default xs p d x (rw each below) ∙ sym is
 
@@ -134,7 +134,7 @@ least_here n limit p processes s a seat here least word v some =
     let same : next n limit p (place_at processes p) (kind_of a) word v ≡ next s.procs s.limit s.index s.place (kind_of a) word v = cc in
     least word v (subst (λ o. IsSome o) same some)
 
--- an event that leaves the words, and takes process p to the place of s'
+-- an event that changes no word and moves process p to the place of s'
 alone :
     (n limit p : ℕ) (words : List Own) (processes : List Standing) (tallies tallies' : List Tally) (s' : Standing) (e : Event) → process e ≡ p → p < n → length processes ≡ n
     → Reads (own_at words) e → stored (own_at words) e ≡ own_at words → moved n limit (place_at processes p) e ≡ Some s'.place

@@ -1,4 +1,4 @@
--- Every event of a simulated core keeps what its tallies say.
+-- Every event of a simulated core keeps the invariant of its counts.
 use Rattle.std.proofs.Common.{◌≡◌, ◌≢◌, ℕ, ◌+◌, ◌<◌, false, List, length, slice_index_or, slice_set, replicate, Option, Some, IsSome, IfSome, unwrap_or, refl, sym, ap, ◌∙◌, subst, inl, inr, arith, get_or-set_same, get_or-set_other}
 use Rattle.rmecore.proofs.Common.{cases_eq, get_or-replicate, Access, CoreCall, Lock, Unlock, Withdraw, Recover, CoreDone, Kind, Own, Tally, Word, nobody, kind_of, carried, Standing, next_access}
 use Rattle.rmecore.proofs.Common.{progress, is_blocked, answer, most_steps, is_glance, Place, Rest, Dead, Wait, Inside, next, Event, Starts, Crashes, Steps, started, process, is_idle, Simulated}
@@ -12,14 +12,14 @@ use Rattle.rmecore.proofs.CoreSteps.{Moves, settled, at_here}
 use Rattle.rmecore.proofs.Tallies.{never_glances, answered, tallied_on}
 use Rattle.rmecore.specs.declared.progress.Progress.{Progress}
 
--- in a run each event changes own words alone
+-- in a run an event changes words of its own process alone
 others_keep : (n limit : ℕ) (w : World) (e : Event) → IsReached n limit w → May n limit w e → (q : ℕ) → q ≢ process e → stored w.words e q ≡ w.words q
 others_keep n limit w e reached may =
     let a = all_done nobody (deeds n limit at_rest reached.events) in
     let tied : Tied n w a = subst (λ u. Tied n u a) reached.world (tied_after n limit at_rest nobody reached.events (at_first n) reached.run) in
     (kept n limit w a e may tied).2
 
--- what is counted of p is true, and of the others nothing was changed
+-- the counts of p are right, and those of the others did not change
 module _ (n limit : ℕ) (w : World) (e : Event) (reached : IsReached n limit w) (may : May n limit w e) where
   abbrev p : ℕ
   p = process e
@@ -40,7 +40,7 @@ module _ (n limit : ℕ) (w : World) (e : Event) (reached : IsReached n limit w)
       elsewhere tallies (slice_set tallies p t) (λ q ne. get_or-set_other tallies p q t _ ne)
       (subst (IsTallied n ((after n limit w e).words p) ((after n limit w e).places p)) (sym (get_or-set_same tallies p t _ room)) here) all
 
--- a call begins with the own words, and nothing is taken yet
+-- a call begins with the process's words and no step taken
 begun : (n : ℕ) (own : Own) (s : Place) (call : CoreCall) → IsSome (started s call) → (d : Place) → IsTallied n own (unwrap_or (started s call) d) (fresh own)
 begun n own Rest Lock some d = record { began = λ h. refl; taking = λ exact. (0, refl, refl) }
 begun n own Rest Recover some d = record { began = λ h. refl; taking = λ exact. (0, refl, refl) }
@@ -89,14 +89,14 @@ module _ {old new : Simulated} (reached : IsReached old.procs old.limit (world_o
       (subst (λ s. IsTallied old.procs (own_at old.words p) s (tally_at old.tallies p)) (sym (put_same (place_at old.processes) p Dead)) now)
       all)
 
--- the machine's own access is no glance
+-- the machine's access is never a glance
 pub no_glance : {n limit p : ℕ} {words words' : List Own} {processes : List Standing} {s s' : Standing} {a : Access} {v : ℕ} → Moves n limit p words words' processes s s' a v → is_glance (kind_of a) ≡ false
 no_glance {s = s} {a = a} m = let h : IfSome (next_access s) (λ a. is_glance (kind_of a) ≡ false) = never_glances s.limit s.index s.place in rw m.next at h
 
 pub own_here : (words : List Own) (p n : ℕ) (own : Own) → own ≡ slice_index_or words p own → p < n → length words ≡ n → own_at words p ≡ own
 own_here words p n own = at_here words p n own _
 
--- the tally as the machine's step counted it
+-- the counts after the machine's step
 pub counted_here : {n limit p : ℕ} {words words' : List Own} {processes : List Standing} {s s' : Standing} {a : Access} {v : ℕ} → Moves n limit p words words' processes s s' a v
     → (tallies : List Tally) → length tallies ≡ n → (t : Tally) → t ≡ slice_index_or tallies p t → (done : Progress) → done ≡ progress s (next_access s) v → (t' : Tally) → t' ≡ counted t done.blocked
     → t' ≡ counted (tally_at tallies p) (is_blocked p (place_at processes p) (kind_of a) v)
@@ -124,7 +124,7 @@ tallied_first n w tallies places is p below =
     subst (λ s. IsTallied n (w.words p) s (tally_at tallies p)) (sym (ap (λ f. f p) places))
     (subst (IsTallied n (w.words p) Rest) (sym (ap (λ ts. tally_at ts p) is ∙ get_or-replicate n p (fresh zeros) (fresh zeros) below)) (record { began = λ h. absurd h; taking = λ exact. (0, tt, refl) }))
 
--- a call under way has taken fewer steps than the most
+-- a call under way has taken fewer steps than the bound
 pub takes_fewer : (n : ℕ) (w : World) (tallies : List Tally) → AllTallied n w tallies → (p : ℕ) → IsExact (tally_at tallies p) → p < n → is_idle (w.places p) ≡ false → (tally_at tallies p).steps < most_steps n + (tally_at tallies p).blocked
 takes_fewer n w tallies all p exact below busy =
     let t = tally_at tallies p in

@@ -1,4 +1,4 @@
--- Runs from an image and to an image; a process's place is that of its own events.
+-- Runs from an image and to an image. A process's place follows from its own events.
 use Rattle.std.proofs.Common.{◌≡◌, ◌≢◌, ℕ, ◌<◌, true, false, ◌==◌, ◌⊎◌, List, [], ◌∷◌, ◌++◌, Option, Some, None, unwrap_or, refl, sym, ap, ◌∙◌, subst, inl, inr, arith, eq-eqb, ne_eqb}
 use Rattle.rmecore.proofs.Common.{and_parts, cases_eq, and_right, Outer, Own, Phase, AtDoor, Ready as Waiting, is_ready, IsLawful, all_dead, dead_phase, phase_by, is_ahead, start_of, Dead, Event}
 use Rattle.rmecore.proofs.Common.{is_before, process, moved, World, May, after, Run, final, deeds, own_events, place_after, deed, and_then}
@@ -67,12 +67,12 @@ place_own n limit w p (e ∷ es) =
           rw (not_own, now) refl
     ])
 
--- one more event prolongs a run
+-- a run with one more event is a run
 pub run_more : (n limit : ℕ) (w : World) (es : List Event) (e : Event) → Run n limit w es → May n limit (final n limit w es) e → Run n limit w (es ++ e ∷ [])
 run_more n limit w [] e run may = (may, tt)
 run_more n limit w (f ∷ es) e run may = (run.0, run_more n limit (after n limit w f) es e run.1 may)
 
--- its deeds are those of the run, and then the event's
+-- its deeds are those of the run, then the event's
 pub deeds_more : (n limit : ℕ) (w : World) (es : List Event) (e : Event) → deeds n limit w (es ++ e ∷ []) ≡ deeds n limit w es ++ and_then (deed ((final n limit w es).places (process e)) e) []
 deeds_more n limit w [] e = refl
 deeds_more n limit w (f ∷ es) e = and_then-append (deed (w.places (process f)) f) _ _ _ (deeds_more n limit (after n limit w f) es e)

@@ -1,4 +1,4 @@
--- What holds of every world of a run, and of the abstract lock beside it.
+-- The invariant of every world of a run together with the abstract lock.
 use Rattle.std.proofs.Common.{◌≡◌, ◌≢◌, ℕ, zero, suc, ◌+◌, ◌-◌, ◌<◌, ◌≤◌, Bool, true, false, ◌||◌, ◌==◌, ◌⊎◌, List, [], ◌∷◌, Some, refl, ap, ◌∙◌, inl, inr, arith, eqb-true, eq-eqb, ne_eqb}
 use Rattle.rmecore.proofs.Common.{cases_Bool, cases_eq, Own, Phase, Out, AtDoor, Ready as Waiting, Within, DeadIn as DeadWithin, Abstract, is_ready, crashed, put, Place, Rest, Dead, Reread, Opening}
 use Rattle.rmecore.proofs.Common.{Door, Shutting, Wait, Inside, Leaving, Withdrawing, Unmarking, has, without, others, span, World}
@@ -44,7 +44,7 @@ put_same f p x = rw (eqb_self p)
 pub put_other : {A : Type 0} (f : ℕ → A) (p : ℕ) (x : A) (q : ℕ) → q ≢ p → put f p x q ≡ f q
 put_other f p x q ne = rw (ne_eqb q p ne)
 
--- which words a process can have at a place
+-- the words that a process can have at a place
 abbrev pub Row : Own → Type 0
 Row x = (x.choosing ≡ 0) ⊎ (x.inside ≡ 0)
 
@@ -84,12 +84,12 @@ phase_of x s = phase_at x.choosing x.number x.inside (is_lost s)
 abbrev pub Before : ℕ → ℕ → ℕ → ℕ → Type 0
 Before k p v i = (k < v) ⊎ ((k ≡ v) × (p < i))
 
--- who is at this place hasn't missed p's number k: the number that it takes is above k
+-- a process at this place has not missed p's number k: it takes a number above k
 abbrev pub Counted : ℕ → ℕ → Place → Type 0
 Counted k p (Door unread m) = (has unread p ≡ true) ⊎ (k ≤ m)
 Counted k p _ = Unit {0}
 
--- p with number k is before i, now and whatever number i takes next
+-- p with number k is before i, now and with whatever number i takes next
 pub record Stands (k p i : ℕ) (y : Own) (t : Place) : Type 0 where
   pub less : (y.number ≡ 0) ⊎ Before k p y.number i
   pub counted : Counted k p t
@@ -106,7 +106,7 @@ abbrev pub Looked : Place → ℕ → Type 0
 Looked (Wait k unpassed (Some j)) i = j ≡ i
 Looked _ _ = ⊥
 
--- what p knows of another process i; b: p is ahead of i in the abstract lock
+-- the invariant of a pair of processes. b: p is ahead of i in the abstract lock
 pub record Pair (b : Bool) (p : ℕ) (x : Own) (s : Place) (i : ℕ) (y : Own) (t : Place) : Type 0 where
   pub passed : Passed x s i → Stands x.number p i y t
   pub looked : Looked s i → Counted x.number p t
@@ -135,7 +135,7 @@ phase_within c k i e f = grind arith
 pub phase_dead : (c k i : ℕ) → 0 < k → 0 < i → phase_at c k i true ≡ DeadWithin
 phase_dead c k i e f = grind arith
 
--- and back
+-- the other direction
 
 pub within_means : (c k i : ℕ) (b : Bool) → phase_at c k i b ≡ Within → (0 < k) × (0 < i)
 within_means c k i b e = grind arith
@@ -146,14 +146,14 @@ dead_means c k i b e = grind arith
 pub waiting_means : (c k i : ℕ) (b : Bool) → is_ready (phase_at c k i b) ≡ true → (0 < k) × (i ≡ 0)
 waiting_means c k i b e = grind arith
 
--- lost memory tells on the phase only inside
+-- lost memory changes the phase only inside
 pub phase_any : (c k i : ℕ) (b b' : Bool) → (k ≡ 0) ⊎ (i ≡ 0) → phase_at c k i b ≡ phase_at c k i b'
 phase_any c k i b b' e = grind arith
 
 pub phase_crashed : (c k i : ℕ) (b : Bool) → crashed (phase_at c k i b) ≡ phase_at c k i true
 phase_crashed c k i b = grind arith
 
--- words of every place are among those of the restart table
+-- the words at every place are a row of the restart table
 pub row_of : (x : Own) (s : Place) → Fits x s → Row x
 row_of x Rest h = inr h.0
 row_of x Dead h = h

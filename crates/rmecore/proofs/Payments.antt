@@ -1,4 +1,4 @@
--- Each step of a call that isn't blocked counts one, up to the answer, and then the number is that of the table.
+-- Each step of a call that isn't blocked adds one to its count. At the answer the count is the table's number.
 use Rattle.std.proofs.Common.{◌≡◌, ℕ, zero, suc, ◌+◌, ◌-◌, ◌*◌, ◌<◌, ◌≤◌, max, true, false, ◌||◌, ◌==◌, if◌then◌else◌, List, [], ◌∷◌, length, Option, Some, None, IsSome, IfSome, unwrap_or, refl, sym, ap, ◌∙◌, subst, inl, inr, arith, eqb-true, eq-eqb, ne_eqb}
 use Rattle.rmecore.proofs.Common.{cases_Bool, false_from_ne_true, cases_eq, CoreCall, Lock, Unlock, CoreDone, Kind, Take as Takes, Shut as Shuts, Rereads, Open as Opens, Peek as Peeks, Look as Looks}
 use Rattle.rmecore.proofs.Common.{Weigh as Weighs, Mark as Marks, Drop as Drops, Glance as Glances, Word, Choosing as ChoosingOf, Number as NumberOf, InsideOf, is_blocked, answer, reread_answer}
@@ -70,11 +70,11 @@ length-span p i (suc k) h below =
 length-others : (n p : ℕ) → p < n → length (others n p) + 1 ≡ n
 length-others n p below = let h = length-span p 0 (n - 0) (omega arith) (omega arith) in omega arith
 
--- the place and the answer to which a step comes
+-- the place and the answer after a step
 abbrev pub Comes : ℕ → ℕ → ℕ → ℕ → Option CoreDone → Place → ℕ → Type 0
 Comes n c k i done s steps = Pays n c k i s steps × IfSome done (λ d. own_steps n c k i d ≡ Some steps)
 
--- the same number, written in another way
+-- the same number, written differently
 same : {o : Option ℕ} {x : ℕ} (y : ℕ) → o ≡ Some x → x ≡ y → o ≡ Some y
 same y e f = e ∙ ap Some f
 
@@ -150,7 +150,7 @@ module _ (n p : ℕ) (below : p < n) where
   pays limit c k i s Glances word v steps some not_glance reads h = absurd (cc)
   pays limit c k i _ _ _ v steps some not_glance reads h = absurd (cc)
 
--- no number of the table is above the most
+-- no number of the table is above the bound
 
 at_most : (n c k i : ℕ) (done : CoreDone) (x : ℕ) → 0 < n → own_steps n c k i done ≡ Some x → x ≤ most_steps n
 at_most n c k i done x h e = grind arith
@@ -158,7 +158,7 @@ at_most n c k i done x h e = grind arith
 more_to_come : (n c k i : ℕ) (done : CoreDone) (x left : ℕ) → 0 < n → 0 < left → own_steps n c k i done ≡ Some (x + left) → x < most_steps n
 more_to_come n c k i done x left h some e = let most = at_most n c k i done (x + left) h e in omega arith
 
--- a call under way has taken fewer
+-- a call under way has taken fewer steps than the bound
 pub fewer : (n c k i : ℕ) (s : Place) (x : ℕ) → 0 < n → is_idle s ≡ false → Pays n c k i s x → x < most_steps n
 fewer n c k i (Reread call []) x h busy pays = omega arith
 fewer n c k i (Reread call (a ∷ [])) x h busy pays = let f = pays.0 in omega arith
@@ -177,7 +177,7 @@ fewer n c k i (Unmarking Unlock) x h busy pays = more_to_come n c k i Out x _ h 
 fewer n c k i (Unmarking _) x h busy pays = more_to_come n c k i (Finds Left) x _ h (omega arith) pays
 fewer n c k i _ x h busy pays = absurd (cc)
 
--- a fresh start, up to and with the shut
+-- a fresh start, up to the end of the shut
 pub fresh_start : (n p k steps : ℕ) → p < n → Pays n 0 0 0 (Wait k (others n p) None) steps → steps ≡ n + 5
 fresh_start n p k steps below pays =
     let each = length-others n p below in

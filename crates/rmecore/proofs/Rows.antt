@@ -1,4 +1,4 @@
--- One lemma for each kind of step: the deed is allowed, and everything holds again.
+-- One lemma for each kind of step: the deed is allowed, and the invariant holds again.
 use Rattle.std.proofs.Common.{◌≡◌, ◌≢◌, ℕ, zero, suc, ◌+◌, ◌<◌, max, Bool, true, false, ◌||◌, ◌==◌, ◌⊎◌, List, [], ◌∷◌, Option, Some, None, IsSome, unwrap_or, refl, sym, ap, ◌∙◌, subst, inl, inr, arith, eqb-true, ltb-true}
 use Rattle.rmecore.proofs.Common.{and_parts, or_cases, false_from_ne_true, cases_eq, CoreCall, Lock, Unlock, Withdraw, Recover, Rereads, Outer, Begin, Enter, Crash, Reenter, Leave, Quit, Own, Out}
 use Rattle.rmecore.proofs.Common.{AtDoor, Ready as Waiting, Within, DeadIn as DeadWithin, Abstract, is_ready, crashed, done, put, Place, Rest, Dead, Reread, Opening, Door, Shutting, Wait, Inside}
@@ -16,7 +16,7 @@ abbrev pub after_deed : Abstract → Option Outer → Abstract
 after_deed a None = a
 after_deed a (Some d) = done a d
 
--- p's step led to words x and place s, with this deed
+-- the result of p's step: words x, place s, and this deed
 abbrev pub Outcome : ℕ → World → Abstract → ℕ → Own → Place → Option Outer → Type 0
 Outcome n w a p x s d = Allowed n a d × Here n w (after_deed a d) p x s
 
@@ -27,7 +27,7 @@ before_by k p v i e =
       | inr g ↦ let both = and_parts _ _ g in inr (eqb-true k v both.0, ltb-true p i both.1)
     ]
 
--- what the test of a weigh tells
+-- what it means that a weigh passes
 before_from : (k p v i : ℕ) → ((v == 0) || is_before k p v i) ≡ true → (v ≡ 0) ⊎ Before k p v i
 before_from k p v i e = elim (or_cases _ _ e) [ inl f ↦ inl (eqb-true v 0 f) | inr f ↦ inr (before_by k p v i f) ]
 
@@ -85,7 +85,7 @@ module _ {n : ℕ} {w : World} {a : Abstract} {p : ℕ} (below : p < n) where
         (λ q hq ne k. stays_behind k (record x { number = v }) (Shutting Lock v) (λ c. tt) (λ c. elim c.counted [ inl f ↦ cc | inr f ↦ inr (inl (omega arith)) ])),
   )
 
-  -- p gives up its place in the line
+  -- p gives up its place in line
   quit_to : {x : Own} {s : Place} (x' : Own) → Here n w a p x s → (a.phase p ≡ AtDoor) ⊎ (a.phase p ≡ Waiting) → x'.choosing ≡ 0 → x'.number ≡ 0 → x'.inside ≡ 0 → Outcome n w a p x' Rest (Some (Quit p))
   quit_to {x = x} {s = s} x' h phase choosing number inside = (
     (below, phase),
@@ -190,11 +190,11 @@ module _ {n : ℕ} {w : World} {a : Abstract} {p : ℕ} (below : p < n) where
       waiting : a.phase p ≡ Waiting
       waiting = h.phase ∙ phase_waiting _ _ _ _ (omega arith) h.fits.3
 
-      -- p has passed everyone
+      -- p has passed all other processes
       passed : (q : ℕ) → q < n → q ≢ p → Stands x.number p q (w.words q) (w.places q)
       passed q hq ne = (h.first q hq ne).passed (inr refl)
 
-      -- nobody has passed p, or is ahead of it
+      -- no process has passed p, or is ahead of it
       not_both : (q : ℕ) → q < n → q ≢ p → 0 < (w.words q).number → Stands (w.words q).number q p x (Wait k [] None) → ⊥
       not_both q hq ne some s = let r = passed q hq ne in omega arith
 
@@ -215,7 +215,7 @@ module _ {n : ℕ} {w : World} {a : Abstract} {p : ℕ} (below : p < n) where
   unmarks {x = x} _ v h is =
       (tt, quiet h (record x { inside = v }) Rest a.phase tt (is, inl h.fits.0) (h.phase ∙ phase_out _ _ _ _ h.fits.0 h.fits.1 ∙ sym (phase_out _ _ v _ h.fits.0 h.fits.1)) (λ q ne. refl) refl (λ e. absurd (omega arith)))
 
-  -- p comes to a plain place with the same words and phase
+  -- p reaches a plain place with the same words and phase
   pub comes : {x : Own} {s : Place} (s' : Place) → Here n w a p x s → Plain s' → Fits x s' → phase_of x s ≡ phase_of x s' → Here n w a p x s'
   comes {x = x} s' h plain fits same = quiet h x s' a.phase plain fits (h.phase ∙ same) (λ q ne. refl) refl (λ e. refl)
 

@@ -1,4 +1,4 @@
--- Every event keeps everything, so every run does.
+-- Every event keeps the invariant, so every run does.
 use Rattle.std.proofs.Common.{◌≡◌, ◌≢◌, ℕ, ◌+◌, ◌<◌, Bool, true, false, ◌&&◌, ◌||◌, ◌==◌, if◌then◌else◌, nat_lt, nat_le, List, [], ◌∷◌, Option, Some, None, IsSome, unwrap_or, refl, sym, ap, ◌∙◌, subst, inl, arith, eqb-true}
 use Rattle.rmecore.proofs.Common.{and_parts, Kind, Take as Takes, Shut as Shuts, Rereads, Open as Opens, Peek as Peeks, Look as Looks, Weigh as Weighs, Mark as Marks, Drop as Drops, Glance as Glances}
 use Rattle.rmecore.proofs.Common.{Outer, Begin, Enter, Leave, Quit, Own, Word, Choosing as ChoosingOf, Number as NumberOf, InsideOf, Abstract, nobody, Legal, put, Place, Reread, Opening, Door}
@@ -10,20 +10,20 @@ use Rattle.rmecore.proofs.Changes.{Here, knows_nothing, here_of, tied_of}
 use Rattle.rmecore.proofs.Rows.{Allowed, after_deed, Outcome, opens, peeks, takes, quits, shuts, looks, weighs, enters, drops, withdraws, unmarks, comes, restarts, crashes, starts}
 use Rattle.rmecore.specs.declared.outer.Outer.TheVariants.{Ready}
 
--- what was allowed passed its test
+-- an event that was allowed passed its test
 pub guard : (b : Bool) (t s : Place) (P : Place → Type 0) → IsSome (only b t) → (b ≡ true → P t) → P (unwrap_or (only b t) s)
 guard true t s P some f = f refl
 guard false t s P some f = cc
 
 module _ (n limit : ℕ) (w : World) (a : Abstract) (p : ℕ) (below : p < n) where
-  -- what a step leaves: others' words as they were
+  -- a step leaves the words of other processes as they were
   abbrev Effect : (ℕ → Own) → Place → Option Outer → Type 0
   Effect words s d = Outcome n w a p (words p) s d × ((q : ℕ) → q ≢ p → words q ≡ w.words q)
 
   loaded : (s : Place) (d : Option Outer) → Outcome n w a p (w.words p) s d → Effect w.words s d
   loaded s d h = (h, λ q ne. refl)
 
-  -- a store into an own word
+  -- a store into a word of the process's own
   own_word : (f : Own → Own) (q : ℕ) (s : Place) (d : Option Outer) → (q == p) ≡ true → Outcome n w a p (f (w.words p)) s d → Effect (put w.words q (f (w.words q))) s d
   own_word f q s d e h =
       subst (λ r. Effect (put w.words r (f (w.words r))) s d) (sym (eqb-true q p e))

@@ -1,4 +1,4 @@
--- One process at most is in the section, and only its entry and its exit change who is.
+-- At most one process is in the section. Only its entry and its exit change which one.
 use Rattle.std.proofs.Common.{◌≡◌, ◌≢◌, ℕ, ◌<◌, List, [], ◌∷◌, refl, sym, ◌∙◌, subst, inl, inr}
 use Rattle.rmecore.proofs.Common.{cases_eq, Outer, Begin, Enter, Crash, Reenter, Leave, Quit, Phase, Out, AtDoor as Door, Ready, Within as Inside, DeadIn, Abstract, needs, nobody, crashed, done}
 use Rattle.rmecore.proofs.Common.{Legal, doer, AllHold, put, all_done, IsIn, IsEnter, IsLeave, Sole}
@@ -10,7 +10,7 @@ in_crashed : (phase : Phase) → IsIn (crashed phase) → IsIn phase
 in_crashed Out h = h
 in_crashed _ h = h
 
--- who is in after p's phase was put was in before, if p was
+-- a process that is in after a change of p's phase was in before, provided p was
 less_put : (f : ℕ → Phase) (p : ℕ) (x : Phase) (q : ℕ) → (IsIn x → IsIn (f p)) → IsIn (put f p x q) → IsIn (f q)
 less_put f p x q go h =
     elim (cases_eq q p) [
@@ -24,11 +24,11 @@ neither DeadIn x y i = y refl
 neither _ x y i = i
 
 module _ (n : ℕ) (a : Abstract) (sole : Sole n a) where
-  -- a deed after which nobody new is in
+  -- a deed that brings no process in
   none_new : (p : ℕ) (x : Phase) → (IsIn x → IsIn (a.phase p)) → (q r : ℕ) → q < n → r < n → IsIn (put a.phase p x q) → IsIn (put a.phase p x r) → q ≡ r
   none_new p x go q r hq hr iq ir = sole q r hq hr (less_put a.phase p x q go iq) (less_put a.phase p x r go ir)
 
-  -- an entry, where nobody was in
+  -- an entry, where no process was in
   entered : (p q : ℕ) → Allows n a (Enter p) → q < n → IsIn (put a.phase p Inside q) → q ≡ p
   entered p q h below i =
       elim (cases_eq q p) [
@@ -54,7 +54,7 @@ crashed_in : (phase : Phase) → IsIn phase → IsIn (crashed phase)
 crashed_in Out h = h
 crashed_in _ h = h
 
--- who was in is in after p's phase was put, if p is
+-- a process that was in is in after a change of p's phase, provided p is
 more_put : (f : ℕ → Phase) (p : ℕ) (x : Phase) (q : ℕ) → (IsIn (f p) → IsIn x) → IsIn (f q) → IsIn (put f p x q)
 more_put f p x q go h =
     elim (cases_eq q p) [
@@ -62,7 +62,7 @@ more_put f p x q go h =
       | inr ne ↦ subst IsIn (sym (put_other f p x q ne)) h
     ]
 
--- only an entry brings somebody in
+-- only an entry brings a process in
 pub in_before : (n : ℕ) (a : Abstract) (d : Outer) (q : ℕ) → Allows n a d → (IsEnter d → ⊥) → IsIn ((done a d).phase q) → IsIn (a.phase q)
 in_before n a (Begin p) q h not i = less_put a.phase p Door q (λ x. absurd x) i
 in_before n a (IsReady p) q h not i = less_put a.phase p Ready q (λ x. absurd x) i
@@ -75,7 +75,7 @@ in_before n a (Quit p) q h not i = less_put a.phase p Out q (λ x. absurd x) i
 not_in : {phase : Phase} (x : Phase) → phase ≡ x → (IsIn x → ⊥) → IsIn phase → ⊥
 not_in x e h i = h (subst IsIn e i)
 
--- only an exit takes somebody out
+-- only an exit takes a process out
 pub in_after : (n : ℕ) (a : Abstract) (d : Outer) (q : ℕ) → Allows n a d → (IsLeave d → ⊥) → IsIn (a.phase q) → IsIn ((done a d).phase q)
 in_after n a (Begin p) q h not i = more_put a.phase p Door q (λ x. absurd (not_in Out h.1 (λ y. y) x)) i
 in_after n a (IsReady p) q h not i = more_put a.phase p Ready q (λ x. absurd (not_in Door h.1 (λ y. y) x)) i

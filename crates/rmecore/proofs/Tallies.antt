@@ -1,4 +1,4 @@
--- The tallies of a simulated core count the steps of the table.
+-- The counts of a simulated core are the steps of the table.
 use Rattle.std.proofs.Common.{◌≡◌, ℕ, ◌+◌, ◌<◌, Bool, true, false, ◌==◌, nat_lt, if◌then◌else◌, List, [], ◌∷◌, Option, Some, None, IsSome, IfSome, unwrap_or, refl, sym, ap, ◌∙◌, inl, inr, arith, eqb-true}
 use Rattle.rmecore.proofs.Common.{cases_Bool, CoreCall, Lock, CoreDone, Kind, Take as Takes-number, Shut as Shuts, Rereads, Open as Opens, Peek as Peeks, Look as Looks, Weigh as Weighs, Mark as Marks}
 use Rattle.rmecore.proofs.Common.{Drop as Drops, Glance as Glances, Own, Tally, Word, Choosing as ChoosingOf, Number as NumberOf, InsideOf, access, kind_of, is_blocked, answer, is_glance, ReadsBegun}
@@ -8,7 +8,7 @@ use Rattle.rmecore.proofs.Accesses.{passed}
 use Rattle.rmecore.proofs.Payments.{Comes, pays}
 use Rattle.rmecore.proofs.Runs.{guard}
 
--- the machine never glances
+-- the machine's next step is never a glance
 pub never_glances : (limit p : ℕ) (place : Place) → IfSome (access limit p place) (λ a. is_glance (kind_of a) ≡ false)
 never_glances limit p (Door [] m) = elim (cases_Bool (nat_lt m limit)) [ inl e ↦ rw e refl | inr e ↦ rw e refl ]
 never_glances limit p (Reread call (c ∷ k ∷ i ∷ seen)) = tt
@@ -16,7 +16,7 @@ never_glances limit p (Wait k unpassed (Some j)) = refl
 never_glances limit p (Wait k (j ∷ js) None) = refl
 never_glances limit p _ = assumption
 
--- counting
+-- the counts after a step
 
 pub exact_before : (t : Tally) (b : Bool) → IsExact (counted t b) → IsExact t
 exact_before t b e = omega arith
@@ -25,9 +25,9 @@ pub sums : (t : Tally) (b : Bool) (x : ℕ) → IsExact (counted t b) → t.step
 sums t true x e h = omega arith
 sums t false x e h = omega arith
 
--- a process that rereads after a step has read an own word in it
+-- a process that rereads after a step has read one of its own words in that step
 
--- what a step to a place tells of the one before
+-- what the place after a step says of the place before
 abbrev pub Was : Place → Kind → Place → Type 0
 Was s kind s' = IsRereading s' → IsRereading s × (is_store kind ≡ false)
 
@@ -77,7 +77,7 @@ reads_begun n limit w p began (Reread call seen) Glances word v some not_glance 
 reads_begun n limit w p began (Reread call seen) kind word v some not_glance reads h = absurd (cc)
 reads_begun n limit w p began _ kind word v some not_glance reads h = tt
 
--- the count after one step of a process at place s, begun with the words in its tally
+-- the counts after one step of a process at place s. The call began with the words in its tally
 module _ (n limit : ℕ) (w : World) (p : ℕ) (kind : Kind) (word : Word) (v : ℕ) (t : Tally) (below : p < n) (some : IsSome (next n limit p (w.places p) kind word v)) (not_glance : is_glance kind ≡ false) (told : Reads w.words (Steps p kind word v))
     (tallied : IsTallied n (w.words p) (w.places p) t) where
   abbrev b : Bool
@@ -92,7 +92,7 @@ module _ (n limit : ℕ) (w : World) (p : ℕ) (kind : Kind) (word : Word) (v : 
       let reads = reads_begun n limit w p t.began (w.places p) kind word v some not_glance told tallied.began in
       (if b then old.0 else old.0 + 1, pays n p below limit _ _ _ (w.places p) kind word v old.0 some not_glance reads old.1, sums t b old.0 exact old.2)
 
-  -- the answer comes with just the steps of the table
+  -- with the answer, the steps are exactly those of the table
   pub answered : IfSome (answer (w.places p) kind v) (λ done. IsExact (counted t b) → HasTaken n (counted t b) done)
   answered = of (answer (w.places p) kind v) counts
     where

@@ -1,4 +1,4 @@
--- Every step of the lock is an entry, a re-entry, an exit, or nothing for who is in; and none is at a data word.
+-- Every step of the lock is an entry, a re-entry, an exit, or changes nothing in who is in. No step touches a data word.
 use Rattle.std.proofs.Common.{◌≡◌, ℕ, zero, suc, Bool, true, false, ◌==◌, ◌||◌, [], ◌∷◌, Option, Some, None, IsSome, refl, sym, subst}
 use Rattle.rmecore.proofs.Common.{cond_both, CoreCall, Lock, Unlock, Kind, Take as Takes, Shut as Shuts, Rereads, Open as Opens, Peek as Peeks, Look as Looks, Weigh as Weighs, Mark as Marks}
 use Rattle.rmecore.proofs.Common.{Drop as Drops, Glance as Glances, Outer, Word, Choosing as ChoosingOf, Number as NumberOf, InsideOf, Data as DataAt, Place, Reread, Opening, Door, Shutting, Wait}

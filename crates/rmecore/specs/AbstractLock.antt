@@ -1,5 +1,5 @@
--- The abstract lock (Golab and Ramaraju; Jayanti and Joshi): a phase for each process and, for each process, who is ahead
--- of it. It has no numbers. The rows Begin to Quit of the judge table.
+-- "Abstract lock" of the specification (Golab and Ramaraju; Jayanti and Joshi): a phase for each process and, for each
+-- process, the set of those ahead of it. It has no numbers. Its deeds are the rows Begin to Quit of the judge table.
 use Rattle.std.specs.Prelude.{ℕ, Bool, true, false, ◌||◌, nat_lt, List, [], ◌∷◌}
 use Rattle.rmecore.specs.Needs.{AllHold, least, none_below, put}
 use Rattle.rmecore.specs.declared.fault.Fault.{Fault}
@@ -9,15 +9,17 @@ use Rattle.rmecore.specs.declared.outer.Outer.TheVariants.{Begin, Ready as IsRea
 use Rattle.rmecore.specs.declared.phase.Phase.{Phase}
 use Rattle.rmecore.specs.declared.phase.Phase.TheVariants.{Out, Door, Ready, Inside, DeadIn}
 
+-- the state of the abstract lock
 pub record Abstract : Type 0 where
   pub phase : ℕ → Phase
-  -- ahead p q: q is in p's set, and enters before p
+  -- ahead p q: q is in p's set, and must enter or quit before p enters
   pub ahead : ℕ → ℕ → Bool
 
--- everyone is out, and every set is empty
+-- all processes out, all sets empty
 abbrev pub nobody : Abstract
 nobody = record { phase = λ p. Out; ahead = λ p q. false }
 
+-- tests of a phase
 abbrev pub is_out : Phase → Bool
 is_out Out = true
 is_out _ = false
@@ -38,11 +40,12 @@ abbrev pub is_dead_in : Phase → Bool
 is_dead_in DeadIn = true
 is_dead_in _ = false
 
--- where a crash leaves a process
+-- the phase after a crash
 abbrev pub crashed : Phase → Phase
 crashed Inside = DeadIn
 crashed phase = phase
 
+-- the process of a deed
 abbrev pub doer : Outer → ℕ
 doer (Begin p) = p
 doer (IsReady p) = p
@@ -52,7 +55,7 @@ doer (Reenter p) = p
 doer (Leave p) = p
 doer (Quit p) = p
 
--- a deed's row among n processes: its needs in order, each with its fault
+-- a deed's row of the judge table among n processes: its needs in order, each with its fault
 abbrev pub row : ℕ → Abstract → Outer → List (Bool × Fault)
 row n a (Begin p) = (is_out (a.phase p), OutOfPlace) ∷ []
 row n a (IsReady p) = (is_door (a.phase p), OutOfPlace) ∷ []
@@ -67,11 +70,11 @@ row n a (Reenter p) = (is_dead_in (a.phase p), OutOfPlace) ∷ []
 row n a (Leave p) = (is_inside (a.phase p), OutOfPlace) ∷ []
 row n a (Quit p) = (is_door (a.phase p) || is_ready (a.phase p), OutOfPlace) ∷ []
 
--- behind what every deed needs: a process of the n
+-- every deed needs a process below n first, then its row
 abbrev pub needs : ℕ → Abstract → Outer → List (Bool × Fault)
 needs n a d = (nat_lt (doer d) n, OutOfPlace) ∷ row n a d
 
--- what a deed does
+-- the effect of a deed ("does" in the judge table)
 abbrev pub done : Abstract → Outer → Abstract
 done a (Begin p) = record { phase = put a.phase p Door; ahead = put a.ahead p (λ q. is_ready (a.phase q)) }
 done a (IsReady p) = record { phase = put a.phase p Ready; ahead = a.ahead }
@@ -81,7 +84,7 @@ done a (Reenter p) = record { phase = put a.phase p Inside; ahead = a.ahead }
 done a (Leave p) = record { phase = put a.phase p Out; ahead = a.ahead }
 done a (Quit p) = record { phase = put a.phase p Out; ahead = λ q. put (a.ahead q) p false }
 
--- a list of deeds is legal where each is allowed after those before it
+-- "Legal history", the lock's part: each deed is allowed after those before it
 abbrev pub Legal : ℕ → Abstract → List Outer → Type 0
 Legal n a [] = Unit {0}
 Legal n a (d ∷ ds) = AllHold (needs n a d) × Legal n (done a d) ds

@@ -1,5 +1,5 @@
--- The private machine of one process: which step comes next at a place, and what the step is for others and for its
--- call. Where the definition leaves a choice, the machine goes by rising index.
+-- The private machine of one process: its next step at a place, and the step's deed and answer. Where "Step" leaves a
+-- choice, the machine takes the least index.
 use Rattle.std.specs.Prelude.{◌≡◌, true, ℕ, zero, suc, ◌+◌, ◌<◌, ◌≤◌, IsSome, Bool, false, not, ◌||◌, ◌==◌, nat_lt, if◌then◌else◌, List, [], ◌∷◌, Option, Some, None, unwrap_or}
 use Rattle.rmecore.specs.Place.{Place, Rest, Dead, Reread, Opening, Door, Shutting, Wait, Inside, Leaving, Withdrawing, Unmarking, above, is_before, next}
 use Rattle.rmecore.specs.World.{is_store, step_deed, write}
@@ -25,7 +25,7 @@ abbrev pub first : List ℕ → Option ℕ
 first [] = None
 first (j ∷ js) = Some j
 
--- the place that a stage stands for, in process p of n
+-- the place of a machine's stage, for process p of n
 abbrev pub place_of : ℕ → ℕ → Stage → Place
 place_of n p AtRest = Rest
 place_of n p AtDead = Dead
@@ -41,7 +41,7 @@ place_of n p AtLeaving = Leaving
 place_of n p AtWithdrawing = Withdrawing
 place_of n p (AtUnmarking call) = Unmarking call
 
--- the step that comes next. A scan takes the first of its list
+-- the next step. A scan takes the first of its list
 abbrev pub access : ℕ → ℕ → Place → Option Access
 access limit p (Reread call []) = Some (Load Rereads (ChoosingOf p))
 access limit p (Reread call (c ∷ [])) = Some (Load Rereads (NumberOf p))
@@ -58,6 +58,7 @@ access limit p Withdrawing = Some (Store Drops (NumberOf p) 0)
 access limit p (Unmarking call) = Some (Store Marks (InsideOf p) 0)
 access _ _ _ = None
 
+-- the kind and the word of an access
 abbrev pub kind_of : Access → Kind
 kind_of (Load kind word) = kind
 kind_of (Store kind word x) = kind
@@ -66,31 +67,32 @@ abbrev pub word_of : Access → Word
 word_of (Load kind word) = word
 word_of (Store kind word x) = word
 
--- the value of the event: a load's is what was read, a store's what it writes
+-- the event's value: what a load read, or what a store writes
 abbrev pub carried : Access → ℕ → ℕ
 carried (Load kind word) v = v
 carried (Store kind word x) v = x
 
--- what a contract sees of a process
+-- the state of a process, as contracts see it
 pub record Standing : Type 0 where
   pub procs : ℕ
   pub limit : ℕ
   pub index : ℕ
   pub place : Place
 
--- what stands for a process that there is not
+-- the default for an index that is no process
 abbrev pub absent : Standing
 absent = record { procs = 0; limit = 0; index = 0; place = Rest }
 
+-- the next step of a process
 abbrev pub next_access : Standing → Option Access
 next_access s = access s.limit s.index s.place
 
--- the place after the definition's step
+-- the place after the step, by the definition
 abbrev pub after_access : Standing → Option Access → ℕ → Place
 after_access s None v = s.place
 after_access s (Some a) v = unwrap_or (next s.procs s.limit s.index s.place (kind_of a) (word_of a) (carried a v)) s.place
 
--- the answer of a Recover after its rereads, where it has one by then
+-- a Recover's answer after its rereads, if it ends with them
 abbrev pub found : ℕ → ℕ → ℕ → Option CoreDone
 found (suc c) zero i = Some (Finds Doorway)
 found (suc c) (suc k) i = None
@@ -99,10 +101,12 @@ found zero zero (suc i) = None
 found zero (suc k) zero = Some (Finds Waiting)
 found zero (suc k) (suc i) = Some (Finds FoundInside)
 
+-- a Lock's answer after its rereads, if it ends with them
 abbrev pub again : ℕ → ℕ → ℕ → Option CoreDone
 again zero (suc k) (suc i) = Some InAgain
 again _ _ _ = None
 
+-- the answers of calls after their rereads, after a shut and after the mark is cleared
 abbrev pub reread_answer : CoreCall → ℕ → ℕ → ℕ → Option CoreDone
 reread_answer Lock c k i = again c k i
 reread_answer _ c k i = found c k i
@@ -116,7 +120,7 @@ unmark_answer Lock = None
 unmark_answer Unlock = Some Out
 unmark_answer _ = Some (Finds Left)
 
--- the answer of a call at this step, if it is the call's last
+-- the call's answer, if this step ends the call
 abbrev pub answer : Place → Kind → ℕ → Option CoreDone
 answer (Reread call (c ∷ k ∷ [])) Rereads i = reread_answer call c k i
 answer (Door unread m) Shuts v = Some Spent
@@ -126,15 +130,17 @@ answer (Unmarking call) Marks v = unmark_answer call
 answer Withdrawing Drops v = Some Withdrawn
 answer _ _ _ = None
 
--- a look or a weigh that leaves the place as it is
+-- "blocked": a look or a weigh that leaves the place as it is
 abbrev pub is_blocked : ℕ → Place → Kind → ℕ → Bool
 is_blocked p (Wait k unpassed None) Looks v = not (v == 0)
 is_blocked p (Wait k unpassed (Some j)) Weighs v = not ((v == 0) || is_before k p v j)
 is_blocked _ _ _ _ = false
 
+-- no deed, no answer, not blocked
 abbrev pub quiet : Progress
 quiet = record { outer = None; done = None; blocked = false }
 
+-- the effects of a step: its deed, the answer, and whether it was blocked
 abbrev pub progress : Standing → Option Access → ℕ → Progress
 progress s None v = quiet
 progress s (Some a) v =
@@ -144,10 +150,11 @@ progress s (Some a) v =
       blocked = is_blocked s.index s.place (kind_of a) (carried a v);
     }
 
--- the process in its doorway, and while it waits
+-- the process in its doorway
 abbrev pub at_door : Standing → ℕ → ℕ → Standing
 at_door s i m = record { procs = s.procs; limit = s.limit; index = s.index; place = place_of s.procs s.index (AtDoor i m) }
 
+-- the process while it waits
 abbrev pub at_wait : Standing → ℕ → ℕ → Bool → Standing
 at_wait s k i looked = record { procs = s.procs; limit = s.limit; index = s.index; place = place_of s.procs s.index (AtWait k i looked) }
 
@@ -156,7 +163,7 @@ abbrev pub at_scan : Standing → Scan → Standing
 at_scan s (Peeking i m) = at_door s i m
 at_scan s (Waits k i looked) = at_wait s k i looked
 
--- whose lock word it is. A data word is nobody's
+-- the process that a lock word belongs to. A data word has no owner, and counts as 0
 abbrev pub owner : Word → ℕ
 owner (ChoosingOf q) = q
 owner (NumberOf q) = q
@@ -170,11 +177,11 @@ InLock n (NumberOf q) = q < n
 InLock n (InsideOf q) = q < n
 InLock n (DataAt i) = ⊥
 
--- no word whose owner comes before may be read or written in the next step
+-- the next step may not touch a word of a lesser owner
 abbrev pub IsLeast : Standing → Access → Type 0
 IsLeast s a = (word : Word) (v : ℕ) → IsSome (next s.procs s.limit s.index s.place (kind_of a) word v) → owner (word_of a) ≤ owner word
 
--- the definition allows the step, whatever a load reads
+-- "Step" allows the access, whatever a load reads
 abbrev pub IsAllowed : Standing → Access → Type 0
 IsAllowed s a = (v : ℕ) → IsSome (next s.procs s.limit s.index s.place (kind_of a) (word_of a) (carried a v))
 
@@ -183,7 +190,7 @@ abbrev pub performed : (ℕ → Own) → Access → ℕ → Own
 performed words (Load kind word) = words
 performed words (Store kind word x) = write words word x
 
--- a load is of a kind that loads, and a store of a kind that stores, into a word of its own
+-- a load has a kind that loads. A store has a kind that stores, and its word is the process's own
 abbrev pub StoresOwn : ℕ → Access → Type 0
 StoresOwn p (Load kind word) = is_store kind ≡ false
 StoresOwn p (Store kind word x) = (is_store kind ≡ true) × (owner word ≡ p)

@@ -1,4 +1,4 @@
--- What a place names beside where the process stands.
+-- What a place names besides itself ("Place": the call under way and the own number).
 use Rattle.std.specs.Prelude.{ℕ, [], ◌∷◌, Option, Some, None}
 use Rattle.rmecore.specs.Place.{Place, Reread, Shutting, Wait, Unmarking}
 use Rattle.rmecore.specs.declared.core_call.CoreCall.{CoreCall}

@@ -1,4 +1,4 @@
--- What a deed needs, as a list of tests in order, each with the fault where it fails.
+-- The needs of a deed: a list of tests in order, each with its fault ("The judge table").
 use Rattle.std.specs.Prelude.{◌≡◌, ℕ, zero, suc, Bool, true, ◌==◌, if◌then◌else◌, List, [], ◌∷◌, Option, Some, None}
 use Rattle.rmecore.specs.declared.fault.Fault.{Fault}
 
@@ -12,15 +12,15 @@ abbrev pub first_fault : List (Bool × Fault) → Option Fault
 first_fault [] = None
 first_fault (need ∷ rest) = if need.0 then first_fault rest else Some need.1
 
--- the least number below n at which the test is true, or n where it is true at none
+-- the least number below n for which the test holds, or n if there is none
 abbrev pub least : ℕ → (ℕ → Bool) → ℕ
 least zero test = 0
 least (suc n) test = if test zero then 0 else suc (least n (λ k. test (suc k)))
 
--- no number below n has the test
+-- the test holds for no number below n
 abbrev pub none_below : ℕ → (ℕ → Bool) → Bool
 none_below n test = least n test == n
 
--- f, but x at p
+-- f, with the value x at p
 abbrev pub put : {A : Type 0} → (ℕ → A) → ℕ → A → ℕ → A
 put f p x q = if q == p then x else f q

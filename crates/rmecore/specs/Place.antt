@@ -1,6 +1,5 @@
--- What one process does in Lamport's Bakery (choosing and number; the one with the least pair enters), to which a third
--- word, inside, is added: its place, and the place that follows from its own events alone. The doorway reads one number
--- at a time.
+-- "Place" and "Step" for one process: Lamport's Bakery (choosing and number; the least pair enters) with a third word,
+-- inside. The place follows from the process's own events alone. The doorway reads one number at a time.
 use Rattle.std.specs.Prelude.{ℕ, zero, suc, ◌+◌, ◌-◌, max, Bool, false, ◌&&◌, ◌||◌, ◌==◌, nat_lt, nat_le, if◌then◌else◌, List, [], ◌∷◌, Option, Some, None}
 use Rattle.rmecore.specs.declared.core_call.CoreCall.{CoreCall}
 use Rattle.rmecore.specs.declared.core_call.CoreCall.TheVariants.{Lock, Recover, Unlock, Withdraw}
@@ -9,45 +8,47 @@ use Rattle.rmecore.specs.declared.kind.Kind.TheVariants.{Reread as Rereads, Open
 use Rattle.rmecore.specs.declared.word.Word.{Word}
 use Rattle.rmecore.specs.declared.word.Word.TheVariants.{Choosing as ChoosingOf, Number as NumberOf, Inside as InsideOf}
 
--- one event is a start, a crash (which takes the private memory of one process: Golab and Ramaraju), or one load or store
--- of one word with the value read or written
+-- an event: a start, a crash (which loses one process's private memory: Golab and Ramaraju), or one load or store of one
+-- word with its value
 pub data Event : Type 0 where
   Starts : (p : ℕ) → (call : CoreCall) → Event
   Crashes : (p : ℕ) → Event
   Steps : (p : ℕ) → (kind : Kind) → (word : Word) → (value : ℕ) → Event
 
--- where a process stands. Sets of processes are lists without order
+-- "Place" of the specification. Sets of processes are lists without order
 pub data Place : Type 0 where
   Rest Dead : Place
-  -- own words read so far, after a start
+  -- after a start: the own words read so far
   Reread : (call : CoreCall) → (seen : List ℕ) → Place
   Opening : Place
-  -- the processes not yet read, and the greatest number read
+  -- the processes not read yet, and the greatest number read
   Door : (unread : List ℕ) → (greatest : ℕ) → Place
   Shutting : (call : CoreCall) → (number : ℕ) → Place
-  -- the own number, the processes not yet passed, and the one of them that was looked at
+  -- the own number, the processes not passed yet, and the one of them whose choosing was read as 0
   Wait : (number : ℕ) → (unpassed : List ℕ) → (looked : Option ℕ) → Place
   Inside Leaving Withdrawing : Place
   Unmarking : (call : CoreCall) → Place
 
+-- j is in the set
 abbrev pub has : List ℕ → ℕ → Bool
 has [] i = false
 has (j ∷ js) i = (i == j) || has js i
 
+-- the set without j
 abbrev pub without : ℕ → List ℕ → List ℕ
 without j [] = []
 without j (i ∷ is) = if i == j then without j is else i ∷ without j is
 
--- the processes i, i + 1, .. that come within the next k numbers, but for p
+-- the processes i to i + k - 1 without p
 abbrev pub span : ℕ → ℕ → ℕ → List ℕ
 span p i zero = []
 span p i (suc k) = if i == p then span p (i + 1) k else i ∷ span p (i + 1) k
 
--- all processes below n from i on, but for p
+-- the processes from i to n - 1 without p
 abbrev pub above : ℕ → ℕ → ℕ → List ℕ
 above n p i = span p i (n - i)
 
--- all processes below n but for p
+-- all processes below n without p
 abbrev pub others : ℕ → ℕ → List ℕ
 others n p = above n p 0
 
@@ -55,12 +56,12 @@ others n p = above n p 0
 abbrev pub is_before : ℕ → ℕ → ℕ → ℕ → Bool
 is_before k p v j = nat_lt k v || ((k == v) && nat_lt p j)
 
+-- the place, if the test holds
 abbrev pub only : Bool → Place → Option Place
 only b place = if b then Some place else None
 
--- The restart table, this product's own, over choosing, number and inside: what a lock does next, and what a recovery
--- does. Choosing and inside are never both set, so which of them counts then
--- doesn't matter.
+-- "Restart table" over choosing, number and inside: what a lock does next, and what a recovery does. Choosing and inside are
+-- never both set, so that case is arbitrary.
 abbrev pub relocked : ℕ → ℕ → ℕ → ℕ → ℕ → Place
 relocked n p (suc c) zero i = Door (others n p) 0
 relocked n p (suc c) (suc k) i = Shutting Lock (suc k)
@@ -69,6 +70,7 @@ relocked n p zero zero (suc i) = Unmarking Lock
 relocked n p zero (suc k) zero = Wait (suc k) (others n p) None
 relocked n p zero (suc k) (suc i) = Inside
 
+-- "Restart table": what a recovery does
 abbrev pub recovered : ℕ → ℕ → ℕ → Place
 recovered (suc c) zero i = Rest
 recovered (suc c) (suc k) i = Shutting Recover (suc k)
@@ -77,21 +79,24 @@ recovered zero zero (suc i) = Unmarking Recover
 recovered zero (suc k) zero = Rest
 recovered zero (suc k) (suc i) = Inside
 
+-- "Restart table", by the call
 abbrev pub restart : ℕ → ℕ → CoreCall → ℕ → ℕ → ℕ → Place
 restart n p Lock c k i = relocked n p c k i
 restart n p _ c k i = recovered c k i
 
+-- the place after choosing := 0
 abbrev pub shut : ℕ → ℕ → CoreCall → ℕ → Place
 shut n p Lock k = Wait k (others n p) None
 shut n p _ k = Rest
 
+-- the place after inside := 0
 abbrev pub unmarked : CoreCall → Place
 unmarked Lock = Opening
 unmarked _ = Rest
 
--- The place after one step of process p, with the value that it read or wrote. In a run the greatest number is never above
--- limit, and choosing and inside are never both set; the definition goes on there too, so that it can be followed by one
--- who sees the events of p alone.
+-- "Step": the place after one step of process p, with the value that it read or wrote. In a run the greatest number is never
+-- above limit, and choosing and inside are never both set. The definition is total all the same, so that it can be followed
+-- from the events of p alone.
 abbrev pub next : ℕ → ℕ → ℕ → Place → Kind → Word → ℕ → Option Place
 next n limit p (Reread call []) Rereads (ChoosingOf q) v = only (q == p) (Reread call (v ∷ []))
 next n limit p (Reread call (c ∷ [])) Rereads (NumberOf q) v = only (q == p) (Reread call (c ∷ v ∷ []))
@@ -114,7 +119,7 @@ next n limit p place Glances (NumberOf q) v = Some place
 next n limit p place Glances (InsideOf q) v = Some place
 next _ _ _ _ _ _ _ = None
 
--- the place after a call was started
+-- the place after the start of a call
 abbrev pub started : Place → CoreCall → Option Place
 started Rest Lock = Some (Reread Lock [])
 started Rest Recover = Some (Reread Recover [])
@@ -124,12 +129,13 @@ started Inside Unlock = Some Leaving
 started (Wait k unpassed looked) Withdraw = Some Withdrawing
 started _ _ = None
 
+-- the process of an event
 abbrev pub process : Event → ℕ
 process (Starts p call) = p
 process (Crashes p) = p
 process (Steps p kind word v) = p
 
--- the place after an event of its process. A crash leaves nothing of it
+-- the place after an event of its process. After a crash it is always the same
 abbrev pub moved : ℕ → ℕ → Place → Event → Option Place
 moved n limit place (Starts p call) = started place call
 moved n limit place (Crashes p) = Some Dead

@@ -1,4 +1,4 @@
--- Which call is refused, and why. The first cause that holds is named.
+-- Which calls are refused, and why. The first cause that holds is named.
 use Rattle.std.specs.Prelude.{ℕ, Bool, true, false, Option, Some, None}
 use Rattle.rmecore.specs.Place.{Place, Rest, Dead, Inside, Wait}
 use Rattle.rmecore.specs.declared.refusal.Refusal.{Refusal}
@@ -6,6 +6,7 @@ use Rattle.rmecore.specs.declared.refusal.Refusal.TheVariants.{BadProcs, BadLimi
 use Rattle.rmecore.specs.declared.core_call.CoreCall.{CoreCall}
 use Rattle.rmecore.specs.declared.core_call.CoreCall.TheVariants.{Unlock, Withdraw}
 
+-- the number of a refusal. Out of memory has none
 abbrev pub number_of : Refusal → Option ℕ
 number_of BadProcs = Some 1
 number_of BadLimit = Some 2
@@ -31,7 +32,7 @@ is_idle Dead = true
 is_idle Inside = true
 is_idle _ = false
 
--- why a process at this place may not start the call. A call is under way but at rest, dead or inside
+-- why a process at this place may not start the call. A call is under way at every place except rest, dead and inside
 abbrev pub start_refusal : Place → CoreCall → Option Refusal
 start_refusal (Wait k unpassed looked) Withdraw = None
 start_refusal place Withdraw = Some NotWaiting

@@ -1,15 +1,15 @@
--- Runs written out.
+-- Two runs written out.
 use Rattle.std.specs.Prelude.{List, [], ◌∷◌, ◌++◌, ℕ}
 use Rattle.rmecore.specs.Place.{Event, Starts, Crashes, Steps}
 use Rattle.rmecore.specs.declared.core_call.CoreCall.TheVariants.{Lock, Unlock, Withdraw}
 use Rattle.rmecore.specs.declared.kind.Kind.TheVariants.{Reread as Rereads, Open as Opens, Peek as Peeks, Take as Takes, Shut as Shuts, Look as Looks, Weigh as Weighs, Mark as Marks, Drop as Drops}
 use Rattle.rmecore.specs.declared.word.Word.TheVariants.{Choosing as ChoosingOf, Number as NumberOf, Inside as InsideOf}
 
--- process p reads its own words, which are c, k and i
+-- process p rereads its own words, which are c, k and i
 abbrev pub rereads : ℕ → ℕ → ℕ → ℕ → List Event
 rereads p c k i = Steps p Rereads (ChoosingOf p) c ∷ Steps p Rereads (NumberOf p) k ∷ Steps p Rereads (InsideOf p) i ∷ []
 
--- 0 is in its doorway when 1 comes and takes number 1 too; 0 enters, crashes inside, 1 waits, 0 enters again and leaves, 1 enters
+-- both take number 1; 0 enters and crashes inside; 1 waits; 0 enters again and leaves; 1 enters
 abbrev pub two : List Event
 two =
     (Starts 0 Lock ∷ rereads 0 0 0 0 ++ Steps 0 Opens (ChoosingOf 0) 1 ∷ Steps 0 Peeks (NumberOf 1) 0 ∷ [])
@@ -19,7 +19,7 @@ two =
     ++ (Starts 0 Lock ∷ rereads 0 0 1 1 ++ Starts 0 Unlock ∷ Steps 0 Drops (NumberOf 0) 0 ∷ [])
     ++ (Steps 1 Weighs (NumberOf 0) 0 ∷ Steps 1 Marks (InsideOf 1) 1 ∷ [])
 
--- 0 is first in line and gives up, so 1 enters
+-- 0 is first in line and withdraws, so 1 enters
 abbrev pub giving_up : List Event
 giving_up =
     (Starts 0 Lock ∷ rereads 0 0 0 0 ++ Steps 0 Opens (ChoosingOf 0) 1 ∷ Steps 0 Peeks (NumberOf 1) 0 ∷ Steps 0 Takes (NumberOf 0) 1 ∷ Steps 0 Shuts (ChoosingOf 0) 0 ∷ [])

@@ -1,4 +1,4 @@
--- Who is in the section, alive or dead: one process at most (mutual exclusion with re-entry, Golab and Ramaraju).
+-- Mutual exclusion with re-entry (Golab and Ramaraju): at most one process is in the section, alive or crashed there.
 use Rattle.std.specs.Prelude.{◌≡◌, ℕ, ◌<◌, List, [], ◌∷◌}
 use Rattle.rmecore.specs.AbstractLock.{Abstract, done}
 use Rattle.rmecore.specs.declared.outer.Outer.{Outer}
@@ -6,12 +6,13 @@ use Rattle.rmecore.specs.declared.outer.Outer.TheVariants.{Enter, Leave}
 use Rattle.rmecore.specs.declared.phase.Phase.{Phase}
 use Rattle.rmecore.specs.declared.phase.Phase.TheVariants.{Inside, DeadIn}
 
--- in the section, or crashed there and not in again yet
+-- in the section, or crashed there and not entered again yet
 abbrev pub IsIn : Phase → Type 0
 IsIn Inside = Unit {0}
 IsIn DeadIn = Unit {0}
 IsIn _ = ⊥
 
+-- an Enter, and a Leave
 abbrev pub IsEnter : Outer → Type 0
 IsEnter (Enter p) = Unit {0}
 IsEnter _ = ⊥
@@ -20,11 +21,11 @@ abbrev pub IsLeave : Outer → Type 0
 IsLeave (Leave p) = Unit {0}
 IsLeave _ = ⊥
 
--- of n processes one at most is in
+-- at most one of n processes is in
 abbrev pub Sole : ℕ → Abstract → Type 0
 Sole n a = (p q : ℕ) → p < n → q < n → IsIn (a.phase p) → IsIn (a.phase q) → p ≡ q
 
--- what a list of deeds leaves
+-- the state after a list of deeds
 abbrev pub all_done : Abstract → List Outer → Abstract
 all_done a [] = a
 all_done a (d ∷ ds) = all_done (done a d) ds

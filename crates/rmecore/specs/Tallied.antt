@@ -1,4 +1,4 @@
--- What is counted of a call is its own steps of the table, with the blocked ones.
+-- A core's counts agree with the table of own steps: the table's number plus the blocked steps.
 use Rattle.std.specs.Prelude.{◌≡◌, ℕ, ◌+◌, ◌-◌, ◌^◌, ◌<◌, List, Some}
 use Rattle.rmecore.specs.Place.{Place, Reread}
 use Rattle.rmecore.specs.OwnSteps.{own_steps}
@@ -9,26 +9,28 @@ use Rattle.rmecore.specs.declared.core_done.CoreDone.{CoreDone}
 use Rattle.rmecore.specs.declared.own.Own.{Own}
 use Rattle.rmecore.specs.declared.tally.Tally.{Tally}
 
--- the count has not come to the greatest u64, at which it is held
+-- the count has not saturated
 abbrev pub IsExact : Tally → Type 0
 IsExact t = t.steps < 2 ^ 64 - 1
 
--- a call that ended with this answer has taken exactly the steps of the table, and those that were blocked
+-- a call that ended with this answer took exactly the table's steps and the blocked ones
 abbrev pub HasTaken : ℕ → Tally → CoreDone → Type 0
 HasTaken n t done = (x : ℕ) × (own_steps n t.began.choosing t.began.number t.began.inside done ≡ Some x) × (t.steps ≡ x + t.blocked)
 
--- a call under way at this place has taken exactly the steps that come before, and those that were blocked
+-- a call under way at this place has taken exactly the steps before the place and the blocked ones
 abbrev pub IsTaking : ℕ → Tally → Place → Type 0
 IsTaking n t place = (x : ℕ) × Pays n t.began.choosing t.began.number t.began.inside place x × (t.steps ≡ x + t.blocked)
 
+-- the process rereads its words
 abbrev pub IsRereading : Place → Type 0
 IsRereading (Reread call seen) = Unit {0}
 IsRereading _ = ⊥
 
--- what holds of the tally of a process with these words at this place
+-- the invariant of a process's counts, with these words at this place
 pub record IsTallied (n : ℕ) (own : Own) (place : Place) (t : Tally) : Type 0 where
   pub began : IsRereading place → t.began ≡ own
   pub taking : IsExact t → IsTaking n t place
 
+-- the invariant of the counts of all processes
 abbrev pub AllTallied : ℕ → World → List Tally → Type 0
 AllTallied n w tallies = (p : ℕ) → p < n → IsTallied n (w.words p) (w.places p) (tally_at tallies p)

@@ -15,6 +15,7 @@ pub enum Access {
 impl Access {
     ghost use Rattle.rmecore.specs.Machine.{kind_of, word_of};
 
+    /// The kind of the step.
     pub fn kind(self) -> Kind
         ensures { result ≡ kind_of self }
     {
@@ -23,6 +24,7 @@ impl Access {
         }
     }
 
+    /// The word that is read or written.
     pub fn word(self) -> Word
         ensures { result ≡ word_of self }
     {

@@ -6,7 +6,7 @@ ghost use Rattle.rmecore.specs.Body.{IsWide};
 use crate::refusal::Refusal;
 use std::marker::Model;
 
-/// One to eight words. Contracts see it as the list of them.
+/// A message's value: one to eight words. In contracts it is the list of those words.
 #[derive(Clone, Copy, PartialEq, Eq, Debug)]
 pub struct Body {
     width: u64,
@@ -27,7 +27,7 @@ impl Model for Body {
 }
 
 impl Body {
-    /// A body of these words.
+    /// Makes a body of these words. `BadWidth`: not 1 to 8 words.
     pub fn new(words: &[u64]) -> Result<Body, Refusal>
         ensures ok { IfOk result (λ body. body ≡ words.now) }
         ensures valid { IsOk result ↔ IsWide words.now }
@@ -45,7 +45,7 @@ impl Body {
         })
     }
 
-    /// How many words it has.
+    /// The number of words, 1 to 8.
     pub fn width(&self) -> u64
         ensures width { result ≡ length self.now }
         ensures wide { IsWide self.now }
@@ -53,7 +53,7 @@ impl Body {
         self.width
     }
 
-    /// Its word j.
+    /// The word at index `j`. `BadIndex`: `j` is not below the width.
     pub fn word(&self, j: u64) -> Result<u64, Refusal>
         ensures ok { IfOk result (λ word. word ≡ slice_index self.now j) }
         ensures valid { IsOk result ↔ (j < length self.now) }
@@ -65,7 +65,7 @@ impl Body {
         Ok(self.words[j as usize])
     }
 
-    /// Its words.
+    /// All its words.
     pub fn as_slice(&self) -> &[u64]
         ensures words { result.now ≡ self.now }
         ensures wide { IsWide self.now }

@@ -1,6 +1,6 @@
-//! What the lock's core is asked for.
+//! The calls of the lock's core.
 
-/// A call of the lock's core, without data words.
+/// A call of the lock's core. It touches no data word.
 #[derive(Clone, Copy, Debug, PartialEq, Eq)]
 pub enum CoreCall {
     Lock,

@@ -1,15 +1,15 @@
-//! How a call of the core ends.
+//! The answers of the lock's core.
 
 use crate::found::Found;
 
-/// The core's answer, told with the last step of its part of a call.
+/// The core's answer to a call. The last step of the core's part of the call carries it.
 #[derive(Clone, Copy, Debug, PartialEq, Eq)]
 pub enum CoreDone {
-    /// Inside, by the line.
+    /// Entered by waiting in line.
     In,
-    /// Inside again, after a crash inside.
+    /// Entered again, after a crash inside.
     InAgain,
-    /// The greatest number was met in the doorway: no number was taken.
+    /// A number read in the doorway was the limit, so no number was taken.
     Spent,
     Out,
     Found(Found),

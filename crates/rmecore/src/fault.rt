@@ -1,22 +1,22 @@
-//! What is wrong with a deed.
+//! Why a judge refuses a deed.
 
 use std::error::Error;
 use std::fmt;
 
-/// Why a deed is refused: the first of its needs that fails.
+/// Why a deed is refused: the first of its needs that fails. The judge table orders the needs.
 #[derive(Clone, Copy, Debug, PartialEq, Eq)]
 pub enum Fault {
-    /// The process is not where the deed starts from, or there is no such process.
+    /// The process is in the wrong phase for the deed, or there is no such process.
     OutOfPlace,
     /// Another process is inside.
     TwoInside,
-    /// One that crashed inside has to be let in again first.
+    /// A process crashed inside, and has to enter again before any other enters.
     NotReentered,
-    /// `of` was ready before `by` began, and has not entered yet.
+    /// Process `of` was ready before process `by` began its doorway, and `of` has not entered yet.
     Overtaken { by: u64, of: u64 },
-    /// The mailbox is written by one that is not inside.
+    /// A process that is not inside writes the mailbox.
     NotInside,
-    /// The mailbox is in no state for the deed.
+    /// The mailbox's state does not allow the deed.
     MailOrder,
     /// The mailbox is closed.
     AfterClose,

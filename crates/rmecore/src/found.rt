@@ -1,15 +1,15 @@
-//! What a recovering process finds.
+//! What a recovery finds.
 
-/// What a recovering process finds in its own words (the restart table).
+/// What a recovery finds in the process's own words (the restart table).
 #[derive(Clone, Copy, Debug, PartialEq, Eq)]
 pub enum Found {
     Idle,
-    /// It had left, and has finished the exit now.
+    /// It crashed in its exit. The exit is finished now.
     Left,
-    /// It died in its doorway, before it took a number.
+    /// It crashed in its doorway, before it took a number.
     Doorway,
-    /// It has a number; its next lock waits on with it.
+    /// It has a number. Its next lock goes on waiting with it.
     Waiting,
-    /// It died inside, and is inside again.
+    /// It crashed inside, and is inside again.
     Inside,
 }

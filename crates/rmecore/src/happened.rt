@@ -1,18 +1,18 @@
-//! One step, told.
+//! The report of one step.
 
 use crate::core_done::CoreDone;
 use crate::kind::Kind;
 use crate::outer::Outer;
 use crate::word::Word;
 
-/// One step: the word that was read or written, with its value.
+/// One step: its kind, the word, and the value that was read or written.
 #[derive(Clone, Copy, Debug, PartialEq, Eq)]
 pub struct Happened {
     pub kind: Kind,
     pub word: Word,
     pub value: u64,
-    /// The deed of the lock that the step is, if it is one.
+    /// The step's deed of the lock, if it has one.
     pub outer: Option<Outer>,
-    /// The core's answer, where its part of the call ends with this step.
+    /// The core's answer, if its part of the call ends with this step.
     pub done: Option<CoreDone>,
 }

@@ -1,30 +1,30 @@
 //! The kinds of steps.
 
-/// What a step is for. Each step is one load or one store of one word.
+/// The kind of a step. Each step is one load or one store of one word.
 #[derive(Clone, Copy, Debug, PartialEq, Eq)]
 pub enum Kind {
-    /// choosing := 1, the beginning of the doorway.
+    /// Stores 1 into choosing, which begins the doorway.
     Open,
-    /// Reads the number of another process in the doorway.
+    /// Reads another process's number, in the doorway.
     Peek,
-    /// number := the greatest number read and one more, the end of the doorway.
+    /// Stores the greatest number read plus one into number, which finishes the doorway.
     Take,
-    /// choosing := 0.
+    /// Stores 0 into choosing.
     Shut,
-    /// Reads whether another process is in its doorway.
+    /// Reads another process's choosing, while waiting.
     Look,
-    /// Reads the number of another process while waiting.
+    /// Reads another process's number, while waiting.
     Weigh,
-    /// inside := 1, or inside := 0.
+    /// Stores 1 into inside on entry, 0 at the end of the exit.
     Mark,
-    /// number := 0, which gives the section or the place in the line away.
+    /// Stores 0 into number. It is the exit from the section, or gives up the place in line.
     Drop,
-    /// Reads one own word after a start.
+    /// Reads one of the process's own lock words, after a start.
     Reread,
-    /// Reads a data word while inside.
+    /// Reads a data word, inside the section.
     Get,
-    /// Writes a data word while inside.
+    /// Writes a data word, inside the section.
     Put,
-    /// Reads one word at any time.
+    /// Reads one word, inside or outside the section.
     Glance,
 }

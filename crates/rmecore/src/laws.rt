@@ -1,4 +1,4 @@
-//! Laws over every run of the definitions. Each is the contract of a function that does nothing.
+//! Laws over every run of the definitions. Each law is the contract of a function with an empty body.
 
 ghost use Rattle.std.specs.Prelude.{◌≡◌, ◌≢◌, ◌≤◌, ◌<◌, ◌+◌, false, if◌then◌else◌, IsSome, IfSome, Some, None, unwrap_or, ℕ, List, [], ◌∷◌, ◌++◌, ◌⊎◌};
 ghost use Rattle.rmecore.specs.Samples.{two, giving_up};
@@ -27,12 +27,12 @@ pub fn every_run_is_legal()
     ensures { (n limit : ℕ) (events : List Event) → Run n limit at_rest events → Legal n nobody (deeds n limit at_rest events) }
 {}
 
-/// After every run the words are lawful: the one that is inside, alive or dead, has the least pair of all that hold a number.
+/// After every run the words are lawful: the process inside, alive or crashed, has the least pair of all that hold a number.
 pub fn every_run_ends_lawful()
     ensures { (n limit : ℕ) (events : List Event) → Run n limit at_rest events → IsLawful n limit (final n limit at_rest events).words }
 {}
 
-/// The same from any lawful words, with every process crashed.
+/// The same two laws for runs that start from any lawful words with every process crashed.
 pub fn every_later_run_is_legal()
     ensures legal { (n limit : ℕ) (words : ℕ → Own) (events : List Event) → IsLawful n limit words → Run n limit (all_dead words) events → Legal n (start_of words) (deeds n limit (all_dead words) events) }
     ensures lawful { (n limit : ℕ) (words : ℕ → Own) (events : List Event) → IsLawful n limit words → Run n limit (all_dead words) events → IsLawful n limit (final n limit (all_dead words) events).words }
@@ -43,14 +43,15 @@ pub fn places_are_own()
     ensures { (n limit p : ℕ) (w : World) (events : List Event) → (final n limit w events).places p ≡ place_after n limit (w.places p) (own_events p events) }
 {}
 
-/// An event that may come at the end prolongs a run, and its deed stands behind those of the run.
+/// If the definition allows an event after a run, the longer list is a run too. Its deeds are those of the run, then the
+/// event's.
 pub fn runs_grow()
     ensures run { (n limit : ℕ) (w : World) (events : List Event) (e : Event) → Run n limit w events → May n limit (final n limit w events) e → Run n limit w (events ++ e ∷ []) }
     ensures deeds { (n limit : ℕ) (w : World) (events : List Event) (e : Event) → deeds n limit w (events ++ e ∷ []) ≡ deeds n limit w events ++ and_then (deed ((final n limit w events).places (process e)) e) [] }
     ensures world { (n limit : ℕ) (w : World) (events : List Event) (e : Event) → final n limit w (events ++ e ∷ []) ≡ after n limit (final n limit w events) e }
 {}
 
-/// One run written out, and its deeds.
+/// Two runs written out, with their deeds.
 pub fn a_run()
     ensures runs { Run 2 10 at_rest two }
     ensures gives_up { Run 2 10 at_rest giving_up }
@@ -58,7 +59,8 @@ pub fn a_run()
     ensures deeds { deeds 2 10 at_rest two ≡ Outer.Begin 0 ∷ Outer.Begin 1 ∷ Outer.Ready 1 ∷ Outer.Ready 0 ∷ Outer.Enter 0 ∷ Outer.Crash 0 ∷ Outer.Reenter 0 ∷ Outer.Leave 0 ∷ Outer.Enter 1 ∷ [] }
 {}
 
-/// The abstract lock refuses a second one inside, one that doesn't let a crashed one in again, and one that overtakes.
+/// The abstract lock refuses three faults: a second process inside, an entry before a process that crashed inside has
+/// entered again, and an entry out of order.
 pub fn refused()
     ensures two_inside { Legal 2 nobody (Outer.Begin 0 ∷ Outer.Ready 0 ∷ Outer.Begin 1 ∷ Outer.Ready 1 ∷ Outer.Enter 0 ∷ Outer.Enter 1 ∷ []) → ⊥ }
     ensures not_reentered { Legal 2 nobody (Outer.Begin 0 ∷ Outer.Ready 0 ∷ Outer.Begin 1 ∷ Outer.Ready 1 ∷ Outer.Enter 0 ∷ Outer.Crash 0 ∷ Outer.Enter 1 ∷ []) → ⊥ }
@@ -66,16 +68,17 @@ pub fn refused()
     ensures overtaken { Legal 2 nobody (Outer.Begin 0 ∷ Outer.Ready 0 ∷ Outer.Begin 1 ∷ Outer.Ready 1 ∷ Outer.Enter 1 ∷ []) → ⊥ }
 {}
 
-/// Where a definition takes more than the tables have, nothing of it occurs: no number read is above the limit, and a
-/// process's words are always a row of the restart table.
+/// The definitions are total, but a run uses only the cases of the specification's tables. No number read is above the
+/// limit. A process's words are always a row of the restart table.
 pub fn tables_are_kept()
     ensures greatest { (n limit p m : ℕ) (w : World) (unread : List ℕ) → IsReached n limit w → w.places p ≡ Door unread m → m ≤ limit }
     ensures rows { (n limit p : ℕ) (w : World) → IsReached n limit w → IsRow limit (w.words p) }
 {}
 
-/// How many steps a call takes beside those that are blocked: none at its start, one more with each step (a process reads
-/// its own words as they were then), and with its answer what the table of own steps says. A lock from words 0 comes to
-/// its waiting after n + 5 steps. A call under way has taken fewer than any call takes at most.
+/// The number of steps of a call, blocked ones not counted. It is 0 at the call's start and grows by one with each such
+/// step. With the answer it is the number in the table of own steps. While a call is under way the number is below the
+/// greatest of that table. A lock from words 0 takes n + 5 steps up to the end of its `shut`. The words that the call
+/// rereads are those at its start.
 pub fn steps_of_a_call()
     ensures first { (n c k i : ℕ) (call : CoreCall) → Pays n c k i (Reread call []) 0 }
     ensures exit { (n c k i : ℕ) → Pays n c k i Leaving 0 }
@@ -86,8 +89,8 @@ pub fn steps_of_a_call()
     ensures most { (n c k i : ℕ) (place : Place) (steps : ℕ) → 0 < n → is_idle place ≡ false → Pays n c k i place steps → steps < most_steps n }
 {}
 
-/// Of the processes one at most is in the section, alive or dead, after every list of legal deeds. A deed changes its
-/// doer's phase alone, only an entry brings somebody in, and only an exit takes somebody out.
+/// Mutual exclusion: after every list of legal deeds at most one process is in the section, alive or crashed. A deed changes
+/// only the phase of its own process. Only an entry brings a process in, and only an exit takes it out.
 pub fn one_is_in()
     ensures nobody { (n : ℕ) → Sole n nobody }
     ensures each { (n : ℕ) (a : Abstract) (d : Outer) → AllHold (needs n a d) → Sole n a → Sole n (done a d) }
@@ -97,14 +100,14 @@ pub fn one_is_in()
     ensures stays { (n : ℕ) (a : Abstract) (d : Outer) (q : ℕ) → AllHold (needs n a d) → (IsLeave d → ⊥) → IsIn (a.phase q) → IsIn ((done a d).phase q) }
 {}
 
-/// What a step of the lock is for those who only ask who is in: an entry, a re-entry, an exit, or none of them. No step
-/// of the lock is at a data word.
+/// What a step changes in who is in the section: an entry, a re-entry, an exit, or nothing. No step of the core touches a
+/// data word.
 pub fn steps_are_turns()
     ensures turn { (n limit p : ℕ) (s : Place) (kind : Kind) (word : Word) (v : ℕ) (t : Place) → next n limit p s kind word v ≡ Some t → Turn p s t (step_deed p s kind v) }
     ensures no_data { (n limit p : ℕ) (s : Place) (kind : Kind) (i v : ℕ) → IsSome (next n limit p s kind (Data i) v) → ⊥ }
 {}
 
-/// A process that stands inside, or before its exit, is inside in the abstract lock too, after every run.
+/// After every run, a process whose place is inside or at the start of its exit is in the section of the abstract lock too.
 pub fn who_stands_inside_is_in()
     ensures from_rest { (n limit p : ℕ) (events : List Event) → p < n → Run n limit at_rest events → ((final n limit at_rest events).places p ≡ Inside) ⊎ ((final n limit at_rest events).places p ≡ Leaving) → (all_done nobody (deeds n limit at_rest events)).phase p ≡ Phase.Inside }
     ensures later { (n limit p : ℕ) (words : ℕ → Own) (events : List Event) → p < n → IsLawful n limit words → Run n limit (all_dead words) events → ((final n limit (all_dead words) events).places p ≡ Inside) ⊎ ((final n limit (all_dead words) events).places p ≡ Leaving) → (all_done (start_of words) (deeds n limit (all_dead words) events)).phase p ≡ Phase.Inside }

@@ -1,5 +1,5 @@
-//! A recoverable first-come first-served Bakery lock: its definitions, the law over every run, and the lock's core in
-//! simulation.
+//! The lock: a recoverable, first-come first-served Bakery. This crate has its definitions, the laws over every run, and the
+//! lock's core in simulation.
 #![tactic(auto)]
 
 pub mod access;

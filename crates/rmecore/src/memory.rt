@@ -1,4 +1,4 @@
-//! Words of the lock in plain memory.
+//! The lock words in plain memory.
 
 ghost use Rattle.std.specs.Prelude.{◌≡◌, length};
 ghost use Rattle.rmecore.specs.World.{read, write};
@@ -9,7 +9,7 @@ use crate::access::Access;
 use crate::own::Own;
 use crate::word::Word;
 
-/// Loads a word of the lock.
+/// Loads a lock word.
 fn load(words: &[Own], word: Word) -> u64
     requires { InLock (length words.now) word }
     ensures { result ≡ read (own_at words.now) word }
@@ -22,7 +22,7 @@ fn load(words: &[Own], word: Word) -> u64
     }
 }
 
-/// Stores a value into a word of the lock.
+/// Stores a value into a lock word.
 fn store(words: &mut [Own], word: Word, value: u64)
     requires { InLock (length words.old) word }
     ensures { own_at words.new ≡ write (own_at words.old) word value }
@@ -35,7 +35,7 @@ fn store(words: &mut [Own], word: Word, value: u64)
     }
 }
 
-/// Loads or stores one word of the lock, and tells the value that was read or written.
+/// Loads or stores one lock word. The result is the value read or written.
 pub fn perform(words: &mut [Own], access: Access) -> u64
     requires { InLock (length words.old) (word_of access) }
     ensures value { result ≡ carried access (read (own_at words.old) (word_of access)) }

@@ -1,18 +1,18 @@
-//! What others can see of a step.
+//! The deeds of the lock.
 
-/// A deed of the lock, with the process that does it.
+/// A deed of the lock: what other processes can observe of a step. The number is the process that does it.
 #[derive(Clone, Copy, Debug, PartialEq, Eq)]
 pub enum Outer {
-    /// The doorway is begun, and with it a super-passage.
+    /// Begins the doorway, and with it a super-passage.
     Begin(u64),
-    /// The doorway is finished: the process has a number.
+    /// Finishes the doorway: the process has a number.
     Ready(u64),
     Enter(u64),
-    /// Private memory is lost.
+    /// Loses its private memory.
     Crash(u64),
-    /// One that crashed inside is inside again.
+    /// Enters again after a crash inside.
     Reenter(u64),
     Leave(u64),
-    /// The super-passage is given up, with a number (withdraw) or without one (the numbers are spent).
+    /// Ends the super-passage without an entry: by a withdraw, or because the numbers are spent.
     Quit(u64),
 }

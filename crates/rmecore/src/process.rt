@@ -1,5 +1,5 @@
-//! What one process does, as a machine over its private memory alone. It knows no shared word: it says which one it
-//! loads or stores next, and is fed with what was read.
+//! The lock's algorithm for one process, as a state machine over private memory alone. The machine names the word that it
+//! loads or stores next. The caller performs that access and feeds the value back.
 
 ghost use Rattle.std.specs.Prelude.{◌≡◌, ◌==◌, ◌||◌, Some, None, true, false, IfSome, OnOk, OnErr, IfOk, IfErr, is_none};
 ghost use Rattle.rmecore.specs.Place.{above, is_before};
@@ -18,7 +18,7 @@ use crate::word::Word;
 use std::fmt;
 use std::marker::Model;
 
-/// One process of `procs`, with its private memory.
+/// The state machine of process `index` of `procs`. `limit` is the greatest number that it may take.
 #[derive(Drop)]
 pub struct LockProcess {
     procs: u64,
@@ -64,7 +64,7 @@ impl LockProcess {
         }
     }
 
-    /// The first other process from an index on.
+    /// The first process from index `from` on, the own one left out.
     fn first(&self, from: u64) -> Option<u64>
         ensures first { result ≡ first (above self.now.procs self.now.index from) }
         ensures room { IfSome result (λ j. j < u64.MAX) }
@@ -73,8 +73,7 @@ impl LockProcess {
         if j < self.procs { Some(j) } else { None }
     }
 
-    /// The step that comes next, if a call is under way. It may be taken whatever a load reads, and where the
-    /// definition leaves a choice it has the least process.
+    /// The next access, if a call is under way. Scans go by rising index.
     pub fn next(&self) -> Option<Access>
         ensures next { result ≡ next_access self.now }
         ensures allowed { IfSome result (IsAllowed self.now) }
@@ -83,6 +82,7 @@ impl LockProcess {
         ensures own { IfSome result (StoresOwn self.now.index) }
         ensures idle { is_none result ≡ is_idle self.now.place }
     {
+        // For the proof alone: its value is read.
         let _ = &self.stage;
         self.access()
     }
@@ -118,7 +118,7 @@ impl LockProcess {
         }
     }
 
-    /// A scan that goes on, and the load that comes next in it. It is what `next` answers, for a scan alone.
+    /// The scan in progress, if there is one, and its next load. The load is what `next` answers.
     pub fn scan(&self) -> Option<(Scan, Access)>
         ensures at { IfSome result (λ r. at_scan self.now r.0 ≡ self.now) }
         ensures next { IfSome result (λ r. next_access self.now ≡ Some r.1) }
@@ -127,6 +127,7 @@ impl LockProcess {
         ensures within { IfSome result (λ r. InLock self.now.procs (word_of r.1)) }
         ensures own { IfSome result (λ r. StoresOwn self.now.index r.1) }
     {
+        // For the proof alone: its value is read.
         let _ = &self.stage;
         self.scanned()
     }
@@ -161,7 +162,7 @@ impl LockProcess {
         }
     }
 
-    /// Where the next step leads with the value that was read, and what it was.
+    /// The stage after the next step, and the step's effects, for the value that was read.
     fn after(&self, value: u64) -> (Stage, Progress)
         ensures place { place_of self.now.procs self.now.index result.0 ≡ after_access self.now (next_access self.now) value }
         ensures progress { result.1 ≡ progress self.now (next_access self.now) value }
@@ -200,7 +201,7 @@ impl LockProcess {
         }
     }
 
-    /// The section is left, but for the mark.
+    /// The `drop` of an exit. The mark is still to be cleared.
     fn leave(&self) -> (Stage, Progress)
         ensures { result ≡ (Stage.Unmarking CoreCall.Unlock, record { outer = Some (Outer.Leave self.now.index); done = None; blocked = false }) }
     {
@@ -211,7 +212,7 @@ impl LockProcess {
         )
     }
 
-    /// The place in the line is given up.
+    /// The super-passage is given up, and the call ends.
     fn quit(&self, done: CoreDone) -> (Stage, Progress)
         ensures { result ≡ (Stage.Rest, record { outer = Some (Outer.Quit self.now.index); done = Some done; blocked = false }) }
     {
@@ -241,7 +242,7 @@ impl LockProcess {
         }
     }
 
-    /// Whether a waiter with this number goes past process `j`, whose number was read.
+    /// Whether a process that waits with `number` goes before process `j`, whose number is `value`.
     fn passes(&self, number: u64, value: u64, j: u64) -> bool
         ensures { result ≡ ((value == 0) || is_before number self.now.index value j) }
     {
@@ -284,8 +285,8 @@ impl LockProcess {
         }
     }
 
-    /// Takes the next step, with the value that it read. A step that stores ignores the value, and where there is no
-    /// step nothing changes.
+    /// Takes the next step with the value that was read. A store ignores the value. If no call is under way, nothing
+    /// changes.
     pub fn feed(&mut self, value: u64) -> Progress
         ensures place { self.new ≡ record self.old { place = after_access self.old (next_access self.old) value } }
         ensures allowed { IfSome (next_access self.old) (IsAllowed self.old) }
@@ -296,7 +297,7 @@ impl LockProcess {
         progress
     }
 
-    /// Takes the next step of a scan that goes on, as `feed` does.
+    /// Takes the next step of this scan. It does what `feed` does, with fewer cases to distinguish.
     pub fn scan_on(&mut self, scan: Scan, value: u64) -> Progress
         requires { at_scan self.old scan ≡ self.old }
         ensures place { self.new ≡ record self.old { place = after_access self.old (next_access self.old) value } }
@@ -322,22 +323,22 @@ impl LockProcess {
         }
     }
 
-    /// What the next step will be with this value. Nothing is taken yet.
+    /// What `feed` would answer for this value. Nothing changes.
     pub fn outlook(&self, value: u64) -> Progress
         ensures { result ≡ progress self.now (next_access self.now) value }
     {
         self.after(value).1
     }
 
-    /// Where it stands, in the machine's own terms.
+    /// The stage, in the machine's own representation.
     pub fn stage(&self) -> Stage
         ensures { place_of self.now.procs self.now.index result ≡ self.now.place }
     {
         self.stage
     }
 
-    /// A seam of this workspace, for who takes steps of the machine at the words alone, as the running lock's fast path: the
-    /// machine is told where those steps have led. It takes any place, also one that no step leads to.
+    /// Puts the machine at a stage. For this workspace alone: the running lock's fast path takes steps without the machine
+    /// and then sets its stage. Any stage is accepted, also one that no step reaches.
     pub fn seam_stand(&mut self, to: Stage)
         ensures { self.new ≡ record self.old { place = place_of self.old.procs self.old.index to } }
     {
@@ -345,14 +346,14 @@ impl LockProcess {
         *here = to;
     }
 
-    /// Why a call can't be started now, if it can't.
+    /// Why `start` would refuse this call now, if it would.
     pub fn refusal(&self, call: CoreCall) -> Option<Refusal>
         ensures { result ≡ start_refusal self.now.place call }
     {
         self.started(call).err()
     }
 
-    /// The own number, where the place names it.
+    /// The process's own number, if the stage holds it.
     pub fn number(&self) -> Option<u64>
         ensures { result ≡ own_number self.now.place }
     {
@@ -364,7 +365,7 @@ impl LockProcess {
         }
     }
 
-    /// The call under way, where the place names it.
+    /// The call under way, if the stage holds it.
     pub fn call(&self) -> Option<CoreCall>
         ensures { result ≡ own_call self.now.place }
     {
@@ -378,7 +379,10 @@ impl LockProcess {
         }
     }
 
-    /// Starts a call, unless a call is under way or the process stands where the call makes no sense.
+    /// Starts a call.
+    ///
+    /// `CallUnderWay`: another call has to end first. `AlreadyIn`: a lock or a recovery of a process that is inside.
+    /// `NotOwner`: an unlock of a process that is not inside. `NotWaiting`: a withdraw where no lock waits.
     pub fn start(&mut self, call: CoreCall) -> Result<(), Refusal>
         ensures ok { OnOk result (started self.old.place call ≡ Some self.new.place) }
         ensures same { self.new ≡ record self.old { place = self.new.place } }
@@ -410,7 +414,7 @@ impl LockProcess {
         }
     }
 
-    /// Loses the private memory.
+    /// Crashes: the private memory is lost, and with it the call under way.
     pub fn crash(&mut self)
         ensures { self.new ≡ record self.old { place = Dead } }
     {

@@ -1,16 +1,16 @@
-//! What a step was.
+//! The effects of a step.
 
 ghost use Rattle.std.specs.Prelude.{◌≡◌, Some, None, false};
 
 use crate::core_done::CoreDone;
 use crate::outer::Outer;
 
-/// What a step was for others and for its call.
+/// The effects of a step: its deed, the call's answer, and whether it was blocked.
 #[derive(Clone, Copy, Debug, PartialEq, Eq)]
 pub struct Progress {
     pub outer: Option<Outer>,
     pub done: Option<CoreDone>,
-    /// A look or a weigh after which the process stands where it stood.
+    /// A look or a weigh that left the process at its place.
     pub blocked: bool,
 }
 
@@ -47,7 +47,7 @@ impl Progress {
         }
     }
 
-    /// A deed with which the call is over.
+    /// A deed that also ends the call.
     pub(crate) fn ended(outer: Outer, done: CoreDone) -> Progress
         ensures { result ≡ record { outer = Some outer; done = Some done; blocked = false } }
     {

@@ -7,14 +7,14 @@ use std::alloc::{AllocError, AllocFailed};
 use std::error::Error;
 use std::fmt;
 
-/// Why a call was refused. A refused call changes nothing. A call with several causes names the first of them in the
-/// order of its own refusals; want of memory comes after them.
+/// Why a call was refused. A refused call changes nothing. If a call has several causes, the first in the order of its own
+/// refusals is named. Out of memory is the last of them.
 #[derive(Clone, Copy, Debug, PartialEq, Eq)]
 pub enum Refusal {
     BadProcs,
     BadLimit,
     NoSuchProcess,
-    /// The caller has to take the steps of that call first, or to crash the process.
+    /// The caller has to step the call under way to its end, or crash the process.
     CallUnderWay,
     /// POSIX answers EPERM here.
     NotOwner,
@@ -22,23 +22,23 @@ pub enum Refusal {
     NothingToDo,
     BadCap,
     BadImage { rule: u64 },
-    /// The holder came in by the line, or has mended already. POSIX answers EINVAL here.
+    /// The holder entered in line, or has already mended. POSIX answers EINVAL here.
     NotInconsistent,
     BadShape,
-    /// The holder was told that the owner died, and has to mend first.
+    /// The holder's lock answered that the owner died. It has to mend first.
     Unmended,
     BadIndex,
-    /// Only a lock that waits can be withdrawn: in the doorway, at rest and inside there is nothing to give up.
+    /// The process has no lock that waits, so there is nothing to withdraw.
     NotWaiting,
     BadWidth,
-    /// A growth was refused. The call may be made again.
+    /// An allocation failed. The call may be tried again.
     OutOfMemory,
 }
 
 impl Refusal {
     ghost use Rattle.rmecore.specs.Refused.{number_of};
 
-    /// Its number. Want of memory has none.
+    /// The refusal's number in the specification, 1 to 15. `OutOfMemory` has none.
     pub fn number(self) -> Option<u64>
         ensures { result ≡ number_of self }
     {

@@ -1,4 +1,4 @@
-//! The restart table: where a process goes once it has read its own words again.
+//! The restart table: what a call does after it has reread the process's own words.
 
 ghost use Rattle.std.specs.Prelude.{◌≡◌, Some, None, false, ℕ};
 ghost use Rattle.rmecore.specs.Place.{relocked, recovered, restart, shut, unmarked};
@@ -12,7 +12,7 @@ use crate::outer::Outer;
 use crate::progress::{Progress, QUIET};
 use crate::stage::Stage;
 
-/// Where a call of process `own` goes on after its three rereads.
+/// What a call of process `own` does after its three rereads.
 pub fn restarted(
     own: u64,
     call: CoreCall,
@@ -31,7 +31,7 @@ pub fn restarted(
     }
 }
 
-/// A lock goes on to what is left to do.
+/// The row for a lock: it goes on with what is left to do.
 fn relocked(own: u64, choosing: u64, number: u64, inside: u64) -> (Stage, Progress)
     ensures place { (n : ℕ) → place_of n own result.0 ≡ relocked n own choosing number inside }
     ensures progress { result.1 ≡ record { outer = reentry own choosing number inside; done = again choosing number inside; blocked = false } }
@@ -52,7 +52,7 @@ fn relocked(own: u64, choosing: u64, number: u64, inside: u64) -> (Stage, Progre
     }
 }
 
-/// A recovery goes no further than it must.
+/// The row for a recovery: it never scans, and takes at most one step more.
 fn recovered(own: u64, choosing: u64, number: u64, inside: u64) -> (Stage, Progress)
     ensures place { (n : ℕ) → place_of n own result.0 ≡ recovered choosing number inside }
     ensures progress { result.1 ≡ record { outer = reentry own choosing number inside; done = found choosing number inside; blocked = false } }
@@ -82,7 +82,7 @@ fn reentered(own: u64, done: CoreDone) -> Progress
     Progress::ended(Outer::Reenter(own), done)
 }
 
-/// Choosing is 0 again: a lock waits now, a recovery has found that it waited.
+/// After choosing := 0. A lock waits now. A recovery answers that the process was waiting.
 pub fn after_shut(call: CoreCall, number: u64) -> (Stage, Progress)
     ensures place { (n p : ℕ) → place_of n p result.0 ≡ shut n p call number }
     ensures progress { result.1 ≡ record { outer = None; done = shut_answer call; blocked = false } }
@@ -95,7 +95,7 @@ pub fn after_shut(call: CoreCall, number: u64) -> (Stage, Progress)
     }
 }
 
-/// The mark is gone: a lock opens its doorway, and any other call is over.
+/// After inside := 0. A lock opens its doorway. Any other call is over.
 pub fn after_unmark(call: CoreCall) -> (Stage, Progress)
     ensures place { (n p : ℕ) → place_of n p result.0 ≡ unmarked call }
     ensures progress { result.1 ≡ record { outer = None; done = unmark_answer call; blocked = false } }

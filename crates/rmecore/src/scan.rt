@@ -1,6 +1,6 @@
-//! A scan of the other processes that goes on.
+//! A scan over the other processes.
 
-/// Where a scan stands that goes on, in the machine's own terms: the doorway's, or that of a wait.
+/// The state of a scan in the doorway or of a scan while waiting, in the machine's own representation.
 #[derive(Clone, Copy, Debug, PartialEq, Eq)]
 pub enum Scan {
     Peeking {

@@ -1,4 +1,4 @@
-//! The lock in simulation: all processes over words in memory, each step taken on request.
+//! The lock's core in simulation: all processes over words in plain memory, one step at a time.
 
 ghost use Rattle.std.specs.Prelude.{◌≡◌, ◌<◌, ◌≤◌, ◌⊎◌, ◌↔◌, IfSome, IfOk, IfErr, OnOk, OnErr, IsErrOf, Ok, Err, Some, None, ℕ, length, vec_len, slice_index_or, slice_set, replicate};
 ghost use Rattle.rmecore.specs.Place.{Starts, Crashes, Rest};
@@ -22,7 +22,7 @@ use std::marker::Model;
 /// The greatest number of processes of one lock.
 pub const MOST_PROCS: u64 = 64;
 
-/// The greatest limit of numbers, 2^62: one more than a number is always a u64.
+/// The greatest limit of numbers, 2^62. So a number plus one always fits in a u64.
 pub const MOST_LIMIT: u64 = 4_611_686_018_427_387_904;
 
 const ZEROS: Own = Own {
@@ -37,8 +37,8 @@ const UNSTARTED: Tally = Tally {
     began: ZEROS,
 };
 
-/// All processes, with the words that they share. A call is started, and then stepped until a step answers it; a crash
-/// may fall before any step. Processes are numbered from 0. No call after `new` takes memory.
+/// All processes of a lock and the words that they share. A caller starts a call and then steps it until a step carries its
+/// answer. A crash may come before any step. Processes are numbered from 0. Only `new` allocates.
 #[derive(Drop)]
 pub struct Core {
     procs: u64,
@@ -86,9 +86,10 @@ impl Core {
     ghost use Rattle.rmecore.specs.Tallied.{IsExact, HasTaken, IsTaking, IsRereading};
     ghost use Rattle.rmecore.specs.Simulated.{world_of, own_at, place_at, tally_at, Takes, event_of, ChoosesLeast, refusal_at, step_refusal, counted, fresh, zeros, new_refusal, cause};
 
-    /// All words are 0, and all processes at rest. `limit` is the greatest number that a process may take.
+    /// A core with all words 0 and all processes at rest. `limit` is the greatest number that a process may take.
     ///
-    /// `BadProcs`: not 1 to 64 processes. `BadLimit`: not 1 to 2^62. `OutOfMemory`: a list of the processes was refused.
+    /// `BadProcs`: not 1 to 64 processes. `BadLimit`: not 1 to 2^62. `OutOfMemory`: a list of the processes could not be
+    /// allocated.
     pub fn new(alloc: Global, procs: u64, limit: u64) -> Result<Core, Refusal>
         ensures accepted { OnOk result (new_refusal procs limit ≡ None) }
         ensures refused { IfErr result (λ e. new_refusal procs limit ≡ cause e) }
@@ -114,9 +115,9 @@ impl Core {
         })
     }
 
-    /// Starts a lock, from rest or after a crash. Its steps go on from what the process's words tell of its last call.
+    /// Starts a lock, from rest or after a crash. After a crash the process's words decide how it goes on.
     ///
-    /// `CallUnderWay`: another call has to be stepped to its end first. `AlreadyIn`: the process is inside.
+    /// `CallUnderWay`: another call has to end first. `AlreadyIn`: the process is inside.
     pub fn start_lock(&mut self, p: u64) -> Result<(), Refusal>
         ensures accepted { OnOk result (refusal_at self.old p CoreCall.Lock ≡ None) }
         ensures refused { IfErr result (λ e. refusal_at self.old p CoreCall.Lock ≡ Some e) }
@@ -127,9 +128,9 @@ impl Core {
         self.start(p, CoreCall::Lock)
     }
 
-    /// Starts a recovery: it finds out where the process stood, and goes no further than it must: it never scans.
+    /// Starts a recovery. It answers what the process was doing when it crashed. It never scans, so it never waits.
     ///
-    /// `CallUnderWay` and `AlreadyIn` as at a lock.
+    /// `CallUnderWay` and `AlreadyIn` as for a lock.
     pub fn start_recover(&mut self, p: u64) -> Result<(), Refusal>
         ensures accepted { OnOk result (refusal_at self.old p CoreCall.Recover ≡ None) }
         ensures refused { IfErr result (λ e. refusal_at self.old p CoreCall.Recover ≡ Some e) }
@@ -140,7 +141,7 @@ impl Core {
         self.start(p, CoreCall::Recover)
     }
 
-    /// Starts the exit of a process that is inside: the number is dropped first, which lets the next one in, then the mark.
+    /// Starts the exit of a process that is inside. It clears the number, which lets the next process in, and then the mark.
     ///
     /// `NotOwner`: the process is not inside, or crashed there and has not entered again.
     pub fn start_unlock(&mut self, p: u64) -> Result<(), Refusal>
@@ -153,9 +154,9 @@ impl Core {
         self.start(p, CoreCall::Unlock)
     }
 
-    /// Gives up the lock that a process waits for, in its place: that lock is never answered.
+    /// Withdraws the lock that waits, and replaces it. That lock is never answered.
     ///
-    /// `NotWaiting`: no lock of the process is under way, or it is still in its doorway or before it.
+    /// `NotWaiting`: no lock of the process is under way, or the lock does not wait yet.
     pub fn start_withdraw(&mut self, p: u64) -> Result<(), Refusal>
         ensures accepted { OnOk result (refusal_at self.old p CoreCall.Withdraw ≡ None) }
         ensures refused { IfErr result (λ e. refusal_at self.old p CoreCall.Withdraw ≡ Some e) }
@@ -166,7 +167,7 @@ impl Core {
         self.start(p, CoreCall::Withdraw)
     }
 
-    /// The words of a process.
+    /// The lock words of a process.
     pub fn words(&self, p: u64) -> Result<Own, Refusal>
         ensures reached { IsReached self.now.procs self.now.limit (world_of self.now) }
         ensures lawful { IsLawful self.now.procs self.now.limit (world_of self.now).words }
@@ -179,8 +180,8 @@ impl Core {
         }
     }
 
-    /// Takes the next step of a process: one load or one store of one word. A reading that is blocked is a step too, and
-    /// the next step reads the same word again.
+    /// Takes the next step of a process: one load or one store of one word. A blocked reading is a step too, and the next
+    /// step reads the same word again.
     ///
     /// `NothingToDo`: no call of the process is under way.
     pub fn step(&mut self, p: u64) -> Result<Happened, Refusal>
@@ -235,8 +236,8 @@ impl Core {
         Ok(())
     }
 
-    /// A process loses its private memory, and with it a call that is under way. Any process may crash, also one that is
-    /// idle or dead; all words stay.
+    /// Crashes a process: it loses its private memory and its call under way. All words keep their values. A process that is
+    /// idle or has crashed may crash as well.
     pub fn crash(&mut self, p: u64) -> Result<Outer, Refusal>
         ensures refused { IfErr result (λ e. (self.old.procs ≤ p) × (e ≡ Refusal.NoSuchProcess)) }
         ensures crash { OnOk result (Takes self.old (Crashes p) self.new) }
@@ -251,8 +252,8 @@ impl Core {
         Ok(Outer::Crash(p))
     }
 
-    /// How many steps the last call of a process has taken, the blocked ones among them, held at the greatest u64. Before
-    /// any call it is 0; a withdraw is a call of its own.
+    /// The number of steps of the process's last call, blocked ones included. It saturates at the greatest u64. Before the
+    /// first call it is 0. A withdraw is a call of its own.
     pub fn steps(&self, p: u64) -> Result<u64, Refusal>
         ensures ok { IfOk result (λ steps. (p < self.now.procs) × (steps ≡ (tally_at self.now.tallies p).steps)) }
         ensures taking { IsExact (tally_at self.now.tallies p) → p < self.now.procs → IsTaking self.now.procs (tally_at self.now.tallies p) (place_at self.now.processes p) }
@@ -262,7 +263,7 @@ impl Core {
         Ok(self.tally(p)?.steps)
     }
 
-    /// How many of these steps were looks and weighs that left the process where it stood, held at the greatest u64.
+    /// The number of blocked looks and weighs among those steps. It saturates at the greatest u64.
     pub fn blocked(&self, p: u64) -> Result<u64, Refusal>
         ensures ok { IfOk result (λ blocked. (p < self.now.procs) × (blocked ≡ (tally_at self.now.tallies p).blocked)) }
         ensures refused { IfErr result (λ e. (self.now.procs ≤ p) × (e ≡ Refusal.NoSuchProcess)) }
@@ -270,7 +271,7 @@ impl Core {
         Ok(self.tally(p)?.blocked)
     }
 
-    /// The words of a process at the start of its last call. While it reads its own words again they still stand.
+    /// The lock words of a process at the start of its last call.
     pub fn began(&self, p: u64) -> Result<Own, Refusal>
         ensures ok { IfOk result (λ began. (p < self.now.procs) × (began ≡ (tally_at self.now.tallies p).began)) }
         ensures rereading { p < self.now.procs → IsRereading (place_at self.now.processes p) → (tally_at self.now.tallies p).began ≡ own_at self.now.words p }

@@ -1,10 +1,10 @@
-//! What is counted of a call.
+//! The counts of a call.
 
 ghost use Rattle.std.specs.Prelude.{◌≡◌};
 
 use crate::own::Own;
 
-/// What is counted of the last call of a process: its steps, those that were blocked, and the words at its start.
+/// The counts of a process's last call: its steps, the blocked ones among them, and the lock words at its start.
 #[derive(Clone, Copy, Debug, PartialEq, Eq)]
 pub struct Tally {
     pub steps: u64,
@@ -15,7 +15,7 @@ pub struct Tally {
 impl Tally {
     ghost use Rattle.rmecore.specs.Simulated.{counted};
 
-    /// One more step.
+    /// Counts one more step.
     pub fn count(&mut self, blocked: bool)
         ensures { self.new ≡ counted self.old blocked }
     {

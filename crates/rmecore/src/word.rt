@@ -1,6 +1,6 @@
 //! The shared words.
 
-/// A shared word: a lock word of a process, or a data word by its index.
+/// A shared word: a lock word of a process, or the data word at an index.
 #[derive(Clone, Copy, Debug, PartialEq, Eq)]
 pub enum Word {
     Choosing(u64),

@@ -1,4 +1,4 @@
--- A scan of a world goes on: its next load is no deed, and ends no call.
+-- A scan of a world: its next load is silent.
 use Rattle.std.proofs.Common.{◌≡◌, ℕ, false, if◌then◌else◌, List, [], Option, Some, None, refl, sym, ap, subst}
 use Rattle.rmeworld.proofs.Common.{Access, Load, Store, Kind, Open as Opens, Own, Standing, first, at_scan, answer, Place, above, Door, Wait, is_store}
 use Rattle.rmeworld.proofs.Common.{step_deed, Layout, Words, Chore, IsLoad, GoesOn, answer_by, by_lock, done_by, errand_of, or_else}
@@ -7,11 +7,11 @@ use Rattle.rmecore.specs.declared.scan.Scan.{Scan}
 use Rattle.rmecore.specs.declared.scan.Scan.TheVariants.{Peeking, Waiting}
 use Rattle.rmeworld.proofs.Taken.{told_by}
 
--- a load is no deed at this place, and ends no call
+-- a load is silent at this place
 abbrev IsQuiet : ℕ → Place → Kind → ℕ → Type 0
 IsQuiet p s kind x = (step_deed p s kind x ≡ None) × (answer s kind x ≡ None)
 
--- so it is in the doorway and in the line
+-- it is so in the doorway and while waiting
 door_is_quiet : (p : ℕ) (unread : List ℕ) (m : ℕ) (kind : Kind) (x : ℕ) → is_store kind ≡ false → IsQuiet p (Door unread m) kind x
 door_is_quiet p unread m Opens x h = (cc, cc)
 door_is_quiet p unread m _ x h = (cc, cc)
@@ -32,7 +32,7 @@ scan_is_quiet st scan (Load kind word) l p cells v goes =
     let none : outer_by st.index st.lock (errand_of st.errand) kind v ≡ None = subst (λ (e : Chore). outer_by st.index st.lock (errand_of e) kind v ≡ None) (sym goes.free) (place_is_quiet st scan kind v goes.at goes.own).0 in
     ap (λ o. or_else o (mail_by l p cells (Load kind word))) none
 
--- nor does it end a call
+-- and does not end a call
 pub scan_ends_nothing : (st : Stand) (scan : Scan) (a : Access) (v : ℕ) → GoesOn st scan a → ((outcome st (Some a) v).progress.outer ≡ None) × ((outcome st (Some a) v).progress.done ≡ None) × ((outcome st (Some a) v).answer ≡ None)
 scan_ends_nothing st scan (Store kind word w) v goes = absurd goes.load
 scan_ends_nothing st scan (Load kind word) v goes =
@@ -42,7 +42,7 @@ scan_ends_nothing st scan (Load kind word) v goes =
       subst (λ (e : Chore). answer_by st.lock st.mended st.barred (errand_of e) kind v ≡ None) (sym goes.free) (ap (by_lock st.barred) quiet.1),
     )
 
--- what it tells
+-- the report of the load
 pub scan_tells : (s : WorldState) (p : ℕ) (st : Stand) (scan : Scan) (a : Access) (v : ℕ) → GoesOn st scan a → quiet_step a v ≡ told_by s p a v (outcome st (Some a) v)
 scan_tells s p st scan (Store kind word w) v goes = absurd goes.load
 scan_tells s p st scan (Load kind word) v goes =

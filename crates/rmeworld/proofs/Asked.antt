@@ -1,5 +1,5 @@
--- Every deed of the mailbox goes back to the start of a call: what is left of each process's script sends only what that
--- start has granted, also while others move, since nobody else puts a data word meanwhile.
+-- Every deed of the mailbox belongs to the start of a call. The rest of each process's script does only the deeds that this
+-- start grants. Steps of other processes don't change that, since no other process puts a data word meanwhile.
 use Rattle.std.proofs.Common.{◌≡◌, ◌≢◌, ℕ, ◌<◌, Bool, true, false, ◌&&◌, ◌==◌, nat_lt, length, List, [], ◌∷◌, ◌++◌, Option, Some, None, All, Contains, refl, sym, ap, ◌∙◌, subst, inl, inr, ◌⊎◌, arith, eqb-true, append_assoc, lt-ltb}
 use Rattle.rmeworld.proofs.Common.{cases_Bool, cases_eq, and_parts, All-nil, All-cons, All-append, Contains-append_right, Kind, Gets, Puts, Outer, Phase, Within, Word, Data as DataAt, Abstract, Legal}
 use Rattle.rmeworld.proofs.Common.{nobody, put, Place, next, IsIn, is_store, put_same, put_other, after_deed as done_by, Deed, Layout, Reply, deeds_of_put, Words, IsLayout, size, Mailbox, Script}
@@ -20,19 +20,19 @@ use Rattle.rmeworld.proofs.Sends.{Sends, append_sends, close_sends, ruin_sends, 
 use Rattle.rmeworld.proofs.Stories.{if_same, deeds_none, head}
 use Rattle.rmeworld.proofs.StoryGrows.{last_more}
 
--- only a put of a data word changes them
+-- only a put of a data word changes the data words
 cells_kept : (l : Layout) (cells : Words) (e : Happening) → puts_data e ≡ false → cells_after l cells e ≡ cells
 cells_kept l cells (Moves p kind (DataAt i) v) f = rw f refl
 cells_kept l cells (Moves p kind _ v) f = if_same (is_store kind) cells
 cells_kept l cells _ f = refl
 
 module _ (l : Layout) (limit : ℕ) (layout : IsLayout l) (D : Deed → Type 0) (shows : (p at seq : ℕ) (v : List ℕ) → D (deed.Show p at seq v)) (locks : (o : Outer) → D (deed.Outer o)) where
-  -- each deed of what is left of p's script has D
+  -- each deed of the rest of p's script has D
   abbrev pub Carries : ℕ → Words → Errand → Type 0
   Carries p w Free = Unit {0}
   Carries p w (Doing why left) = Sends l p D left w
 
-  -- what the start of a call must have granted, by whether the holder is mended
+  -- what the start of a call grants, for a holder that is mended or not
   abbrev pub Grants : ℕ → Bool → Call → Type 0
   Grants p b (Append seq value) = D (deed.Commit p seq value)
   Grants p b Close = D (deed.Close p)
@@ -76,7 +76,7 @@ module _ (l : Layout) (limit : ℕ) (layout : IsLayout l) (D : Deed → Type 0) 
   begins p lock b Free (Put i v) s' w e g = by_script p lock b (nat_lt i 4) (Working (task.BoardPut i v)) (script l p (task.BoardPut i v)) s' w e (λ _. board_sends l p D (shows p) i v w)
   begins p lock b _ _ s' w e g = absurd (cc)
 
-  -- one happening: its deeds of the mailbox, and what its process carries on
+  -- one event: its deeds of the mailbox, and what its process keeps
   abbrev Steps : Scene → Happening → Spot → Type 0
   Steps w e s' = All D (mail_deeds l w.cells e) × Carries (who e) (cells_after l w.cells e) s'.errand
 
@@ -111,7 +111,7 @@ module _ (l : Layout) (limit : ℕ) (layout : IsLayout l) (D : Deed → Type 0) 
   steps w ph m (Moves p kind word v) s' e reads post g h = let x = w.spots p in moves w ph m p x.lock x.mended x.barred x.errand kind word v s' e reads post h
   steps w ph m (Glances p word v) s' e reads post g h = let is : w.spots p ≡ s' = cc in (All-nil D, subst (λ (x : Spot). Carries p w.cells x.errand) is h)
 
-  -- nobody else puts a data word while a process has an errand
+  -- no other process puts a data word while a process has a job
   stays : (w : Scene) (a : Abstract) (at : At l limit layout w a) (e : Happening) (q : ℕ) → who e < l.procs → q < l.procs → q ≢ who e → (puts_data e ≡ true → a.phase (who e) ≡ Within)
       → (x : Spot) → PostAt l q (a.phase q) w.cells at.mail x → Carries q w.cells x.errand → Carries q (cells_after l w.cells e) x.errand
   stays w a at e q below lt ne puts x post h = by x.errand post h (cases_Bool (puts_data e))
@@ -159,7 +159,7 @@ module _ (l : Layout) (limit : ℕ) (layout : IsLayout l) (story : List Happenin
   stands : (front : List Happening) (e : Happening) (es : List Happening) → story ≡ front ++ e ∷ es → Contains story e
   stands front e es is = subst (λ xs. Contains xs e) (sym is) (Contains-append_right front (e ∷ es) e (0, omega arith, refl))
 
-  -- each start of the story grants what was asked for by it
+  -- each start of the execution grants the deeds of its call
   starts : (front : List Happening) (e : Happening) (es : List Happening) → story ≡ front ++ e ∷ es → Starts l limit layout Asked shown_freely locked_freely (last_scene l limit at_first front) e
   starts front (Begins p (Append seq value)) es is = stands front (Begins p (Append seq value)) es is
   starts front (Begins p Close) es is = stands front (Begins p Close) es is

@@ -1,4 +1,4 @@
--- Where worlds begin, and that what follows from there is legal.
+-- The beginnings of worlds. What comes after them is legal.
 use Rattle.std.proofs.Common.{◌≡◌, ℕ, ◌+◌, ◌<◌, ◌≤◌, ◌^◌, Bool, true, false, ◌&&◌, nat_lt, nat_le, if◌then◌else◌, List, [], length, Option, Some, None, refl, sym, subst, inr, arith, ltb-true, leb-true}
 use Rattle.rmeworld.proofs.Common.{and_parts, Refusal, own_at, Deed, Layout, words_of, Start, Leads, state_of, State, Image, layout_of, IsLawfulImage, IsStartOf, crashed_scene, IsOrigin, IsSize}
 use Rattle.rmeworld.proofs.Common.{resting, Scene, at_first, WorldState, new_world, new_refusal, image_world}
@@ -47,7 +47,7 @@ follows_image i lawful =
       comes = record { story = []; told = tt; last = sym (image_scene i); done = refl };
     }
 
--- what has followed from an origin is legal from the judge's state there
+-- what came after a beginning is legal from the judge's state there
 pub follows_legal : (first : Scene) (state : State) (s : WorldState) (history : List Deed) → IsOrigin s.layout s.limit first state → Follows first s history → (t : State) × Leads state history t
 follows_legal first state s history begins h =
     let layout = h.world.sized.layout in

@@ -1,4 +1,4 @@
--- No call takes more steps than its most, and one under way has taken fewer.
+-- No call takes more steps than its bound, and a call under way has taken fewer.
 use Rattle.std.proofs.Common.{◌≡◌, ℕ, zero, suc, ◌+◌, ◌*◌, ◌<◌, ◌≤◌, Bool, true, false, [], ◌∷◌, List, Option, Some, None, IsSome, refl, sym, ap, ◌∙◌, arith}
 use Rattle.rmeworld.proofs.Common.{CoreCall, In, InAgain, Own, reentry_steps, spent_steps, found_steps, Place, Wait, Rest, Reread, Shutting, Leaving, Withdrawing, Unmarking, is_idle, Layout, Reply}
 use Rattle.rmeworld.proofs.Common.{Script, Get as Asks, Put as Writes, Done, Answer, Clean, OwnerDied, NumbersSpent, NotRecoverable, Unlocked, Mail, Call, Lock, Unlock, Consistent, Recover, Append}
@@ -139,7 +139,7 @@ module _ (l : Layout) (w : Own) (some : 0 < l.procs) where
   pub fewer_at : (spot : Spot) (call : Call) (x : ℕ) → call_at spot ≡ Some call → PaysAt l w spot x → x < most_steps l call
   fewer_at spot call x is h = fewer_by spot.lock spot.mended spot.barred spot.errand call x is h
 
-  -- no number of the table is above the most
+  -- no number of the table is above the bound
   pub table_most : (m : Bool) (call : Call) (a : Answer) (x : ℕ) → own_steps l w m call a ≡ Some x → x ≤ most_steps l call
   table_most m Lock Clean x e = let most = checked_most true x e in omega arith
   table_most m Lock OwnerDied x e = let most = checked_most false x e in omega arith

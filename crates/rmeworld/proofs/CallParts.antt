@@ -1,4 +1,4 @@
--- What a step of the lock's part is for the call that it belongs to: the part goes on, or ends with its answer.
+-- A step of the lock's part, for the call that it belongs to: the part goes on, or ends with its answer.
 use Rattle.std.proofs.Common.{◌≡◌, ℕ, zero, suc, ◌==◌, ◌||◌, max, false, if◌then◌else◌, [], ◌∷◌, Option, Some, None, IsSome, unwrap_or, refl, inl, inr}
 use Rattle.rmeworld.proofs.Common.{cases_Bool, CoreCall, CoreDone, In, InAgain, Spent, Out, Found as Finds, Withdrawn, Kind, Open as Opens, Rereads, Peek as Peeks, Take as Takes, Shut as Shuts}
 use Rattle.rmeworld.proofs.Common.{Look as Looks, Weigh as Weighs, Mark as Marks, Drop as Drops, Glance as Glances, Word, Choosing as ChoosingOf, Number as NumberOf, answer, reread_answer}
@@ -8,7 +8,7 @@ use Rattle.rmecore.specs.declared.core_call.CoreCall.TheVariants.{Lock, Recover,
 use Rattle.rmecore.specs.declared.word.Word.TheVariants.{Inside as InsideOf}
 use Rattle.rmeworld.proofs.Entries.{Enters}
 
--- which part an answer ends
+-- the part that an answer ends
 abbrev pub done_part : CoreDone → CoreCall
 done_part In = Lock
 done_part InAgain = Lock

@@ -1,4 +1,4 @@
--- Each step of a call that isn't blocked counts one, up to the answer, and then the number is that of the table.
+-- Each step of a call that isn't blocked adds one to its count. At the answer the count is the table's number.
 use Rattle.std.proofs.Common.{◌≡◌, ℕ, zero, suc, ◌+◌, ◌<◌, Bool, true, false, ◌&&◌, ◌==◌, nat_lt, if◌then◌else◌, length, Option, Some, None, IsSome, unwrap_or, refl, sym, ap, ◌∙◌, subst, arith, eqb-true}
 use Rattle.rmeworld.proofs.Common.{and_parts, CoreCall, CoreDone, In, InAgain, Spent, Out, Found as Finds, Withdrawn as IsWithdrawn, Kind, Gets, Puts, Own, Word, Data as DataAt, answer}
 use Rattle.rmeworld.proofs.Common.{is_blocked as is_blocked_place, reentry_steps, entry_steps, is_glance, ReadsBegun, Place, Wait, next, Rest, Leaving, Inside, Dead, Layout, Reply, Mended, Ruined}
@@ -14,7 +14,7 @@ use Rattle.rmeworld.proofs.CallBounds.{summed}
 use Rattle.rmeworld.proofs.CallParts.{Follows, On, goes_on}
 use Rattle.rmeworld.proofs.Costs.{append_costs, close_costs, consistent_costs}
 
--- a step that isn't blocked counts one
+-- a step that isn't blocked adds one
 abbrev pub more : Bool → ℕ → ℕ
 more blocked steps = if blocked then steps else steps + 1
 
@@ -22,19 +22,19 @@ more_sum : (b : Bool) (steps k x : ℕ) → steps ≡ k + x → more b steps ≡
 more_sum true steps k x h = h
 more_sum false steps k x h = omega arith
 
--- an answer of a call has the number of the table
+-- at an answer the count is the table's number
 abbrev pub Answers : Layout → Own → Bool → Option Call → Answer → ℕ → Type 0
 Answers l w m under a steps = (x : Call) × (under ≡ Some x) × (own_steps l w m x a ≡ Some steps)
 
 abbrev pub IsOver : Spot → Type 0
 IsOver spot = (lock_part spot.lock ≡ None) × (spot.errand ≡ Free)
 
--- what a step of a call comes to: the call goes on, or has its answer
+-- after a step the call goes on, or has its answer
 abbrev pub To : Layout → Own → Bool → Option Call → Option Answer → Spot → ℕ → Type 0
 To l w m under None spot steps = PaysAt l w spot steps × (call_at spot ≡ under) × (under ≡ Some Unlock → spot.mended ≡ m)
 To l w m under (Some a) spot steps = PaysAt l w spot steps × IsOver spot × Answers l w m under a steps
 
--- the spot behind a step of the lock's part with this answer of the core
+-- the process state after a step of the lock's part with this answer of the core
 abbrev came : Layout → ℕ → Bool → Bool → Option CoreDone → Place → Spot
 came l p m c done t = record { lock = t; mended = mended_done m done; barred = c; errand = if checks_done done then Doing Checking (script l p task.Check) else Free }
 
@@ -43,7 +43,7 @@ guard_spot true t d P some h = h refl
 guard_spot false t d P some h = absurd (cc)
 
 module _ (l : Layout) (p : ℕ) (w : Own) where
-  -- a number that is there is one more than some number
+  -- a number that exists is one more than some number
   exits_on : (o : Option ℕ) (s t : Place) (steps : ℕ) (b : Bool) → Exits l w o s steps → ((x : ℕ) → PaysCore l w s x → PaysCore l w t (more b x)) → Exits l w o t (more b steps)
   exits_on None s t steps b h f = h
   exits_on (Some k) s t steps b h f = (more b h.0, f h.0 h.1, more_sum b steps k h.0 h.2)
@@ -54,7 +54,7 @@ module _ (l : Layout) (p : ℕ) (w : Own) where
   nothing : (part : Option CoreCall) (t : Place) (m c : Bool) (steps : ℕ) → part ≡ None → PaysPart l w part t m c steps
   nothing part t m c steps e = subst (λ x. PaysPart l w x t m c steps) (sym e) tt
 
-  -- what a lock that came in has taken with its ruin check
+  -- the steps of a lock that entered, with its ruin check
   turned : (m : Bool) (x : ℕ) → core_steps l w (entry_of m) ≡ Some x → and_more 3 (either (core_steps l w In) (core_steps l w InAgain)) ≡ Some (x + 3)
   turned true x e = ap (λ o. and_more 3 (either o (core_steps l w InAgain))) e
   turned false x e = again w.choosing w.number w.inside e
@@ -151,12 +151,12 @@ module _ (l : Layout) (p : ℕ) (w : Own) where
         guard_spot ((i == j) && (v == x)) (settled m c why rest) d (λ spot. To l w m (why_call why) (by_script why m rest) spot (steps + 1)) some (λ e. settled_to why rest m c (steps + 1) h.0 h.2)
     moved_to s m c (Doing why _) d _ _ v steps some moves reads h = absurd (cc)
 
-    -- one step of a call, whatever it reads. It reads own words where the lock's part goes on
+    -- one step of a call, whatever it reads. In the lock's part a reread has the process's words
     pub step_by : (spot : Spot) (kind : Kind) (word : Word) (v steps : ℕ) → IsSome (next_spot l limit spot (Moves p kind word v)) → is_glance kind ≡ false → (spot.errand ≡ Free → ReadsBegun w.choosing w.number w.inside spot.lock v) → PaysAt l w spot steps
         → To l w spot.mended (call_at spot) (answer_at spot kind v) (next_or_same l limit spot (Moves p kind word v)) (more (blocked_by p spot.lock spot.errand kind v) steps)
     step_by spot kind word v steps some moves reads h = moved_to spot.lock spot.mended spot.barred spot.errand spot kind word v steps some moves reads h
 
-    -- where no call is under way no step may come
+    -- where no call is under way no step is allowed
     pub over_rests : (spot : Spot) (kind : Kind) (word : Word) (v : ℕ) → IsOver spot → IsSome (next_spot l limit spot (Moves p kind word v)) → is_glance kind ≡ false → ⊥
     over_rests spot kind word v over some moves =
         none (next l.procs limit p spot.lock kind word v) (subst (λ e. IsSome (moved_by l limit p spot.lock spot.mended spot.barred e kind word v)) over.1 some)

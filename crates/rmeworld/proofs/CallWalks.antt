@@ -1,11 +1,11 @@
--- What the steps of one call tell, of whatever process, from its own happenings alone.
+-- The steps of one call, of any process, from its own events alone.
 use Rattle.std.proofs.Common.{◌≡◌, ℕ, suc, ◌+◌, ◌<◌, Bool, true, false, if◌then◌else◌, List, [], ◌∷◌, length, Option, Some, None, IsSome, refl, sym, ap, ◌∙◌, subst, arith}
 use Rattle.rmeworld.proofs.Common.{Kind, Own, Word, Layout, Mended, Answer, Mail, Call, Unlock, Consistent, answer_at, blocked_by, next_or_same, Walks, blocked_in, and_answer, answers_in, last_spot}
 use Rattle.rmeworld.proofs.Common.{Tells, CallsTakeTheirSteps, own_steps, Spot, Happening, Begins, Moves, next_spot, part_call, call_by, call_at}
 use Rattle.rmeworld.proofs.CallBounds.{fewer_at}
 use Rattle.rmeworld.proofs.CallSteps.{more, IsOver, To, step_by, start_to, over_rests}
 
--- only an unlock goes by whether the holder is mended
+-- only an unlock depends on whether the holder is mended
 same_table : (l : Layout) (w : Own) (call : Call) (a : Answer) (m m' : Bool) → (Some call ≡ Some Unlock → m ≡ m') → own_steps l w m call a ≡ own_steps l w m' call a
 same_table l w Unlock a m m' same = ap (λ b. own_steps l w b Unlock a) (same refl)
 same_table l w Consistent (Mail (Mended b)) m m' same = refl
@@ -22,7 +22,7 @@ module _ (l : Layout) (limit p : ℕ) (w : Own) (below : p < l.procs) where
   moved : (m : Bool) (call : Call) (answers : List Answer) (spot : Spot) (n n' b b' : ℕ) → n ≡ n' → b ≡ b' → Tells l w m call answers spot n b → Tells l w m call answers spot n' b'
   moved m call answers spot n n' b b' e f h = subst (λ x. Tells l w m call answers spot x b') e (subst (λ x. Tells l w m call answers spot n x) f h)
 
-  -- behind one step, with this answer
+  -- after one step, with this answer
   behind : (o : Option Answer) (es : List Happening) (spot t : Spot) (m : Bool) (call : Call) (x k b : ℕ) → To l w spot.mended (call_at spot) o t x → call_at spot ≡ Some call → (Some call ≡ Some Unlock → spot.mended ≡ m) → k ≡ x + b → Walks l limit p w t es
       → (To l w m (Some call) None t x → Tells l w m call (answers_in l limit t es) (last_spot l limit t es) (k + length es) (b + blocked_in l limit t es))
       → Tells l w m call (and_answer o (answers_in l limit t es)) (last_spot l limit t es) (k + length es) (b + blocked_in l limit t es)

@@ -1,4 +1,4 @@
--- What a process's machine does is what the definition says, at whatever spot it stands.
+-- A process's machine does what the definition says, in every process state.
 use Rattle.std.proofs.Common.{◌≡◌, ℕ, Bool, true, false, ◌&&◌, ◌==◌, if◌then◌else◌, [], ◌∷◌, Result, Option, Some, None, IsSome, IfSome, unwrap_or, refl, sym, ap, ◌∙◌, subst, eq-eqb}
 use Rattle.rmeworld.proofs.Common.{Access, Progress, Refusal, Standing, kind_of, word_of, progress, after_access, lock_access, carried, Place, next, Inside, Layout, Reply, Pending, left}
 use Rattle.rmeworld.proofs.Common.{begun, Script, Get as Asks, Put as Writes, Done, tail, script, Call, Lock, Unlock, Consistent, Append, Close, Chore, IsFree, Does, Why, Checking}
@@ -9,7 +9,7 @@ use Rattle.redomail.specs.declared.task.Task.TheVariants as task
 use Rattle.rmeworld.proofs.Entries.{stays}
 use Rattle.rmecore.specs.Machine.{IsAllowed as IsLockAllowed}
 
--- the process with this to do
+-- the process with this script state
 abbrev pub with : Stand → Chore → Stand
 with s e = record s { errand = e }
 
@@ -38,7 +38,7 @@ lock_goes s v h = by (lock_access (standing s)) h
         (λ i. record { lock = t; mended = mended_entered s.mended s.lock t; barred = s.barred; errand = checks s.layout s.index (is_entry s.lock t) i })
         ∙ sym (at_lock_goes s (next s.layout.procs s.limit s.index s.lock (kind_of a) (word_of a) (carried a v)) (h v))
 
--- with this script left, or its reply
+-- with this rest of a script, or its reply
 left_goes : (s : Stand) (why : Why) (job : Pending) (e : Script Reply) → left job ≡ e → s.lock ≡ Inside → spot_of (job_left s why job e) ≡ settled s.mended s.barred why e
 left_goes s why job (Done reply) is f = refl
 left_goes s why job (Asks i rest) is f = λ k. record { lock = f k; mended = s.mended; barred = s.barred; errand = Doing why (is k) }
@@ -81,7 +81,7 @@ doing_allowed s why (Done reply) = tt
 pub script_allowed : (s : Stand) (why : Why) (job : Pending) → IfSome (next_access (with s (Does why job))) (IsAllowed (with s (Does why job)))
 script_allowed s why job = doing_allowed s why (left job)
 
--- what a step of the lock's part is
+-- the effects of a step of the lock's part
 pub lock_outcome : (s : Stand) (v : ℕ)
     → outcome (with s IsFree) (next_access (with s IsFree)) v ≡ record { progress = progress (standing s) (lock_access (standing s)) v; answer = by_lock s.barred (progress (standing s) (lock_access (standing s)) v).done }
 lock_outcome s v = by (lock_access (standing s))
@@ -90,11 +90,11 @@ lock_outcome s v = by (lock_access (standing s))
     by None = refl
     by (Some a) = refl
 
--- what the lock's machine is, seen by the process
+-- the lock's machine as the process has it
 pub standing_is : (s : Stand) (t : Standing) → t.procs ≡ s.layout.procs → t.limit ≡ s.limit → t.index ≡ s.index → t.place ≡ s.lock → standing s ≡ t
 standing_is s t a b c d = λ i. record { procs = sym a i; limit = sym b i; index = sym c i; place = sym d i }
 
--- a step of the lock's part as a process takes it, which is seen as now and whose lock's part stands as t
+-- a step of the lock's part as a process takes it: the process is seen as now, and its lock's part is t
 module _ {seen now : Stand} (view : seen ≡ now) (t : Standing) (procs : t.procs ≡ seen.layout.procs) (limited : t.limit ≡ seen.limit) (index : t.index ≡ seen.index) (place : t.place ≡ seen.lock) (free : now.errand ≡ IsFree) (v : ℕ) where
   is : standing now ≡ t
   is = standing_is now t (procs ∙ ap (λ (s : Stand). s.layout.procs) view) (limited ∙ ap (λ (s : Stand). s.limit) view) (index ∙ ap (λ (s : Stand). s.index) view) (place ∙ ap (λ (s : Stand). s.lock) view)
@@ -132,7 +132,7 @@ failing_both true test q r e spot h = failing test r e spot h
 failing_both false true q r e spot h = refl
 failing_both false false q r e spot h = refl
 
--- a start that is refused isn't allowed
+-- a start that is refused is not allowed by the definition
 pub refuses : (l : Layout) (p : ℕ) (s : Place) (b c : Bool) (e : Errand) (call : Call) (r : Refusal)
     → start_refusal l (record { lock = s; mended = b; barred = c; errand = e }) call ≡ Some r → begun_from l p s b e call ≡ None
 refuses l p s b c (Doing why left) call r h = refl

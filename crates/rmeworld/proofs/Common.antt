@@ -1,4 +1,4 @@
--- What proof files of this crate cite from modules that two or more of them share, passed on from one place. Declares nothing.
+-- Imports that two or more proof files of this crate share. Declares nothing.
 pub use Rattle.std.proofs.lemmas.Bool.{cases_Bool, cases_eq, and_parts, cond_both, cases_lt, false≢true, eqb-false}
 pub use Rattle.std.proofs.lemmas.Grind.{common_steps}
 pub use Rattle.std.proofs.lemmas.List.{get_or_past, length-map, get_or_default, set_past, get_or-replicate, length-replicate}

@@ -1,4 +1,4 @@
--- Each script of a call ends with the number of its reply.
+-- Each script of a call ends with the table's number for its reply.
 use Rattle.std.proofs.Common.{◌≡◌, ℕ, zero, suc, ◌+◌, ◌*◌, ◌≤◌, true, ◌==◌, List, [], ◌∷◌, ◌++◌, length, Option, Some, refl, ap, ◌∙◌, arith, length-append, nat_le, nat_lt}
 use Rattle.rmeworld.proofs.Common.{cond_both, Layout, Record, Reply, Script, Get as Asks, Put as Writes, Done, puts, gets, consistent, apply_steps, store_steps, record_of, decided, append, redo}
 use Rattle.rmeworld.proofs.Common.{repair, close, length-store_steps, task_steps, mending_steps, Costs}
@@ -54,7 +54,7 @@ module _ (l : Layout) (p : ℕ) where
   pub consistent_costs : Costs (mending_steps l) (consistent l p) 0
   consistent_costs = λ ruined. let P : Script Reply → Type 0 = λ x. Costs (mending_steps l) x 1 in cond_both (ruined == 1) _ _ P (λ _. refl) (λ _. repair_costs)
 
--- no script takes more than the greatest number of its table
+-- no script takes more steps than the greatest number in its table
 pub costs_most : (f : Reply → Option ℕ) (most : ℕ) → ((a : Reply) (x : ℕ) → f a ≡ Some x → x ≤ most) → (e : Script Reply) (steps : ℕ) → Costs f e steps → steps ≤ most
 costs_most f most h (Asks i rest) steps costs = let more = costs_most f most h (rest 0) (steps + 1) (costs 0) in omega arith
 costs_most f most h (Writes i v rest) steps costs = let more = costs_most f most h rest (steps + 1) costs in omega arith

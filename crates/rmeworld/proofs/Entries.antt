@@ -1,4 +1,4 @@
--- The lock's machine answers In, InAgain or Found(Inside) just where it comes to be inside.
+-- The core answers In, InAgain or Found(Inside) exactly when the process becomes inside.
 use Rattle.std.proofs.Common.{◌≡◌, ℕ, zero, suc, Bool, true, false, nat_lt, if◌then◌else◌, [], ◌∷◌, Option, Some, None, IsSome, IfSome, unwrap_or, refl, inl, inr}
 use Rattle.rmeworld.proofs.Common.{cases_Bool, Access, CoreCall as Call, CoreDone, In, Spent, Withdrawn, Rereads, Shut as Shuts, Mark as Marks, Standing, kind_of, word_of, answer, progress}
 use Rattle.rmeworld.proofs.Common.{after_access, lock_access as next_access, carried, access, Place, Door, Wait, next, Reread, Shutting, Leaving, Withdrawing, Unmarking, Opening, Inside, without}
@@ -9,7 +9,7 @@ use Rattle.rmecore.specs.Machine.{IsAllowed}
 abbrev pub Enters : Option CoreDone → Place → Place → Type 0
 Enters done s t = (checks_done done ≡ is_entry s t) × ((b : Bool) → mended_done b done ≡ mended_entered b s t)
 
--- where the step was allowed, it led where its test says
+-- a step that was allowed leads to the place of its test
 allowed_to : (b : Bool) (done : Option CoreDone) (s t : Place) → IsSome (only b t) → Enters done s t → Enters done s (unwrap_or (only b t) s)
 allowed_to true done s t some h = h
 allowed_to false done s t some h = cc
@@ -53,7 +53,7 @@ entered n limit p Withdrawing v = λ some. allowed_to _ (Some Withdrawn) Withdra
 entered n limit p (Unmarking call) v = λ some. allowed_to _ (answer (Unmarking call) Marks 0) (Unmarking call) _ some (unmarks call 0)
 entered n limit p _ v = tt
 
--- what the lock's machine answers tells whether it has entered
+-- the core's answer decides whether the process has entered
 of_step : (s : Standing) (v : ℕ) (o : Option Access) → IfSome o (IsAllowed s) → IfSome o (λ a. IsSome (next s.procs s.limit s.index s.place (kind_of a) (word_of a) (carried a v)) → Enters (answer s.place (kind_of a) (carried a v)) s.place (after_access s (Some a) v))
     → Enters None s.place s.place → Enters (progress s o v).done s.place (after_access s o v)
 of_step s v None h k same = same

@@ -1,4 +1,4 @@
--- What the machine that a world is does, over all its calls: it follows a story from where it began, and tells its deeds.
+-- A world as a machine, over all its calls: it follows an execution from its beginning, and its history is the deeds.
 use Rattle.std.proofs.Common.{◌≡◌, ℕ, ◌<◌, Bool, true, false, ◌&&◌, ◌==◌, nat_lt, if◌then◌else◌, List, [], ◌∷◌, ◌++◌, length, slice_set, Option, Some, None, IfSome, refl, sym, ap, ◌∙◌, subst, inl, inr, append-nil, ltb-true, get_or-set_same, get_or-set_other}
 use Rattle.rmeworld.proofs.Common.{cases_Bool, cases_eq, Access, Load, Store, Outer, Refusal, Word, Data as DataAt, word_of, Deed, Layout, deeds_of_put, Words, IsLayout, words_of, Call, IsWorld}
 use Rattle.rmeworld.proofs.Common.{start_refusal as spot_refusal, happening, or_else, mail_by, the_deed, stepped_if, advanced_if, started, advance_refusal, advanced, crash_refusal, crash_deed}
@@ -12,7 +12,8 @@ use Rattle.rmeworld.proofs.StoryGrows.{Comes, comes_more}
 use Rattle.rmeworld.proofs.WorldSteps.{IsStep, step_takes, start_takes, crash_takes}
 use Rattle.rmeworld.proofs.Worlds.{world_start, world_step, world_crash, deeds_are}
 
--- The world is where a story from this scene has come, its deeds are these, and its processes are in order.
+-- The world is at the end of an execution from this global state, its deeds are these, and its processes keep their
+-- invariant.
 pub record Follows (first : Scene) (s : WorldState) (history : List Deed) : Type 0 where
   pub world : IsWorld s
   pub ordered : (p : ℕ) → p < s.layout.procs → IsOrdered (stand_at s.processes p)
@@ -71,7 +72,7 @@ follows_crashed {first = first} {history = history} s p h may =
       comes = comes_by s.layout s.limit first history refl refl (crash_takes s p h.world.seated has.0) h.comes;
     }
 
--- a step has one deed at most
+-- a step has at most one deed
 
 abbrev Single : List Deed → Type 0
 Single ds = list_of (the_deed ds) ≡ ds

@@ -1,4 +1,4 @@
--- A lawful image's words are such as outlive a crash of everything, with the judge's state that they tell of.
+-- The words of a lawful image are possible after a crash of every process, with the judge's state that they describe.
 use Rattle.std.proofs.Common.{◌≡◌, ℕ, zero, suc, ◌+◌, ◌<◌, ◌≤◌, true, false, ◌==◌, nat_lt, if◌then◌else◌, List, [], ◌∷◌, length, map, refl, sym, ap, ◌∙◌, subst, inl, inr, ◌⊎◌, arith, eq-eqb, lt-ltb}
 use Rattle.rmeworld.proofs.Common.{cases_eq, cases_lt, get_or_past, length-map, Own, Abstract, dead_phase, phase_by, start_of, own_at, zeros, fresh, IsIn, Layout, Words, words_of, Shape, RecordRule}
 use Rattle.rmeworld.proofs.Common.{mailbox_of, shape_passes_on, Start, state_of, phase_in as phase_of_list, State, Image, layout_of, IsLawfulImage, IsStartOf, IsInAlone, Sits, IsLater, IsWorld}
@@ -36,13 +36,13 @@ module _ (i : Image) (k : IsLawfulImage i) where
   someone : 0 < length i.lock
   someone = let h = (k.sized (omega arith)).someone in omega (arith, h)
 
-  -- p's words have the shape, where nobody else is in
+  -- p's words have the shape, if no other process is in
   shape_alone : (p : ℕ) → p < length i.lock → IsInAlone i p → Shape l p w (mailbox_of l p w)
   shape_alone p below only =
       content_is_shape l p i.cells (lawful_content i k) below
       (λ calm armed. let r = (k.recorded (omega arith)).clean armed calm in subst (λ q. RecordRule l q w) (only r.0 r.1) r.2)
 
-  -- where nobody is in, no record is armed, or the lock is ruined
+  -- if no process is in, no record is armed, or the lock is ruined
   calm : ((p : ℕ) → IsInImage i p → ⊥) → (w 3 ≡ 0) ⊎ (w 0 ≡ 1)
   calm none =
       let heads = k.heads (omega arith) in
@@ -58,7 +58,7 @@ module _ (i : Image) (k : IsLawfulImage i) where
   ruined_is : (p : ℕ) → w 0 ≡ 1 → (mailbox_of l p w).ruined ≡ true
   ruined_is p e = eq-eqb (w 0) 1 e
 
-  -- where nobody is in, what is pending is nobody's
+  -- if no process is in, the pending message is the same for all
   pub mail_same : (p q : ℕ) → ((r : ℕ) → IsInImage i r → ⊥) → mailbox_of l p w ≡ mailbox_of l q w
   mail_same p q none =
       elim (calm none) [
@@ -66,7 +66,7 @@ module _ (i : Image) (k : IsLawfulImage i) where
         | inr e ↦ (let on : (w 0 == 1) ≡ true = eq-eqb (w 0) 1 e in rw on refl)
       ]
 
-  -- the mailbox that the words tell of is one, whoever is alone in
+  -- the mailbox that the words describe is the same, whichever process is alone in
   sits_by : (s : State) → s.lock ≡ lock → ((p : ℕ) → IsInAlone i p → s.mail ≡ mailbox_of l p w) → Sits l w s
   sits_by s at mail =
       record {
@@ -118,7 +118,7 @@ crashed_spots l limit = λ i. λ p. each p i
           | inr h ↦ let off : nat_lt p l.procs ≡ false = le-ltb p l.procs h in rw off (ap spot_of (get_or_past (crashed_from l limit 0 l.procs) p absent (rw length-crashed h)))
         ]
 
--- some process that nobody else is in beside
+-- some process beside which no other is in
 pub alone : (i : Image) → IsLawfulImage i → (p : ℕ) × IsInAlone i p
 alone i k = by (find_in (length i.lock) (start_of (own_at i.lock)).phase)
   where
@@ -129,7 +129,7 @@ alone i k = by (find_in (length i.lock) (start_of (own_at i.lock)).phase)
 abbrev state_at : Image → ℕ → State
 state_at i p = record { procs = length i.lock; cap = i.cap; lock = start_of (own_at i.lock); mail = mailbox_of (layout_of i) p (words_of i.cells) }
 
--- the mailbox that the words tell of is one, whoever is alone in
+-- the mailbox that the words describe is the same, whichever process is alone in
 one_mailbox : (i : Image) (k : IsLawfulImage i) (p q : ℕ) → IsInAlone i p → IsInAlone i q → mailbox_of (layout_of i) p (words_of i.cells) ≡ mailbox_of (layout_of i) q (words_of i.cells)
 one_mailbox i k p q hp hq = by (find_in (length i.lock) (start_of (own_at i.lock)).phase)
   where
@@ -145,7 +145,7 @@ phases_of [] p = refl
 phases_of (x ∷ xs) zero = refl
 phases_of (x ∷ xs) (suc p) = phases_of xs p
 
--- what the judge starts from
+-- the state that the judge starts from
 pub started_later : (i : Image) (s : Start) → IsLawfulImage i → IsStartOf i s → IsLater (layout_of i) i.limit (own_at i.lock) (words_of i.cells) (state_of s)
 started_later i s k h =
     let phase : (p : ℕ) → phase_of_list s.phases p ≡ phase_by (own_at i.lock p) = λ p. ap (λ x. phase_of_list x p) h.phases ∙ phases_of i.lock p in

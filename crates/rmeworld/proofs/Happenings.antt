@@ -1,4 +1,4 @@
--- What each happening leaves: its deeds are allowed, and everything that is known stands after it.
+-- One event: its deeds are allowed, and the invariant holds after it.
 use Rattle.std.proofs.Common.{◌≡◌, ◌≢◌, ℕ, ◌<◌, Bool, true, false, ◌&&◌, ◌==◌, nat_lt, length, List, [], ◌∷◌, ◌++◌, Option, Some, None, Ok, refl, sym, ap, ◌∙◌, subst, inl, inr, ◌⊎◌, true≢false, ltb-true, lt-ltb}
 use Rattle.rmeworld.proofs.Common.{cases_Bool, CoreCall, Kind, Outer, Begin, Ready, Enter, Crash, Reenter, Leave, Quit, Phase, Word, Abstract, is_inside, doer, needs, done, put, AllHold, Place, Wait}
 use Rattle.rmeworld.proofs.Common.{next, Rest, Reread, Leaving, Withdrawing, Inside, Dead, IsIn, Sole, IsLeave, step_deed, Allows, allows_from, put_same, after_deed as done_by, neither, phase_other}
@@ -27,8 +27,8 @@ AllowsBy n a (Some d) = AllHold (needs n a d)
 abbrev pub judge_of : Layout → Abstract → Mailbox → State
 judge_of l a m = record { procs = l.procs; cap = l.cap; lock = a; mail = m }
 
--- What stands of the mailbox at any point, beside what each process knows: one process at most is in, alive or dead, the
--- words have the shape for it, and where nobody is in they are clean or ruined.
+-- The invariant of the mailbox, besides what each process knows: at most one process is in, alive or crashed, and the words
+-- have the shape for it. If no process is in, they are clean or ruined.
 pub record Kept (l : Layout) (a : Abstract) (w : Words) (m : Mailbox) : Type 0 where
   pub sole : Sole l.procs a
   pub shape : (q : ℕ) → ((r : ℕ) → r < l.procs → IsIn (a.phase r) → r ≡ q) → Shape l q w m
@@ -37,7 +37,7 @@ pub record Kept (l : Layout) (a : Abstract) (w : Words) (m : Mailbox) : Type 0 w
 shape_in : (l : Layout) (a : Abstract) (w : Words) (m : Mailbox) (p : ℕ) → Kept l a w m → p < l.procs → IsIn (a.phase p) → Shape l p w m
 shape_in l a w m p k below i = k.shape p (λ r lt j. k.sole r p lt below j i)
 
--- clean or ruined, by what the mailbox says
+-- clean or ruined, by the mailbox's state
 clean_by : (l : Layout) (p : ℕ) (w : Words) (m : Mailbox) → Shape l p w m → (w 0 ≡ 0 → w 3 ≡ 0) → (w 3 ≡ 0) ⊎ (m.ruined ≡ true)
 clean_by l p w m h clean = elim (cases_Bool m.ruined) [ inl t ↦ inr t | inr f ↦ inl (clean (h.ruined ∙ ap bit f)) ]
 
@@ -55,12 +55,12 @@ module _ (l : Layout) (a : Abstract) (w : Words) (m : Mailbox) (p : ℕ) (layout
   pub nothing : (spot : Spot) → PostAt l p (a.phase p) w m spot → Goes None spot
   nothing spot h = record { mail = m; leads = refl; kept = k; here = h; others = λ q lt ne x y. y }
 
-  -- what a leaving process knows
+  -- what a process that leaves knows
   abbrev LeavesClean : Outer → Type 0
   LeavesClean (Leave q) = w 0 ≡ 0 → w 3 ≡ 0
   LeavesClean _ = Unit {0}
 
-  -- what the mailbox needs for a deed of the lock
+  -- the mailbox's needs of a deed of the lock
   mail_allows : (d : Outer) (inside : Bool) → Allows l.procs a d → LeavesClean d → AllHold (mail_row l.cap inside m (deed.Outer d))
   mail_allows (Leave q) inside h c =
       let here = shape_in l a w m q k h.0 (subst IsIn (sym h.1) tt) in
@@ -72,7 +72,7 @@ module _ (l : Layout) (a : Abstract) (w : Words) (m : Mailbox) (p : ℕ) (layout
       ap (λ r. and_then r (λ t. Ok t))
       (judged-allowed (judge_of l a m) (deed.Outer d) (may.0, AllHold-append _ _ may.1 (mail_allows d (is_inside (a.phase (doer d))) (allows_from l.procs a d may) c)))
 
-  -- any deed but Leave: who is in stays in
+  -- any deed but Leave: a process that is in stays in
   stays : (d : Outer) → AllHold (needs l.procs a d) → (IsLeave d → ⊥) → Kept l (done a d) w m
   stays d may ne =
       let h = allows_from l.procs a d may in
@@ -164,7 +164,7 @@ module _ (l : Layout) (a : Abstract) (w : Words) (m : Mailbox) (p : ℕ) (layout
   stay b c Inside h = h
   stay b c _ h = h
 
-  -- at an entry: the ruin check is begun on words of this shape
+  -- at an entry: the ruin check begins on words of this shape
   check : (b : Bool) (d : Outer) → Kept l (done a d) w m → (done a d).phase p ≡ phase.Inside → (b ≡ true → w 0 ≡ 0 → w 3 ≡ 0) → Work l p w m b Checking (script l p task.Check)
   check b d kept is clean = checking l p w m layout below (shape_in l (done a d) w m p kept below (subst IsIn (sym is) tt)) b clean
 
@@ -250,7 +250,7 @@ module _ (l : Layout) (a : Abstract) (w : Words) (m : Mailbox) (p : ℕ) (layout
       by_script b lock (nat_lt i 4) (Working (task.BoardPut i v)) _ s' (inside_some lock b _ _ _ s' e) h (λ f j c. putting l p w m layout below j b i v (ltb-true i 4 f) c)
   begins lock b _ _ s' e h = absurd (cc)
 
-  -- a step of a script, with what its answer tells
+  -- a step of a script, with the meaning of its answer
   abbrev pub Told : Option Outer → List Deed → Words → Spot → Errand → ℕ → Type 0
   Told d ds u spot errand v = (o : Outcome l a w m p d ds u spot) × ErrandTells p errand v o.mail.shown
 

@@ -1,4 +1,4 @@
--- Who puts a data word is in, and who has entered stays in until it leaves.
+-- A process that puts a data word is in, and a process that has entered stays in until it leaves.
 use Rattle.std.proofs.Common.{◌≡◌, ℕ, ◌<◌, Bool, true, List, [], ◌∷◌, ◌++◌, Option, Some, None, IsSome, refl, sym, ap, ◌∙◌, subst, inl, inr}
 use Rattle.rmeworld.proofs.Common.{cases_eq, All-head, All-tail, Kind, Outer, Begin, Ready, Enter, Crash, Reenter, Leave, Quit, Within, Data as DataAt, Abstract, Legal, nobody, needs, done, put}
 use Rattle.rmeworld.proofs.Common.{AllHold, Place, next, IsIn, all_done, is_store, and_then, allows_from, put_same, put_other, after_deed as done_by, legal, in_after, not_data, Deed, Layout, Words}
@@ -14,7 +14,7 @@ use Rattle.rmeworld.proofs.Stories.{AllPosts, happens, head, posts}
 use Rattle.rmeworld.proofs.Reaching.{mail_own, done-and_then, origin}
 use Rattle.rmeworld.proofs.WorldTallies.{at_lock_some}
 
--- the lock's deeds among those of a story
+-- the lock's deeds among those of an execution
 own_none : (p : ℕ) (ds : List Deed) → AreOwn p ds → lock_deeds ds ≡ []
 own_none p [] h = refl
 own_none p (deed.Outer d ∷ ds) h = absurd h.0
@@ -35,7 +35,7 @@ lock_deeds_are l limit w (e ∷ es) =
     lock_deeds-append (event_deeds l w e) (deeds l limit (onward l limit w e) es) ∙ ap (λ (xs : List Outer). lock_deeds (event_deeds l w e) ++ xs) (lock_deeds_are l limit (onward l limit w e) es)
     ∙ one_lock_deed (outer (w.spots (who e)) e) (mail_deeds l w.cells e) (outers l limit (onward l limit w e) es) (own_none (who e) (mail_deeds l w.cells e) (mail_own l w.cells e))
 
--- a deed that isn't p's Leave leaves p in
+-- after a deed other than p's Leave, p is still in
 abbrev Stays : ℕ → List Outer → Type 0
 Stays p [] = Unit {0}
 Stays p (d ∷ ds) = (d ≡ Leave p → ⊥) × Stays p ds
@@ -61,7 +61,7 @@ none_ends p (deed.Show q at seq v ∷ ds) h = none_ends p ds (All-tail (λ (x : 
 none_ends p (deed.Close q ∷ ds) h = none_ends p ds (All-tail (λ (x : Deed). IsEndOf p x → ⊥) (deed.Close q) ds h)
 none_ends p (deed.Ruin q ∷ ds) h = none_ends p ds (All-tail (λ (x : Deed). IsEndOf p x → ⊥) (deed.Ruin q) ds h)
 
--- whose deeds end with an Enter is in
+-- after deeds that end with an Enter, its process is in
 entered_in : (a : Abstract) (ds : List Outer) (p : ℕ) → IsIn ((all_done a (ds ++ Enter p ∷ [])).phase p)
 entered_in a [] p = subst IsIn (sym (put_same a.phase p Within)) tt
 entered_in a (d ∷ ds) p = entered_in (done a d) ds p
@@ -87,7 +87,7 @@ module _ (l : Layout) (limit : ℕ) where
   story_back w [] ys h = h
   story_back w (x ∷ xs) ys h = story_back (onward l limit w x) xs ys h.1
 
-  -- who stores in a data word is inside
+  -- a process that stores into a data word is inside
   putter : (cells : Words) (a : Abstract) (m : Mailbox) (p : ℕ) (lock : Place) (b c : Bool) (errand : Errand) (kind : Kind) (i v : ℕ) → IsSome (moved_by l limit p lock b c errand kind (DataAt i) v) → Post l p (a.phase p) cells m b errand lock → is_store kind ≡ true → a.phase p ≡ Within
   putter cells a m p lock b c Free kind i v some post stores = absurd (not_data l.procs limit p lock kind i v (at_lock_some l p lock b c (next l.procs limit p lock kind (DataAt i) v) some))
   putter cells a m p lock b c (Doing why left) kind i v some post stores = post.1
@@ -97,13 +97,13 @@ module _ (l : Layout) (limit : ℕ) where
   putter_in w a m _ some post puts = absurd (cc)
 
   module _ (layout : IsLayout l) where
-    -- everything that stands at a scene
+    -- the invariant at a global state
     pub record At (w : Scene) (a : Abstract) : Type 0 where
       pub mail : Mailbox
       pub kept : Kept l a w.cells mail
       pub posts : AllPosts l limit layout a w.cells mail w.spots
 
-    -- after a happening, with what its deeds lead to
+    -- after an event, with the state that its deeds lead to
     pub one : (w : Scene) (a : Abstract) (e : Happening) (es : List Happening) (at : At w a) → Story l limit w (e ∷ es) → Legal l.procs a (outers l limit w (e ∷ es))
         → (next : At (onward l limit w e) (done_by a (outer (w.spots (who e)) e))) × Leads (judge_of l a at.mail) (event_deeds l w e) (judge_of l (done_by a (outer (w.spots (who e)) e)) next.mail)
     one w a e es at story legal =
@@ -119,7 +119,7 @@ module _ (l : Layout) (limit : ℕ) where
           left.0.leads,
         )
 
-    -- and after a story
+    -- and after an execution
     pub comes_to : (w : Scene) (a : Abstract) (es : List Happening) (at : At w a) → Story l limit w es → Legal l.procs a (outers l limit w es)
         → (there : At (last_scene l limit w es) (all_done a (outers l limit w es))) × Leads (judge_of l a at.mail) (deeds l limit w es) (judge_of l (all_done a (outers l limit w es)) there.mail)
     comes_to w a [] at story legal = (at, refl)
@@ -142,7 +142,7 @@ module _ (l : Layout) (limit : ℕ) where
           only_puts (onward l limit w e) (done_by a o) es p below (one w a e es at story legal).0 story.1 r.1 s.0 s.1,
         )
 
--- where a story from the first scene comes to
+-- after an execution from the first global state
 pub story_comes : (l : Layout) (limit : ℕ) (story : List Happening) (layout : IsLayout l) → Story l limit at_first story
     → Legal l.procs nobody (outers l limit at_first story) × ((at : At l limit layout (last_scene l limit at_first story) (all_done nobody (outers l limit at_first story)))
     × Leads (empty l.procs l.cap) (deeds l limit at_first story) (judge_of l (all_done nobody (outers l limit at_first story)) at.mail))

@@ -1,4 +1,4 @@
--- What proof files of this crate cite from modules that two or more of them share, passed on from one place. Declares nothing.
+-- Imports that two or more proof files about images share. Declares nothing.
 pub use Rattle.std.proofs.Math.Seq.{take-append_seam, get_or-append_seam, drop-append_seam}
 pub use Rattle.std.proofs.lemmas.Bool.{cases_Bool, cases_eq, cases_lt, false≢true}
 pub use Rattle.std.proofs.lemmas.List.{length-map, get_or-map, get_or_default, take-append-le, map-append}

@@ -32,7 +32,7 @@ rest_of : List Data → List Data
 rest_of [] = []
 rest_of (d ∷ ds) = ds
 
--- each item is such a one
+-- each item is such a value
 pub item_is : {A : Type 0} (f : A → Data) (vs : List Value) (xs : List A) (i : ℕ) (v : Value) → map view vs ≡ map f xs → i < length vs → v ≡ get_or vs i v → (x : A) × (view v ≡ f x)
 unfolding head_or rest_of
 item_is f [] xs i v e h is = absurd (omega arith)
@@ -40,7 +40,7 @@ item_is f (w ∷ vs) [] i v e h is = absurd (omega (arith, ap length e))
 item_is f (w ∷ vs) (x ∷ xs) zero v e h is = (x, ap view is ∙ ap (head_or (view w)) e)
 item_is f (w ∷ vs) (x ∷ xs) (suc i) v e h is = item_is f vs xs i v (ap rest_of e) (omega arith) is
 
--- an array with an item that is no such one
+-- an array with an item that is no such value
 pub not_all : {A : Type 0} (f : A → Data) (w : Value) (all vs : List Value) (i : ℕ) (v : Value) → Some (items_view all) ≡ as_array (view w) → vs ≡ all → i < length vs → v ≡ get_or vs i v
     → ((x : A) → view v ≡ f x → ⊥) → (xs : List A) → view w ≡ array (items_of (map f xs)) → ⊥
 not_all f w all vs i v e same h is not xs spelled =
@@ -53,7 +53,7 @@ not_many f w all xs e spelled =
     let same = items_are all (map f xs) (view w) e spelled in
     omega (arith, ap length same, length-map all view, length-map xs f)
 
--- something stands where the width could, and isn't a width
+-- a member at the position of the width that isn't a width
 pub no_width : (es : List Entry) → (length es ≡ 0 → false ≡ true) → ((n : ℕ) (ms : Members) → members_view es ≡ member (codes "width") (whole_data n) ms → ⊥) → (wide : Bool) (w : ℕ)
     → members_view es ≡ width_member wide w → ⊥
 no_width es some not true w e = not w no_members e
@@ -61,7 +61,7 @@ no_width es some not false w e =
     let len = ap members_len e in
     absurd (false≢true (some (omega (arith, len, members_len-members_view es))))
 
--- something stands after the width
+-- a member after the width
 pub more_than_width : (es rest : List Entry) (n : ℕ) → members_view es ≡ member (codes "width") (whole_data n) (members_view rest) → (length rest ≡ 0 → false ≡ true) → (wide : Bool) (w : ℕ)
     → members_view es ≡ width_member wide w → ⊥
 more_than_width es rest n first some true w e =
@@ -81,7 +81,7 @@ abbrev pub members_or : Data → Members
 members_or (object ms) = ms
 members_or d = no_members
 
--- what is left of an image's members behind the first four
+-- the image's members after the first four
 pub behind_four : (m0 m1 m2 m3 m4 : Members) (a b c d : Data) (wide : Bool) (i : Image) → object m0 ≡ image_data wide i → m0 ≡ member (codes "cap") a m1 → m1 ≡ member (codes "data") b m2
     → m2 ≡ member (codes "limit") c m3 → m3 ≡ member (codes "lock") d m4 → m4 ≡ member (codes "version") (whole_data i.version) (width_member wide i.width)
 behind_four m0 m1 m2 m3 m4 a b c d wide i e e1 e2 e3 e4 =

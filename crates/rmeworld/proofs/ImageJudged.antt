@@ -56,7 +56,7 @@ ahead_is_ready _ p x q y e = absurd (false≢true e)
 phase_of : (lock : List Own) (q : ℕ) (d : Phase) → q < length lock → get_or (map phase_by lock) q d ≡ phase_by (own_at lock q)
 phase_of lock q d h = get_or-map phase_by lock q zeros d h
 
--- the phase of any process, out where there is none
+-- the phase of any process, out for an index that is no process
 phase_any : (lock : List Own) (q : ℕ) → phase_in (map phase_by lock) q ≡ phase_by (own_at lock q)
 phase_any lock q =
     elim (cases_lt q (length lock)) [
@@ -146,7 +146,7 @@ module _ (i : Image) (s : Start) (k : IsLawfulImage i) (h : IsStartOf i s) where
             ]
       ]
 
-  -- whoever the words are read with
+  -- any process that the words are read with
   abbrev p : ℕ
   p = (alone i k).0
 
@@ -159,7 +159,7 @@ module _ (i : Image) (s : Start) (k : IsLawfulImage i) (h : IsStartOf i s) where
   closed_is : s.closed ≡ (w 1 == 1)
   closed_is = ap (λ m. m.closed) (h.mail p (alone i k).1)
 
-  -- an armed record that isn't shown is the next message of the one that is in
+  -- an armed record that isn't shown is the next message of the process inside
   record_is_next : w 3 ≡ 1 → w 0 ≢ 1 → w 2 ≡ w 4 → IsNext (length i.lock) (entries l w (w 2)) (recorded l p w) × (length (entries l w (w 2)) < i.cap)
   record_is_next armed clean at =
       let heads = k.heads (omega arith) in

@@ -1,4 +1,4 @@
--- The rules of an image, one by another.
+-- The rules of an image, each from those before it.
 use Rattle.std.proofs.Common.{◌≡◌, ◌≢◌, ℕ, ◌<◌, true, length, slice_index, inl, inr, sym, subst, arith}
 use Rattle.rmeworld.proofs.Common.{cases_eq, Own, IsLawful, is_before, own_at, Layout, Words, words_of, RecordRule, IsNumbered, Image, layout_of, IsLawfulImage, IsRecorded, Keeps}
 use Rattle.redomail.specs.Content.{IsContent}
@@ -11,7 +11,7 @@ record_is_numbered l p w r = elim r.rule [ inl h ↦ h.numbered | inr h ↦ h.li
 not_both : (k p v q : ℕ) → is_before k p v q ≡ true → is_before v q k p ≡ true → ⊥
 not_both k p v q = grind (arith, nat_tests)
 
--- At most one is in the section.
+-- At most one process is in the section.
 pub only_one : (n limit : ℕ) (words : ℕ → Own) (p q : ℕ) → IsLawful n limit words → p < n → q < n → 0 < (words p).number → 0 < (words p).inside → 0 < (words q).number → 0 < (words q).inside → p ≡ q
 only_one n limit words p q h lp lq kp ip kq iq =
     elim (cases_eq p q) [
@@ -20,7 +20,7 @@ only_one n limit words p q h lp lq kp ip kq iq =
           absurd (not_both (words p).number p (words q).number q (h.least p q lp lq (λ e. other (sym e)) kp ip kq) (h.least q p lq lp other kq iq kp))
     ]
 
--- where the entries aren't numbered no record rule holds
+-- if the entries aren't numbered, no record rule holds
 pub unnumbered : (i : Image) → Keeps 7 i → slice_index i.cells 3 ≢ 0 → (IsNumbered (layout_of i) (words_of i.cells) (slice_index i.cells 2) → ⊥) → IsRecorded i → ⊥
 unnumbered i k armed none r =
     let heads = k.heads (omega arith) in
@@ -29,7 +29,7 @@ unnumbered i k armed none r =
       | inr ruined ↦ (let h = r.ruined (omega (arith, heads.armed, armed)) (omega (arith, heads.ruined, ruined)) in none (record_is_numbered (layout_of i) h.0 (words_of i.cells) h.2))
     ]
 
--- in a lock that isn't ruined the record is that of the one that is in
+-- in a lock that isn't ruined, the record is that of the process inside
 pub by_inside : (i : Image) (p : ℕ) → Keeps 7 i → IsIn i p → slice_index i.cells 3 ≢ 0 → slice_index i.cells 0 ≢ 1 → IsRecorded i → RecordRule (layout_of i) p (words_of i.cells)
 by_inside i p k inside armed clean r =
     let heads = k.heads (omega arith) in
@@ -43,7 +43,7 @@ is_recorded_by i p inside clean r = record {
   ruined = λ armed ruined. absurd (clean ruined);
 }
 
--- a lawful image's words have content
+-- the words of a lawful image have content
 pub lawful_content : (i : Image) → IsLawfulImage i → IsContent (layout_of i) i.cells
 lawful_content i k =
     let heads = k.heads (omega arith) in

@@ -1,4 +1,4 @@
--- The image that a text spells is one, and its own line spells it.
+-- A text has at most one image, and an image's own line has that image.
 use Rattle.std.proofs.Common.{◌≡◌, ◌≤◌, ℕ, Bool, true, false, List, [], ◌∷◌, ◌++◌, map, max, Some, inl, inr, refl, sym, ap, ap₂, subst, ◌∙◌, arith, IsUtf8, true≢false}
 use Rattle.rmeworld.proofs.ImageCommon.{tokens, print, array, Items, no_items, item, Members, no_members, member, null, number, unsigned, depth, items_depth, read, max_depth, items_of, Own, Refusal}
 use Rattle.rmeworld.proofs.ImageCommon.{OutOfMemory, Image, IsLawfulImage, Keeps, whole_data, image_data, own_data, written_data, Spells, IsFirstBrokenAs, IsUnread}
@@ -48,7 +48,7 @@ width_in (member k d ms) = whole_in d
 behind_five : Members → Members
 behind_five ms = rest_of_members (rest_of_members (rest_of_members (rest_of_members (rest_of_members ms))))
 
--- the image that members spell
+-- the image of these members
 image_by : Members → Image
 image_by ms =
     let ms1 = rest_of_members ms in
@@ -86,7 +86,7 @@ unfolding is_some behind_five
 wide_again true i = refl
 wide_again false i = refl
 
--- a text spells no two images
+-- a text has at most one image
 pub one_image : (text : List ℕ) (wide also : Bool) (i j : Image) → Spells text wide i → Spells text also j → (wide ≡ also) × (i ≡ j)
 one_image text wide also i j a b =
     let same = Some_inj (image_data wide i) (image_data also j) (sym a.read ∙ b.read) in (
@@ -102,11 +102,11 @@ one_deep : (xs : List Own) → items_depth (items_of (map own_data xs)) ≤ 1
 one_deep [] = omega arith
 one_deep (x ∷ xs) = omega (arith, one_deep xs)
 
--- an image nests less deep than is read
+-- an image is nested less deeply than the reader allows
 pub shallow : (i : Image) → depth (written_data i) ≤ max_depth
 shallow i = omega (arith, flat i.cells, one_deep i.lock)
 
--- the line that is written of an image spells it
+-- the line that is written of an image is a text of it
 pub line_spells : (i : Image) (text line : List ℕ) → IsUtf8 text → text ≡ print (tokens text) → (depth (written_data i) ≤ max_depth → read text ≡ Some (written_data i)) → line ≡ text ++ 10 ∷ []
     → Spells line true (record i { version = 2 })
 line_spells i text line utf8 compact back e = record {
@@ -115,7 +115,7 @@ line_spells i text line utf8 compact back e = record {
   narrow = λ h. absurd (true≢false h);
 }
 
--- an image that keeps all rules keeps those up to any one, in version 2 too
+-- a lawful image keeps the rules up to any one, in version 2 too
 keeps : (i : Image) (rule : ℕ) → IsLawfulImage i → Keeps rule (record i { version = 2 })
 keeps i rule k =
     let s = k.sized (omega arith) in
@@ -135,7 +135,7 @@ unbroken : (i : Image) (rule : ℕ) → IsLawfulImage i → IsFirstBrokenAs true
 unbroken i rule k (inl h) = h.1 refl
 unbroken i rule k (inr h) = h.1.2 (keeps i rule k)
 
--- a text that spells a lawful image is refused for want of memory alone
+-- a text of a lawful image is refused only for memory
 pub only_unread : (i : Image) (line : List ℕ) (e : Refusal) → IsLawfulImage i → Spells line true (record i { version = 2 }) → IsUnread line e → e ≡ OutOfMemory
 only_unread i line e k spelled (inl h) = h
 only_unread i line e k spelled (inr (inl h)) = absurd (h.1 true (record i { version = 2 }) spelled)

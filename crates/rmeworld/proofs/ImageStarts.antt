@@ -1,4 +1,4 @@
--- The sets of those ahead, one name after another.
+-- The ahead sets of an image, built name by name.
 use Rattle.std.proofs.Common.{◌≡◌, ◌≢◌, ℕ, ◌+◌, ◌<◌, ◌≤◌, Bool, true, false, ◌||◌, ◌==◌, List, [], ◌∷◌, ◌++◌, length, map, slice_index_or, inl, inr, refl, sym, ap, ◌∙◌, arith, eq-eqb, ne_eqb, Result, Ok, Err, IfErr, IsErrOf, ◌⊎◌}
 use Rattle.rmeworld.proofs.ImageCommon.{get_or-append_seam, cases_eq, length-map, map-append, Refusal, OutOfMemory, BadShape, is_named}
 use Rattle.std.proofs.Math.ListN.{get_or-append}
@@ -18,7 +18,7 @@ named_last xs x = list_any-append (λ y. y == x) xs (x ∷ []) ∙ rw (eq-eqb x 
 named_before : (xs : List ℕ) (x q : ℕ) → x ≢ q → is_named (xs ++ x ∷ []) q ≡ is_named xs q
 named_before xs x q other = list_any-append (λ y. y == q) xs (x ∷ []) ∙ rw (ne_eqb x q other) (or_false (is_named xs q))
 
--- the names are those below k that the function tells
+-- the names are those below k for which the function is true
 pub record NamesBelow (f : ℕ → Bool) (k : ℕ) (xs : List ℕ) : Type 0 where
   pub below : (q : ℕ) → q < k → is_named xs q ≡ f q
   pub above : (q : ℕ) → k ≤ q → is_named xs q ≡ false
@@ -59,7 +59,7 @@ one_set items f sets set k len before here p q low =
           rw (more, e) (before p q (omega (arith, other))))
     ]
 
--- where the words have content, only memory can be wanting
+-- if the words have content, the only refusal is out of memory
 pub only_memory : {T : Type 0} (r : Result T Refusal) (P : Type 0) → IfErr r (λ e. (e ≡ BadShape) ⊎ (e ≡ OutOfMemory)) → (IsErrOf r BadShape → P → ⊥) → P → IfErr r (λ e. e ≡ OutOfMemory)
 only_memory (Ok x) P only refused p = tt
 only_memory (Err e) P only refused p = elim only [ inl bad ↦ absurd (refused (ap Err bad) p) | inr short ↦ short ]

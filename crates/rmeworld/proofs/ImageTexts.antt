@@ -1,4 +1,4 @@
--- What is written of an image.
+-- The text that is written of an image.
 use Rattle.std.proofs.Common.{◌≡◌, ℕ, List, [], ◌∷◌, false, map, refl}
 use Rattle.rmeworld.proofs.ImageCommon.{items_of, Own, Image, whole_data, own_data, written_data}
 use Rattle.serde_json.specs.Written.{has_float, items_have_float}

@@ -1,4 +1,4 @@
--- A wider image keeps the rules, and its list.
+-- A wider image keeps the rules, and its messages.
 use Rattle.std.proofs.Common.{◌≡◌, ℕ, zero, suc, ◌+◌, ◌<◌, ◌≤◌, List, [], ◌∷◌, length, map, cond, ◌==◌, inl, inr, refl, sym, ap, subst, ◌∙◌, arith}
 use Rattle.rmeworld.proofs.ImageCommon.{map-append, own_at, Layout, HeadsHold, Words, words_of, row, last_at, place_at, RecordRule, entry, entries, recorded, IsNumbered, count_of, ListRule, Unshown, Shown}
 use Rattle.rmeworld.proofs.ImageCommon.{Image, layout_of, IsLawfulImage, IsRecorded, IsSized, padded, widened, IsWider, shown_in}

@@ -1,4 +1,4 @@
--- In every run of a world what is not refused is the definition's, and is told so.
+-- In every run of a world, an act that is not refused is the definition's, and so is its report.
 use Rattle.std.proofs.Common.{◌≡◌, ℕ, false, List, [], ◌∷◌, ◌++◌, length, Option, Some, None, refl, sym, ap, subst, inl, inr}
 use Rattle.rmeworld.proofs.Common.{Access, Refusal, kind_of, is_glance, own_at, Layout, words_of, Start, Leads, IsLegal, state_of, State, Call, Image, answer_at, done_by, errand_of, layout_of}
 use Rattle.rmeworld.proofs.Common.{IsLawfulImage, IsStartOf, crashed_scene, IsOrigin, value_of, stepped_if, advanced_if, started, advance_refusal, advanced, crash_refusal, list_of, advanced_by}
@@ -12,7 +12,7 @@ use Rattle.rmeworld.proofs.Following.{Follows, Stepping, below_if, start_is, ste
 use Rattle.rmeworld.proofs.WorldSteps.{step_takes, crash_takes}
 use Rattle.rmeworld.proofs.WorldTallies.{no_glance}
 
--- the world follows a story from this scene, in these sizes, and its history is the story's deeds
+-- the world is at the end of an execution from this global state, with these sizes, and its history is the execution's deeds
 record Goes (l : Layout) (limit : ℕ) (first : Scene) (s : WorldState) : Type 0 where
   pub layout : s.layout ≡ l
   pub limited : s.limit ≡ limit
@@ -55,7 +55,7 @@ module _ (l : Layout) (limit : ℕ) (first : Scene) where
   acts_go s [] h = h
   acts_go s (act ∷ acts) h = acts_go (acted s act) acts (act_goes s act h)
 
-  -- from an origin of the judge its history is legal
+  -- from a beginning its history is legal for the judge
   legal : (state : State) (s : WorldState) → IsOrigin l limit first state → Goes l limit first s → (t : State) × Leads state s.history t
   legal state s begins h =
       follows_legal first state s s.history (subst (λ x. IsOrigin x s.limit first state) (sym h.layout) (subst (λ x. IsOrigin l x first state) (sym h.limited) begins)) h.follows
@@ -67,7 +67,7 @@ pub legal_from_image : (i : Image) (s : Start) (acts : List Act) → IsLawfulIma
 legal_from_image i s acts lawful start =
     legal (layout_of i) i.limit _ _ _ (image_origin i s lawful start) (acts_go (layout_of i) i.limit _ _ acts (image_goes i lawful))
 
--- the world follows some story
+-- the world is at the end of some execution
 record Follow (s : WorldState) : Type 0 where
   pub first : Scene
   pub follows : Follows first s s.history
@@ -87,7 +87,7 @@ a_start s p call run may = (start_is s p call (run_follows s run).follows may).3
 pub a_crash : (s : WorldState) (p : ℕ) → IsRun s → crash_refusal s p ≡ None → Takes s (Falls p) (crashed s p)
 a_crash s p run may = crash_takes s p (run_follows s run).follows.world.seated (below_if p s.layout.procs None may).0
 
--- the step that comes
+-- the next step
 stepping : (s : WorldState) (p : ℕ) → IsRun s → advance_refusal s p ≡ None → Stepping s p
 stepping s p run may = step_is s p (run_follows s run).follows may
 

@@ -1,5 +1,5 @@
--- What each process knows of the data words: the one that is inside with a script, what is safe of the script that is left
--- and how it ends; the one inside and mended, that they are clean; the one at its exit, that they are clean or ruined.
+-- What each process knows of the data words. Inside with a script: the rest of the script is safe, and how it ends. Inside
+-- and mended: the words are clean. At its exit: they are clean or ruined.
 use Rattle.std.proofs.Common.{◌≡◌, ℕ, ◌<◌, Bool, true, false, ◌&&◌, ◌==◌, length, if◌then◌else◌, List, refl, sym, ap, ◌∙◌, subst, inl, inr, arith, eqb-true, true≢false}
 use Rattle.rmeworld.proofs.Common.{cases_Bool, and_parts, eqb-false, Phase, Within, Place, Leaving, Inside, Layout, Message, Reply, Mended, Ruined, Stored, Already, Task, Words, IsLayout, Mailbox}
 use Rattle.rmeworld.proofs.Common.{message, Safe, Script, Get, Put, Done, Shape, bit, recorded, script, consistent, Why, Ruining, Mending, Working, Checking, AppendTells, WhyTells, Errand, Free}
@@ -16,7 +16,7 @@ use Rattle.redomail.proofs.Among.{answered_is_shown}
 abbrev pub Clean : Words → Type 0
 Clean w = (w 0 ≡ 0) × (w 3 ≡ 0)
 
--- with which reply and words a script ends
+-- the reply and the words at a script's end
 abbrev pub Ends : Why → Bool → Reply → Words → Type 0
 Ends Checking b (Ruined true) w = w 0 ≡ 1
 Ends Checking b (Ruined false) w = b ≡ true → Clean w
@@ -57,20 +57,20 @@ module _ (l : Layout) (p : ℕ) where
   end_post ph w s b Mending _ h e = (h, e)
   end_post ph w s b (Working t) a h e = (h, e)
 
-  -- once a step of a script is taken
+  -- after a step of a script
   pub settled_post : (ph : Phase) (w : Words) (s : Mailbox) (b c : Bool) (why : Why) (e : Script Reply) → ph ≡ Within → Work l p w s b why e → PostAt l p ph w s (settled b c why e)
   settled_post ph w s b c why (Get i rest) h k = (refl, h, k)
   settled_post ph w s b c why (Put i v rest) h k = (refl, h, k)
   settled_post ph w s b c why (Done a) h k = end_post ph w s b why a h k.ends
 
-  -- who isn't within knows nothing, and so keeps knowing it
+  -- a process that isn't in knows nothing, and stays so
   pub Post-out : (ph : Phase) (w w' : Words) (s s' : Mailbox) (b : Bool) (errand : Errand) (lock : Place) → (ph ≡ Within → ⊥) → Post l p ph w s b errand lock → Post l p ph w' s' b errand lock
   Post-out ph w w' s s' b (Doing why left) lock out k = absurd (out k.1)
   Post-out ph w w' s s' b Free Inside out k = absurd (out k.0)
   Post-out ph w w' s s' b Free Leaving out k = absurd (out k.0)
   Post-out ph w w' s s' b Free _ out k = tt
 
--- the scripts at their start, for a process that is inside words of this shape
+-- the scripts at their start, for a process inside with words of this shape
 module _ (l : Layout) (p : ℕ) (w : Words) (s : Mailbox) (layout : IsLayout l) (below : p < l.procs) (shape : Shape l p w s) where
   sound : w 0 ≡ 0 → s.ruined ≡ false
   sound z = elim (cases_Bool s.ruined) [ inl t ↦ absurd (let one : w 0 ≡ 1 = shape.ruined ∙ ap bit t in omega arith) | inr f ↦ f ]
@@ -105,7 +105,7 @@ module _ (l : Layout) (p : ℕ) (w : Words) (s : Mailbox) (layout : IsLayout l) 
     mine = tt;
   }
 
-  -- how `consistent` ends: where the lock isn't ruined, mended and clean
+  -- the end of `consistent`: if the lock isn't ruined, mended and clean
   mended_by : (a : Reply) (v : Words) (b repaired : Bool) → (w 0 == 1) ≡ b → a ≡ (if b then Ruined true else Mended repaired) → (v 0 ≡ w 0) → ((w 0 ≡ 1 → ⊥) → v 3 ≡ 0) → Ends Mending false a v
   mended_by a v true repaired t is zero armed = rw is (λ h. absurd (true≢false (sym h)))
   mended_by a v false repaired f is zero armed =
@@ -124,7 +124,7 @@ module _ (l : Layout) (p : ℕ) (w : Words) (s : Mailbox) (layout : IsLayout l) 
         mine = tt;
       }
 
-  -- a task that leaves ruined and armed 0
+  -- a task that keeps ruined, and armed 0
   pub calm : (t : Task) → FindsArmed t (w 3) → ruined_after t (w 0) ≡ w 0 → (w 3 ≡ 0 → armed_after t (w 3) ≡ 0) → Clean w → Clean (final (script l p t) w)
   calm t finds ruined armed c = let e = tasks_end l p t w finds in (e.0 ∙ (ruined ∙ c.0), e.1 ∙ armed c.1)
 
@@ -169,7 +169,7 @@ module _ (l : Layout) (p : ℕ) (w : Words) (s : Mailbox) (layout : IsLayout l) 
     mine = tt;
   }
 
--- what the answer of an append tells
+-- the meaning of an append's answer
 append_tells : (l : Layout) (p seq : ℕ) (value : List ℕ) (m : Message) (old : Mailbox) (e : Script Reply) (w : Words) (s : Mailbox) → message p seq value ≡ m → Safe l p m old e w s → AppendTells p seq e s.shown
 append_tells l p seq value m old (Done Stored) w s mine h = answered_is_shown l p seq value old s Stored w (subst (λ x. Safe l p x old (Done Stored) w s) (sym mine) h) (inl refl)
 append_tells l p seq value m old (Done Already) w s mine h = answered_is_shown l p seq value old s Already w (subst (λ x. Safe l p x old (Done Already) w s) (sym mine) h) (inr refl)

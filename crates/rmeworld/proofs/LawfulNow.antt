@@ -1,4 +1,4 @@
--- The image of a scene that a story comes to is lawful.
+-- The image of a global state at the end of an execution is lawful.
 use Rattle.std.proofs.Common.{◌≡◌, ℕ, zero, suc, ◌<◌, ◌≤◌, ◌^◌, Bool, true, false, List, length, slice_index, refl, sym, ap, ◌∙◌, subst, inl, inr, ◌⊎◌, arith}
 use Rattle.rmeworld.proofs.Common.{cases_eq, Phase, Within as Inside, DeadIn, own_at, IsIn, Deed, Layout, Words, size, words_of, Shape, RecordRule, bit, State, Image, layout_of, IsLawfulImage}
 use Rattle.rmeworld.proofs.Common.{IsWorld, IsImageOf, EveryStoryLeavesAnImage, IsLegalHistory, image_of, Spot, IsSize, Scene, WorldState, scene_of}
@@ -6,7 +6,7 @@ use Rattle.redomail.specs.Content.{HeadsHold}
 use Rattle.rmeworld.proofs.Reaching.{Arrived, arrives, origin, reached_arrives}
 use Rattle.rmeworld.proofs.Stories.{before_is}
 
--- somebody is in, or nobody
+-- a process is in, or it is not
 decides : (phase : Phase) → IsIn phase ⊎ (IsIn phase → ⊥)
 decides Inside = inl tt
 decides DeadIn = inl tt
@@ -35,7 +35,7 @@ bit_clear : (b : Bool) → bit b ≡ 0 → b ≡ false
 bit_clear true e = cc
 bit_clear false e = refl
 
--- the scene whose words are the image's
+-- a global state with the image's words
 abbrev image_scene : Image → (ℕ → Spot) → Scene
 image_scene i spots = record { words = own_at i.lock; cells = words_of i.cells; spots = spots }
 
@@ -46,7 +46,7 @@ module _ (i : Image) (spots : ℕ → Spot) (history : List Deed) (state : State
   abbrev w : Words
   w = words_of i.cells
 
-  -- only one is in
+  -- only one process is in
   only : (p : ℕ) → p < l.procs → IsIn (a.now.lock.phase p) → (r : ℕ) → r < l.procs → IsIn (a.now.lock.phase r) → r ≡ p
   only p below here r low there =
       elim (cases_eq r p) [
@@ -121,7 +121,7 @@ module _ (i : Image) (spots : ℕ → Spot) (history : List Deed) (state : State
           };
         }
 
--- An image of the scene that is arrived at is lawful.
+-- An image of the global state at the end is lawful.
 pub image_ends : {l : Layout} {limit : ℕ} {w : Scene} {history : List Deed} (state : State) (i : Image) → IsSize l → (1 ≤ limit) × (limit ≤ 2 ^ 62) → IsImageOf l limit w i → Arrived l limit state w history → IsLawfulImage i
 image_ends {l = l} {limit = limit} {w = w} {history = history} state i sized limited is a =
     let there : w ≡ image_scene i w.spots = λ j. record { words = sym is.words j; cells = sym is.cells j; spots = w.spots } in

@@ -1,4 +1,4 @@
--- A line feed behind a JSON text changes nothing of what is read.
+-- A line feed after a JSON text changes nothing of what is read.
 use Rattle.std.proofs.Common.{◌≡◌, ℕ, Bool, true, false, cond, ◌&&◌, List, [], ◌∷◌, ◌++◌, Option, Some, None, option_and_then, refl, sym, ap, ap₂, subst, ◌∙◌, append_assoc, append-nil}
 use Rattle.rmeworld.proofs.ImageCommon.{tokens, token, comma, colon, string_token, between, punctuate, print, escape, quoted, token_text, begins, ends, separator, IsPrintable, read, max_depth, of_json}
 use Rattle.json.specs.Token.{Token, begin_object, end_object, begin_array, end_array, key, string, number, boolean, null, bad}
@@ -14,7 +14,7 @@ use Rattle.json.proofs.Unique.Spelling.{value-json_tokens_back}
 use Rattle.serde_json.specs.Data.{Data}
 use Rattle.json.specs.Print.{print_from, ArePrintable}
 
--- where f ends a word, so does what is printed behind a value before it
+-- if f ends a word, so does the text of a value that is printed before it
 ended : (f : List ℕ) → ends_word f ≡ true → (ts : List Token) → ends_word (print_from true ts ++ f) ≡ true
 unfolding print_from
 ended f e [] = e
@@ -27,7 +27,7 @@ lex-quoted s r =
     let e = append_assoc (escape s) (34 ∷ []) r in
     ap (λ l. lex between (34 ∷ l)) e ∙ ap₂ (λ o l. token (string_token o) ∷ l) (content-escape s r) (lex-escape s r)
 
--- Two rests that are lexed alike and end a word are lexed alike behind a token.
+-- Two rests with equal tokens that end a word have equal tokens after a token too.
 behind : (t : Token) (r s : List ℕ) → IsPrintable t → (ends t ≡ true → ends_word r ≡ true) → (ends t ≡ true → ends_word s ≡ true) → lex between r ≡ lex between s
     → lex between (token_text t ++ r) ≡ lex between (token_text t ++ s)
 unfolding lex word
@@ -57,7 +57,7 @@ behind_comma true r s e = ap (λ l. comma ∷ l) e
 behind_comma false r s e = e
 
 module _ (f g : List ℕ) (ends_f : ends_word f ≡ true) (ends_g : ends_word g ≡ true) (same : lex between f ≡ lex between g) where
-  -- and behind all that is printed
+  -- and after everything that is printed
   behind_all : (c : Bool) (ts : List Token) → ArePrintable ts → lex between (print_from c ts ++ f) ≡ lex between (print_from c ts ++ g)
   unfolding print_from ArePrintable
   behind_all c [] h = same
@@ -80,7 +80,7 @@ printable text d e =
     let numbers = value-HasNumbers max_depth (tokens text) [] w.0 (ArePrintableOrBad-tokens text) w.1 in
     subst ArePrintable (sym (value-json_tokens_back max_depth (tokens text) [] w.0 w.1 ∙ append-nil _)) (ArePrintable-json_tokens w.0 numbers)
 
--- a compact text and its line are read alike
+-- a compact text and its line have the same JSON value
 pub read_line : (text : List ℕ) (d : Data) → text ≡ print (tokens text) → read text ≡ Some d → read (text ++ 10 ∷ []) ≡ Some d
 unfolding lex
 read_line text d compact e =

@@ -1,4 +1,4 @@
--- What each process of a world keeps in its private memory, so that whatever its machine does is the definition's step.
+-- The invariant of each process's private memory in a world, under which its machine takes the definition's steps.
 use Rattle.std.proofs.Common.{◌≡◌, ℕ, Bool, true, false, ◌&&◌, ◌==◌, nat_lt, [], ◌∷◌, length, Option, Some, None, IfSome, refl, sym, ◌∙◌, subst, inl, inr, arith, eqb-true, ltb-true, true≢false}
 use Rattle.rmeworld.proofs.Common.{cases_Bool, Access, Store, Refusal, Data as DataAt, after_access, lock_access, IsLeastOfLock, Place, Wait, Rest, Inside, Dead, Layout, Reply, Ruined, IsLayout, Pending}
 use Rattle.rmeworld.proofs.Common.{left, fed, Script, Get as Asks, Put as Writes, Done, tail, stage_after, Call, Lock, Unlock, Consistent, Recover, Append, Close, Withdraw, Chore, IsFree, Does, Why, HasStep}
@@ -52,7 +52,7 @@ allowed s = by s.errand
     by IsFree = lock_allowed s (all_allowed (standing s))
     by (Does why job) = script_allowed s why job
 
--- a store of the lock's is one of the process
+-- a store of the lock's part is into a word of its process
 lock_owns : (p : ℕ) (a : Access) → IsLockOwn p a → StoresOwn p a
 lock_owns p (Store kind (DataAt i) x) own = (own.0, tt)
 lock_owns p _ own = own
@@ -73,7 +73,7 @@ owns s = by s.errand
     by IsFree = lifted (lock_access (standing s)) (stores_own s.limit s.index s.lock)
     by (Does why job) = doing why (left job)
 
--- where a script ends
+-- the end of a script
 end_scanned : (n p : ℕ) (why : Why) (reply : Reply) → IsScanned n p (end_place why reply)
 end_scanned n p Checking (Ruined true) = tt
 end_scanned n p _ _ = tt
@@ -116,7 +116,7 @@ least s h = by s.errand
     by IsFree = lifted (lock_access (standing s)) (least_of_lock (standing s) h.scanned)
     by (Does why job) = doing (Does why job) why (left job)
 
--- where a call is under way there is a next step
+-- if a call is under way there is a next step
 pub has_step : (s : Stand) → IsOrdered s → is_idle (spot_of s) ≡ false → next_access s ≡ None → ⊥
 has_step s h = by s.errand h.held
   where
@@ -181,7 +181,7 @@ module _ (l : Layout) (limit p : ℕ) (lawful : IsLayout l) (barred : Bool) wher
   starts _ _ (Get i) h = absurd (refused h)
   starts _ _ (Put i v) h = absurd (refused h)
 
--- a process with a script is inside, and starts nothing
+-- a process with a job is inside, and starts nothing
 busy : (l : Layout) (lock : Place) (b c : Bool) (why : Why) (e : Script Reply) (call : Call) → lock ≡ Inside → start_refusal l (record { lock = lock; mended = b; barred = c; errand = Doing why e }) call ≡ None → ⊥
 busy l lock b c why e Withdraw inside h = let no : start_refusal l (record { lock = Inside; mended = b; barred = c; errand = Doing why e }) Withdraw ≡ None = subst (λ x. start_refusal l (record { lock = x; mended = b; barred = c; errand = Doing why e }) Withdraw ≡ None) inside h in cc
 busy l lock b c why e _ inside h = refused h

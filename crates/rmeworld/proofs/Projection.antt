@@ -1,4 +1,4 @@
--- A story with the data words left out is a run of the lock, with the same deeds.
+-- An execution without its data words is a run of the lock, with the same deeds.
 use Rattle.std.proofs.Common.{◌≡◌, ℕ, ◌<◌, Bool, true, false, ◌&&◌, ◌==◌, nat_lt, length, List, [], ◌∷◌, Option, Some, None, IsSome, unwrap_or, refl, sym, ap, ◌∙◌, subst, inl, inr, ◌⊎◌, eqb-true}
 use Rattle.rmeworld.proofs.Common.{cases_Bool, CoreCall, Kind, Gets, Puts, Outer, Own, Word, Data as DataAt, put, Place, next, Leaving, Inside, Dead, Event, Starts, Crashes, Steps, process, moved}
 use Rattle.rmeworld.proofs.Common.{is_store, and_then, World, stored, Run, deed, final, not_data, Layout, Reply, Ruined, Script, Get as Asks, Put as Writes, Done, script, consistent, Call, Lock}
@@ -11,7 +11,7 @@ use Rattle.rmecore.specs.declared.core_call.CoreCall.TheVariants as core
 use Rattle.redomail.specs.declared.task.Task.TheVariants as task
 use Rattle.rmeworld.specs.declared.call.Call.TheVariants.{Get, Put}
 
--- a process with an errand is inside
+-- a process with a job is inside
 abbrev pub Held : Errand → Place → Type 0
 Held Free lock = Unit {0}
 Held (Doing why left) lock = lock ≡ Inside
@@ -19,7 +19,7 @@ Held (Doing why left) lock = lock ≡ Inside
 abbrev pub core_of : Scene → World
 core_of w = record { words = w.words; places = λ p. (w.spots p).lock }
 
--- the deeds of the lock alone
+-- the deeds of the lock
 abbrev pub outers : Layout → ℕ → Scene → List Happening → List Outer
 outers l limit w [] = []
 outers l limit w (e ∷ es) = and_then (outer (w.spots (who e)) e) (outers l limit (onward l limit w e) es)
@@ -34,7 +34,7 @@ entry_inside s _ e = absurd (cc)
 held_at : (l : Layout) (p : ℕ) (s t : Place) → Held (errand_entered l p s t) t
 held_at l p s t = elim (cases_Bool (is_entry s t)) [ inl e ↦ rw e (entry_inside s t e) | inr f ↦ rw f tt ]
 
--- the spot after an event of the lock
+-- the process state after an event of the lock
 pub record AtLock (l : Layout) (p : ℕ) (s : Place) (b c : Bool) (o : Option Place) (s' : Spot) : Type 0 where
   pub place : Place
   pub some : o ≡ Some place
@@ -65,7 +65,7 @@ settled_place b c why (Asks i rest) = (refl, inl refl)
 settled_place b c why (Writes i v rest) = (refl, inl refl)
 settled_place b c why (Done a) = (tt, end_places why a)
 
--- what a happening of p is for the lock: nothing, or an event
+-- p's event in the lock's run: none, or one event
 abbrev Tells : ℕ → ℕ → ℕ → (ℕ → Own) → Place → Place → (ℕ → Own) → Option Outer → Option Event → Type 0
 Tells n limit p words lock lock' words' d None = (lock' ≡ lock) × (words' ≡ words) × (d ≡ None)
 Tells n limit p words lock lock' words' d (Some x) = (process x ≡ p) × (moved n limit lock x ≡ Some lock') × (stored words x ≡ words') × Reads words x × (d ≡ deed lock x)
@@ -96,7 +96,7 @@ module _ (l : Layout) (limit : ℕ) (w : Scene) (p : ℕ) where
             ((Some (Starts p core.Unlock), (refl, rw (here, to) refl, refl, tt, refl)), held))
       ]
 
-  -- a script begun inside
+  -- a script that begins inside
   by_script : (lock : Place) (b fits : Bool) (why : Why) (left : Script Reply) (s' : Spot) → inside_only lock b fits why left ≡ Some s' → Meets lock s' w.words None
   by_script lock b fits why left s' e = let r = inside_some lock b fits why left s' e in by_nothing lock (begun b why left) s' r.0 refl refl r.2
 
@@ -117,7 +117,7 @@ module _ (l : Layout) (limit : ℕ) (w : Scene) (p : ℕ) where
   begins lock b Free (Put i v) s' e = by_script lock b (nat_lt i 4) _ _ s' e
   begins lock b _ _ s' e = absurd (cc)
 
-  -- what the lock's words show
+  -- a read of a lock word
   shows : (s : Place) (kind : Kind) (word : Word) (v : ℕ) → IsSome (next l.procs limit p s kind word v) → reading w word ≡ v → read w.words word ≡ v
   shows s kind (DataAt i) v some e = absurd (not_data l.procs limit p s kind i v some)
   shows s kind _ v some e = e

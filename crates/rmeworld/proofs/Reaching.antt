@@ -1,4 +1,4 @@
--- What the lock theorem says of a world that a story comes to: its history is legal, and its words are lawful.
+-- The lock theorem for a world at the end of an execution: its history is legal, and its words are lawful.
 use Rattle.std.proofs.Common.{◌≡◌, ℕ, zero, suc, ◌<◌, ◌≤◌, nat_lt, Bool, if◌then◌else◌, List, [], ◌∷◌, ◌++◌, Option, Some, None, refl, sym, ap, ◌∙◌, subst, inl, inr, arith, lt-ltb}
 use Rattle.rmeworld.proofs.Common.{cases_Bool, Outer, Own, Word, Data as DataAt, Abstract, Legal, IsLawful, IsRow, Dead, IsIn, all_done, is_store, and_then, final, Tied, Fits, Pair, phase_at}
 use Rattle.rmeworld.proofs.Common.{phase_of, after_deed as done_by, legal, Deed, OuterDeed, Commit, Show, Ruin, Layout, NewWords, Words, IsLayout, AreOwn, puts_are_own, all_after, Leads, empty, State}
@@ -15,7 +15,7 @@ use Rattle.rmeworld.proofs.Happenings.{judge_of, Kept}
 use Rattle.rmeworld.proofs.Knowing.{PostAt}
 use Rattle.rmeworld.proofs.Stories.{sound, first, later}
 
--- the judge's lock after a story's deeds
+-- the judge's lock after an execution's deeds
 
 pub all_after-append : (s : State) (ds es : List Deed) → all_after s (ds ++ es) ≡ all_after (all_after s ds) es
 all_after-append s [] es = refl
@@ -56,7 +56,7 @@ lock_led l limit w (e ∷ es) s =
     ap (λ (x : State). x.lock) (all_after-append s (event_deeds l w e) (deeds l limit (onward l limit w e) es)) ∙ lock_led l limit (onward l limit w e) es s'
     ∙ ap (λ a. all_done a (outers l limit (onward l limit w e) es)) here ∙ sym (done-and_then s.lock o (outers l limit (onward l limit w e) es))
 
--- where a sound story ends
+-- the end of a sound execution
 pub sound_ends : (l : Layout) (limit : ℕ) (w : Scene) (s : State) (es : List Happening) → Sound l limit w s es → (t : State) × Leads s (deeds l limit w es) t × Sits l (last_scene l limit w es).cells t
 sound_ends l limit w s [] h = (s, refl, h)
 sound_ends l limit w s (e ∷ es) h =
@@ -64,13 +64,13 @@ sound_ends l limit w s (e ∷ es) h =
     let rest = sound_ends l limit (onward l limit w e) g.0 es g.3 in
     (rest.0, judged_all-append s g.0 (event_deeds l w e) (deeds l limit (onward l limit w e) es) g.1 ∙ rest.1, rest.2)
 
--- who is in has a number and is marked
+-- a process that is in has a number and a mark
 in_numbers : (c k i : ℕ) (b : Bool) → IsIn (phase_at c k i b) → (0 < k) × (0 < i)
 in_numbers c (suc k) (suc i) b h = (omega arith, omega arith)
 in_numbers zero _ _ b h = absurd h
 in_numbers _ _ _ b h = absurd h
 
--- what is known where a history begins
+-- what is known at the beginning of a history
 pub record Origin (l : Layout) (limit : ℕ) (w : Scene) (s : State) : Type 0 where
   pub tied : Tied l.procs (core_of w) s.lock
   pub bounded : Bounded limit (core_of w)
@@ -105,7 +105,7 @@ new_origin l limit layout =
       state = refl;
     }
 
--- the spots of a scene in which each of n has crashed
+-- the process states of a global state in which each of n processes has crashed
 crashed_at : (P : Spot → Type 0) (n p : ℕ) → P dead → P at_rest → P (if nat_lt p n then dead else at_rest)
 crashed_at P n p h k = elim (cases_Bool (nat_lt p n)) [ inl e ↦ rw e h | inr e ↦ rw e k ]
 
@@ -137,7 +137,7 @@ pub origin : (l : Layout) (limit : ℕ) (w : Scene) (s : State) → IsLayout l �
 origin l limit w s layout (inl h) = subst (λ x. Origin l limit x s) (sym h.0) (subst (Origin l limit at_first) (sym h.1) (new_origin l limit layout))
 origin l limit w s layout (inr h) = subst (λ x. Origin l limit x s) (sym h.0) (later_origin l limit w.words w.cells s layout h.1)
 
--- what stands where a story has come
+-- the invariant at the end of an execution
 pub record Arrived (l : Layout) (limit : ℕ) (s : State) (w : Scene) (history : List Deed) : Type 0 where
   pub now : State
   pub leads : Leads s history now

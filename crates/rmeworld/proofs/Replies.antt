@@ -1,4 +1,4 @@
--- What the replies of an append tell of the mailbox then and there; and what was stored stays shown.
+-- What an append's reply says of the mailbox at that step. What was stored stays shown.
 use Rattle.std.proofs.Common.{◌≡◌, ℕ, zero, suc, ◌+◌, ◌-◌, ◌<◌, ◌≤◌, Bool, true, false, ◌&&◌, ◌==◌, List, [], ◌∷◌, ◌++◌, Some, All, Contains, refl, sym, ap, ◌∙◌, subst, inl, inr, arith, eqb-true, eq-eqb, append_assoc}
 use Rattle.rmeworld.proofs.Common.{and_parts, All-nil, Contains-append_right, All-push, All-contains, Contains-append_left, Contains-push, Kind, Gets, Puts, Word, Data as DataAt, Abstract, nobody}
 use Rattle.rmeworld.proofs.Common.{put, Place, all_done, is_store, Deed, Layout, Message, Reply, Stored, OutOfOrder, Full, Closed, Task, deeds_of_put, Words, IsLayout, place_at, MailLeads, Mailbox}
@@ -59,7 +59,7 @@ reply_tells l p seq value m old OutOfOrder w now mine h =
     ]
 reply_tells l p seq value m old _ w now mine h = tt
 
--- what is left of a script that answers so
+-- the rest of a script that answers so
 pub answers : (t : Task) (b : Bool) (left : Script Reply) (reply : Reply) → by_script (Working t) b left ≡ Some (Mail reply) → left ≡ Done reply
 answers t b (Done a) reply e = let is : a ≡ reply = cc in ap Done is
 answers t b (Asks i rest) reply e = absurd (cc)
@@ -69,7 +69,7 @@ mail_led : (cap : ℕ) (s : State) (ds : List Deed) (t : Mailbox) → MailLeads 
 mail_led cap s [] t h = h
 mail_led cap s (d ∷ ds) t h = mail_led cap (after s d) ds t h.1
 
--- the end of an append with this reply, where all that is safe with it tells T of the mailbox
+-- the end of an append with this reply: if every mailbox that is safe with it has T, the mailbox has T
 module _ (l : Layout) (limit p seq : ℕ) (value : List ℕ) (reply : Reply) (T : Mailbox → Type 0) (told : (m : Message) (old : Mailbox) (w : Words) (now : Mailbox) → message p seq value ≡ m → Safe l p m old (Done reply) w now → T now) where
   last_step : (w : Scene) (a : Abstract) (m : Mailbox) (lock : Place) (b c : Bool) (left : Script Reply) (kind : Kind) (word : Word) (v : ℕ) (s' : Spot) → moved_by l limit p lock b c (Doing (Working (task.Append seq value)) left) kind word v ≡ Some s'
       → (is_store kind ≡ false → reading w word ≡ v) → Post l p (a.phase p) w.cells m b (Doing (Working (task.Append seq value)) left) lock → tail left v ≡ Done reply
@@ -91,7 +91,7 @@ module _ (l : Layout) (limit p seq : ℕ) (value : List ℕ) (reply : Reply) (T 
       subst (λ i'. P i' v) (sym (eqb-true i j both.0)) (subst (P j) (sym (eqb-true v x both.1)) there)
   last_step w a m lock b c _ _ _ v s' e reads post done = absurd (cc)
 
-  -- and so at any spot with such an errand
+  -- and so in any process state with such a job
   ends : (w : Scene) (a : Abstract) (m : Mailbox) (lock : Place) (b c : Bool) (errand : Errand) (left : Script Reply) (kind : Kind) (word : Word) (v : ℕ) (s' : Spot) → errand ≡ Doing (Working (task.Append seq value)) left
       → moved_by l limit p lock b c errand kind word v ≡ Some s' → (is_store kind ≡ false → reading w word ≡ v) → Post l p (a.phase p) w.cells m b errand lock → answer_by lock b c errand kind v ≡ Some (Mail reply)
       → T (all_after (judge_of l a m) (outer_deeds (outer_by p lock errand kind v) ++ mail_deeds l w.cells (Moves p kind word v))).mail
@@ -123,7 +123,7 @@ pub replies_tell : RepliesTell
 replies_tell l limit front p kind word v back seq reply layout story h =
     at_end l limit p seq h.value reply (ReplyTells l p seq reply) (λ m old w now mine safe. reply_tells l p seq h.value m old reply w now mine safe) front kind word v back h.left layout story h.append h.answer
 
--- what is shown stays shown
+-- a message that is shown stays shown
 stays_shown : (s : State) (ds : List Deed) (m : Message) → Contains s.mail.shown m → Contains (all_after s ds).mail.shown m
 stays_shown s [] m h = h
 stays_shown s (deed.Outer d ∷ ds) m h = stays_shown (after s (deed.Outer d)) ds m h

@@ -1,4 +1,4 @@
--- Where the machine of a process may stand: its scans go by rising index, and so its next step is one of the least process.
+-- The places that a process's machine can have. Its scans go by rising index, so its next step is one of the least process.
 use Rattle.std.proofs.Common.{◌≡◌, ℕ, zero, suc, ◌+◌, ◌<◌, max, Bool, true, false, ◌||◌, ◌&&◌, ◌==◌, nat_lt, nat_le, if◌then◌else◌, List, [], ◌∷◌, Option, Some, None, IfSome, unwrap_or, refl, sym, ap, ◌∙◌, subst}
 use Rattle.rmeworld.proofs.Common.{cond_both, Access, Store, CoreCall, Take as Takes, Shut as Shuts, Choosing as ChoosingOf, Number as NumberOf, Standing, first, after_access}
 use Rattle.rmeworld.proofs.Common.{lock_access as next_access, access, IsLeastOfLock, Place, above, Door, Wait, Rest, Reread, Shutting, Leaving, Withdrawing, Unmarking, Opening, Inside, has, without}
@@ -7,7 +7,7 @@ use Rattle.rmecore.specs.declared.core_call.CoreCall.TheVariants.{Lock, Unlock}
 use Rattle.rmecore.proofs.Accesses.{Orderly, all_least}
 use Rattle.rmecore.proofs.Scans.{Lined, lined_above, above_first, without-first, has-first}
 
--- a scan has those from some index on left, and a reread is over with its third word
+-- a scan has the processes from some index on left, and a reread ends with its third word
 abbrev pub IsScanned : ℕ → ℕ → Place → Type 0
 IsScanned n p (Reread call (c ∷ k ∷ i ∷ seen)) = ⊥
 IsScanned n p (Door unread m) = (i : ℕ) × (unread ≡ above n p i)
@@ -49,7 +49,7 @@ module _ (n limit p : ℕ) where
   unmarked_is Lock = tt
   unmarked_is _ = tt
 
-  -- those behind the first of a list
+  -- the processes after the first of a list
   behind : (j i : ℕ) (js : List ℕ) → j ∷ js ≡ above n p i → j ∷ js ≡ j ∷ above n p (j + 1)
   behind j i js is = is ∙ above_first n p i j (ap first (sym is))
 
@@ -82,7 +82,7 @@ module _ (n limit p : ℕ) where
   scanned_after (Unmarking call) v h = if_may ((p == p) && (0 == 0)) (unmarked call) (Unmarking call) (unmarked_is call) tt
   scanned_after _ v h = tt
 
-  -- where there is no step, no call is under way
+  -- if there is no next step, no call is under way
   pub no_step_is_idle : (place : Place) → IsScanned n p place → access limit p place ≡ None → is_idle place ≡ true
   no_step_is_idle (Door [] m) h e = absurd (cond_both (nat_lt m limit) _ _ (λ (o : Option Access). o ≡ None → ⊥) (λ _ x. cc) (λ _ x. cc) e)
   no_step_is_idle (Reread call (c ∷ k ∷ i ∷ seen)) h e = absurd h

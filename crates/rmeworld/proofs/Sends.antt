@@ -1,5 +1,5 @@
--- What the puts of a script make of the mailbox: each Commit is that of the append's own number and value, each Close that
--- of a close, each Ruin that of a ruin. It holds over any words, so it stands still while other processes move.
+-- The mailbox deeds of a script's puts: each Commit has the append's own number and value, each Close is that of a close,
+-- each Ruin that of a ruin. It holds over any words, so steps of other processes don't affect it.
 use Rattle.std.proofs.Common.{◌≡◌, ℕ, zero, suc, ◌+◌, ◌<◌, ◌≤◌, true, ◌&&◌, ◌==◌, nat_lt, nat_le, List, [], ◌∷◌, ◌++◌, length, All, refl, sym, ◌∙◌, subst, arith, eqb-true}
 use Rattle.rmeworld.proofs.Common.{and_parts, cond_both, All-nil, All-cons, put, Deed, Layout, Record, Reply, deeds_of_put, Words, IsLayout, row, last_at, held, board_at, place_at, Script, Get, Put}
 use Rattle.rmeworld.proofs.Common.{Done, puts, gets, in_row, script, consistent, apply_steps, store_steps, record_of, redo, repair, held-small}
@@ -15,7 +15,7 @@ Sends l p D (Put i v rest) w = All D (deeds_of_put l p w i v) × Sends l p D res
 Sends l p D (Done a) w = Unit {0}
 
 module _ (l : Layout) (p : ℕ) (D : Deed → Type 0) (shows : (at seq : ℕ) (v : List ℕ) → D (deed.Show p at seq v)) where
-  -- a put's deeds, by what it may put
+  -- a put's deeds, by the puts that can be a deed
   put_has : (i v : ℕ) (w : Words) → (i ≡ 3 → v ≡ 1 → D (deed.Commit p (w 5) (row w 6 l.width))) → (i ≡ 1 → D (deed.Close p)) → (i ≡ 0 → D (deed.Ruin p)) → All D (deeds_of_put l p w i v)
   put_has i v w commits closes ruins =
       cond_both (w i == v) _ _ (All D) (λ _. All-nil D) (λ _.
@@ -24,7 +24,7 @@ module _ (l : Layout) (p : ℕ) (D : Deed → Type 0) (shows : (at seq : ℕ) (v
       cond_both ((i == 1) && (v == 1)) _ _ (All D) (λ e. let both = and_parts (i == 1) (v == 1) e in All-cons D _ [] (closes (eqb-true i 1 both.0)) (All-nil D)) (λ _.
       cond_both ((i == 0) && (v == 1)) _ _ (All D) (λ e. let both = and_parts (i == 0) (v == 1) e in All-cons D _ [] (ruins (eqb-true i 0 both.0)) (All-nil D)) (λ _. All-nil D)))))
 
-  -- a put behind the four heads is no deed
+  -- a put after the first four words is no deed
   quiet : (i v : ℕ) (e : Script Reply) (w : Words) → 3 < i → Sends l p D e (put w i v) → Sends l p D (Put i v e) w
   quiet i v e w high h = (subst (All D) (sym (deeds_of_put-none l p w i v high)) (All-nil D), h)
 
@@ -33,7 +33,7 @@ module _ (l : Layout) (p : ℕ) (D : Deed → Type 0) (shows : (at seq : ℕ) (v
   row_quiet i (x ∷ vs) ys e w high go =
       quiet (held i) x (puts (in_row (i + 1) vs ++ ys) e) w (omega arith) (row_quiet (i + 1) vs ys e (put w (held i) x) (omega arith) go)
 
-  -- a row of puts, with what stands after them
+  -- a row of puts, with the words after them
   row_known : (i : ℕ) (vs : List ℕ) (ys : List (ℕ × ℕ)) (e : Script Reply) (w : Words) → 3 < i → i + length vs ≤ 1000000
       → ((v : Words) → row v i (length vs) ≡ vs → ((j : ℕ) → j < i → v j ≡ w j) → Sends l p D (puts ys e) v) → Sends l p D (puts (in_row i vs ++ ys) e) w
   row_known i [] ys e w high small go = go w refl (λ j _. refl)
@@ -59,7 +59,7 @@ module _ (l : Layout) (p : ℕ) (D : Deed → Type 0) (shows : (at seq : ℕ) (v
         (put_has 3 0 y (λ _ e. absurd (omega arith)) (λ e. absurd (omega arith)) (λ e. absurd (omega arith)), tt),
       ))
 
-  -- storing commits what it was given
+  -- storing commits the message that it was given
   store_sends : (at seq : ℕ) (value : List ℕ) (w : Words) → IsLayout l → length value ≡ l.width → D (deed.Commit p seq value) → Sends l p D (puts (store_steps l p (record_of at seq value)) (Done reply.Stored)) w
   store_sends at seq value w layout wide asked =
       let most = layout.most in
@@ -94,7 +94,7 @@ module _ (l : Layout) (p : ℕ) (D : Deed → Type 0) (shows : (at seq : ℕ) (v
   gets_sends i zero read next w go = go read
   gets_sends i (suc n) read next w go = gets_sends (i + 1) n (read ++ w i ∷ []) next w go
 
-  -- mending applies what stands, and commits nothing
+  -- mending applies the armed record, and commits nothing
   pub consistent_sends : (w : Words) → Sends l p D (consistent l p) w
   consistent_sends w =
       let P : Script Reply → Type 0 = λ e. Sends l p D e w in

@@ -1,4 +1,5 @@
--- What a mailbox shows was committed, and so it was sent; a closed one was closed, and a ruined lock ruined.
+-- Each message shown was committed, so it was sent. If the mailbox is closed some process closed it, and if the lock is
+-- ruined some process ruined it.
 use Rattle.std.proofs.Common.{◌≡◌, ℕ, true, List, [], ◌∷◌, All, sym, ap, ◌∙◌, subst, inl, inr, ◌⊎◌}
 use Rattle.rmeworld.proofs.Common.{cases_Bool, false≢true, All-nil, All-head, All-tail, All-push, Abstract, nobody, all_done, Deed, Layout, Message, Words, Mailbox, message, is_pending, Shape, bit}
 use Rattle.rmeworld.proofs.Common.{all_after, empty, State, after, state_led, IsAsked, mail_after, IsSent, EveryMessageWasSent, EveryCloseWasAsked, EveryRuinWasAsked, at_first, last_scene, deeds}
@@ -12,7 +13,7 @@ use Rattle.rmeworld.proofs.LawfulNow.{Someone, Nobody, find_in}
 use Rattle.rmeworld.proofs.Projection.{outers}
 
 module _ (D : Deed → Type 0) where
-  -- what is shown was pending, or it was committed
+  -- a message that is shown was pending or was committed
   module _ (S : Message → Type 0) (commits : (p seq : ℕ) (v : List ℕ) → D (deed.Commit p seq v) → S (message p seq v)) where
     shown_have : (s : State) (ds : List Deed) → Allowed s ds → All D ds → ((p seq : ℕ) (v : List ℕ) → is_pending s.mail.pending p seq v ≡ true → S (message p seq v)) → All S s.mail.shown → All S (all_after s ds).mail.shown
     shown_have s [] ok has pending shown = shown
@@ -55,7 +56,7 @@ pub every_close_was_asked : EveryCloseWasAsked
 every_close_was_asked l limit story layout told e =
     elim (closed_by (IsAsked l limit story) (empty l.procs l.cap) (deeds l limit at_first story) (every_deed_was_asked l limit story layout told) e) [ inl first ↦ absurd (false≢true first) | inr asked ↦ asked ]
 
--- the words have the shape for somebody
+-- the words have the shape for some process
 shape_for : (l : Layout) (a : Abstract) (w : Words) (m : Mailbox) → Kept l a w m → (p : ℕ) × Shape l p w m
 shape_for l a w m k = by (find_in l.procs a.phase)
   where

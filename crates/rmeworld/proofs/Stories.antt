@@ -1,4 +1,4 @@
--- Every happening keeps everything, so every story is sound.
+-- Every event keeps the invariant, so every execution is sound.
 use Rattle.std.proofs.Common.{◌≡◌, ℕ, zero, suc, nat_lt, ◌<◌, Bool, true, false, ◌&&◌, ◌==◌, if◌then◌else◌, List, [], ◌∷◌, Option, Some, None, IsSome, refl, sym, ap, ◌∙◌, subst, inl, inr, ◌⊎◌, arith, eqb-true, ltb-true, lt-ltb}
 use Rattle.rmeworld.proofs.Common.{cases_Bool, cases_eq, and_parts, Kind, Gets, Puts, Outer, Crash, Own, Word, Data as DataAt, Abstract, Legal, nobody, dead_phase, start_of, put, Place, next}
 use Rattle.rmeworld.proofs.Common.{is_before, IsIn, is_store, step_deed, and_then, put_same, put_other, after_deed as done_by, sole_nobody, not_data, Layout, deeds_of_put, NewWords, Words, IsLayout}
@@ -33,19 +33,19 @@ before_is x p y q e =
       | inr f ↦ (let g : ((x == y) && nat_lt p q) ≡ true = rw f at e in let both = and_parts (x == y) (nat_lt p q) g in inr (eqb-true x y both.0, ltb-true p q both.1))
     ]
 
--- who died inside had a number and was marked
+-- a process that crashed inside had a number and a mark
 pub in_numbers : (c x i : ℕ) → IsIn (dead_phase c x i) → (0 < x) × (0 < i)
 in_numbers c (suc x) (suc i) h = (omega arith, omega arith)
 in_numbers zero _ _ h = absurd h
 in_numbers _ _ _ h = absurd h
 
 module _ (l : Layout) (limit : ℕ) (layout : IsLayout l) where
-  -- what one happening leaves, and what its answer tells
+  -- the state after one event, and the meaning of its answer
   abbrev pub Left : Scene → Abstract → Mailbox → Happening → Spot → Type 0
   Left w a m e s' =
       (o : Outcome l a w.cells m (who e) (outer (w.spots (who e)) e) (mail_deeds l w.cells e) (cells_after l w.cells e) s') × Tells w e o.mail.shown
 
-  -- the same for a process at this place with this errand
+  -- the same for a process at this place with this job
   abbrev Stepped : Scene → Abstract → Mailbox → ℕ → Place → Errand → Kind → Word → ℕ → Spot → Type 0
   Stepped w a m p lock errand kind word v s' =
       (o : Outcome l a w.cells m p (outer_by p lock errand kind v) (mail_deeds l w.cells (Moves p kind word v)) (cells_after l w.cells (Moves p kind word v)) s') × ErrandTells p errand v o.mail.shown
@@ -128,7 +128,7 @@ module _ (l : Layout) (limit : ℕ) (layout : IsLayout l) where
       let rest = legal_by (onward l limit w e) g.0 es g.3 in
       (rest.0, judged_all-append s g.0 (event_deeds l w e) (deeds l limit (onward l limit w e) es) g.1 ∙ rest.1)
 
-  -- the first scene
+  -- the first global state
   pub first : NewWords → Kept l nobody at_first.cells nothing_shown
   first new = record {
     sole = sole_nobody l.procs;
@@ -139,7 +139,7 @@ module _ (l : Layout) (limit : ℕ) (layout : IsLayout l) where
   pub first_posts : AllPosts nobody at_first.cells nothing_shown at_first.spots
   first_posts q lt = tt
 
-  -- the judge's state of words that outlive a crash of everything
+  -- the judge's state of words that are possible after a crash of every process
   pub state_is : (words : ℕ → Own) (cells : Words) (s : State) → IsLater l limit words cells s → s ≡ judge_of l (start_of words) s.mail
   state_is words cells s h = λ i. record { procs = h.procs i; cap = h.cap i; lock = h.lock i; mail = s.mail }
 

@@ -1,4 +1,4 @@
--- A record that is being stored has a step left at each step but its last.
+-- A job that stores a record has a step left after each step but the last.
 use Rattle.std.proofs.Common.{◌≡◌, ℕ, true, nat_lt, subst, sym, ◌+◌, ◌*◌, ◌<◌, Option, None, IfSome, length, drop, refl, arith}
 use Rattle.redomail.specs.declared.layout.Layout.{Layout}
 use Rattle.redomail.specs.declared.record.Record.{Record}
@@ -13,7 +13,7 @@ use Rattle.redomail.specs.Tasks.{store_steps}
 use Rattle.redomail.proofs.Wants.{store_wants}
 use Rattle.rmeworld.specs.Errands.{HasStep}
 
--- a script that has no reply has a step left, and one that has a reply is done
+-- a script without a reply has a step left, and a script with a reply is done
 pub goes_on : (e : Script Reply) (r : Option Reply) → r ≡ reply_in (head e) → r ≡ None → HasStep e
 goes_on (Asks i next) r is none = tt
 goes_on (Writes i v rest) r is none = tt

@@ -1,4 +1,4 @@
--- A happening that may come at the end prolongs a story; and a process's spot follows from its own happenings.
+-- An execution with one more event that is allowed is an execution. A process's state follows from its own events.
 use Rattle.std.proofs.Common.{◌≡◌, ℕ, true, false, ◌==◌, List, [], ◌∷◌, ◌++◌, unwrap_or, refl, sym, ap, ◌∙◌, subst, inl, inr, eq-eqb, ne_eqb, append-nil, append_assoc}
 use Rattle.rmeworld.proofs.Common.{cases_eq, put_same, put_other, Deed, Layout, IsReached, Happening, who, next_spot, event_deeds, Scene, Story, onward, last_scene, deeds, Can, own_happenings}
 use Rattle.rmeworld.specs.World.{spot_after}
@@ -16,7 +16,7 @@ module _ (l : Layout) (limit : ℕ) where
   deeds_more w [] e = append-nil (event_deeds l w e)
   deeds_more w (x ∷ es) e = ap (λ ds. event_deeds l w x ++ ds) (deeds_more (onward l limit w x) es e) ∙ sym (append_assoc (event_deeds l w x) _ _)
 
-  -- the scene is the last of a story from a first one, and the history is the story's deeds
+  -- the global state is the last of an execution from a first one, and the history is its deeds
   pub record Comes (first w : Scene) (history : List Deed) : Type 0 where
     pub story : List Happening
     pub told : Story l limit first story

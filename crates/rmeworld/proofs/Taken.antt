@@ -1,4 +1,4 @@
--- A step that the code of a world has taken is the definition's.
+-- A step that the code of a world takes is the definition's.
 use Rattle.std.proofs.Common.{◌≡◌, ℕ, ◌<◌, ◌++◌, slice_index_or, slice_set, Some, IfSome, sym, ap, ◌∙◌, subst}
 use Rattle.rmeworld.proofs.Common.{Access, Tally, kind_of, word_of, carried, counted, Stepped, Advances, errand_of, IsWorld, happening, words_by, cells_by, the_deed, stepped_if}
 use Rattle.rmeworld.proofs.Common.{advanced_if, advanced_by, prospect_of, Stand, outcome, IsLeast, IsAllowed, spot_of, stepped as stand_stepped, next_access, spot_after, StoresOwn, reading}
@@ -10,14 +10,14 @@ use Rattle.rmeworld.proofs.Worlds.{found, tally_found, deeds_are, world_step}
 use Rattle.rmeworld.proofs.WorldSteps.{IsStep, step_takes}
 use Rattle.rmeworld.proofs.WorldTallies.{no_glance, answered_step}
 
--- what p does next, and what its word holds
+-- p's next access, and its word's value
 pub record IsNext (s : WorldState) (p : ℕ) (a : Access) (v : ℕ) : Type 0 where
   pub below : p < s.layout.procs
   pub access : next_access (stand_at s.processes p) ≡ Some a
   pub least : IsLeast (stand_at s.processes p) a
   pub found : v ≡ reading (scene_of s) (word_of a)
 
--- what is told of it, by what it was for its process
+-- its report, from its effects for the process
 abbrev pub told_by : WorldState → ℕ → Access → ℕ → Outcome → Stepped
 told_by s p a v o =
     record {
@@ -26,7 +26,7 @@ told_by s p a v o =
       answer = o.answer;
     }
 
--- The process was fed and its step counted, the words stored, the deeds noted, and this is told.
+-- The process was fed and its step counted, the word was stored, the deeds were noted, and this is the report.
 pub record Fed (s : WorldState) (p : ℕ) (a : Access) (v : ℕ) (o : Outcome) (told : Stepped) (new : WorldState) : Type 0 where
   pub before : Stand
   pub after : Stand

@@ -1,4 +1,4 @@
--- The words of a wider image stand where its layout says.
+-- The words of a wider image have the indexes of its layout.
 use Rattle.std.proofs.Common.{◌≡◌, ℕ, zero, suc, ◌+◌, ◌-◌, ◌<◌, ◌≤◌, List, [], ◌++◌, length, drop, refl, sym, ap, inl, inr, ◌∙◌, arith, append_assoc, length-append, length-take, length-drop, append-nil}
 use Rattle.rmeworld.proofs.ImageCommon.{take-append_seam, drop-append_seam, cases_eq, Own, Layout, HeadsHold, Words, size, words_of, row, place_at, entry, place_low, entry-from_row, Image, layout_of}
 use Rattle.rmeworld.proofs.ImageCommon.{padded, widened, IsWider, words_from, wide_place, wide_words}
@@ -15,7 +15,7 @@ length-padded n xs h = omega (arith, length-append xs (zeros (n - length xs)), l
 length-words_from : (i n : ℕ) (xs : List ℕ) → i + n ≤ length xs → length (words_from i n xs) ≡ n
 length-words_from i n xs h = omega (arith, length-take n (drop i xs), length-drop i xs)
 
--- a row that stands between two lists
+-- a range between two lists
 row_between : (front bs cs ys : List ℕ) (i n : ℕ) → ys ≡ front ++ (bs ++ cs) → length front ≡ i → length bs ≡ n → row (words_of ys) i n ≡ bs
 row_between front bs cs ys i n e a b =
     let all = ap length e in
@@ -68,14 +68,14 @@ module _ (l : Layout) (wide : ℕ) (xs : List ℕ) (h : HeadsHold l xs) (more : 
   length-wide (suc k) low =
       omega (arith, length-append (wide_words l wide xs k) (wide_place l wide xs k), length-wide k (omega arith), length-place k (omega arith), place_next m k)
 
-  -- what stands behind the first words
+  -- the words after the first ones
   behind_front : (k : ℕ) → (ts : List ℕ) × (wide_words l wide xs k ≡ wide_words l wide xs 0 ++ ts)
   behind_front zero = ([], sym (append-nil (wide_words l wide xs 0)))
   behind_front (suc k) =
       let before = behind_front k in
       (before.0 ++ wide_place l wide xs k, ap (λ ys. ys ++ wide_place l wide xs k) before.1 ∙ append_assoc (wide_words l wide xs 0) before.0 (wide_place l wide xs k))
 
-  -- what stands behind a place
+  -- the words after a place
   behind_place : (k a : ℕ) → a < k → (ts : List ℕ) × (wide_words l wide xs k ≡ wide_words l wide xs a ++ (wide_place l wide xs a ++ ts))
   behind_place zero a low = absurd (omega arith)
   behind_place (suc k) a low =

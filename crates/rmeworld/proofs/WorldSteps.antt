@@ -1,4 +1,4 @@
--- A step in memory is a happening of the definition.
+-- A step in memory is an event of the definition.
 use Rattle.std.proofs.Common.{◌≡◌, ℕ, ◌<◌, ◌≤◌, Bool, true, false, nat_lt, if◌then◌else◌, List, ◌++◌, length, slice_index_or, slice_set, Some, IsSome, unwrap_or, refl, sym, ap, ◌∙◌, subst, inl, inr, arith, append-nil, lt-ltb, ltb-true, get_or-set_same, get_or-set_other, length-set}
 use Rattle.rmeworld.proofs.Common.{cases_Bool, cases_eq, cases_lt, set_past, Access, Load, Store, Own, Tally, Word, Data as DataAt, kind_of, word_of, carried, put, own_at, zeros, write, put_same}
 use Rattle.rmeworld.proofs.Common.{put_other, Deed, Layout, Reply, size, words_of, left, fed, Script, Get as Asks, Put as Writes, Done, Call, Unlock, Chore, IsFree, Does, value_of}
@@ -46,8 +46,7 @@ cell_set_is l cells i v filled =
       | inr past ↦ let off : nat_lt i (size l) ≡ false = le-ltb i (size l) (subst (λ n. n ≤ i) filled past) in rw (off, set_past cells i v past) refl
     ]
 
--- the words after an access
--- an own word is one of the world's
+-- a word of the process itself is a word of the world
 own_within : (n q : ℕ) (word : Word) → q < n → IsOwnWord q word → InWords n word
 own_within n q (DataAt i) below own = tt
 own_within n q _ below own = subst (λ i. i < n) (sym own) below
@@ -63,7 +62,7 @@ cells_by_is l cells p q (Store kind _ x) v filled own = rw (own.0) refl
 
 -- a step of process p
 module _ (s : WorldState) (p : ℕ) (a : Access) where
-  -- what is known of it
+  -- the facts about it
   pub record IsStep : Type 0 where
     pub filled : length s.cells ≡ size s.layout
     pub seated : IsSeated s.layout s.limit s.words s.processes s.tallies
@@ -98,7 +97,7 @@ step_takes s p a h =
       limit = refl;
     }
 
--- a happening that touches no word, and leaves process p as t
+-- an event that touches no word, and leaves process p as t
 alone : (s : WorldState) (p : ℕ) (t : Stand) (tallies : List Tally) (history : List Deed) (e : Happening) → IsSeated s.layout s.limit s.words s.processes s.tallies → p < s.layout.procs → who e ≡ p
     → Reads (scene_of s) e → words_after (own_at s.words) e ≡ own_at s.words → cells_after s.layout (words_of s.cells) e ≡ words_of s.cells → next_spot s.layout s.limit (spot_at s.processes p) e ≡ Some (spot_of t)
     → history ≡ s.history ++ event_deeds s.layout (scene_of s) e → Takes s e (record s { processes = slice_set s.processes p t; tallies = tallies; history = history })
@@ -126,7 +125,7 @@ start_takes s p call t tallies seated below to =
 pub crash_takes : (s : WorldState) (p : ℕ) → IsSeated s.layout s.limit s.words s.processes s.tallies → p < s.layout.procs → Takes s (Falls p) (crashed s p)
 crash_takes s p seated below = alone s p (stand_crashed (stand_at s.processes p)) s.tallies (crashed s p).history (Falls p) seated below refl tt refl refl refl refl
 
--- a process keeps its seat
+-- a process keeps its index and sizes
 pub keeps_stepped : (s : Stand) (e : Chore) (v : ℕ) → HasSeat s.layout s.limit s.index (stepped_by s e v)
 keeps_stepped s IsFree v = (refl, refl, refl)
 keeps_stepped s (Does why job) v = by (left (fed job v))
@@ -141,7 +140,7 @@ keeps_started s true Unlock is = rw is (refl, refl, refl)
 keeps_started s false Unlock is = rw is (refl, refl, refl)
 keeps_started s b _ is = (refl, refl, refl)
 
--- seats after one process moved
+-- the list of processes after one of them moved
 pub seated_set :
     {l : Layout} {limit p : ℕ} {words : List Own} {processes : List Stand} {tallies : List Tally} → IsSeated l limit words processes tallies → p < l.procs → (words' : List Own) (t : Stand) (tallies' : List Tally)
     → length words' ≡ length words → length tallies' ≡ length tallies → HasSeat l limit p t → IsSeated l limit words' (slice_set processes p t) tallies'

@@ -1,4 +1,4 @@
--- Every happening of a world keeps what its tallies say.
+-- Every event of a world keeps the invariant of its counts.
 use Rattle.std.proofs.Common.{◌≡◌, ◌≢◌, ℕ, zero, suc, ◌+◌, ◌<◌, Bool, true, false, ◌&&◌, ◌==◌, if◌then◌else◌, List, [], ◌∷◌, length, map, Option, Some, None, IsSome, IfSome, unwrap_or, refl, sym, ap, ◌∙◌, subst, inl, inr, arith, get_or-set_same, get_or-set_other}
 use Rattle.rmeworld.proofs.Common.{cases_eq, Access, Load, Store, Kind, Gets, Puts, Own, Tally, Word, Data as DataAt, kind_of, word_of, is_glance, ReadsBegun, Place, next, Steps, tally_at, own_at}
 use Rattle.rmeworld.proofs.Common.{fresh, counted, IsExact, IsRereading, is_store, write, put_same, put_other, not_data, Layout, Reply, Ruined, Words, Script, Get as Asks, Put as Writes, Done, Answer}
@@ -12,7 +12,7 @@ use Rattle.rmeworld.proofs.CallBounds.{fewer_at}
 use Rattle.rmeworld.proofs.CallSteps.{more, guard_spot, To, step_by, start_to}
 use Rattle.rmeworld.proofs.WorldSteps.{IsStep, step_takes}
 
--- the machine never glances
+-- the machine's next step is never a glance
 pub glances_never : (limit p : ℕ) (s : Place) (e : Errand) → IfSome (access_by limit p s e) (λ a. is_glance (kind_of a) ≡ false)
 glances_never limit p s Free = never_glances limit p s
 glances_never limit p s (Doing why (Asks i rest)) = refl
@@ -22,7 +22,7 @@ glances_never limit p s (Doing why (Done reply)) = tt
 pub no_glance : (limit p : ℕ) (s : Place) (e : Errand) (a : Access) → access_by limit p s e ≡ Some a → is_glance (kind_of a) ≡ false
 no_glance limit p s e a is = subst (λ o. IfSome o (λ a. is_glance (kind_of a) ≡ false)) is (glances_never limit p s e)
 
--- a process that rereads after a step has read an own word in it
+-- a process that rereads after a step has read one of its own words in that step
 ended_not : (why : Why) (a : Reply) → IsRereading (end_place why a) → ⊥
 ended_not Checking (Ruined true) h = h
 ended_not _ _ h = h
@@ -47,12 +47,12 @@ module _ (l : Layout) (limit p : ℕ) where
   rereads_so s m c (Doing why (Writes j x rest)) d Puts (DataAt i) v some moves = guard_spot ((i == j) && (v == x)) (settled m c why rest) d (λ spot. Was s Puts spot.lock) some (λ e. λ h. absurd (settled_not m c why rest h))
   rereads_so s m c (Doing why _) d _ _ v some moves = absurd (cc)
 
-  -- a lock word is read as it stands
+  -- a lock word is read with its current value
   core_reads : (words : ℕ → Own) (cells : Words) (s : Place) (kind : Kind) (word : Word) (v : ℕ) → IsSome (next l.procs limit p s kind word v) → (is_store kind ≡ false → reading_of words cells word ≡ v) → CoreReads words (Steps p kind word v)
   core_reads words cells s kind (DataAt i) v some reads = λ load. absurd (not_data l.procs limit p s kind i v some)
   core_reads words cells s kind _ v some reads = reads
 
--- the count after one step of a process, begun with the words in its tally
+-- the counts after one step of a process. The call began with the words in its tally
 module _ (l : Layout) (limit : ℕ) (w : Scene) (p : ℕ) (kind : Kind) (word : Word) (v : ℕ) (t : Tally) (can : Can l limit w (Moves p kind word v)) (moves : is_glance kind ≡ false) (tallied : IsTallied l (w.words p) (w.spots p) t) where
   abbrev spot : Spot
   spot = w.spots p
@@ -73,7 +73,7 @@ module _ (l : Layout) (limit : ℕ) (w : Scene) (p : ℕ) (kind : Kind) (word : 
       let old = tallied.taking (exact_before t b exact) in
       (more b old.0, step_by l p t.began limit can.0 spot kind word v old.0 can.1 moves reads old.1, sums t b old.0 exact old.2)
 
-  -- the answer comes with just the steps of the table
+  -- with the answer, the steps are exactly those of the table
   pub answered : IfSome (answer_at spot kind v) (λ a. IsExact (counted t b) → HasTaken l spot (counted t b) a)
   answered = of (answer_at spot kind v) counts
     where
@@ -98,7 +98,7 @@ module _ (l : Layout) (limit : ℕ) (w : Scene) (p : ℕ) (kind : Kind) (word : 
       loads true e = cc
       loads false e = refl
 
--- of the others nothing was changed
+-- the others did not change
 all_but : (l : Layout) (w w' : Scene) (p : ℕ) (tallies tallies' : List Tally) → ((q : ℕ) → q ≢ p → w'.words q ≡ w.words q) → ((q : ℕ) → q ≢ p → w'.spots q ≡ w.spots q) → ((q : ℕ) → q ≢ p → tally_at tallies' q ≡ tally_at tallies q)
     → IsTallied l (w'.words p) (w'.spots p) (tally_at tallies' p) → AllTallied l w tallies → AllTallied l w' tallies'
 all_but l w w' p tallies tallies' words spots same here all q below =
@@ -142,7 +142,7 @@ module _ (s : WorldState) (p : ℕ) (a : Access) (step : IsStep s p a) (all : Al
   room : p < length s.tallies
   room = subst (λ n. p < n) (sym step.seated.tallies_each) step.below
 
-  -- as the step counted it
+  -- the counts after the step
   abbrev count : Tally
   count = counted tally (outcome (stand_at s.processes p) (Some a) (reading (scene_of s) (word_of a))).progress.blocked
 
@@ -193,7 +193,7 @@ tallied_crash s p below takes all =
     (subst (λ x. IsTallied s.layout (own_at s.words p) x (tally_at s.tallies p)) (sym (put_same (spot_at s.processes) p dead)) fallen)
     all)
 
--- before any call of a process at rest, or crashed
+-- before the first call of a process at rest, or crashed
 uncounted : (words : List Own) (p : ℕ) → (tally_at (map fresh words) p).steps ≡ 0 + (tally_at (map fresh words) p).blocked
 uncounted [] p = refl
 uncounted (x ∷ xs) zero = refl
@@ -202,7 +202,7 @@ uncounted (x ∷ xs) (suc p) = uncounted xs p
 pub unstarted : (l : Layout) (own : Own) (spot : Spot) (words : List Own) (p : ℕ) → spot ≡ dead → IsTallied l own spot (tally_at (map fresh words) p)
 unstarted l own spot words p is = subst (λ x. IsTallied l own x (tally_at (map fresh words) p)) (sym is) (record { began = λ h. absurd h; taking = λ exact. (0, tt, uncounted words p) })
 
--- a call under way has taken fewer steps than the most
+-- a call under way has taken fewer steps than its bound
 pub takes_fewer : (l : Layout) (w : Scene) (tallies : List Tally) → AllTallied l w tallies → (p : ℕ) → IsExact (tally_at tallies p) → p < l.procs → IfSome (call_at (w.spots p)) (λ call. (tally_at tallies p).steps < most_steps l call + (tally_at tallies p).blocked)
 takes_fewer l w tallies all p exact below = of (call_at (w.spots p)) refl
   where

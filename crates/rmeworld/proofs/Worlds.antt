@@ -1,4 +1,4 @@
--- What a world in memory keeps, at every call.
+-- The invariant of a world in memory, at every call.
 use Rattle.std.proofs.Common.{◌≡◌, ℕ, zero, suc, ◌+◌, ◌<◌, ◌≤◌, ◌^◌, ◌++◌, [], ◌∷◌, List, Option, Some, None, IfSome, nat_lt, length, replicate, slice_index_or, refl, sym, ap, ◌∙◌, subst, inl, inr, arith, length-set}
 use Rattle.rmeworld.proofs.Common.{cases_Bool, cases_lt, get_or_past, get_or_default, get_or-replicate, length-replicate, Access, Load, Store, Outer, Own, Tally, kind_of, word_of, carried, access}
 use Rattle.rmeworld.proofs.Common.{Place, Door, Wait, Reread, tally_at, own_at, zeros, fresh, step_deed, Deed, OuterDeed, Layout, Words, IsLayout, size, words_of, held, empty, Call}
@@ -26,7 +26,7 @@ rest-at l limit p zero q h = absurd (omega arith)
 rest-at l limit p (suc n) zero h = let e : p ≡ p + 0 = omega arith in ap (resting l limit) e
 rest-at l limit p (suc n) (suc q) h = let e : p + 1 + q ≡ p + suc q = omega arith in rest-at l limit (p + 1) n q (omega arith) ∙ ap (resting l limit) e
 
--- a list is told by its length and its items
+-- a list is determined by its length and its items
 pub rest_is : (l : Layout) (limit : ℕ) (xs : List Stand) (p n : ℕ) → length xs ≡ n → ((q : ℕ) → q < n → stand_at xs q ≡ resting l limit (p + q)) → xs ≡ at_rest_from l limit p n
 rest_is l limit [] p zero len each = refl
 rest_is l limit [] p (suc n) len each = cc
@@ -108,7 +108,7 @@ world_step s p a world step =
       tallied = tallied_step s p a step world.tallied;
     }
 
--- what an index of the processes gives, and one of the tallies
+-- the process at an index, and its counts
 pub found : (s : WorldState) (p : ℕ) (t : Stand) → IsWorld s → p < s.layout.procs → t ≡ slice_index_or s.processes p t → stand_at s.processes p ≡ t
 found s p t world below is = get_or_default s.processes p absent t (subst (λ n. p < n) (sym world.seated.processes_each) below) ∙ sym is
 
@@ -130,7 +130,7 @@ no_put limit p (Wait k unpassed (Some j)) l q cells = refl
 no_put limit p (Wait k (j ∷ js) None) l q cells = refl
 no_put limit p _ l q cells = assumption
 
--- a step has one deed at most
+-- a step has at most one deed
 one_deed : (l : Layout) (limit p q : ℕ) (place : Place) (e : Errand) (a : Access) (cells : Words) (x : ℕ) → access_by limit p place e ≡ Some a
     → or_else (outer_by q place e (kind_of a) x) (mail_by l q cells a) ≡ outer_deeds (outer_by q place e (kind_of a) x) ++ mail_by l q cells a
 one_deed l limit p q place (Doing why left) a cells x next = refl
@@ -142,7 +142,7 @@ one_deed l limit p q place Free a cells x next = by (step_deed q place (kind_of 
         let none : mail_by l q cells a ≡ [] = subst (λ o. IfSome o (λ a. mail_by l q cells a ≡ [])) next (no_put limit p place l q cells) in
         ap (λ ds. OuterDeed d ∷ ds) (sym none)
 
--- the deeds of an access, by what it was for its process
+-- the deeds of an access, from its effects for the process
 pub deeds_are : (s : WorldState) (p : ℕ) (a : Access) (q : ℕ) → IsSeated s.layout s.limit s.words s.processes s.tallies → p < s.layout.procs → StoresOwn q a → next_access (stand_at s.processes p) ≡ Some a
     → prospect_of s p a (outcome (stand_at s.processes p) (Some a) (reading (scene_of s) (word_of a))) ≡ event_deeds s.layout (scene_of s) (happening s p a)
 deeds_are s p a q seated below own next =

@@ -1,4 +1,4 @@
--- What a step of a world is, taken by any of its ways.
+-- A step of a world, whichever of its functions takes it.
 use Rattle.std.specs.Prelude.{◌≡◌, ℕ, Bool, false, IfSome, Some, None}
 use Rattle.rmecore.specs.Machine.{at_scan, word_of}
 use Rattle.rmecore.specs.Paid.{is_glance}
@@ -15,7 +15,7 @@ use Rattle.rmeworld.specs.Stand.{Stand, standing, next_access, IsAllowed, IsLeas
 use Rattle.rmeworld.specs.Tallied.{HasTaken}
 use Rattle.rmeworld.specs.WorldState.{WorldState, spot_at, Takes, happening_of, ChoosesLeast}
 
--- The definition's step of p was taken, and this is told of it.
+-- The step of p is the one of the definition, and s is its report.
 pub record Advances (old : WorldState) (p : ℕ) (s : Stepped) (new : WorldState) : Type 0 where
   pub step : Takes old (happening_of p s.happened) new
   pub kind : is_glance s.happened.kind ≡ false
@@ -24,12 +24,12 @@ pub record Advances (old : WorldState) (p : ℕ) (s : Stepped) (new : WorldState
   pub ok : new ≡ advanced old p
   pub taken : IfSome s.answer (λ a. IsExact (tally_at new.tallies p) → HasTaken old.layout (spot_at old.processes p) (tally_at new.tallies p) a)
 
--- it reads
+-- it is a load
 abbrev pub IsLoad : Access → Type 0
 IsLoad (Load kind word) = Unit {0}
 IsLoad (Store kind word x) = ⊥
 
--- This scan goes on with this access, which reads.
+-- The scan is in progress, and this load is its next access.
 pub record GoesOn (st : Stand) (scan : Scan) (a : Access) : Type 0 where
   pub free : st.errand ≡ Free
   pub load : IsLoad a
@@ -40,6 +40,6 @@ pub record GoesOn (st : Stand) (scan : Scan) (a : Access) : Type 0 where
   pub within : InWords st.layout.procs (word_of a)
   pub own : StoresOwn st.index a
 
--- What a step is that is no deed of the lock and ends no call.
+-- The effects of a silent step: no deed of the lock, and not the call's last step.
 abbrev pub unheard : Bool → Outcome
 unheard blocked = record { progress = record { outer = None; done = None; blocked = blocked }; answer = None }

@@ -1,4 +1,4 @@
--- What a step answers: the table of the replies, as a function of the spot before the step and the value read or written.
+-- "Reply": a step's answer, from the process state before the step and the value read or written.
 use Rattle.std.specs.Prelude.{ℕ, Bool, true, false, Option, Some, None}
 use Rattle.rmecore.specs.Place.{Place}
 use Rattle.rmecore.specs.Machine.{answer, is_blocked}
@@ -14,8 +14,8 @@ use Rattle.rmeworld.specs.declared.why.Why.{Why}
 use Rattle.rmeworld.specs.declared.why.Why.TheVariants.{Checking, Ruining, Mending, Working}
 use Rattle.rmeworld.specs.Spot.{Errand, Free, Doing, Spot}
 
--- where the lock's part ends. After an entry by a lock the ruin check follows; an exit ends an unlock, or a lock that was
--- turned away
+-- the answer when the lock's part ends. After an entry by a lock the ruin check comes next. An exit ends an unlock, or a
+-- lock that found the lock ruined
 abbrev pub by_core : Bool → CoreDone → Option Answer
 by_core barred core.In = None
 by_core barred core.InAgain = None
@@ -29,7 +29,7 @@ abbrev pub by_lock : Bool → Option CoreDone → Option Answer
 by_lock barred None = None
 by_lock barred (Some done) = by_core barred done
 
--- where a script ends, by whether the holder is mended. A ruined lock is left, and so is one that was just ruined
+-- the answer when a script ends, for a holder that is mended or not. A holder that found or made the lock ruined leaves next
 abbrev pub by_reply : Why → Bool → Reply → Option Answer
 by_reply Checking mended (Ruined true) = None
 by_reply Checking true reply = Some Clean
@@ -39,6 +39,7 @@ by_reply Mending mended (Ruined ruined) = Some NotRecoverable
 by_reply Mending mended reply = Some (Mail reply)
 by_reply (Working task) mended reply = Some (Mail reply)
 
+-- the answer when this script is left
 abbrev pub by_script : Why → Bool → Script Reply → Option Answer
 by_script why mended (Done reply) = by_reply why mended reply
 by_script why mended _ = None
@@ -51,12 +52,12 @@ answer_by s b c (Doing why left) kind v = by_script why b (tail left v)
 abbrev pub answer_at : Spot → Kind → ℕ → Option Answer
 answer_at spot kind v = answer_by spot.lock spot.mended spot.barred spot.errand kind v
 
--- the core's answer, where its part of the call ends with the step
+-- the core's answer, if its part of the call ends with the step
 abbrev pub done_by : Place → Errand → Kind → ℕ → Option CoreDone
 done_by s Free kind v = answer s kind v
 done_by s _ kind v = None
 
--- a look or a weigh after which the process stands where it stood
+-- "blocked": a look or a weigh that leaves the process state as it is
 abbrev pub blocked_by : ℕ → Place → Errand → Kind → ℕ → Bool
 blocked_by p s Free kind v = is_blocked p s kind v
 blocked_by p s _ kind v = false

@@ -1,4 +1,4 @@
--- What a machine with these states does: why its calls are refused, what they answer, and what they leave.
+-- The behaviour of a machine with states of this type: which calls are refused, their results, and the state after each.
 use Rattle.std.specs.Prelude.{ℕ, Option}
 use Rattle.rmecore.specs.declared.refusal.Refusal.{Refusal}
 use Rattle.redomail.specs.declared.deed.Deed.{Deed}
@@ -6,6 +6,7 @@ use Rattle.rmeworld.specs.declared.call.Call.{Call}
 use Rattle.rmeworld.specs.declared.image.Image.{Image}
 use Rattle.rmeworld.specs.declared.stepped.Stepped.{Stepped}
 
+-- refusals, results and states after, for each function of a machine
 pub record Behaviour (S : Type 0) : Type 0 where
   pub start_refusal : S → ℕ → Call → Option Refusal
   pub started : S → ℕ → Call → S

@@ -1,4 +1,4 @@
--- What an answer of the lock's machine tells of an entry.
+-- Whether the core's answer is an entry.
 use Rattle.std.specs.Prelude.{Bool, true, false, Option, Some}
 use Rattle.rmecore.specs.Place.{Place, Reread, Wait, Inside}
 use Rattle.rmecore.specs.declared.core_call.CoreCall.TheVariants.{Lock}
@@ -6,7 +6,7 @@ use Rattle.rmecore.specs.declared.core_done.CoreDone.{CoreDone}
 use Rattle.rmecore.specs.declared.core_done.CoreDone.TheVariants.{In, InAgain, Found as Finds}
 use Rattle.rmecore.specs.declared.found.Found.TheVariants.{Inside as FoundInside}
 
--- an entry by a lock: the place after, and the one before
+-- an entry by a lock, from the place after the step and the place before it
 abbrev pub is_entry_at : Place → Place → Bool
 is_entry_at Inside (Wait k unpassed looked) = true
 is_entry_at Inside (Reread Lock seen) = true
@@ -15,6 +15,7 @@ is_entry_at _ _ = false
 abbrev pub is_entry : Place → Place → Bool
 is_entry s t = is_entry_at t s
 
+-- the same from the core's answer: the ruin check comes after it, and the holder is mended
 abbrev pub checks_done : Option CoreDone → Bool
 checks_done (Some In) = true
 checks_done (Some InAgain) = true

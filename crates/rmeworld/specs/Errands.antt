@@ -1,4 +1,4 @@
--- What a process of the program has to do with the data words, as the definition has it.
+-- The script state of the code's process, as the definition's script state.
 use Rattle.std.specs.Prelude.{◌≡◌}
 use Rattle.rmecore.specs.Place.{Place, Inside}
 use Rattle.redomail.specs.declared.reply.Reply.{Reply}
@@ -12,13 +12,13 @@ abbrev pub errand_of : Task → Errand
 errand_of IsFree = Free
 errand_of (Does why job) = Doing why (left job)
 
--- a script that has a step left
+-- a script with a step left
 abbrev pub HasStep : Script Reply → Type 0
 HasStep (Asks i rest) = Unit {0}
 HasStep (Writes i v rest) = Unit {0}
 HasStep (Done reply) = ⊥
 
--- a process with a script is inside, and the script has a step left
+-- a process with a job is inside, and the job has a step left
 abbrev pub Held : Task → Place → Type 0
 Held IsFree s = Unit {0}
 Held (Does why job) s = (s ≡ Inside) × HasStep (left job)

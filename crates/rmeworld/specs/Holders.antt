@@ -1,4 +1,4 @@
--- Only a process that is in puts a data word; so from its Enter on no other does, until its super-passage ends.
+-- Only a process inside puts data words. So from its Enter to the end of its super-passage no other process does.
 use Rattle.std.specs.Prelude.{◌≡◌, ℕ, ◌<◌, Bool, true, false, List, [], ◌∷◌, ◌++◌, All}
 use Rattle.rmecore.specs.World.{is_store}
 use Rattle.rmecore.specs.declared.outer.Outer.TheVariants.{Enter}
@@ -11,22 +11,22 @@ use Rattle.judge.specs.Plain.{IsEndOf}
 use Rattle.rmeworld.specs.Spot.{Happening, Moves, who}
 use Rattle.rmeworld.specs.World.{at_first, Story, last_scene, deeds}
 
--- a store in a data word
+-- a store into a data word
 abbrev pub puts_data : Happening → Bool
 puts_data (Moves p kind (DataAt i) v) = is_store kind
 puts_data _ = false
 
--- each store in a data word among these is p's
+-- each store into a data word among these events is p's
 abbrev pub AllPutBy : ℕ → List Happening → Type 0
 AllPutBy p [] = Unit {0}
 AllPutBy p (e ∷ es) = (puts_data e ≡ true → who e ≡ p) × AllPutBy p es
 
--- no Leave and no Quit of p is among these
+-- no Leave and no Quit of p among these deeds
 abbrev pub NoEndOf : ℕ → List Deed → Type 0
 NoEndOf p ds = All (λ (d : Deed). IsEndOf p d → ⊥) ds
 
--- a story whose first part ends with p's Enter, and whose second has no end of that super-passage: it may crash and come
--- in again there
+-- an execution whose first part ends with p's Enter, and whose second part does not end that super-passage. In the second
+-- part p may crash and enter again
 abbrev pub OnlyHoldersPut : Type 0
 OnlyHoldersPut =
     (l : Layout) (limit p : ℕ) (before since : List Happening) (earlier : List Deed) → IsLayout l → p < l.procs → Story l limit at_first (before ++ since)

@@ -1,4 +1,4 @@
--- The rules that an image keeps, in the order in which they are asked. Each is asked of an image that keeps those before.
+-- "Lawful image": rules 2 to 9 in order. Each rule is stated for images that keep the rules before it.
 use Rattle.std.specs.Prelude.{◌≡◌, ℕ, ◌-◌, ◌<◌, ◌≤◌, ◌⊎◌, length, slice_index}
 use Rattle.rmecore.specs.Lawful.{IsRow, IsLawful}
 use Rattle.rmecore.specs.Simulated.{own_at}
@@ -8,15 +8,15 @@ use Rattle.redomail.specs.Shape.{ListRule, RecordRule}
 use Rattle.redomail.specs.Content.{HeadsHold}
 use Rattle.rmeworld.specs.declared.image.Image.{Image}
 
--- where the image's data words stand
+-- the sizes of an image, which decide the indexes of its data words
 abbrev pub layout_of : Image → Layout
 layout_of i = record { procs = length i.lock; cap = i.cap; width = i.width }
 
--- what the text rules leave of a version: the older one knows no widths
+-- rule 2: version 2, or version 1 with width 1
 abbrev pub IsVersioned : Image → Type 0
 IsVersioned i = (i.version ≡ 2) ⊎ ((i.version ≡ 1) × (i.width ≡ 1))
 
--- the numbers of processes, the limit, the places and the width are such as a world has
+-- rule 3: the numbers of processes, the limit, the capacity and the width are within "Limits"
 pub record IsSized (i : Image) : Type 0 where
   pub someone : 1 ≤ length i.lock
   pub few : length i.lock ≤ 64
@@ -27,20 +27,20 @@ pub record IsSized (i : Image) : Type 0 where
   pub least : 1 ≤ i.width
   pub most : i.width ≤ 8
 
--- p is in the section, alive or dead
+-- p is in the section, alive or crashed
 abbrev pub IsIn : Image → ℕ → Type 0
 IsIn i p = (p < length i.lock) × (0 < (own_at i.lock p).number) × (0 < (own_at i.lock p).inside)
 
--- where no record is armed the list rule holds
+-- rule 8: if no record is armed, the list rule holds
 abbrev pub IsListed : Image → Type 0
 IsListed i = slice_index i.cells 3 ≡ 0 → ListRule (layout_of i) (words_of i.cells) (slice_index i.cells 2)
 
--- Where one is armed, the record rule holds: for the one that is in, or in a ruined lock for some process.
+-- Rule 9: if a record is armed, the record rule holds for the process inside, or in a ruined lock for some process.
 pub record IsRecorded (i : Image) : Type 0 where
   pub clean : slice_index i.cells 3 ≡ 1 → slice_index i.cells 0 ≡ 0 → (p : ℕ) × IsIn i p × RecordRule (layout_of i) p (words_of i.cells)
   pub ruined : slice_index i.cells 3 ≡ 1 → slice_index i.cells 0 ≡ 1 → (p : ℕ) × (p < length i.lock) × RecordRule (layout_of i) p (words_of i.cells)
 
--- The rules up to the one with this number. There are the rules 2 to 9; that a text is an image's text is rule 1.
+-- The rules up to this number. Rule 1 is about texts: the text is an image's.
 pub record Keeps (rule : ℕ) (i : Image) : Type 0 where
   pub versioned : 2 ≤ rule → IsVersioned i
   pub sized : 3 ≤ rule → IsSized i
@@ -51,7 +51,7 @@ pub record Keeps (rule : ℕ) (i : Image) : Type 0 where
   pub listed : 8 ≤ rule → IsListed i
   pub recorded : 9 ≤ rule → IsRecorded i
 
--- words that can stand after a crash of everything
+-- "Lawful image": words that are possible after a crash of every process
 abbrev pub IsLawfulImage : Image → Type 0
 IsLawfulImage i = Keeps 9 i
 

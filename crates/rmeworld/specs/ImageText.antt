@@ -1,5 +1,5 @@
--- The text of an image: one JSON object. Written it has six members, by rising name. One that was written before there
--- were widths has five, and its width is 1.
+-- "Image" of the texts: one JSON object. A text of version 2 has six members, by rising name. A text of version 1 has no
+-- width member, and the width is 1.
 use Rattle.std.specs.Prelude.{◌≡◌, ◌≢◌, ◌⊎◌, ℕ, List, [], ◌∷◌, ◌++◌, codes, map, Bool, true, false, if◌then◌else◌, Some, IsUtf8}
 use Rattle.rmecore.specs.declared.own.Own.{Own}
 use Rattle.rmecore.specs.declared.refusal.Refusal.{Refusal}
@@ -11,6 +11,7 @@ use Rattle.serde_json.specs.Read.{read}
 use Rattle.serde_json.specs.View.{items_of}
 use Rattle.serde_json.specs.Written.{compact_text}
 
+-- the JSON data of a number, of a list of numbers, of a process's lock words, and of all lock words
 abbrev pub whole_data : ℕ → Data
 whole_data n = number (unsigned n)
 
@@ -23,11 +24,11 @@ own_data x = list_data (x.choosing ∷ x.number ∷ x.inside ∷ [])
 abbrev pub lock_data : List Own → Data
 lock_data xs = array (items_of (map own_data xs))
 
--- the member that the older form lacks
+-- the member that version 1 lacks
 abbrev pub width_member : Bool → ℕ → Members
 width_member wide w = if wide then member (codes "width") (whole_data w) no_members else no_members
 
--- an image as data, with its width or without
+-- an image as JSON data, with its width member or without
 abbrev pub image_data : Bool → Image → Data
 image_data wide i =
     object
@@ -37,13 +38,13 @@ image_data wide i =
     (member (codes "lock") (lock_data i.lock)
     (member (codes "version") (whole_data i.version) (width_member wide i.width))))))
 
--- a text spells an image
+-- the text is a JSON spelling of the image
 pub record Spells (text : List ℕ) (wide : Bool) (i : Image) : Type 0 where
   pub utf8 : IsUtf8 text
   pub read : read text ≡ Some (image_data wide i)
   pub narrow : wide ≡ false → i.width ≡ 1
 
--- what is written is of version 2
+-- the data that is written has version 2
 abbrev pub written_data : Image → Data
 written_data i = image_data true (record i { version = 2 })
 
@@ -55,15 +56,15 @@ image_line i = compact_text (written_data i) ++ 10 ∷ []
 abbrev pub version_of : Bool → ℕ
 version_of wide = if wide then 2 else 1
 
--- the text isn't an image's JSON
+-- the text is not an image's JSON (rule 1)
 abbrev pub SpellsNone : List ℕ → Type 0
 SpellsNone text = (wide : Bool) (i : Image) → Spells text wide i → ⊥
 
--- the first of the rules 2 to 9 that an image breaks as it was spelt
+-- the first of the rules 2 to 9 that an image breaks, as the text has it
 abbrev pub IsFirstBrokenAs : Bool → ℕ → Image → Type 0
 IsFirstBrokenAs wide rule i = ((rule ≡ 2) × (i.version ≢ version_of wide)) ⊎ ((i.version ≡ version_of wide) × IsFirstBroken rule i)
 
--- why a text isn't read: want of memory; rule 1; or the first rule that its image breaks
+-- why a text is refused: out of memory, rule 1, or the first rule that its image breaks
 abbrev pub IsUnread : List ℕ → Refusal → Type 0
 IsUnread text e =
     (e ≡ OutOfMemory)

@@ -1,4 +1,4 @@
--- A wider image: the value of each place and of the record gets words 0 at its end, and nothing else changes.
+-- "Widen": the value of each place and of the record gets words 0 at its end. Nothing else changes.
 use Rattle.std.specs.Prelude.{◌≡◌, ℕ, ◌+◌, ◌-◌, ◌<◌, ◌≤◌, ◌⊎◌, List, ◌++◌, length, map, slice_index}
 use Rattle.rmecore.specs.Body.{zeros}
 use Rattle.rmecore.specs.declared.refusal.Refusal.{Refusal}
@@ -9,10 +9,11 @@ use Rattle.redomail.specs.Shape.{entry, entries}
 use Rattle.rmeworld.specs.declared.image.Image.{Image}
 use Rattle.rmeworld.specs.ImageRules.{layout_of, IsLawfulImage, IsFirstBroken}
 
--- with words 0 at the end, n in all
+-- the list with words 0 at its end, n words in all
 abbrev pub padded : ℕ → List ℕ → List ℕ
 padded n xs = xs ++ zeros (n - length xs)
 
+-- a message with a wider value
 abbrev pub widened : ℕ → Message → Message
 widened n m = record m { value = padded n m.value }
 
@@ -32,17 +33,17 @@ pub record IsWider (wide : ℕ) (i j : Image) : Type 0 where
   pub others : row (words_of j.cells) (6 + wide) (4 + length i.lock) ≡ row (words_of i.cells) (6 + i.width) (4 + length i.lock)
   pub places : (a : ℕ) → a < i.cap → entry (layout_of j) (words_of j.cells) a ≡ widened wide (entry (layout_of i) (words_of i.cells) a)
 
--- why an image isn't widened: its first broken rule; a width that is smaller than its own, or above 8; or want of memory
+-- why an image is not widened: its first broken rule, a width below its own or above 8, or out of memory
 abbrev pub IsUnwidened : ℕ → Image → Refusal → Type 0
 IsUnwidened wide i e =
     ((rule : ℕ) × IsFirstBroken rule i × (e ≡ BadImage rule))
     ⊎ ((IsLawfulImage i × ((wide < i.width) ⊎ (8 < wide)) × (e ≡ BadWidth)) ⊎ (IsLawfulImage i × (i.width ≤ wide) × (wide ≤ 8) × (e ≡ OutOfMemory)))
 
--- the messages that an image shows
+-- the messages shown in an image
 abbrev pub shown_in : Image → List Message
 shown_in i = entries (layout_of i) (words_of i.cells) (slice_index i.cells 2)
 
--- A wider image is lawful where the image was, and shows the same messages, each with words 0 at its end.
+-- If an image is lawful, the wider image is lawful too. It shows the same messages, each with words 0 at its end.
 abbrev pub WideningKeeps : Type 0
 WideningKeeps =
     (wide : ℕ) (i j : Image) → IsLawfulImage i → i.width ≤ wide → wide ≤ 8 → IsWider wide i j

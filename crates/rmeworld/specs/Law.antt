@@ -1,4 +1,4 @@
--- The lock theorem of a whole world: its deeds are legal, its data words keep the shape, and its answers are true.
+-- "The lock theorem" for a whole world: its deeds are legal, its data words keep their shape, and its answers are true.
 use Rattle.std.specs.Prelude.{◌≡◌, ℕ, ◌<◌, List, [], ◌∷◌}
 use Rattle.redomail.specs.declared.message.Message.{Message}
 use Rattle.redomail.specs.declared.layout.Layout.{Layout}
@@ -19,16 +19,17 @@ use Rattle.rmeworld.specs.declared.why.Why.TheVariants.{Working}
 use Rattle.rmeworld.specs.Spot.{Errand, Free, Doing, Happening, Moves}
 use Rattle.rmeworld.specs.World.{Scene, at_first, all_dead, onward, last_scene, Story, event_deeds, deeds}
 
--- The data words have the shape for the process that is in, or, where nobody is, for any process.
+-- The data words have the shape for the process inside. If no process is inside, they have it for every process.
 abbrev pub HasShape : Layout → Words → State → Type 0
 HasShape l cells s = (q : ℕ) → ((r : ℕ) → r < l.procs → IsIn (s.lock.phase r) → r ≡ q) → Shape l q cells s.mail
 
--- The data words beside the lock: they have the shape, and where nobody is in no record is armed, or the lock is ruined.
+-- The data words together with the lock: they have the shape. If no process is inside, no record is armed or the lock is
+-- ruined.
 pub record Sits (l : Layout) (cells : Words) (s : State) : Type 0 where
   pub shape : HasShape l cells s
   pub rest : ((r : ℕ) → r < l.procs → IsIn (s.lock.phase r) → ⊥) → cells 0 ≡ 0 → cells 3 ≡ 0
 
--- what the answer of an append tells: its number is among its sender's messages shown
+-- the meaning of an append's answer: its number is among its sender's messages shown
 abbrev pub AppendTells : ℕ → ℕ → Script Reply → List Message → Type 0
 AppendTells p seq (Done Stored) shown = IsAmong p seq shown
 AppendTells p seq (Done Already) shown = IsAmong p seq shown
@@ -42,18 +43,19 @@ abbrev pub ErrandTells : ℕ → Errand → ℕ → List Message → Type 0
 ErrandTells p (Doing why left) v shown = WhyTells p why (tail left v) shown
 ErrandTells p Free v shown = Unit {0}
 
--- where a happening is the last step of an append
+-- the same, for an event that is the last step of an append
 abbrev pub Tells : Scene → Happening → List Message → Type 0
 Tells w (Moves p kind word v) shown = ErrandTells p (w.spots p).errand v shown
 Tells w _ shown = Unit {0}
 
--- A story from a scene with this judge's state: at every point the data words sit beside the lock, and each happening's
--- deeds are allowed and lead on.
+-- An execution from a global state with this judge's state. At every point the data words agree with the lock, and each
+-- event's deeds are legal.
 abbrev pub Sound : Layout → ℕ → Scene → State → List Happening → Type 0
 Sound l limit w s [] = Sits l w.cells s
 Sound l limit w s (e ∷ es) =
     Sits l w.cells s × ((t : State) × Leads s (event_deeds l w e) t × Tells w e t.mail.shown × Sound l limit (onward l limit w e) t es)
 
+-- every execution from the first global state is sound, and all its deeds are legal
 abbrev pub EveryStoryIsSound : Type 0
 EveryStoryIsSound =
     (l : Layout) (limit : ℕ) (story : List Happening) → IsLayout l → Story l limit at_first story
@@ -64,13 +66,13 @@ EveryStoryIsLegal =
     (l : Layout) (limit : ℕ) (story : List Happening) → IsLayout l → Story l limit at_first story
     → IsLegal l.procs l.cap (deeds l limit at_first story)
 
--- and the lock's words stay lawful
+-- and the lock words stay lawful
 abbrev pub EveryStoryEndsLawful : Type 0
 EveryStoryEndsLawful =
     (l : Layout) (limit : ℕ) (story : List Happening) → Story l limit at_first story
     → IsLawful l.procs limit (last_scene l limit at_first story).words
 
--- Words that outlive a crash of everything, and the judge's state that they tell of.
+-- Words that are possible after a crash of every process, with the judge's state that they describe.
 pub record IsLater (l : Layout) (limit : ℕ) (words : ℕ → Own) (cells : Words) (s : State) : Type 0 where
   pub lawful : IsLawful l.procs limit words
   pub lock : s.lock ≡ start_of words
@@ -78,7 +80,7 @@ pub record IsLater (l : Layout) (limit : ℕ) (words : ℕ → Own) (cells : Wor
   pub cap : s.cap ≡ l.cap
   pub sits : Sits l cells s
 
--- the same from such words, which stay lawful, and the whole list of deeds is legal from there
+-- the same from such words: they stay lawful, and the list of all deeds is legal from there
 abbrev pub EveryLaterStoryIsSound : Type 0
 EveryLaterStoryIsSound =
     (l : Layout) (limit : ℕ) (words : ℕ → Own) (cells : Words) (s : State) (story : List Happening) → IsLayout l → IsLater l limit words cells s

@@ -1,6 +1,5 @@
--- How many steps a call takes beside those that were blocked, by its answer: the table of own steps. It goes by the words of
--- the caller at the start of the call, and for an unlock by whether the holder was mended. None: such a call never comes to
--- this answer.
+-- "Own steps of a call": the steps of a call by its answer, blocked ones not counted. They depend on the caller's words at
+-- the call's start. For an unlock they depend on whether the holder was mended. None: such a call never has this answer.
 use Rattle.std.specs.Prelude.{ℕ, ◌+◌, ◌*◌, Bool, true, false, if◌then◌else◌, Option, Some, None}
 use Rattle.rmecore.specs.OwnSteps.{own_steps as steps_of_core}
 use Rattle.rmecore.specs.declared.core_done.CoreDone.{CoreDone}
@@ -18,11 +17,12 @@ use Rattle.rmeworld.specs.declared.answer.Answer.TheVariants.{Clean, OwnerDied, 
 use Rattle.rmeworld.specs.declared.call.Call.{Call}
 use Rattle.rmeworld.specs.declared.call.Call.TheVariants.{Lock, Unlock, Consistent, Recover, Append, Close, Get, Put, Withdraw}
 
--- this many more
+-- k more
 abbrev pub and_more : ℕ → Option ℕ → Option ℕ
 and_more k None = None
 and_more k (Some x) = Some (x + k)
 
+-- the first number that exists
 abbrev pub either : Option ℕ → Option ℕ → Option ℕ
 either None o = o
 either (Some x) o = Some x
@@ -44,16 +44,18 @@ is_reply (task.BoardGet i) (reply.Word v) = true
 is_reply (task.BoardPut i v) reply.Done = true
 is_reply _ _ = false
 
+-- the mailbox's table, for a call of the mailbox or the board
 abbrev pub task_steps : Layout → Task → Reply → Option ℕ
 task_steps l t answer = if is_reply t answer then Some (steps_of l t answer) else None
 
+-- the mailbox's table, for `consistent`
 abbrev pub mending_steps : Layout → Reply → Option ℕ
 mending_steps l (reply.Mended repaired) = Some (consistent_steps l (reply.Mended repaired))
 mending_steps l (reply.Ruined true) = Some (consistent_steps l (reply.Ruined true))
 mending_steps l _ = None
 
--- the table: the words at the start, and whether the holder was mended. The ruin check is one step more after an entry, and
--- one that finds the lock ruined takes the two of the exit; an unmended holder ruins before its exit
+-- the table, by the words at the start and whether the holder was mended. After an entry the ruin check adds one step. If it
+-- finds the lock ruined, the exit adds two. An unmended holder puts ruined before its exit
 abbrev pub own_steps : Layout → Own → Bool → Call → Answer → Option ℕ
 own_steps l began mended Lock Clean = and_more 1 (core_steps l began core.In)
 own_steps l began mended Lock OwnerDied = and_more 1 (core_steps l began core.InAgain)
@@ -70,7 +72,7 @@ own_steps l began mended (Get i) (Mail answer) = task_steps l (task.BoardGet i) 
 own_steps l began mended (Put i v) (Mail answer) = task_steps l (task.BoardPut i v) answer
 own_steps _ _ _ _ _ = None
 
--- no such call takes more
+-- a bound for the steps of such a call
 abbrev pub most_steps : Layout → Call → ℕ
 most_steps l Lock = 3 * l.procs + 8
 most_steps l Recover = 4

@@ -1,5 +1,5 @@
--- How many steps a call has taken at a spot, beside those that were blocked: with those that are still to come they make the
--- number of the table of own steps.
+-- The steps that a call has taken in a process state, blocked ones not counted. Together with the steps still to take they
+-- are the number in the table of own steps.
 use Rattle.std.specs.Prelude.{◌≡◌, ℕ, ◌+◌, Bool, true, false, if◌then◌else◌, Option, Some, None}
 use Rattle.rmecore.specs.Paid.{Pays}
 use Rattle.rmecore.specs.Place.{Place}
@@ -18,27 +18,28 @@ use Rattle.rmeworld.specs.UnderWay.{lock_part}
 use Rattle.rmeworld.specs.declared.why.Why.{Why}
 use Rattle.rmeworld.specs.declared.why.Why.TheVariants.{Checking, Ruining, Mending, Working}
 
--- after so many steps a script ends with just the number that its reply has, whatever it reads
+-- a script that has taken this number of steps ends with exactly the number for its reply, whatever it reads
 abbrev pub Costs : (Reply → Option ℕ) → Script Reply → ℕ → Type 0
 Costs table (Asks i rest) steps = (v : ℕ) → Costs table (rest v) (steps + 1)
 Costs table (Writes i v rest) steps = Costs table rest (steps + 1)
 Costs table (Done reply) steps = table reply ≡ Some steps
 
--- a lock that is inside, with the ruin check: it came by the line, and is mended, or came in again
+-- the core's answer to a lock that entered: in line, and then it is mended, or again after a crash inside
 abbrev pub entry_of : Bool → CoreDone
 entry_of mended = if mended then In else InAgain
 
+-- the steps of a lock up to the end of its ruin check
 abbrev pub checked_steps : Layout → Own → Bool → Option ℕ
 checked_steps l began mended = and_more 1 (core_steps l began (entry_of mended))
 
--- the steps of a call up to the end of a script, by its reply
+-- the steps of a call up to the end of its script, by the reply
 abbrev pub script_steps : Layout → Own → Bool → Why → Reply → Option ℕ
 script_steps l began mended Checking reply = checked_steps l began mended
 script_steps l began mended Ruining reply = if mended then None else Some 1
 script_steps l began mended Mending reply = mending_steps l reply
 script_steps l began mended (Working t) reply = task_steps l t reply
 
--- the steps of a call before its exit: those of a lock that was turned away, or the put of a holder that ruins
+-- the steps of a call before its exit: those of a lock that found the lock ruined, or the put of a holder that ruins
 abbrev pub before_exit : Layout → Own → Bool → Bool → Option ℕ
 before_exit l began mended true = checked_steps l began mended
 before_exit l began mended false = Some (if mended then 0 else 1)
@@ -46,12 +47,12 @@ before_exit l began mended false = Some (if mended then 0 else 1)
 abbrev pub PaysCore : Layout → Own → Place → ℕ → Type 0
 PaysCore l began s steps = Pays l.procs began.choosing began.number began.inside s steps
 
--- so many steps before the exit, and those that the exit has taken
+-- the steps before the exit, and those of the exit so far
 abbrev pub Exits : Layout → Own → Option ℕ → Place → ℕ → Type 0
 Exits l began None s steps = ⊥
 Exits l began (Some before) s steps = (x : ℕ) × PaysCore l began s x × (steps ≡ before + x)
 
--- the lock's part of a call. Where no call is under way nothing is said
+-- the lock's part of a call. Where no call is under way it says nothing
 abbrev pub PaysPart : Layout → Own → Option CoreCall → Place → Bool → Bool → ℕ → Type 0
 PaysPart l began None s mended barred steps = Unit {0}
 PaysPart l began (Some core_call.Unlock) s mended barred steps = Exits l began (before_exit l began mended barred) s steps
@@ -61,6 +62,6 @@ abbrev pub PaysBy : Layout → Own → Place → Bool → Bool → Errand → �
 PaysBy l began s mended barred Free steps = PaysPart l began (lock_part s) s mended barred steps
 PaysBy l began s mended barred (Doing why left) steps = (barred ≡ false) × HasStep left × Costs (script_steps l began mended why) left steps
 
--- the call under way at this spot, begun with these words, has taken so many steps
+-- the call under way in this process state, begun with these words, has taken this number of steps
 abbrev pub PaysAt : Layout → Own → Spot → ℕ → Type 0
 PaysAt l began spot steps = PaysBy l began spot.lock spot.mended spot.barred spot.errand steps

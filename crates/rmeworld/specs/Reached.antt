@@ -1,4 +1,4 @@
--- Worlds that some story comes to, and the images that stories leave.
+-- Worlds at the end of an execution, and their images.
 use Rattle.std.specs.Prelude.{◌≡◌, ℕ, ◌≤◌, ◌^◌, ◌⊎◌, nat_lt, if◌then◌else◌, List, length}
 use Rattle.rmecore.specs.Simulated.{own_at}
 use Rattle.rmecore.specs.declared.own.Own.{Own}
@@ -16,17 +16,17 @@ use Rattle.rmeworld.specs.World.{Scene, at_first, Story, last_scene, deeds}
 use Rattle.rmeworld.specs.WorldState.{WorldState, IsSeated, scene_of}
 use Rattle.rmeworld.specs.declared.image.Image.{Image}
 
--- these words, and each of the n processes crashed
+-- these words, with each of the n processes crashed
 abbrev pub crashed_scene : ℕ → (ℕ → Own) → Words → Scene
 crashed_scene n words cells = record { words = words; cells = cells; spots = λ p. if nat_lt p n then dead else at_rest }
 
--- the first scene, with the judge's state where its history begins: of a new world, or of one whose processes have all
--- crashed, with words that may outlive that
+-- a global state at the beginning of an execution, with the judge's state there: that of a new world, or one whose processes
+-- have all crashed, with words that are possible after that
 abbrev pub IsOrigin : Layout → ℕ → Scene → State → Type 0
 IsOrigin l limit w s =
     ((w ≡ at_first) × (s ≡ empty l.procs l.cap)) ⊎ ((w ≡ crashed_scene l.procs w.words w.cells) × IsLater l limit w.words w.cells s)
 
--- The image holds the words of all processes and the data words of this scene, with its sizes.
+-- The image has the words of this global state, and its sizes.
 pub record IsImageOf (l : Layout) (limit : ℕ) (w : Scene) (i : Image) : Type 0 where
   pub version : i.version ≡ 2
   pub layout : layout_of i ≡ l
@@ -35,13 +35,13 @@ pub record IsImageOf (l : Layout) (limit : ℕ) (w : Scene) (i : Image) : Type 0
   pub words : own_at i.lock ≡ w.words
   pub cells : words_of i.cells ≡ w.cells
 
--- Wherever a story comes to, the words of all processes with the data words keep the nine rules of images.
+-- After every execution, the words of all processes and the data words keep the nine rules of images.
 abbrev pub EveryStoryLeavesAnImage : Type 0
 EveryStoryLeavesAnImage =
     (l : Layout) (limit : ℕ) (w : Scene) (s : State) (story : List Happening) (i : Image) → IsSize l → (1 ≤ limit) × (limit ≤ 2 ^ 62)
     → IsOrigin l limit w s → Story l limit w story → IsImageOf l limit (last_scene l limit w story) i → IsLawfulImage i
 
--- The scene is the last of some story, and the history is the story's deeds.
+-- The global state is the last of some execution, and the history is the execution's deeds.
 pub record IsReached (l : Layout) (limit : ℕ) (w : Scene) (history : List Deed) : Type 0 where
   pub first : Scene
   pub state : State
@@ -51,7 +51,7 @@ pub record IsReached (l : Layout) (limit : ℕ) (w : Scene) (history : List Deed
   pub last : last_scene l limit first story ≡ w
   pub done : deeds l limit first story ≡ history
 
--- What a world keeps.
+-- The invariant of a world.
 pub record IsWorld (s : WorldState) : Type 0 where
   pub sized : IsSize s.layout
   pub limited : (1 ≤ s.limit) × (s.limit ≤ 2 ^ 62)
@@ -60,7 +60,7 @@ pub record IsWorld (s : WorldState) : Type 0 where
   pub reached : IsReached s.layout s.limit (scene_of s) s.history
   pub tallied : AllTallied s.layout (scene_of s) s.tallies
 
--- The history is legal by the whole judge table, from the state where the world began.
+-- The judge table allows the history, from the state of the world's beginning.
 pub record IsLegalHistory (s : WorldState) : Type 0 where
   pub first : Scene
   pub state : State

@@ -1,4 +1,4 @@
--- Which start is refused, and why: of the causes of its call, the first that holds.
+-- Which starts are refused, and why: the first cause of the call that holds.
 use Rattle.std.specs.Prelude.{Bool, true, false, not, ◌==◌, nat_lt, length, if◌then◌else◌, List, [], ◌∷◌, Option, Some, None}
 use Rattle.rmecore.specs.Place.{Place, Wait, Inside}
 use Rattle.rmecore.specs.Refused.{is_idle as is_idle_place}
@@ -25,10 +25,11 @@ abbrev pub is_waiting : Place → Bool
 is_waiting (Wait k unpassed looked) = true
 is_waiting _ = false
 
+-- a list of tests, each with its refusal
 abbrev pub Needs : Type 0
 Needs = List (Bool × Refusal)
 
--- what a call needs at its start, in order, each with the refusal where it fails
+-- the needs of a call at its start, in order, each with its refusal
 abbrev pub needs : Layout → Spot → Call → Needs
 needs l spot Lock = (is_idle spot, CallUnderWay) ∷ (not (is_inside spot.lock), AlreadyIn) ∷ []
 needs l spot Recover = (is_idle spot, CallUnderWay) ∷ (not (is_inside spot.lock), AlreadyIn) ∷ []
@@ -46,6 +47,6 @@ abbrev pub first_cause : Needs → Option Refusal
 first_cause [] = None
 first_cause (need ∷ rest) = if need.0 then first_cause rest else Some need.1
 
--- why a process at this spot may not start the call
+-- why a process in this state may not start the call
 abbrev pub start_refusal : Layout → Spot → Call → Option Refusal
 start_refusal l spot call = first_cause (needs l spot call)

@@ -1,4 +1,4 @@
--- A world as a machine: why its calls are refused, what they answer, and what they leave.
+-- A world as a machine ("Replay clause"): which calls are refused, their results, and the state after each.
 use Rattle.std.specs.Prelude.{ℕ, nat_lt, if◌then◌else◌, List, [], ◌∷◌, ◌++◌, slice_set, Option, Some, None}
 use Rattle.rmecore.specs.Machine.{kind_of, word_of, carried}
 use Rattle.rmecore.specs.Simulated.{own_at, tally_at, counted, fresh}
@@ -27,10 +27,11 @@ use Rattle.rmeworld.specs.Stand.{Stand, next_access, outcome, stepped as stand_s
 use Rattle.rmeworld.specs.World.{reading, put_deeds, event_deeds}
 use Rattle.rmeworld.specs.WorldState.{WorldState, stand_at, spot_at, scene_of}
 
+-- the refusal of a start
 abbrev pub start_refusal : WorldState → ℕ → Call → Option Refusal
 start_refusal s p call = if nat_lt p s.layout.procs then spot_refusal s.layout (spot_at s.processes p) call else Some NoSuchProcess
 
--- the call is under way, and nothing of it is counted yet
+-- the call is under way, with counts of 0
 abbrev pub started : WorldState → ℕ → Call → WorldState
 started s p call =
     record s {
@@ -38,6 +39,7 @@ started s p call =
       tallies = slice_set s.tallies p (fresh (own_at s.words p));
     }
 
+-- the refusal of a step
 abbrev pub advance_refusal : WorldState → ℕ → Option Refusal
 advance_refusal s p = if nat_lt p s.layout.procs then (if is_idle (spot_at s.processes p) then Some NothingToDo else None) else Some NoSuchProcess
 
@@ -45,6 +47,7 @@ advance_refusal s p = if nat_lt p s.layout.procs then (if is_idle (spot_at s.pro
 abbrev pub value_of : WorldState → Access → ℕ
 value_of s a = carried a (reading (scene_of s) (word_of a))
 
+-- the world event of an access
 abbrev pub happening : WorldState → ℕ → Access → Happening
 happening s p a = Moves p (kind_of a) (word_of a) (value_of s a)
 
@@ -59,6 +62,7 @@ abbrev pub cells_set : List ℕ → Word → ℕ → List ℕ
 cells_set cells (DataAt i) v = slice_set cells i v
 cells_set cells word v = cells
 
+-- the words after an access
 abbrev pub words_by : List Own → Access → List Own
 words_by words (Load kind word) = words
 words_by words (Store kind word v) = words_set words word v
@@ -67,34 +71,35 @@ abbrev pub cells_by : List ℕ → Access → List ℕ
 cells_by cells (Load kind word) = cells
 cells_by cells (Store kind word v) = cells_set cells word v
 
--- the deeds of the put that an access is
+-- the mailbox deeds of an access that is a put
 abbrev pub mail_by : Layout → ℕ → Words → Access → List Deed
 mail_by l p cells (Load kind word) = []
 mail_by l p cells (Store kind word v) = put_deeds l p cells word v
 
--- the deed of the lock, or else these
+-- the deed of the lock, or else these deeds
 abbrev pub or_else : Option Outer → List Deed → List Deed
 or_else None deeds = deeds
 or_else (Some d) deeds = OuterDeed d ∷ []
 
--- a list of at most one
+-- a list of at most one deed
 abbrev pub list_of : Option Deed → List Deed
 list_of None = []
 list_of (Some d) = d ∷ []
 
+-- the first deed of a list
 abbrev pub the_deed : List Deed → Option Deed
 the_deed [] = None
 the_deed (d ∷ ds) = Some d
 
--- the deeds of an access that is this for its process
+-- the deeds of an access with these effects for its process
 abbrev pub prospect_of : WorldState → ℕ → Access → Outcome → List Deed
 prospect_of s p a o = or_else o.progress.outer (mail_by s.layout p (words_of s.cells) a)
 
--- the deeds of an access that a process may take next, with the value that it finds
+-- the deeds of a process's access, with the value that it finds
 abbrev pub deeds_ahead : Stand → Words → Access → ℕ → List Deed
 deeds_ahead s cells a v = or_else (outcome s (Some a) v).progress.outer (mail_by s.layout s.index cells a)
 
--- what this access tells
+-- the report of this access
 abbrev pub stepped_by : WorldState → ℕ → Access → Stepped
 stepped_by s p a =
     let o = outcome (stand_at s.processes p) (Some a) (reading (scene_of s) (word_of a)) in
@@ -104,7 +109,7 @@ stepped_by s p a =
       answer = o.answer;
     }
 
--- and what it leaves
+-- the world after this access
 abbrev pub advanced_by : WorldState → ℕ → Access → WorldState
 advanced_by s p a =
     let v = reading (scene_of s) (word_of a) in
@@ -116,11 +121,11 @@ advanced_by s p a =
       history = s.history ++ event_deeds s.layout (scene_of s) (happening s p a);
     }
 
--- what stands for a step where there is none
+-- the default report, where there is no step
 abbrev pub no_step : Stepped
 no_step = record { happened = record { kind = Glance; word = DataAt 0; value = 0; outer = None; done = None }; deed = None; answer = None }
 
--- what a load tells that is no deed and ends no call
+-- the report of a silent load
 abbrev pub quiet_step : Access → ℕ → Stepped
 quiet_step a v = record { happened = record { kind = kind_of a; word = word_of a; value = v; outer = None; done = None }; deed = None; answer = None }
 
@@ -132,28 +137,31 @@ abbrev pub advanced_if : WorldState → ℕ → Option Access → WorldState
 advanced_if s p None = s
 advanced_if s p (Some a) = advanced_by s p a
 
--- the next step of p
+-- the report of p's next step, and the world after it
 abbrev pub stepped : WorldState → ℕ → Stepped
 stepped s p = stepped_if s p (next_access (stand_at s.processes p))
 
 abbrev pub advanced : WorldState → ℕ → WorldState
 advanced s p = advanced_if s p (next_access (stand_at s.processes p))
 
+-- the refusal of a crash
 abbrev pub crash_refusal : WorldState → ℕ → Option Refusal
 crash_refusal s p = if nat_lt p s.layout.procs then None else Some NoSuchProcess
 
+-- the deed of a crash
 abbrev pub crash_deed : ℕ → Deed
 crash_deed p = OuterDeed (Crash p)
 
+-- the world after a crash
 abbrev pub crashed : WorldState → ℕ → WorldState
 crashed s p =
     record s { processes = slice_set s.processes p (stand_crashed (stand_at s.processes p)); history = s.history ++ crash_deed p ∷ [] }
 
--- the words that stand, with the sizes
+-- the current words, with the sizes
 abbrev pub image_of : WorldState → Image
 image_of s = record { cap = s.layout.cap; cells = s.cells; limit = s.limit; lock = s.words; version = 2; width = s.layout.width }
 
--- all of it
+-- the behaviour of a world
 abbrev pub world_behaviour : Behaviour WorldState
 world_behaviour =
     record {

@@ -1,6 +1,6 @@
--- Where the mailbox's contents come from: each message shown was one that its sender was asked to append, with this number
--- and this value; a closed mailbox was asked to be closed, a ruined lock was left by a holder that hadn't mended it. And what
--- an append that stores nothing tells of the mailbox.
+-- Where the mailbox's contents come from. Each message shown is one that its sender began to append, with this number and
+-- value. If the mailbox is closed, some process began to close it. If the lock is ruined, a holder that had not mended began
+-- to unlock. And what an append that stores nothing says of the mailbox.
 use Rattle.std.specs.Prelude.{◌≡◌, ◌≢◌, ℕ, ◌-◌, true, false, List, [], ◌∷◌, ◌++◌, length, Some, All, Contains, ◌⊎◌}
 use Rattle.rmecore.specs.declared.kind.Kind.{Kind}
 use Rattle.rmecore.specs.declared.word.Word.{Word}
@@ -23,70 +23,74 @@ use Rattle.rmeworld.specs.declared.answer.Answer.TheVariants.{Mail}
 use Rattle.rmeworld.specs.declared.call.Call.TheVariants.{Unlock, Append, Close}
 use Rattle.rmeworld.specs.declared.why.Why.TheVariants.{Working}
 
--- the judge's mailbox after the deeds of a story
+-- the judge's mailbox after the deeds of an execution
 abbrev pub mail_after : Layout → ℕ → List Happening → Mailbox
 mail_after l limit story = (all_after (empty l.procs l.cap) (deeds l limit at_first story)).mail
 
--- its sender began to append just this message, with this number and value
+-- its sender began to append this message, with this number and value
 abbrev pub IsSent : List Happening → Message → Type 0
 IsSent story m = Contains story (Begins m.sender (Append m.seq m.value))
 
--- p began to unlock where it stood as a holder that came in again and hadn't mended
+-- p began to unlock as a holder that had entered again and had not mended
 pub record IsLeftUnmended (l : Layout) (limit : ℕ) (story : List Happening) (p : ℕ) : Type 0 where
   pub front : List Happening
   pub back : List Happening
   pub split : story ≡ front ++ Begins p Unlock ∷ back
   pub unmended : ((last_scene l limit at_first front).spots p).mended ≡ false
 
--- what a deed of the mailbox was asked for by
+-- the start of the call that a deed of the mailbox belongs to
 abbrev pub IsAsked : Layout → ℕ → List Happening → Deed → Type 0
 IsAsked l limit story (deed.Commit p seq v) = Contains story (Begins p (Append seq v))
 IsAsked l limit story (deed.Close p) = Contains story (Begins p Close)
 IsAsked l limit story (deed.Ruin p) = IsLeftUnmended l limit story p
 IsAsked l limit story _ = Unit {0}
 
+-- each deed of the mailbox belongs to the start of such a call
 abbrev pub EveryDeedWasAsked : Type 0
 EveryDeedWasAsked =
     (l : Layout) (limit : ℕ) (story : List Happening) → IsLayout l → Story l limit at_first story → All (IsAsked l limit story) (deeds l limit at_first story)
 
+-- each message shown is one that its sender began to append
 abbrev pub EveryMessageWasSent : Type 0
 EveryMessageWasSent =
     (l : Layout) (limit : ℕ) (story : List Happening) → IsLayout l → Story l limit at_first story → All (IsSent story) (mail_after l limit story).shown
 
+-- if the mailbox is closed, some process began to close it
 abbrev pub EveryCloseWasAsked : Type 0
 EveryCloseWasAsked =
     (l : Layout) (limit : ℕ) (story : List Happening) → IsLayout l → Story l limit at_first story → (mail_after l limit story).closed ≡ true
     → (p : ℕ) × Contains story (Begins p Close)
 
--- the data word 0 tells that the lock is ruined
+-- if the lock is ruined (data word 0), some holder began to unlock before it had mended
 abbrev pub EveryRuinWasAsked : Type 0
 EveryRuinWasAsked =
     (l : Layout) (limit : ℕ) (story : List Happening) → IsLayout l → Story l limit at_first story → (last_scene l limit at_first story).cells 0 ≢ 0
     → (p : ℕ) × IsLeftUnmended l limit story p
 
--- What the reply of an append by p with this number tells of the mailbox then and there: full, with the number not among
--- p's; closed, and so too; or the number is 0, or that before it isn't among p's. That after Stored and Already the number
--- is among p's is told by the lock theorem.
+-- What the reply of p's append with this number says of the mailbox at that step. Full: it is full, and the number is not
+-- among p's. Closed: it is closed, and the number is not among p's. OutOfOrder: the number is 0, or the one before it is not
+-- among p's. For Stored and Already see the lock theorem.
 abbrev pub ReplyTells : Layout → ℕ → ℕ → Reply → Mailbox → Type 0
 ReplyTells l p seq Full m = (length m.shown ≡ l.cap) × (IsAmong p seq m.shown → ⊥)
 ReplyTells l p seq Closed m = (m.closed ≡ true) × (IsAmong p seq m.shown → ⊥)
 ReplyTells l p seq OutOfOrder m = (seq ≡ 0) ⊎ (IsAmong p (seq - 1) m.shown → ⊥)
 ReplyTells l p seq _ m = Unit {0}
 
--- this step, at this spot, ends an append with this number, with this reply
+-- this step, from this process state, ends an append with this number and reply
 pub record EndsAppend (spot : Spot) (kind : Kind) (v seq : ℕ) (reply : Reply) : Type 0 where
   pub value : List ℕ
   pub left : Script Reply
   pub append : spot.errand ≡ Doing (Working (task.Append seq value)) left
   pub answer : answer_at spot kind v ≡ Some (Mail reply)
 
+-- the reply of an append is right about the mailbox at its last step
 abbrev pub RepliesTell : Type 0
 RepliesTell =
     (l : Layout) (limit : ℕ) (front : List Happening) (p : ℕ) (kind : Kind) (word : Word) (v : ℕ) (back : List Happening) (seq : ℕ) (reply : Reply) → IsLayout l
     → Story l limit at_first (front ++ Moves p kind word v ∷ back) → EndsAppend ((last_scene l limit at_first front).spots p) kind v seq reply
     → ReplyTells l p seq reply (mail_after l limit (front ++ Moves p kind word v ∷ []))
 
--- what an append was given that is answered Stored is shown from then on, with its value
+-- an append that is answered Stored has its message shown from then on, with its value
 abbrev pub StoredIsShown : Type 0
 StoredIsShown =
     (l : Layout) (limit : ℕ) (front : List Happening) (p : ℕ) (kind : Kind) (word : Word) (v : ℕ) (back : List Happening) (seq : ℕ) → IsLayout l

@@ -1,4 +1,4 @@
--- What a world counts of a call is its own steps of the table, with the blocked ones.
+-- A world's counts agree with the table of own steps: the table's number plus the blocked steps.
 use Rattle.std.specs.Prelude.{◌≡◌, ℕ, ◌+◌, ◌<◌, List, Some}
 use Rattle.rmecore.specs.Simulated.{tally_at}
 use Rattle.rmecore.specs.Tallied.{IsExact, IsRereading}
@@ -13,20 +13,20 @@ use Rattle.rmeworld.specs.World.{Scene}
 use Rattle.rmeworld.specs.declared.answer.Answer.{Answer}
 use Rattle.rmeworld.specs.declared.call.Call.{Call}
 
--- the call that ended with this answer, by a step from this spot, has taken exactly the steps of the table, and those that
--- were blocked
+-- a call that ended with this answer, by a step from this process state, took exactly the table's steps and the blocked ones
 abbrev pub HasTaken : Layout → Spot → Tally → Answer → Type 0
 HasTaken l spot t a =
     (call : Call) × (call_at spot ≡ Some call) × ((x : ℕ) × (own_steps l t.began spot.mended call a ≡ Some x) × (t.steps ≡ x + t.blocked))
 
--- a call under way at this spot has taken exactly the steps that come before, and those that were blocked
+-- a call under way in this process state has taken exactly the steps before it and the blocked ones
 abbrev pub IsTaking : Layout → Spot → Tally → Type 0
 IsTaking l spot t = (x : ℕ) × PaysAt l t.began spot x × (t.steps ≡ x + t.blocked)
 
--- what holds of the tally of a process with these words at this spot
+-- the invariant of a process's counts, with these words in this process state
 pub record IsTallied (l : Layout) (own : Own) (spot : Spot) (t : Tally) : Type 0 where
   pub began : IsRereading spot.lock → t.began ≡ own
   pub taking : IsExact t → IsTaking l spot t
 
+-- the invariant of the counts of all processes
 abbrev pub AllTallied : Layout → Scene → List Tally → Type 0
 AllTallied l w tallies = (p : ℕ) → p < l.procs → IsTallied l (w.words p) (w.spots p) (tally_at tallies p)

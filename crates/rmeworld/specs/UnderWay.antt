@@ -1,4 +1,4 @@
--- The call that is under way at a spot, told by the spot alone.
+-- The call under way in a process state.
 use Rattle.std.specs.Prelude.{Bool, true, false, Option, Some, None}
 use Rattle.rmecore.specs.Place.{Place, Reread, Opening, Door, Shutting, Wait, Leaving, Withdrawing, Unmarking}
 use Rattle.rmecore.specs.declared.core_call.CoreCall.{CoreCall}
@@ -11,7 +11,7 @@ use Rattle.rmeworld.specs.declared.why.Why.{Why}
 use Rattle.rmeworld.specs.declared.why.Why.TheVariants.{Checking, Ruining, Mending, Working}
 use Rattle.rmeworld.specs.Spot.{Errand, Free, Doing, Spot}
 
--- the lock's part that stands at a place. Unlock is the exit
+-- the call of the lock's part at a place. Unlock is the exit
 abbrev pub lock_part : Place → Option CoreCall
 lock_part (Reread core.Lock seen) = Some core.Lock
 lock_part (Reread _ seen) = Some core.Recover
@@ -27,7 +27,7 @@ lock_part Leaving = Some core.Unlock
 lock_part Withdrawing = Some core.Withdraw
 lock_part _ = None
 
--- the call that it belongs to. A lock that was turned away takes the exit too
+-- the call that it belongs to. A lock that found the lock ruined takes the exit too
 abbrev pub part_call : Option CoreCall → Bool → Option Call
 part_call None barred = None
 part_call (Some core.Lock) barred = Some Lock
@@ -36,6 +36,7 @@ part_call (Some core.Withdraw) barred = Some Withdraw
 part_call (Some core.Unlock) true = Some Lock
 part_call (Some core.Unlock) false = Some Unlock
 
+-- the call of a task, and of a script's purpose
 abbrev pub task_call : Task → Option Call
 task_call (task.Append seq value) = Some (Append seq value)
 task_call task.Close = Some Close
@@ -53,6 +54,6 @@ abbrev pub call_by : Place → Bool → Errand → Option Call
 call_by s barred Free = part_call (lock_part s) barred
 call_by s barred (Doing why left) = why_call why
 
--- no call is under way at rest, after a crash, or inside with nothing to do
+-- no call is under way at rest, after a crash, or inside without a job
 abbrev pub call_at : Spot → Option Call
 call_at spot = call_by spot.lock spot.barred spot.errand

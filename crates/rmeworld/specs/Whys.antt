@@ -1,4 +1,4 @@
--- The task that a script on the data words is. Consistent asks before it whether the lock is ruined.
+-- The task of a script's purpose. `consistent` first reads whether the lock is ruined.
 use Rattle.redomail.specs.declared.task.Task.{Task}
 use Rattle.redomail.specs.declared.task.Task.TheVariants.{Check, Ruin, Repair}
 use Rattle.rmeworld.specs.declared.why.Why.{Why}

@@ -1,4 +1,5 @@
--- All processes with their lock words, and the data words; which happenings may come, what they leave, and their deeds.
+-- "World" and "Run": all processes with their lock words, and the data words. An execution is a list of events, each allowed
+-- after those before it. Here are the events that are allowed, the global state after each, and their deeds.
 use Rattle.std.specs.Prelude.{◌≡◌, ℕ, ◌<◌, false, ◌==◌, nat_lt, if◌then◌else◌, List, [], ◌∷◌, ◌++◌, Option, Some, None, IsSome, unwrap_or}
 use Rattle.rmecore.specs.Needs.{put}
 use Rattle.rmecore.specs.World.{is_store, read, write}
@@ -13,6 +14,7 @@ use Rattle.redomail.specs.Layout.{Words, size}
 use Rattle.redomail.specs.Deeds.{deeds_of_put}
 use Rattle.rmeworld.specs.Spot.{Spot, at_rest, dead, Happening, Moves, Glances, who, next_spot, outer}
 
+-- a global state: the lock words, the data words and the states of all processes
 pub record Scene : Type 0 where
   pub words : ℕ → Own
   pub cells : Words
@@ -22,7 +24,7 @@ pub record Scene : Type 0 where
 abbrev pub at_first : Scene
 at_first = record { words = λ p. record { choosing = 0; number = 0; inside = 0 }; cells = λ i. 0; spots = λ p. at_rest }
 
--- these words, and every process crashed
+-- these words, with every process crashed
 abbrev pub all_dead : (ℕ → Own) → Words → Scene
 all_dead words cells = record { words = words; cells = cells; spots = λ p. dead }
 
@@ -30,16 +32,17 @@ abbrev pub reading_of : (ℕ → Own) → Words → Word → ℕ
 reading_of words cells (DataAt i) = cells i
 reading_of words cells word = read words word
 
+-- the current value of a word
 abbrev pub reading : Scene → Word → ℕ
 reading w word = reading_of w.words w.cells word
 
--- a load reads the word as it stands
+-- a load reads the word's current value
 abbrev pub Reads : Scene → Happening → Type 0
 Reads w (Moves p kind word v) = is_store kind ≡ false → reading w word ≡ v
 Reads w (Glances p word v) = reading w word ≡ v
 Reads w _ = Unit {0}
 
--- a store changes just its word, and nothing else does
+-- a store changes its own word alone. No other event changes a word
 abbrev pub words_after : (ℕ → Own) → Happening → ℕ → Own
 words_after words (Moves p kind word v) = if is_store kind then write words word v else words
 words_after words _ = words
@@ -49,14 +52,16 @@ abbrev pub put_cell : Layout → Words → Word → ℕ → Words
 put_cell l cells (DataAt i) v = if nat_lt i (size l) then put cells i v else cells
 put_cell l cells word v = cells
 
+-- the data words after an event
 abbrev pub cells_after : Layout → Words → Happening → Words
 cells_after l cells (Moves p kind word v) = if is_store kind then put_cell l cells word v else cells
 cells_after l cells _ = cells
 
--- a happening may come where its process allows it and the memory agrees
+-- an event is allowed if its process's state allows it and a load reads the current value
 abbrev pub Can : Layout → ℕ → Scene → Happening → Type 0
 Can l limit w e = (who e < l.procs) × IsSome (next_spot l limit (w.spots (who e)) e) × Reads w e
 
+-- the global state after an event
 abbrev pub onward : Layout → ℕ → Scene → Happening → Scene
 onward l limit w e =
     record {
@@ -65,12 +70,12 @@ onward l limit w e =
       spots = put w.spots (who e) (unwrap_or (next_spot l limit (w.spots (who e)) e) (w.spots (who e)));
     }
 
--- a run of the world: each happening may come after those before it
+-- "Run": each event is allowed after those before it
 abbrev pub Story : Layout → ℕ → Scene → List Happening → Type 0
 Story l limit w [] = Unit {0}
 Story l limit w (e ∷ es) = Can l limit w e × Story l limit (onward l limit w e) es
 
--- the scene after a story
+-- the global state after an execution
 abbrev pub last_scene : Layout → ℕ → Scene → List Happening → Scene
 last_scene l limit w [] = w
 last_scene l limit w (e ∷ es) = last_scene l limit (onward l limit w e) es
@@ -79,29 +84,31 @@ abbrev pub outer_deeds : Option Outer → List Deed
 outer_deeds None = []
 outer_deeds (Some d) = OuterDeed d ∷ []
 
--- the deeds of a put of a data word
+-- the deeds of a put into a data word
 abbrev pub put_deeds : Layout → ℕ → Words → Word → ℕ → List Deed
 put_deeds l p cells (DataAt i) v = deeds_of_put l p cells i v
 put_deeds l p cells word v = []
 
+-- the deeds of an event that is a put
 abbrev pub mail_deeds : Layout → Words → Happening → List Deed
 mail_deeds l cells (Moves p kind word v) = if is_store kind then put_deeds l p cells word v else []
 mail_deeds l cells _ = []
 
--- the deeds of a happening, one at most: the lock's, or that of a put of a data word
+-- "Deeds of a run": an event has at most one, the lock's or that of a put
 abbrev pub event_deeds : Layout → Scene → Happening → List Deed
 event_deeds l w e = outer_deeds (outer (w.spots (who e)) e) ++ mail_deeds l w.cells e
 
--- all deeds of a story
+-- the deeds of an execution
 abbrev pub deeds : Layout → ℕ → Scene → List Happening → List Deed
 deeds l limit w [] = []
 deeds l limit w (e ∷ es) = event_deeds l w e ++ deeds l limit (onward l limit w e) es
 
--- a process's own happenings, and its spot after them
+-- the events of one process
 abbrev pub own_happenings : ℕ → List Happening → List Happening
 own_happenings p [] = []
 own_happenings p (e ∷ es) = if who e == p then e ∷ own_happenings p es else own_happenings p es
 
+-- the process state after a list of events
 abbrev pub spot_after : Layout → ℕ → Spot → List Happening → Spot
 spot_after l limit spot [] = spot
 spot_after l limit spot (e ∷ es) = spot_after l limit (unwrap_or (next_spot l limit spot e) spot) es

@@ -1,4 +1,4 @@
--- What contracts see of a world, and which scene it is.
+-- The state of a world as contracts see it, and its global state.
 use Rattle.std.specs.Prelude.{◌≡◌, ℕ, ◌<◌, ◌≤◌, ◌^◌, ◌&&◌, nat_lt, nat_le, List, [], ◌∷◌, ◌++◌, length, map, replicate, slice_index_or, zero, suc, ◌+◌, if◌then◌else◌, Option, Some, None, IsSome}
 use Rattle.rmecore.specs.Machine.{owner}
 use Rattle.rmecore.specs.Simulated.{zeros as zero_words, own_at, fresh}
@@ -17,6 +17,7 @@ use Rattle.rmeworld.specs.declared.image.Image.{Image}
 use Rattle.rmeworld.specs.ImageRules.{layout_of}
 use Rattle.rmeworld.specs.World.{Scene, Can, onward, event_deeds}
 
+-- a world: its sizes, its words, the machines and counts of its processes, and its history
 pub record WorldState : Type 0 where
   pub layout : Layout
   pub limit : ℕ
@@ -26,31 +27,34 @@ pub record WorldState : Type 0 where
   pub tallies : List Tally
   pub history : List Deed
 
--- what stands for a process that there is not
+-- the default for an index that is no process
 abbrev pub absent : Stand
 absent = resting (record { procs = 0; cap = 0; width = 0 }) 0 0
 
+-- the process at an index, and its state
 abbrev pub stand_at : List Stand → ℕ → Stand
 stand_at processes p = slice_index_or processes p absent
 
 abbrev pub spot_at : List Stand → ℕ → Spot
 spot_at processes p = spot_of (stand_at processes p)
 
+-- the global state of a world
 abbrev pub scene_of : WorldState → Scene
 scene_of s = record { words = own_at s.words; cells = words_of s.cells; spots = spot_at s.processes }
 
--- process p of a world of this size, with this limit
+-- process p of a world of these sizes, with this limit
 abbrev pub HasSeat : Layout → ℕ → ℕ → Stand → Type 0
 HasSeat l limit p s = (s.layout ≡ l) × (s.limit ≡ limit) × (s.index ≡ p)
 
--- each process has its own words, tally and seat
+-- the lists have one member for each process, in the order of their indices
 pub record IsSeated (l : Layout) (limit : ℕ) (words : List Own) (processes : List Stand) (tallies : List Tally) : Type 0 where
   pub words_each : length words ≡ l.procs
   pub processes_each : length processes ≡ l.procs
   pub tallies_each : length tallies ≡ l.procs
   pub seats : (p : ℕ) → p < l.procs → HasSeat l limit p (stand_at processes p)
 
--- The definition allows the happening, just that happens, and the history grows by just its deeds.
+-- The definition allows the event. The new global state is the one after it, and the history grows by the event's deeds
+-- alone.
 pub record Takes (old : WorldState) (e : Happening) (new : WorldState) : Type 0 where
   pub can : Can old.layout old.limit (scene_of old) e
   pub scene : scene_of new ≡ onward old.layout old.limit (scene_of old) e
@@ -58,15 +62,16 @@ pub record Takes (old : WorldState) (e : Happening) (new : WorldState) : Type 0 
   pub layout : new.layout ≡ old.layout
   pub limit : new.limit ≡ old.limit
 
+-- the event of a step's report
 abbrev pub happening_of : ℕ → Happened → Happening
 happening_of p h = Moves p h.kind h.word h.value
 
--- of the words that the definition leaves to choose from, that of the least process
+-- where "Step" leaves a choice of words, the one of the least process is taken
 abbrev pub ChoosesLeast : WorldState → ℕ → Happened → Type 0
 ChoosesLeast old p h =
     (word : Word) (v : ℕ) → IsSome (next_spot old.layout old.limit (spot_at old.processes p) (Moves p h.kind word v)) → owner h.word ≤ owner word
 
--- this many processes at rest, from p on
+-- n processes at rest, from p on
 abbrev pub at_rest_from : Layout → ℕ → ℕ → ℕ → List Stand
 at_rest_from l limit p zero = []
 at_rest_from l limit p (suc n) = resting l limit p ∷ at_rest_from l limit (p + 1) n
@@ -84,7 +89,7 @@ new_world l limit =
       history = [];
     }
 
--- why a world of this size isn't made. Want of memory is no such cause
+-- the refusal for a world of these sizes. Out of memory is not among them
 abbrev pub new_refusal : Layout → ℕ → Option Refusal
 new_refusal l limit =
     if nat_lt 0 l.procs && nat_le l.procs 64
@@ -95,12 +100,12 @@ new_refusal l limit =
     else Some BadLimit)
     else Some BadProcs
 
--- this many crashed processes, from p on
+-- n crashed processes, from p on
 abbrev pub crashed_from : Layout → ℕ → ℕ → ℕ → List Stand
 crashed_from l limit p zero = []
 crashed_from l limit p (suc n) = crashed (resting l limit p) ∷ crashed_from l limit (p + 1) n
 
--- the world of an image: its words, and every process crashed
+-- the world of an image: its words, with every process crashed
 abbrev pub image_world : Image → WorldState
 image_world i =
     record {

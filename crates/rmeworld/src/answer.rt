@@ -1,18 +1,18 @@
-//! What a call is answered.
+//! The answers of a process's calls.
 
 use redomail::Reply;
 use rmecore::Found;
 
-/// What a call is answered, with its last step.
+/// A call's answer. It comes with the call's last step.
 #[derive(Clone, Copy, Debug, PartialEq, Eq)]
 pub enum Answer {
-    /// Inside, and nothing is to be mended.
+    /// A lock: inside, with nothing to mend.
     Clean,
-    /// Inside again after a crash inside (POSIX: the owner died holding the lock).
+    /// A lock: inside again after a crash inside (POSIX: the owner died). The caller has to mend first.
     OwnerDied,
-    /// The numbers are spent; the process is at rest.
+    /// A lock: a number read in the doorway was the limit. The process is at rest.
     NumbersSpent,
-    /// The lock is ruined.
+    /// The lock is ruined, and the process does not hold it after a lock. After a `consistent` it still does.
     NotRecoverable,
     Unlocked,
     Found(Found),

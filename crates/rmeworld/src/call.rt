@@ -1,4 +1,4 @@
-//! What a process is asked for.
+//! The calls of a process.
 
 use rmecore::Body;
 
@@ -7,20 +7,20 @@ use rmecore::Body;
 pub enum Call {
     /// Enters the section, also after a crash. After a crash inside the answer is `OwnerDied`.
     Lock,
-    /// Leaves the section. One that came in again and has not mended ruins the lock.
+    /// Leaves the section. A holder that entered again and has not mended ruins the lock by it.
     Unlock,
-    /// Mends what a crash inside has left.
+    /// Mends the mailbox after a crash inside.
     Consistent,
-    /// Finds out where a crash has left the process, and goes no further than it must.
+    /// Finds out what the process was doing when it crashed. It never waits.
     Recover,
-    /// Stores a message with this number, from 1, and as many words as the world is wide.
+    /// Stores a message. `seq` is its sender's number for it, from 1. `value` has the world's width.
     Append { seq: u64, value: Body },
     /// Closes the mailbox.
     Close,
-    /// Reads a board word, 0 to 3.
+    /// Reads the board word at an index, 0 to 3.
     Get(u64),
-    /// Writes a board word, 0 to 3.
+    /// Writes a value (second) to the board word at an index (first), 0 to 3.
     Put(u64, u64),
-    /// Gives up a lock that waits, in its place.
+    /// Gives up a lock that waits. The call replaces that lock.
     Withdraw,
 }

@@ -5,7 +5,7 @@ ghost use Rattle.std.specs.Prelude.{◌≡◌};
 use std::fmt;
 use std::marker::Model;
 
-/// The data words of a world, by rising index. Contracts see them as a list.
+/// The data words of a world, by rising index. In contracts they are a list.
 #[derive(Drop)]
 pub struct Cells {
     words: Vec<u64>,
@@ -26,21 +26,21 @@ impl Model for Cells {
 }
 
 impl Cells {
-    /// These words. It takes no memory.
+    /// Takes over these words. It does not allocate.
     pub fn new(words: Vec<u64>) -> Cells
         ensures { result ≡ words.items }
     {
         Cells { words }
     }
 
-    /// The words, to be read.
+    /// The words, for reading.
     pub fn as_slice(&self) -> &[u64]
         ensures { result.now ≡ self.now }
     {
         self.words.as_slice()
     }
 
-    /// The words, given back. It takes no memory.
+    /// The words. It does not allocate.
     pub fn into_vec(self) -> Vec<u64>
         ensures { result.items ≡ self }
     {

@@ -1,4 +1,4 @@
-//! What a process has to do with the data words.
+//! The script state of a process: its job on the data words, if it has one.
 
 ghost use Rattle.std.specs.Prelude.{◌≡◌, None, IsTrue, if◌then◌else◌};
 ghost use Rattle.redomail.specs.Left.{begun, fed, left};
@@ -9,14 +9,14 @@ use crate::why::Why;
 use redomail::stage::Stage;
 use redomail::{Job, Layout, Task};
 
-/// What a process that is inside has to do with the data words next.
+/// The script state of a process that is inside. Free: it has no job on the data words.
 #[derive(Clone, Copy)]
 pub enum Errand {
     Free,
     Doing(Why, Job),
 }
 
-/// A task that a process of this size may be given.
+/// The job of a task that is not refused for this process.
 pub(crate) fn job(layout: Layout, sender: u64, task: Task) -> Job
     requires { refused layout sender task ≡ None }
     ensures { result ≡ begun layout sender task }
@@ -27,7 +27,7 @@ pub(crate) fn job(layout: Layout, sender: u64, task: Task) -> Job
     }
 }
 
-/// Behind an entry the ruin check comes next.
+/// Begins the ruin check after an entry by a lock.
 pub(crate) fn check_next(errand: &mut Errand, layout: Layout, index: u64, checks: bool)
     requires free { errand.old ≡ Errand.Free }
     requires fits { refused layout index Task.Check ≡ None }
@@ -38,7 +38,9 @@ pub(crate) fn check_next(errand: &mut Errand, layout: Layout, index: u64, checks
     }
 }
 
-/// Whether the next step of a job is likely to be no deed, with a step left behind it. Any answer is right.
+/// Whether the next step of a job is likely to be silent: no deed, and not the job's last step. A wrong guess costs time
+/// only.
+// Inline: one call a silent step.
 #[inline(always)]
 pub(crate) fn may_go_on(job: &Job) -> bool {
     match job.seam_stage() {
@@ -51,8 +53,9 @@ pub(crate) fn may_go_on(job: &Job) -> bool {
     }
 }
 
-/// Whether a job is seen at once to have a step left once it is fed with this word, as an append does at all steps but its
-/// last. The other tasks are short, or rare.
+/// Whether the job certainly has a step left after the step with this word. It is so for all steps of an append but the
+/// last. For other tasks the answer is false: they are short or rare.
+// Inline: one call a silent step.
 #[inline(always)]
 pub(crate) fn goes_on(job: &Job, word: u64) -> bool
     ensures { IsTrue result → HasStep (left (fed job.now word)) }

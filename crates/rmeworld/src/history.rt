@@ -1,4 +1,4 @@
-//! Room in the history of a world, and the deeds that are written down there.
+//! The world's history: reserving room for a deed, and appending it.
 
 ghost use Rattle.std.specs.Prelude.{◌≡◌, ◌<◌, ◌⊎◌, ◌++◌, is_some, true, IfErr, OnOk, OnErr, Some, vec_len, vec_capacity, length, []};
 ghost use Rattle.redomail.specs.Layout.{words_of, size};
@@ -10,7 +10,8 @@ use crate::process::Process;
 use redomail::Deed;
 use rmecore::{Access, Refusal};
 
-/// As `make_room`, where there is none yet.
+/// `make_room` where the history is full.
+// Apart: the history is seldom full.
 #[inline(never)]
 fn make_more_room(
     history: &mut Vec<Deed>,
@@ -33,8 +34,8 @@ fn make_more_room(
     Ok(())
 }
 
-/// Room for the deed of a step of a process, where it is one. What the step will be is worked out only where there is no
-/// room yet.
+/// Reserves room for the deed that the next step may do. Only if the history is full is the step worked out in advance.
+/// `OutOfMemory`: the room could not be reserved, and nothing changed.
 pub fn make_room(
     history: &mut Vec<Deed>,
     process: &Process,
@@ -55,7 +56,7 @@ pub fn make_room(
     make_more_room(history, process, cells, access, found)
 }
 
-/// Writes a deed down, if there is one. There is room for it.
+/// Appends the deed, if there is one. It does not allocate.
 pub fn note(history: &mut Vec<Deed>, deed: &Option<Deed>)
     requires { is_some deed.now ≡ true → vec_len history.old < vec_capacity history.old }
     ensures { history.new.items ≡ history.old.items ++ list_of deed.now }

@@ -1,4 +1,4 @@
-//! What outlives a crash of everything.
+//! Images: all that survives a crash of every process.
 
 pub mod beginning;
 mod form;
@@ -12,20 +12,20 @@ use crate::cells::Cells;
 use crate::owns::Owns;
 use std::fmt;
 
-/// The words of a world with its sizes: all that outlives a crash of everything.
+/// The words of a world with its sizes: all that survives a crash of every process.
 #[derive(Drop)]
 pub struct Image {
-    /// How many messages the mailbox holds.
+    /// The mailbox's capacity in messages.
     pub cap: u64,
     /// The data words.
     pub cells: Cells,
-    /// The greatest number that a process can take.
+    /// The greatest number that a process may take.
     pub limit: u64,
-    /// The lock words, a process after the other.
+    /// The lock words, by rising process.
     pub lock: Owns,
-    /// The version of the image's text: 2, or 1 of one that was read in that form.
+    /// The version of the image's text: 2, or 1 if it was read from a text of version 1.
     pub version: u64,
-    /// How many words a message's value has.
+    /// The number of words in a message's value, 1 to 8.
     pub width: u64,
 }
 

@@ -1,5 +1,5 @@
-//! Laws over every story of a world: every list of happenings, of any number of processes, in which each may come after
-//! those before it. Each is the contract of a function that does nothing.
+//! Laws over every execution of a world: every list of events, of any number of processes, in which each event is allowed
+//! after those before it. Each law is the contract of a function.
 
 ghost use Rattle.std.specs.Prelude.{◌≡◌, ℕ, false, List, [], ◌∷◌, ◌++◌, length, None};
 ghost use Rattle.rmecore.specs.Paid.{is_glance};
@@ -28,10 +28,10 @@ use crate::image::Image;
 use judge::Start;
 use redomail::Layout;
 
-/// The lock theorem. The deeds of every story are allowed by the judge, one after another, and so the whole list is legal;
-/// the data words keep their shape; an append that is answered Stored or Already has its number among the messages shown;
-/// and the lock words stay lawful. The same from any lawful words with every process crashed. From either origin, the words
-/// of all processes with the data words make a lawful image (`image`).
+/// The lock theorem. In every execution the judge allows each deed, so the list of all deeds is legal. The data words keep
+/// their shape. If an append is answered Stored or Already, its number is among the messages shown. The lock words stay
+/// lawful. The same holds from any lawful words with every process crashed (`later`). After every execution from either
+/// beginning, the words make a lawful image (`image`).
 pub fn every_story_is_sound()
     ensures sound { EveryStoryIsSound }
     ensures legal { EveryStoryIsLegal }
@@ -45,32 +45,32 @@ pub fn every_story_is_sound()
     rmecore::laws::every_run_ends_lawful();
 }
 
-/// A process's spot is a function of its own happenings.
+/// A process's state follows from its own events.
 pub fn spots_are_own()
     ensures { (l : Layout) (limit p : ℕ) (w : Scene) (story : List Happening) → (last_scene l limit w story).spots p ≡ spot_after l limit (w.spots p) (own_happenings p story) }
 {}
 
-/// A happening that may come at the end prolongs a story, and its deeds stand behind those of the story. It may come
-/// wherever its process's spot allows it and, where it reads a word, the word stands so: this is all that a load, a store,
-/// a start, a crash or a look has to show.
+/// If an event is allowed after an execution, the longer list is an execution. Its deeds are those of the execution, then
+/// the event's. An event is allowed wherever its process's state allows it and, if it reads a word, the word has that value.
+/// Nothing else is needed for a load, a store, a start, a crash or a glance.
 pub fn stories_grow()
     ensures story { (l : Layout) (limit : ℕ) (w : Scene) (story : List Happening) (e : Happening) → Story l limit w story → Can l limit (last_scene l limit w story) e → Story l limit w (story ++ e ∷ []) }
     ensures deeds { (l : Layout) (limit : ℕ) (w : Scene) (story : List Happening) (e : Happening) → deeds l limit w (story ++ e ∷ []) ≡ deeds l limit w story ++ event_deeds l (last_scene l limit w story) e }
     ensures scene { (l : Layout) (limit : ℕ) (w : Scene) (story : List Happening) (e : Happening) → last_scene l limit w (story ++ e ∷ []) ≡ onward l limit (last_scene l limit w story) e }
 {}
 
-/// The scene of a new world is the first one, and that of an image has every process crashed. What the judge starts from
-/// there is the state that the image's words tell of.
+/// The global state of a new world is the first one. The global state of an image's world has every process crashed. A judge
+/// of the latter starts from the state that the image's words describe.
 pub fn worlds_begin()
     ensures new { (l : Layout) (limit : ℕ) → scene_of (new_world l limit) ≡ at_first }
     ensures image { (i : Image) → scene_of (image_world i) ≡ crashed_scene (length i.lock) (own_at i.lock) (words_of i.cells) }
     ensures judged { (i : Image) (s : Start) → IsLawfulImage i → IsStartOf i s → IsLater (layout_of i) i.limit (own_at i.lock) (words_of i.cells) (state_of s) }
 {}
 
-/// A world keeps to the definition in every run, whether memory is found for it or not. From a new world, or that of a lawful
-/// image, each start, step and crash that is not refused is one that the definition allows there, and leads where it leads.
-/// Where the definition leaves a choice, the step is one of the least process. What is told of it is the definition's: the
-/// event, with the lock's deed and the answer of its part; the one deed of the history; and the answer of the call.
+/// A world follows the definition in every run, with or without memory failures. From a new world or a lawful image, each
+/// start, step and crash that is not refused is one that the definition allows, with the result that it gives. Where the
+/// definition leaves a choice, the step is that of the least process. The report of a step is the definition's: the event
+/// with the lock's deed and the core's answer, the one deed of the history, and the call's answer.
 pub fn worlds_keep_to_the_definition()
     ensures starts { (s : WorldState) (p : ℕ) (call : CallOf) → IsRun s → start_refusal s p call ≡ None → Takes s (Begins p call) (started s p call) }
     ensures steps { (s : WorldState) (p : ℕ) → IsRun s → advance_refusal s p ≡ None → Takes s (happening_of p (stepped s p).happened) (advanced s p) }
@@ -84,34 +84,33 @@ pub fn worlds_keep_to_the_definition()
     ensures told { (s : WorldState) (p : ℕ) → crash_deed p ∷ [] ≡ event_deeds s.layout (scene_of s) (Falls p) }
 {}
 
-/// The history of a world is legal from where the world began. Of a new world that is a judge that has heard nothing; of the
-/// world of a lawful image, one that starts from the image's start. Memory is not asked: an act that is refused adds nothing.
+/// A world's history is legal from the world's beginning: for a new world from no deed, for a lawful image from its start.
+/// Memory failures don't matter, since a refused act adds nothing.
 pub fn histories_are_legal()
     ensures new { (l : Layout) (limit : ℕ) (acts : List Act) → new_refusal l limit ≡ None → IsLegal l.procs l.cap (run_of (new_world l limit) acts).history }
     ensures later { (i : Image) (s : Start) (acts : List Act) → IsLawfulImage i → IsStartOf i s → (t : State) × Leads (state_of s) (run_of (image_world i) acts).history t }
 {}
 
-/// In a story from all words 0, behind an Enter of a process and with no Leave and no Quit of that process since: each put of
-/// a data word since then is that process's own, also where it crashed and came in again meanwhile.
+/// In an execution from all words 0: after an Enter of a process, and until its next Leave or Quit, every put of a data word
+/// is that process's own. A crash inside and an entry after it may come in between.
 pub fn only_holders_put()
     ensures { OnlyHoldersPut }
 {}
 
-/// A process that starts a call where it may and then takes steps, whatever it reads, but own words as they were at the
-/// start: while the call is under way it has taken fewer steps than such a call takes at most, and with its answer, which
-/// comes once, just the steps of the table, each beside those that were blocked. Neither other processes nor stored words
-/// appear.
+/// The steps of one call, whatever its loads read, except that rereads read the process's words at the start. While the call
+/// is under way it has taken fewer steps than the bound for such a call. It has one answer, and with it exactly the steps in
+/// the table of own steps. Blocked steps are not counted. Neither other processes nor stored words are part of the law.
 pub fn calls_take_their_steps()
     ensures told { CallsTakeTheirSteps }
     ensures most { NoCallTakesMore }
 {}
 
-/// The messages shown are such as were sent: each was one that its sender began to append, with this number and this value,
-/// also where a crash came between and the record was applied later. And what is answered Stored is shown from then on, with
-/// its value. A mailbox is closed only where a process began to close it; the lock is ruined only where a holder that came in
-/// again began to unlock before it had mended. An append that is answered Full, Closed or OutOfOrder tells the truth of the
-/// mailbox then and there. So each deed of the mailbox goes back to the start of such a call. Nothing is said of a world that
-/// begins with an image.
+/// Where the mailbox's contents come from, in an execution from all words 0. Each message shown is one that its sender began
+/// to append, with this number and value, also if a repair applied it after a crash. An append that is answered Stored has
+/// its message shown from then on, with its value. A mailbox is closed only if some process began to close it. A lock is
+/// ruined only if some holder began to unlock after it had entered again and before it had mended. An append answered Full,
+/// Closed or OutOfOrder is right about the mailbox at that step. So each deed of the mailbox belongs to the start of such a
+/// call.
 pub fn messages_were_sent()
     ensures sent { EveryMessageWasSent }
     ensures closed { EveryCloseWasAsked }

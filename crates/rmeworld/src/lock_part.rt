@@ -9,8 +9,9 @@ ghost use Rattle.rmeworld.specs.Entered.{is_entry, mended_done, checks_done};
 
 use rmecore::{CoreCall, CoreDone, Found, LockProcess, Progress, Scan, Stage};
 
-/// A step of the lock's part: what it was, whether the process is mended then, and whether the ruin check comes next. Who
-/// enters by a lock checks, and who enters again is not mended.
+/// A step of the lock's part. The results are its effects, whether the process is mended after it, and whether the ruin
+/// check comes next. An entry by a lock is followed by the check. A process that entered again is not mended.
+// Inline: one call a step.
 #[inline(always)]
 pub(crate) fn lock_step(lock: &mut LockProcess, mended: bool, value: u64) -> (Progress, bool, bool)
     ensures lock { lock.new ≡ record lock.old { place = after_access lock.old (lock_access lock.old) value } }
@@ -24,7 +25,8 @@ pub(crate) fn lock_step(lock: &mut LockProcess, mended: bool, value: u64) -> (Pr
     (progress, mended, checks)
 }
 
-/// A step of the lock's part in a scan that goes on, as `lock_step`.
+/// As `lock_step`, for a step of this scan.
+// Inline: one call a scan's step.
 #[inline(always)]
 pub(crate) fn lock_scan(
     lock: &mut LockProcess,
@@ -44,8 +46,9 @@ pub(crate) fn lock_scan(
     (progress, mended, checks)
 }
 
-/// A step of the lock's part that is no deed and ends nothing, where the next one is such a step: whether it was blocked.
-/// Elsewhere nothing changes.
+/// Takes a step of the lock's part if it is silent: no deed, and not the call's last step. The result is whether it was
+/// blocked. None: the step is not silent, and nothing changed.
+// Inline: one call a silent step.
 #[inline(always)]
 pub(crate) fn lock_quietly(lock: &mut LockProcess, value: u64) -> Option<bool>
     ensures lock { IsSome result → lock.new ≡ record lock.old { place = after_access lock.old (lock_access lock.old) value } }
@@ -81,7 +84,8 @@ pub(crate) fn lock_quietly(lock: &mut LockProcess, value: u64) -> Option<bool>
     }
 }
 
-/// As `lock_quietly`, of any step: one that is not such a step is taken back.
+/// As `lock_quietly`, for any stage: it takes the step, and undoes it if it was not silent.
+// Apart: these steps are rarer.
 #[inline(never)]
 fn lock_back(lock: &mut LockProcess, stage: Stage, value: u64) -> Option<bool>
     requires { lock.old.place ≡ place_of lock.old.procs lock.old.index stage }
@@ -106,7 +110,8 @@ fn lock_back(lock: &mut LockProcess, stage: Stage, value: u64) -> Option<bool>
     }
 }
 
-/// What an answer of the lock's part says of the process: whether it is mended then, and whether it checks.
+/// From the core's answer: whether the process is mended, and whether the ruin check comes next.
+// Inline: one call a step.
 #[inline(always)]
 fn entry(done: Option<CoreDone>, mended: bool) -> (bool, bool)
     ensures mended { result.0 ≡ mended_done mended done }
@@ -120,7 +125,7 @@ fn entry(done: Option<CoreDone>, mended: bool) -> (bool, bool)
     }
 }
 
-/// Starts a call of the lock's part.
+/// Starts a call of the lock's part that is not refused.
 pub(crate) fn begin_lock(lock: &mut LockProcess, call: CoreCall)
     requires { lock_refusal lock.old.place call ≡ None }
     ensures same { lock.new ≡ record lock.old { place = lock.new.place } }
@@ -129,7 +134,7 @@ pub(crate) fn begin_lock(lock: &mut LockProcess, call: CoreCall)
     let _ = lock.start(call);
 }
 
-/// Starts the exit.
+/// Starts the exit of a process that is inside.
 pub(crate) fn leave(lock: &mut LockProcess)
     requires { lock.old.place ≡ Inside }
     ensures { lock.new ≡ record lock.old { place = Leaving } }

@@ -1,4 +1,4 @@
-//! What a schedule is replayed on.
+//! The interface of a world that a schedule can be replayed on.
 
 ghost use Rattle.std.specs.Prelude.{◌≡◌, Some, None, is_some, true, false, IsTrue, OnOk, OnErr, IfOk, IfErr, IsErrOf, ◌⊎◌};
 ghost use Rattle.rmecore.specs.declared.refusal.Refusal.TheVariants.{OutOfMemory};
@@ -10,12 +10,12 @@ use crate::stepped::Stepped;
 use redomail::Deed;
 use rmecore::Refusal;
 
-/// A world that can be stepped: it starts calls, takes steps and crashes, and tells its words. Its contract names by
-/// one record why a call is refused, what is answered, and the state that each call leaves.
+/// A world that can be stepped: it starts calls, takes steps, crashes processes, and has an image. In contracts one record
+/// says which calls are refused, their results, and the state after each.
 pub trait Machine {
     ghost behaviour: { Behaviour Self };
 
-    /// Starts a call of process p. It takes no memory.
+    /// Starts a call of process `p`. It does not allocate.
     fn start(&mut self, p: u64, call: Call) -> Result<(), Refusal>
         ensures accepted { OnOk result (behaviour.start_refusal self.old p call ≡ None) }
         ensures refused { IfErr result (λ e. behaviour.start_refusal self.old p call ≡ Some e) }
@@ -23,8 +23,8 @@ pub trait Machine {
         ensures ok { OnOk result (self.new ≡ behaviour.started self.old p call) }
         ensures err { OnErr result (self.new ≡ self.old) };
 
-    /// Takes the next step of process p. Refused for want of memory it has changed nothing, and can be taken again. Only a
-    /// deed wants memory.
+    /// Takes the next step of process `p`. `OutOfMemory`: nothing changed, and the step can be tried again. Only a step that
+    /// is a deed allocates.
     fn advance(&mut self, p: u64) -> Result<Stepped, Refusal>
         ensures accepted { OnOk result (behaviour.advance_refusal self.old p ≡ None) }
         ensures refused { IfErr result (λ e. (e ≡ OutOfMemory) ⊎ (behaviour.advance_refusal self.old p ≡ Some e)) }
@@ -33,8 +33,8 @@ pub trait Machine {
         ensures ok { OnOk result (self.new ≡ behaviour.advanced self.old p) }
         ensures err { OnErr result (self.new ≡ self.old) };
 
-    /// Takes the next step of process p, where it sees at once that it is no deed and ends no call, and answers true. Any
-    /// other step it leaves to `advance`, and answers false.
+    /// Takes the next step of process `p` if it can see cheaply that the step is silent: no deed, and not its call's last
+    /// step. True: the step was taken. False: nothing changed, and `advance` has to take it.
     fn step_quietly(&mut self, p: u64) -> bool
         ensures accepted { IsTrue result → behaviour.advance_refusal self.old p ≡ None }
         ensures quiet { IsTrue result → ((behaviour.stepped self.old p).deed ≡ None) × ((behaviour.stepped self.old p).answer ≡ None) }
@@ -45,7 +45,8 @@ pub trait Machine {
         false
     }
 
-    /// Process p loses its private memory, and with it a call that is under way.
+    /// Crashes process `p`: it loses its private memory and its call under way. `OutOfMemory`: nothing changed, and the
+    /// crash can be tried again.
     fn crash(&mut self, p: u64) -> Result<Deed, Refusal>
         ensures accepted { OnOk result (behaviour.crash_refusal self.old p ≡ None) }
         ensures refused { IfErr result (λ e. (e ≡ OutOfMemory) ⊎ (behaviour.crash_refusal self.old p ≡ Some e)) }
@@ -54,7 +55,7 @@ pub trait Machine {
         ensures ok { OnOk result (self.new ≡ behaviour.crashed self.old p) }
         ensures err { OnErr result (self.new ≡ self.old) };
 
-    /// The words that stand, with the sizes.
+    /// The current words, with the world's sizes.
     fn image(&self) -> Result<Image, Refusal>
         ensures ok { IfOk result (λ image. image ≡ behaviour.image_of self.now) }
         ensures err { IfErr result (λ e. e ≡ OutOfMemory) };

@@ -1,4 +1,4 @@
-//! Words in plain memory, and the deeds of what is put there.
+//! The words in plain memory, and the deeds of puts.
 
 ghost use Rattle.std.specs.Prelude.{◌≡◌, ℕ, [], IsTrue, length, slice_index, slice_set};
 ghost use Rattle.rmecore.specs.Machine.{word_of};
@@ -15,7 +15,8 @@ use redomail::layout::{ARMED, CLOSED, COUNT, RECORD, RUINED};
 use redomail::{Deed, Layout};
 use rmecore::{Access, Outer, Own, Word};
 
-/// A data word. One past the end is 0.
+/// The data word at an index, 0 past the end.
+// Inline: one call a load.
 #[inline(always)]
 fn cell(cells: &[u64], i: u64) -> u64
     ensures { result ≡ slice_index cells.now i }
@@ -26,7 +27,8 @@ fn cell(cells: &[u64], i: u64) -> u64
     }
 }
 
-/// A word as it stands.
+/// The current value of a word.
+// Inline: one call a step.
 #[inline(always)]
 pub fn load(words: &[Own], cells: &[u64], word: Word) -> u64
     requires { InWords (length words.now) word }
@@ -40,7 +42,8 @@ pub fn load(words: &[Own], cells: &[u64], word: Word) -> u64
     }
 }
 
-/// Stores what an access stores.
+/// Performs the access if it is a store. A load changes nothing.
+// Inline: one call a step.
 #[inline(always)]
 pub fn store(words: &mut [Own], cells: &mut [u64], access: Access)
     requires { InWords (length words.old) (word_of access) }
@@ -58,7 +61,8 @@ pub fn store(words: &mut [Own], cells: &mut [u64], access: Access)
     }
 }
 
-/// Writes a data word. One past the end isn't there, and nothing changes.
+/// Stores a value into the data word at an index. Past the end nothing changes.
+// Inline: one call a store.
 #[inline(always)]
 fn put(cells: &mut [u64], i: u64, value: u64)
     ensures { cells.new ≡ slice_set cells.old i value }
@@ -69,7 +73,7 @@ fn put(cells: &mut [u64], i: u64, value: u64)
 }
 
 #[tactic(auto, unfolding(redomail::specs::Layout::place_at))]
-/// The deed of a put by process p, if it is one. Commit and Show carry the record as it stands.
+/// The deed of a put by process `p`, if it has one. Commit and Show carry the record of the data words.
 fn put_deed(layout: Layout, p: u64, cells: &[u64], i: u64, value: u64) -> Option<Deed>
     requires size { IsLayout layout }
     requires filled { length cells.now ≡ size layout }
@@ -96,7 +100,8 @@ fn put_deed(layout: Layout, p: u64, cells: &[u64], i: u64, value: u64) -> Option
     }
 }
 
-/// Whether an access is seen at once to put nothing that may be a deed: no data word, or one behind the first four.
+/// Whether the access certainly has no deed of the mailbox: it is not a put, or it is a put after the first four data words.
+// Inline: one call a silent step.
 #[inline(always)]
 pub fn puts_quietly(access: Access) -> bool
     ensures { IsTrue result → (l : LayoutOf) → (p : ℕ) → (cells : Words) → mail_by l p cells access ≡ [] }
@@ -107,7 +112,8 @@ pub fn puts_quietly(access: Access) -> bool
     }
 }
 
-/// The deed of a step of process p, if it is one: the lock's, or that of a put.
+/// The deed of a step of process `p`, if it has one: the lock's, or that of a put.
+// Inline: one call a step.
 #[inline(always)]
 pub fn deed_of(
     layout: Layout,

@@ -1,4 +1,4 @@
-//! What a step of a process was, and what it is for its call.
+//! The effects of a process's step, with its call's answer.
 
 ghost use Rattle.std.specs.Prelude.{◌≡◌, Some, None};
 ghost use Rattle.rmecore.specs.Machine.{quiet};
@@ -10,21 +10,21 @@ use crate::why::Why;
 use redomail::{Job, Next, Reply};
 use rmecore::{CoreDone, Progress};
 
-/// Nothing that others see of the lock.
+/// No deed, no answer of the core, not blocked.
 const QUIET: Progress = Progress {
     outer: None,
     done: None,
     blocked: false,
 };
 
-/// What a step was for others and for its call: the lock's part, and the answer, where it ends the call.
+/// The effects of a step: those of the lock's part, and the answer if the step ends its call.
 #[derive(Clone, Copy, Debug, PartialEq, Eq)]
 pub struct Outcome {
     pub progress: Progress,
     pub answer: Option<Answer>,
 }
 
-/// What a step of a job is, with the answer that its call has, if it ends it.
+/// The effects of a job's step, from the answer of its call.
 pub(crate) fn job_step(answer: Option<Answer>) -> Outcome
     ensures { result ≡ record { progress = quiet; answer = answer } }
 {
@@ -34,7 +34,7 @@ pub(crate) fn job_step(answer: Option<Answer>) -> Outcome
     }
 }
 
-/// What a step of the lock's part is for its call.
+/// The effects of a step of the lock's part. `barred`: the call has found the lock ruined.
 pub(crate) fn lock_outcome(barred: bool, progress: Progress) -> Outcome
     ensures { result ≡ record { progress = progress; answer = by_lock barred progress.done } }
 {
@@ -44,7 +44,7 @@ pub(crate) fn lock_outcome(barred: bool, progress: Progress) -> Outcome
     }
 }
 
-/// What is answered where the lock's part ends.
+/// The call's answer when the lock's part ends, if the call ends with it.
 fn core_answer(barred: bool, done: Option<CoreDone>) -> Option<Answer>
     ensures { result ≡ by_lock barred done }
 {
@@ -58,7 +58,7 @@ fn core_answer(barred: bool, done: Option<CoreDone>) -> Option<Answer>
     }
 }
 
-/// What a step of a script is for its call, with this job left.
+/// The effects of a step of a script, after which this job is left.
 pub(crate) fn job_outcome(why: Why, mended: bool, job: &Job) -> Outcome
     ensures { result ≡ record { progress = quiet; answer = by_script why mended (left job.now) } }
 {
@@ -68,7 +68,7 @@ pub(crate) fn job_outcome(why: Why, mended: bool, job: &Job) -> Outcome
     })
 }
 
-/// What is answered where a script ends.
+/// The call's answer when a script ends with this reply, if the call ends with it.
 pub(crate) fn reply_answer(why: Why, mended: bool, reply: Reply) -> Option<Answer>
     ensures { result ≡ by_reply why mended reply }
 {

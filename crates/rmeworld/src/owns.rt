@@ -6,7 +6,7 @@ use rmecore::Own;
 use std::fmt;
 use std::marker::Model;
 
-/// The lock words of a world, a process after the other. Contracts see them as a list.
+/// The lock words of a world, by rising process. In contracts they are a list.
 #[derive(Drop)]
 pub struct Owns {
     owns: Vec<Own>,
@@ -28,21 +28,21 @@ impl Model for Owns {
 }
 
 impl Owns {
-    /// These lock words. It takes no memory.
+    /// Takes over these lock words. It does not allocate.
     pub fn new(owns: Vec<Own>) -> Owns
         ensures { result ≡ owns.items }
     {
         Owns { owns }
     }
 
-    /// The lock words, to be read.
+    /// The lock words, for reading.
     pub fn as_slice(&self) -> &[Own]
         ensures { result.now ≡ self.now }
     {
         self.owns.as_slice()
     }
 
-    /// The lock words, given back. It takes no memory.
+    /// The lock words. It does not allocate.
     pub fn into_vec(self) -> Vec<Own>
         ensures { result.items ≡ self }
     {

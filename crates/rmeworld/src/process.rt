@@ -1,6 +1,6 @@
-//! What one process does, as a machine over its private memory alone: the machine of the lock, with a job on the data
-//! words while it is inside. It knows no shared word: it says which one it loads or stores next, and is fed with what was
-//! read. The world and the running lock run this machine over their words.
+//! One process's algorithm, as a state machine over private memory alone: the lock's machine, and a job on the data words
+//! while the process is inside. The machine names the word that it loads or stores next. The caller performs that access and
+//! feeds the value back. The world and the running lock run this machine over their words.
 
 ghost use Rattle.std.specs.Prelude.{◌≡◌, ◌==◌, true, false, not, if◌then◌else◌, [], ◌∷◌, Some, None, IfSome, OnOk, OnErr, IfErr, IsErrOf, IsTrue, ◌↔◌, is_none};
 ghost use Rattle.rmecore.specs.Place.{Inside};
@@ -24,7 +24,7 @@ use rmecore::{Access, CoreCall, Kind, LockProcess, Progress, Refusal, Scan, Stag
 use std::fmt;
 use std::marker::Model;
 
-/// One process, with its whole private memory. It takes no memory.
+/// One process with its whole private memory. It does not allocate.
 #[derive(Drop)]
 pub struct Process {
     lock: LockProcess,
@@ -62,7 +62,7 @@ impl Process {
     ghost use Rattle.rmeworld.specs.Seams.{with_memory};
     ghost use Rattle.rmeworld.specs.Stand.{IsSize, Stand, standing, spot_of, resting, crashed, stepped, started, works, ended_by, next_access, spot_after, outcome, IsAllowed, IsLeast, InWords, StoresOwn};
 
-    /// A process at rest, of a world of this size.
+    /// A process at rest, of a world of these sizes. `limit` is the greatest number that it may take.
     pub fn new(layout: Layout, limit: u64, index: u64) -> Process
         requires size { IsSize layout }
         requires below { index < layout.procs }
@@ -78,7 +78,7 @@ impl Process {
         }
     }
 
-    /// Loses the private memory.
+    /// Crashes: the private memory is lost, and with it the call under way.
     pub fn crash(&mut self)
         ensures { self.new ≡ crashed self.old }
     {
@@ -91,8 +91,8 @@ impl Process {
         }
     }
 
-    /// The step that comes next, if a call is under way. It may be taken whatever a load reads, and where the definition
-    /// leaves a choice it has the least process.
+    /// The next access, if a call is under way. Scans go by rising index.
+    // Inline: one call a step.
     #[inline(always)]
     pub fn next(&self) -> Option<Access>
         ensures next { result ≡ next_access self.now }
@@ -112,7 +112,7 @@ impl Process {
         }
     }
 
-    /// What the next step will be with the value that it reads. Nothing is taken yet.
+    /// What `feed` would answer for this value. Nothing changes.
     pub fn outlook(&self, value: u64) -> Outcome
         ensures { result ≡ outcome self.now (next_access self.now) value }
     {
@@ -126,8 +126,9 @@ impl Process {
         }
     }
 
-    /// Takes the next step, with the value that it read. A step that stores ignores the value, and where there is no step
-    /// nothing changes.
+    /// Takes the next step with the value that was read. A store ignores the value. If no call is under way, nothing
+    /// changes.
+    // Apart: keeps its callers small.
     #[inline(never)]
     pub fn feed(&mut self, value: u64) -> Outcome
         ensures exact { self.new ≡ stepped self.old value }
@@ -144,7 +145,8 @@ impl Process {
         }
     }
 
-    /// A step of the lock.
+    /// A step of the lock's part.
+    // Inline: one call a step.
     #[inline(always)]
     fn move_on(&mut self, value: u64) -> Progress
         requires { self.old.errand ≡ Errand.Free }
@@ -159,7 +161,8 @@ impl Process {
         progress
     }
 
-    /// A scan that goes on, and the load that comes next in it. It is what `next` answers, for a scan alone.
+    /// The scan in progress, if there is one, and its next load. The load is what `next` answers.
+    // Inline: one call a step.
     #[inline(always)]
     pub fn scan(&self) -> Option<(Scan, Access)>
         ensures free { IfSome result (λ r. self.now.errand ≡ Errand.Free) }
@@ -176,7 +179,8 @@ impl Process {
         }
     }
 
-    /// Takes the next step of a scan that goes on, as `feed` does.
+    /// Takes the next step of this scan. It does what `feed` does.
+    // Inline: one call a scan's step.
     #[inline(always)]
     pub fn scan_on(&mut self, scan: Scan, value: u64) -> Outcome
         requires free { self.old.errand ≡ Errand.Free }
@@ -190,7 +194,8 @@ impl Process {
         lock_outcome(barred, self.move_by(scan, value))
     }
 
-    /// A step of the lock in a scan that goes on.
+    /// A step of this scan in the lock's part.
+    // Inline: one call a scan's step.
     #[inline(always)]
     fn move_by(&mut self, scan: Scan, value: u64) -> Progress
         requires free { self.old.errand ≡ Errand.Free }
@@ -206,7 +211,8 @@ impl Process {
         progress
     }
 
-    /// Where the lock's part stands, in the machine's own terms, if there is nothing to do with the data words.
+    /// The stage of the lock's part, if the process has no job.
+    // Inline: one call a lock.
     #[inline(always)]
     pub fn stage(&self) -> Option<Stage>
         ensures free { IfSome result (λ t. self.now.errand ≡ Errand.Free) }
@@ -218,8 +224,8 @@ impl Process {
         }
     }
 
-    /// A seam of this workspace, for who takes steps of the lock's part at the words alone, as the running lock's fast path:
-    /// the machine is told where those steps have led. It takes any place, also one that no step leads to.
+    /// Puts the lock's part at a stage. For this workspace alone: the running lock's fast path takes steps without the
+    /// machine and then sets its stage. Any stage is accepted, also one that no step reaches.
     pub fn seam_stand(&mut self, to: Stage)
         requires { self.old.errand ≡ Errand.Free }
         ensures { self.new ≡ record self.old { lock = place_of self.old.layout.procs self.old.index to } }
@@ -227,7 +233,7 @@ impl Process {
         self.lock.seam_stand(to);
     }
 
-    /// A seam of this workspace, as `seam_stand`: steps taken at the words alone have led inside, with nothing to mend.
+    /// As `seam_stand`, for steps that led inside with nothing to mend.
     pub fn seam_stand_clean(&mut self)
         requires { self.old.errand ≡ Errand.Free }
         ensures { self.new ≡ record self.old { lock = Inside; mended = true } }
@@ -237,7 +243,7 @@ impl Process {
         self.lock.seam_stand(Stage::Inside);
     }
 
-    /// A seam of this workspace, for who writes the states of processes down: the private memory.
+    /// For this workspace alone, to encode a process's state: the private memory.
     pub fn seam_memory(&self) -> PrivateMemory
         ensures { with_memory self.now result ≡ self.now }
     {
@@ -249,9 +255,9 @@ impl Process {
         }
     }
 
-    /// A seam of this workspace, as `seam_memory`, the other way: this is the private memory from now on. It answers false
-    /// and changes nothing where a process has something to do with the data words and is not inside, or is done with it. It
-    /// takes any other memory, also one that no step leads to.
+    /// For this workspace alone, the inverse of `seam_memory`: sets the private memory. False: the memory has a job and the
+    /// process is not inside, or the job has ended. Then nothing changed. Any other memory is accepted, also one that no
+    /// step reaches.
     pub fn seam_set(&mut self, memory: &PrivateMemory) -> bool
         ensures set { IsTrue result → self.new ≡ with_memory self.old memory.now }
         ensures same { result ≡ false → self.new ≡ self.old }
@@ -267,8 +273,8 @@ impl Process {
         true
     }
 
-    /// Starts a lock, if it is at rest or has crashed and no call is under way. Elsewhere it answers false, and `start` says
-    /// why a lock is refused.
+    /// Starts a lock if the process is at rest or has crashed. False: it is not, and nothing changed. `start` gives the
+    /// refusal then.
     pub fn start_lock(&mut self) -> bool
         ensures accepted { result ≡ true → start_refusal self.old.layout (spot_of self.old) Call.Lock ≡ None }
         ensures exact { result ≡ true → self.new ≡ started self.old Call.Lock }
@@ -286,7 +292,7 @@ impl Process {
         }
     }
 
-    /// Whether it is inside, with nothing to mend and no call under way: an unlock is two stores then.
+    /// Whether the process is inside with nothing to mend and no call under way. An unlock is two stores then.
     pub fn is_clean(&self) -> bool
         ensures { result ≡ true → (self.now.errand ≡ Errand.Free) × (self.now.lock ≡ Inside) × (self.now.mended ≡ true) × (self.now.barred ≡ false) }
     {
@@ -296,7 +302,7 @@ impl Process {
         }
     }
 
-    /// The end of a script: inside, or at the exit.
+    /// Ends a script: the process stays inside or starts its exit.
     fn end(&mut self, why: Why, reply: Reply)
         requires { self.old.lock ≡ Inside }
         ensures { self.new ≡ ended_by self.old why reply }
@@ -313,7 +319,7 @@ impl Process {
         }
     }
 
-    /// Which process of its world it is.
+    /// The index of the process in its world.
     pub fn index(&self) -> u64
         ensures index { result ≡ self.now.index }
         ensures below { result < self.now.layout.procs }
@@ -329,21 +335,26 @@ impl Process {
         self.layout
     }
 
-    /// The own number, where the place of the lock names it.
+    /// The process's own number, if the stage of the lock's part holds it.
     pub fn number(&self) -> Option<u64>
         ensures { result ≡ own_number self.now.lock }
     {
         self.lock.number()
     }
 
-    /// The call of the lock's part, where the place of the lock names it.
+    /// The call of the lock's part, if its stage holds it.
     pub fn call(&self) -> Option<CoreCall>
         ensures { result ≡ own_call self.now.lock }
     {
         self.lock.call()
     }
 
-    /// Starts a call. It takes no memory.
+    /// Starts a call. It does not allocate.
+    ///
+    /// The first cause in the order of the call's own refusals is the answer: `CallUnderWay` (another call has to end
+    /// first), `AlreadyIn` (lock, recover), `NotOwner` (unlock, `consistent` and every call of the mailbox or the board),
+    /// `NotInconsistent` (`consistent` with nothing to mend), `Unmended` (append and close before `consistent`), `BadWidth`
+    /// (append), `BadIndex` (get and put), `NotWaiting` (withdraw).
     pub fn start(&mut self, call: Call) -> Result<(), Refusal>
         ensures accepted { OnOk result (start_refusal self.old.layout (spot_of self.old) call ≡ None) }
         ensures refused { IfErr result (λ e. start_refusal self.old.layout (spot_of self.old) call ≡ Some e) }
@@ -353,13 +364,14 @@ impl Process {
         ensures not_allowed { OnErr result (next_spot self.old.layout self.old.limit (spot_of self.old) (Begins self.old.index call) ≡ None) }
         ensures err { OnErr result (self.new ≡ self.old) }
     {
+        // For the proof alone: its value is read.
         let _ = &self.errand;
         self.check(&call)?;
         self.begin(call);
         Ok(())
     }
 
-    /// Why a call can't be started now, if it can't.
+    /// The refusal of this call now, if it would be refused.
     fn check(&self, call: &Call) -> Result<(), Refusal>
         ensures accepted { OnOk result (start_refusal self.now.layout (spot_of self.now) call.now ≡ None) }
         ensures refused { IfErr result (λ e. start_refusal self.now.layout (spot_of self.now) call.now ≡ Some e) }
@@ -388,7 +400,7 @@ impl Process {
         }
     }
 
-    /// Inside, and with no call under way.
+    /// Refuses unless the process is inside with no call under way.
     fn holds(&self) -> Result<(), Refusal>
         ensures accepted { OnOk result ((is_idle (spot_of self.now) ≡ true) × (is_inside self.now.lock ≡ true)) }
         ensures refused { IfErr result (λ e. (rest : Needs) → first_cause ((is_idle (spot_of self.now), Refusal.CallUnderWay) ∷ (is_inside self.now.lock, Refusal.NotOwner) ∷ rest) ≡ Some e) }
@@ -402,7 +414,7 @@ impl Process {
         }
     }
 
-    /// Not inside, and with no call under way.
+    /// Refuses unless the process is not inside and has no call under way.
     fn may_come(&self) -> Result<(), Refusal>
         ensures accepted { OnOk result ((is_idle (spot_of self.now) ≡ true) × (is_inside self.now.lock ≡ false)) }
         ensures refused { IfErr result (λ e. first_cause ((is_idle (spot_of self.now), Refusal.CallUnderWay) ∷ (not (is_inside self.now.lock), Refusal.AlreadyIn) ∷ []) ≡ Some e) }
@@ -416,7 +428,7 @@ impl Process {
         }
     }
 
-    /// In the line.
+    /// Refuses unless a lock of the process waits.
     fn may_withdraw(&self) -> Result<(), Refusal>
         ensures accepted { OnOk result (is_waiting self.now.lock ≡ true) }
         ensures refused { IfErr result (λ e. first_cause ((is_waiting self.now.lock, Refusal.NotWaiting) ∷ []) ≡ Some e) }
@@ -427,7 +439,7 @@ impl Process {
         }
     }
 
-    /// Takes up a call that may start.
+    /// Begins a call that is not refused.
     fn begin(&mut self, call: Call)
         requires { start_refusal self.old.layout (spot_of self.old) call ≡ None }
         ensures { self.new ≡ started self.old call }
@@ -450,7 +462,7 @@ impl Process {
         }
     }
 
-    /// Takes up a script.
+    /// Begins the script of a purpose.
     fn take_up(&mut self, why: Why)
         requires inside { self.old.lock ≡ Inside }
         requires fits { refused self.old.layout self.old.index (task_of why) ≡ None }
@@ -461,7 +473,7 @@ impl Process {
     }
 }
 
-/// Refuses, unless something holds.
+/// Refuses with this refusal unless the condition holds.
 fn only(holds: bool, refusal: Refusal) -> Result<(), Refusal>
     ensures accepted { OnOk result (holds ≡ true) }
     ensures refused { IfErr result (λ e. (holds ≡ false) × (e ≡ refusal)) }

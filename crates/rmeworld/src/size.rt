@@ -9,9 +9,8 @@ use redomail::Layout;
 use rmecore::Refusal;
 use rmecore::simulated::{MOST_LIMIT, MOST_PROCS};
 
-/// Why no world of this size and limit of numbers is made, if none is. The causes, in order: `BadProcs` (not 1 to 64
-/// processes), `BadLimit` (not 1 to 2^62), `BadCap` (not 1 to 65,536 places of the mailbox), `BadWidth` (not 1 to 8 words
-/// a value).
+/// The refusal for a world of these sizes and this limit of numbers, if any. In order: `BadProcs` (not 1 to 64 processes),
+/// `BadLimit` (not 1 to 2^62), `BadCap` (not 1 to 65,536 messages), `BadWidth` (not 1 to 8 words a value).
 pub fn size_refusal(layout: Layout, limit: u64) -> Option<Refusal>
     ensures is { result ≡ new_refusal layout limit }
     ensures sized { result ≡ None → IsSize layout }

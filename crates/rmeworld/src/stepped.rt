@@ -1,4 +1,4 @@
-//! One step of a world, told.
+//! The report of a world's step.
 
 ghost use Rattle.std.specs.Prelude.{◌≡◌};
 
@@ -7,7 +7,7 @@ use crate::outcome::Outcome;
 use redomail::Deed;
 use rmecore::{Access, Happened};
 
-/// One step of a world: what happened, the deed that it is, if it is one, and the answer, where it ends its call.
+/// One step of a world: its event, its deed if it has one, and the answer if it ends its call.
 #[derive(Clone, Copy, Debug, PartialEq, Eq)]
 pub struct Stepped {
     pub happened: Happened,
@@ -19,14 +19,14 @@ pub struct Stepped {
 #[derive(Clone, Copy)]
 pub(crate) struct Prospect {
     pub access: Access,
-    /// What the word holds.
+    /// The current value of the word.
     pub found: u64,
 }
 
 impl Prospect {
     ghost use Rattle.rmecore.specs.Machine.{kind_of, word_of, carried};
 
-    /// What the step tells, once it is taken.
+    /// The report of the step after it is taken.
     pub(crate) fn told(&self, outcome: Outcome, deed: Option<Deed>) -> Stepped
         ensures { result ≡ record { happened = record { kind = kind_of self.now.access; word = word_of self.now.access; value = carried self.now.access self.now.found; outer = outcome.progress.outer; done = outcome.progress.done }; deed = deed; answer = outcome.answer } }
     {
@@ -43,7 +43,7 @@ impl Prospect {
         }
     }
 
-    /// What is read or written.
+    /// The value that is read or written.
     fn value(&self) -> u64
         ensures { result ≡ carried self.now.access self.now.found }
     {

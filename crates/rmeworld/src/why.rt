@@ -1,17 +1,17 @@
-//! What a script on the data words is for.
+//! The purpose of a script on the data words.
 
 ghost use Rattle.std.specs.Prelude.{◌≡◌};
 
 use redomail::Task;
 
-/// What a script on the data words is for, and with it how the script ends.
+/// The purpose of a script on the data words. It decides how the call goes on after the script.
 #[derive(Clone, Copy, Debug, PartialEq, Eq)]
 pub enum Why {
-    /// The ruin check that follows an entry by a lock.
+    /// The ruin check after an entry by a lock.
     Checking,
-    /// The put of ruined that comes before the exit of an unmended holder.
+    /// The put of ruined before the exit of an unmended holder.
     Ruining,
-    /// The call consistent.
+    /// The call `consistent`.
     Mending,
     /// A call of the mailbox or of the board.
     Working(Task),
@@ -20,7 +20,7 @@ pub enum Why {
 impl Why {
     ghost use Rattle.rmeworld.specs.Whys.{task_of};
 
-    /// The task that does it. Consistent asks before it whether the lock is ruined.
+    /// The task of the script. `consistent` has one step more: it first reads whether the lock is ruined.
     pub fn task(&self) -> Task
         ensures { result ≡ task_of self.now }
     {

@@ -1,4 +1,4 @@
-//! A whole world in memory, each step taken on request.
+//! A whole world in memory, one step at a time.
 
 ghost use Rattle.std.specs.Prelude.{◌≡◌, ◌<◌, ◌≤◌, ◌⊎◌, ◌++◌, ℕ, map, is_some, true, IfOk, IfErr, OnOk, OnErr, IsErrOf, Some, None, vec_len, slice_index_or, slice_get};
 ghost use Rattle.rmecore.specs.Machine.{word_of};
@@ -40,7 +40,7 @@ const UNSTARTED: Tally = Tally {
     began: ZEROS,
 };
 
-/// All processes with their private memories, over the words that they share, and the deeds that were done.
+/// All processes with their private memories, the words that they share, and the deeds done so far.
 #[derive(Drop)]
 pub struct World {
     layout: Layout,
@@ -97,7 +97,7 @@ fn all_crashed(alloc: Global, layout: Layout, limit: u64) -> Result<Vec<Process>
     Ok(processes)
 }
 
-/// No call yet, for each process with its words.
+/// The counts of each process before its first call.
 fn all_unstarted(alloc: Global, words: &[Own]) -> Result<Vec<Tally>, Refusal>
     ensures ok { IfOk result (λ tallies. tallies.items ≡ map fresh words.now) }
     ensures memory { IfErr result (λ e. e ≡ Refusal.OutOfMemory) }
@@ -127,7 +127,11 @@ impl World {
     ghost use Rattle.rmeworld.specs.Replayed.{start_refusal, started, advance_refusal, stepped, quiet_step, advanced, crash_refusal, crash_deed, crashed as world_crashed, image_of};
     ghost use Rattle.rmeworld.specs.Advancing.{Advances, GoesOn};
 
-    /// A new world: all words are 0, and all processes at rest.
+    /// A new world: all words 0, all processes at rest. `limit` is the greatest number that a process may take, `cap` the
+    /// mailbox's capacity in messages, `width` the number of words in a message's value.
+    ///
+    /// The first cause in this order is the answer: `BadProcs`, `BadLimit`, `BadCap`, `BadWidth` (a size outside its
+    /// limits), `OutOfMemory`.
     pub fn new(
         alloc: Global,
         procs: u64,
@@ -158,8 +162,8 @@ impl World {
         })
     }
 
-    /// The world of an image: its words, and every process crashed. The history begins there. `BadImage` names the first
-    /// rule that the image breaks.
+    /// The world of an image: its words, with every process crashed. The history begins there. `BadImage` names the first
+    /// rule that the image breaks. `OutOfMemory`: an allocation failed.
     pub fn from_image(alloc: Global, image: &Image) -> Result<World, Refusal>
         ensures ok { IfOk result (λ world. world ≡ image_world image.now) }
         ensures lawful { OnOk result (IsLawfulImage image.now) }
@@ -193,7 +197,8 @@ impl World {
         })
     }
 
-    /// The next step of a process, and what its word holds.
+    /// The next step of a process, with the current value of its word.
+    // Inline: one call a step.
     #[inline(always)]
     fn prospect(&self, p: u64) -> Result<Prospect, Refusal>
         ensures accepted { OnOk result (advance_refusal self.now p ≡ None) }
@@ -215,8 +220,9 @@ impl World {
         Ok(Prospect { access, found })
     }
 
-    /// Takes the next step of a process. Refused for want of memory it has changed nothing, and can be taken again. A step
-    /// that is no deed takes no memory.
+    /// Takes the next step of process `p`. `NothingToDo`: no call of the process is under way. `OutOfMemory`: nothing
+    /// changed, and the step can be tried again. A step that is no deed does not allocate.
+    // Inline: one call a step.
     #[inline(always)]
     pub fn advance(&mut self, p: u64) -> Result<Stepped, Refusal>
         ensures accepted { OnOk result (advance_refusal self.old p ≡ None) }
@@ -249,9 +255,10 @@ impl World {
         Ok(step.told(outcome, deed))
     }
 
-    /// Takes the next step of process p where it sees at once that it is no deed and ends no call, and answers true: each step
-    /// of a scan, the other quiet steps of the lock's part but for a mark taken off, and those of an append. Any other step it
-    /// leaves to `advance`, and answers false.
+    /// Takes the next step of process `p` if it is silent and cheap to see as such: each step of a scan, the other silent
+    /// steps of the lock's part except clearing the mark, and the silent steps of an append. True: the step was taken.
+    /// False: nothing changed, and `advance` has to take it.
+    // Inline: one call a step.
     #[inline(always)]
     pub fn step_quietly(&mut self, p: u64) -> bool
         ensures accepted { IsTrue result → advance_refusal self.old p ≡ None }
@@ -268,7 +275,7 @@ impl World {
         }
     }
 
-    /// A scan of process p that goes on, and its next load.
+    /// The scan in progress of process `p`, if it has one, and its next load.
     fn scan(&self, p: u64) -> Option<(Scan, Access)>
         ensures below { IfSome result (λ r. p < self.now.layout.procs) }
         ensures goes_on { IfSome result (λ r. GoesOn (stand_at self.now.processes p) r.0 r.1) }
@@ -283,7 +290,8 @@ impl World {
         }
     }
 
-    /// Takes the next step of a scan, which is a load and no deed, and ends no call. It answers what was read.
+    /// Takes the next step of a scan. It is a load, and silent. The result is the value that was read.
+    // Inline: one call a scan's step.
     #[inline(always)]
     fn scan_on(&mut self, p: u64, scan: Scan, access: Access) -> u64
         requires below { p < self.old.layout.procs }
@@ -297,7 +305,8 @@ impl World {
         found
     }
 
-    /// Process p loses its private memory, and with it a call that is under way.
+    /// Crashes process `p`: it loses its private memory and its call under way. `OutOfMemory`: the history could not grow,
+    /// and nothing changed.
     pub fn crash(&mut self, p: u64) -> Result<Deed, Refusal>
         ensures accepted { OnOk result (crash_refusal self.old p ≡ None) }
         ensures refused { IfErr result (λ e. (e ≡ Refusal.OutOfMemory) ⊎ (crash_refusal self.old p ≡ Some e)) }
@@ -315,7 +324,7 @@ impl World {
         Ok(Deed::Outer(Outer::Crash(p)))
     }
 
-    /// Starts a call of process p. It takes no memory.
+    /// Starts a call of process `p`. It does not allocate. The refusals are `NoSuchProcess` and those of `Process::start`.
     pub fn start(&mut self, p: u64, call: Call) -> Result<(), Refusal>
         ensures accepted { OnOk result (start_refusal self.old p call ≡ None) }
         ensures refused { IfErr result (λ e. start_refusal self.old p call ≡ Some e) }
@@ -336,7 +345,7 @@ impl World {
         Ok(())
     }
 
-    /// The deeds that were done, in their order. They are a legal history, and so have the plain properties.
+    /// The deeds done so far, in order. They are a legal history, so they have the plain properties.
     pub fn history(&self) -> &[Deed]
         ensures history { result.now ≡ self.now.history }
         ensures legal { IsLegalHistory self.now }
@@ -345,7 +354,7 @@ impl World {
         &self.history
     }
 
-    /// The words that stand, with the sizes.
+    /// The current words, with the world's sizes. `OutOfMemory`: an allocation failed.
     pub fn image(&self) -> Result<Image, Refusal>
         ensures ok { IfOk result (λ image. image ≡ image_of self.now) }
         ensures lawful { IfOk result IsLawfulImage }
@@ -364,8 +373,8 @@ impl World {
         })
     }
 
-    /// How many steps the last call of a process has taken, the blocked ones among them, held at the greatest u64. Before
-    /// any call it is 0; a withdraw is a call of its own.
+    /// The number of steps of the process's last call, blocked ones included. It saturates at the greatest u64. Before the
+    /// first call it is 0. A withdraw is a call of its own.
     pub fn steps(&self, p: u64) -> Result<u64, Refusal>
         ensures ok { IfOk result (λ steps. (p < self.now.layout.procs) × (steps ≡ (tally_at self.now.tallies p).steps)) }
         ensures taking { IsExact (tally_at self.now.tallies p) → p < self.now.layout.procs → IsTaking self.now.layout (spot_at self.now.processes p) (tally_at self.now.tallies p) }
@@ -375,7 +384,7 @@ impl World {
         Ok(self.tally(p)?.steps)
     }
 
-    /// How many of these steps were looks and weighs that left the process where it stood, held at the greatest u64.
+    /// The number of blocked looks and weighs among those steps. It saturates at the greatest u64.
     pub fn blocked(&self, p: u64) -> Result<u64, Refusal>
         ensures ok { IfOk result (λ blocked. (p < self.now.layout.procs) × (blocked ≡ (tally_at self.now.tallies p).blocked)) }
         ensures refused { IfErr result (λ e. (self.now.layout.procs ≤ p) × (e ≡ Refusal.NoSuchProcess)) }
@@ -383,7 +392,7 @@ impl World {
         Ok(self.tally(p)?.blocked)
     }
 
-    /// The lock words of a process at the start of its last call. While it reads its own words again they still stand.
+    /// The lock words of a process at the start of its last call.
     pub fn began(&self, p: u64) -> Result<Own, Refusal>
         ensures ok { IfOk result (λ began. (p < self.now.layout.procs) × (began ≡ (tally_at self.now.tallies p).began)) }
         ensures rereading { p < self.now.layout.procs → IsRereading (spot_at self.now.processes p).lock → (tally_at self.now.tallies p).began ≡ own_at self.now.words p }
@@ -415,11 +424,13 @@ impl Machine for World {
         World::start(self, p, call)
     }
 
+    // Inline: passes the call on.
     #[inline(always)]
     fn advance(&mut self, p: u64) -> Result<Stepped, Refusal> {
         World::advance(self, p)
     }
 
+    // Inline: passes the call on.
     #[inline(always)]
     fn step_quietly(&mut self, p: u64) -> bool {
         World::step_quietly(self, p)

@@ -1,8 +1,8 @@
-//! Where each plan of crashes falls.
+//! The askings at which each crash plan falls.
 
 use crash_plans::{At, Both, CrashPlan, Never, Seeded};
 
-/// Are these the askings at which a plan falls, of its first twelve?
+/// Whether the plan falls at exactly these of its first twelve askings.
 fn falls_at<P: CrashPlan>(plan: &mut P, falls: &[u64]) -> bool {
     let mut rest = falls;
     for asking in 1..13u64 {
@@ -39,7 +39,7 @@ fn a_plan_falls_at_its_askings(rt: HostRuntime) {
     }
 }
 
-/// An independent generator draws 574, 214, 417, 984, 235, 480, 784, 712, 836, 536, 507, 636 modulo 1,000 from seed 1.
+/// From seed 1 an independent generator draws 574, 214, 417, 984, 235, 480, 784, 712, 836, 536, 507, 636 modulo 1,000.
 #[test]
 fn a_seeded_plan_falls_below_its_per_mille(rt: HostRuntime) {
     for (per_mille, falls) in [(214, &[][..]), (215, &[2][..]), (418, &[2, 3, 5][..])] {

@@ -1,11 +1,12 @@
-//! The worked rows on a simulated core. A script is one as of a world, without data words; `step 0 7 in` is answered so.
+//! The worked rows on a simulated core. A script is like one for a world (`played`), without data words. `step 0 7 in` ends
+//! with this answer of the core.
 
 use super::phrase::{Phrase, cut, found_of, place};
 use super::played::are_words;
 use rmecore::{Core, CoreDone, Happened, Kind, Outer, Refusal, Word};
 use std::alloc::Global;
 
-/// The answer of the core, by its name.
+/// The core's answer with this name.
 fn done_of(name: &str) -> Option<CoreDone> {
     match place("in|in-again|spent|out|withdrawn", name) {
         Some(0) => Some(CoreDone::In),
@@ -17,7 +18,7 @@ fn done_of(name: &str) -> Option<CoreDone> {
     }
 }
 
-/// Is this the next of the deeds, where it is one?
+/// Whether the deed, if there is one, is the next of these deeds.
 fn is_told(deeds: &mut &str, outer: Option<Outer>) -> bool {
     match outer {
         Some(outer) => Phrase::read(cut(deeds, "; ")).outer() == Some(outer),
@@ -25,7 +26,7 @@ fn is_told(deeds: &mut &str, outer: Option<Outer>) -> bool {
     }
 }
 
-/// Takes steps. Is this what the last one is answered, and no other, and are these the next deeds?
+/// Takes steps. True: the last one and no other has the wanted answer, and their deeds are the next of these deeds.
 fn step(
     core: &mut Core,
     deeds: &mut &str,
@@ -44,7 +45,7 @@ fn step(
     true
 }
 
-/// Starts a call. A word that is no call is refused with no number.
+/// Starts a call. A word that is no call gives a refusal without a number.
 fn start(core: &mut Core, phrase: &Phrase<'_>) -> Result<(), Refusal> {
     let p = phrase.number(0);
     match place("lock|recover|unlock|withdraw", phrase.word) {
@@ -56,7 +57,7 @@ fn start(core: &mut Core, phrase: &Phrase<'_>) -> Result<(), Refusal> {
     }
 }
 
-/// Why what is asked is refused.
+/// The refusal of a call or a question.
 fn refusal_of(core: &mut Core, phrase: &Phrase<'_>) -> Option<Refusal> {
     let p = phrase.number(0);
     match place("step|crash|words|steps|blocked|began", phrase.word) {
@@ -70,7 +71,7 @@ fn refusal_of(core: &mut Core, phrase: &Phrase<'_>) -> Option<Refusal> {
     }
 }
 
-/// Is this refused, with this number?
+/// Whether a call or a question is refused with this number.
 fn is_refused(core: &mut Core, asked: &str) -> bool {
     let mut line = asked;
     let number = cut(&mut line, " ").parse::<u64>().ok();
@@ -80,7 +81,7 @@ fn is_refused(core: &mut Core, asked: &str) -> bool {
     }
 }
 
-/// Is what is asked so, or is it a call that is accepted?
+/// Whether a question has this answer, or a call is accepted.
 fn is_so(core: &mut Core, phrase: &Phrase<'_>) -> bool {
     let p = phrase.number(0);
     match place("steps|blocked|words|began", phrase.word) {
@@ -92,7 +93,7 @@ fn is_so(core: &mut Core, phrase: &Phrase<'_>) -> bool {
     }
 }
 
-/// Takes a line. Does it go as it says?
+/// Plays a line. True: it has the result that the line says.
 fn line(core: &mut Core, text: &str, deeds: &mut &str) -> bool {
     let phrase = Phrase::read(text);
     let p = phrase.number(0);
@@ -108,7 +109,7 @@ fn line(core: &mut Core, text: &str, deeds: &mut &str) -> bool {
     }
 }
 
-/// The first line that does not go as it says, counted from 1, and 0 where not all deeds are told.
+/// The number, from 1, of the first line with another result than it says. 0: the deeds are not all of these deeds.
 fn first_wrong(core: &mut Core, script: &str, deeds: &str) -> Option<u64> {
     let mut rest = script;
     let mut untold = deeds;
@@ -125,8 +126,7 @@ fn first_wrong(core: &mut Core, script: &str, deeds: &str) -> Option<u64> {
     if untold.is_empty() { None } else { Some(0) }
 }
 
-/// The first row that does not come to its deeds, with the line that goes wrong. A row has its processes and its limit,
-/// its script and its deeds.
+/// The first row that fails, and the line in it that fails. A row has its processes and limit, its script and its deeds.
 fn first_other(alloc: Global, rows: &[((u64, u64), &str, &str)]) -> Option<(usize, u64)> {
     for (row, ((procs, limit), script, deeds)) in rows.iter().enumerate() {
         let line = match Core::new(alloc, *procs, *limit) {
@@ -154,19 +154,19 @@ fn lock_rows(rt: HostRuntime) {
             "lock 0; step 0 1; step 0 3; words 0 1 0 0",
             "begin 0",
         ),
-        // both read 0 and take 1; the weigh of 1 is blocked by (1, 0)
+        // both read 0 and take 1; the weigh of process 1 is blocked by (1, 0)
         (
             (2, 10),
             "lock 0; lock 1; step 0 5; step 1 5; step 0 2; step 1 2; step 1 3; step 0 3 in; words 0 0 1 1; words 1 0 1 0; blocked 1 2",
             "begin 0; begin 1; ready 0; ready 1; enter 0",
         ),
-        // the look of 0 is blocked until 1 restarts, takes 2 and shuts
+        // the look of process 0 is blocked until 1 restarts, takes 2 and shuts
         (
             (2, 10),
             "lock 1; step 1 5; crash 1; lock 0; step 0 8; lock 1; step 1 6; step 0 3 in; words 1 0 2 0; blocked 0 1",
             "begin 1; crash 1; begin 0; ready 0; ready 1; enter 0",
         ),
-        // 0 restarts with a number beside choosing, shuts and enters; 1 stays blocked
+        // 0 restarts with choosing and a number both set, shuts and enters; 1 stays blocked
         (
             (2, 10),
             "lock 0; step 0 6; crash 0; lock 1; step 1 8; lock 0; step 0 7 in; step 1 4; words 0 0 1 1; words 1 0 2 0; began 0 1 1 0",
@@ -185,7 +185,7 @@ fn lock_rows(rt: HostRuntime) {
 #[test]
 fn ends_of_waiting(rt: HostRuntime) {
     let rows = [
-        // the number is dropped, and so the line moves on; the mark is left to the recovery
+        // the number is cleared, so the next process enters; the mark is left to the recovery
         (
             (2, 10),
             "lock 0; step 0 10 in; lock 1; step 1 8; unlock 0; step 0 1; crash 0; step 1 2 in; recover 0; step 0 4 found left; words 0 0 0 0; words 1 0 2 1",
@@ -227,13 +227,13 @@ fn is_reading(happened: Result<Happened, Refusal>, kind: Kind, word: Word, value
     }
 }
 
-/// Are the next two steps of 1 a look that sees nobody and a weigh that sees the number 1?
+/// Whether the next two steps of process 1 are a look that reads 0 and a weigh that reads the number 1.
 fn looks_and_weighs(core: &mut Core) -> bool {
     is_reading(core.step(1), Kind::Look, Word::Choosing(0), 0)
         && is_reading(core.step(1), Kind::Weigh, Word::Number(0), 1)
 }
 
-/// No weigh without a look: 1 waits for the one that is still in its doorway, and then the tie decides.
+/// There is no weigh without a look: 1 waits for the process in its doorway, and then the tie decides.
 #[test]
 fn looks_first(rt: HostRuntime) {
     let script = "lock 0; lock 1; step 0 5; step 1 6; step 1 4; step 0 5 in; blocked 1 3";
@@ -245,7 +245,7 @@ fn looks_first(rt: HostRuntime) {
     assert!(rt; is_so);
 }
 
-/// Each process crashes, told so.
+/// Crashes all 64 processes. True: each crash is reported as its deed.
 fn all_crash(core: &mut Core) -> bool {
     for p in 0..64 {
         if core.crash(p) != Ok(Outer::Crash(p)) {
@@ -255,7 +255,7 @@ fn all_crash(core: &mut Core) -> bool {
     true
 }
 
-/// Do all crash, and is what stands gone on from?
+/// Crashes all processes. True: their words are kept, and the locks go on from them.
 fn goes_on(core: &mut Core) -> bool {
     let again =
         "words 0 0 1 1; words 1 0 2 0; words 63 0 0 0; lock 1; step 1 5; lock 0; step 0 3 in-again; blocked 1 1";
@@ -273,8 +273,8 @@ fn crash_of_everything(rt: HostRuntime) {
     assert!(rt; is_so);
 }
 
-/// A process that is not there; one at rest, in the doorway, waiting, and inside; and any process may crash, also an idle
-/// or a dead one, and a call under way is gone.
+/// Refusals for a process that does not exist, and for a process at rest, in the doorway, waiting and inside. Any process
+/// may crash, also an idle or a crashed one. A crash ends the call under way.
 #[test]
 fn refused_calls(rt: HostRuntime) {
     let rows = [
@@ -297,7 +297,7 @@ fn refused_calls(rt: HostRuntime) {
     assert_eq!(rt; first_other(rt.alloc(), &rows), None);
 }
 
-/// The first step of a lock at which no such call is refused, or the lock is not in at last.
+/// The first step of a lock at which another call is not refused, or at which the lock has another answer than it should.
 fn first_unrefused(core: &mut Core) -> Option<u64> {
     let mut deeds = "begin 0; ready 0; enter 0";
     for steps in 0..10u64 {
@@ -316,7 +316,7 @@ fn first_unrefused(core: &mut Core) -> Option<u64> {
     None
 }
 
-/// The first step of a lock, and then the line inside, at which a call is not refused.
+/// The same for the steps of a lock, and then for a process that is inside.
 fn first_in_place(core: &mut Core) -> Option<u64> {
     let inside = "refused 6 lock 0; refused 6 recover 0; refused 14 withdraw 0; refused 7 step 0";
     match first_unrefused(core) {

@@ -1,4 +1,4 @@
-//! Texts of images: worked ones, broken ones, and spellings.
+//! Texts of images: worked ones, broken ones, and other spellings.
 
 use super::phrase::{Phrase, cut};
 use rmeworld::{read_image, start_of, widen, write_image};
@@ -9,30 +9,30 @@ use rmeworld::image::rules::{find_in, layout, word};
 use rmeworld::{Cells, Image, Owns, first_rule};
 use std::alloc::Global;
 
-/// One process that is in, and nothing in the mailbox.
+/// One process inside, and an empty mailbox.
 const SMALLEST: &str =
     "{\"cap\":1,\"data\":[0,0,0,0,0,0,0,0,0,0,0,0,0,0,0],\"limit\":10,\"lock\":[[0,1,1]],\"version\":2,\"width\":1}\n";
 
-/// One process that died behind its commit.
+/// One process that crashed after its commit.
 const TORN: &str =
     "{\"cap\":2,\"data\":[0,0,0,1,0,1,77,0,0,0,0,0,0,0,0,0,0,0],\"limit\":10,\"lock\":[[0,1,1]],\"version\":2,\"width\":1}\n";
 
-/// The same, with values of two words.
+/// The image above with values of two words.
 const WIDENED_TORN: &str =
     "{\"cap\":2,\"data\":[0,0,0,1,0,1,77,0,0,0,0,0,0,0,0,0,0,0,0,0,0],\"limit\":10,\"lock\":[[0,1,1]],\"version\":2,\"width\":2}\n";
 
-/// One process that died behind its commit of three words.
+/// One process that crashed after its commit of three words.
 const WIDE_TORN: &str =
     "{\"cap\":1,\"data\":[0,0,0,1,0,1,7,8,9,0,0,0,0,0,0,0,0,0,0],\"limit\":10,\"lock\":[[0,1,1]],\"version\":2,\"width\":3}\n";
 
-/// A message, its record still armed, and what is on the board.
+/// A message that is shown, its record still armed, and words on the board.
 const SHOWN: &str =
     "{\"cap\":1,\"data\":[0,0,1,1,0,1,77,5,6,7,8,1,0,1,77],\"limit\":10,\"lock\":[[0,1,1]],\"version\":2,\"width\":1}\n";
 
 const WIDENED_SHOWN: &str =
     "{\"cap\":1,\"data\":[0,0,1,1,0,1,77,0,0,5,6,7,8,1,0,1,77,0,0],\"limit\":10,\"lock\":[[0,1,1]],\"version\":2,\"width\":3}\n";
 
-/// The rule that a text breaks; 98 for want of memory.
+/// The rule that a text breaks. 98: out of memory.
 fn rule_of(alloc: Global, text: &[u8]) -> Option<u64> {
     match read_image(alloc, text) {
         Ok(_) => None,
@@ -41,20 +41,20 @@ fn rule_of(alloc: Global, text: &[u8]) -> Option<u64> {
     }
 }
 
-/// What is written of what was read.
+/// Reads an image and writes it.
 fn written_again(alloc: Global, text: &[u8]) -> Result<Vec<u8>, Refusal> {
     let image = read_image(alloc, text)?;
     write_image(alloc, &image)
 }
 
-/// What is written of an image that was read and widened.
+/// Reads an image, widens it and writes it.
 fn widened(alloc: Global, text: &[u8], width: u64) -> Result<Vec<u8>, Refusal> {
     let image = read_image(alloc, text)?;
     let wider = widen(alloc, &image, width)?;
     write_image(alloc, &wider)
 }
 
-/// Is it this text?
+/// Whether the written text is this one.
 fn is_text(written: Result<Vec<u8>, Refusal>, text: &str) -> bool {
     match written {
         Ok(written) => written.as_slice() == text.as_bytes(),
@@ -62,23 +62,23 @@ fn is_text(written: Result<Vec<u8>, Refusal>, text: &str) -> bool {
     }
 }
 
-/// Any order and any white space.
+/// The members in another order, with white space.
 const SPACED: &str =
     " { \"width\" : 1 , \"version\":2,\"lock\":[ [0,1,1] ],\"limit\":10,\"data\":[0,0,0,0,0,0,0,0,0,0,0,0,0,0,0],\"cap\":1}\r\n";
 
-/// The older version.
+/// Version 1.
 const OLDER: &str =
     "{\"cap\":1,\"data\":[0,0,0,0,0,0,0,0,0,0,0,0,0,0,0],\"limit\":10,\"lock\":[[0,1,1]],\"version\":1}";
 
-/// A member that is written twice.
+/// A member twice.
 const TWICE: &str =
     "{\"cap\":7,\"cap\":1,\"data\":[0,0,0,0,0,0,0,0,0,0,0,0,0,0,0],\"limit\":10,\"lock\":[[0,1,1]],\"version\":2,\"width\":1}";
 
-/// An escaped name.
+/// A member's name with an escape.
 const ESCAPED: &str =
     "{\"c\\u0061p\":1,\"data\":[0,0,0,0,0,0,0,0,0,0,0,0,0,0,0],\"limit\":10,\"lock\":[[0,1,1]],\"version\":2,\"width\":1}";
 
-/// The first text that is not written so.
+/// The first text that is not written back as the text beside it.
 fn first_otherwise<'a>(alloc: Global, texts: &[(&'a str, &str)]) -> Option<&'a str> {
     for (text, wanted) in texts {
         if !is_text(written_again(alloc, text.as_bytes()), wanted) {
@@ -105,12 +105,12 @@ fn texts_are_written_as_they_were_read(rt: HostRuntime) {
     assert_eq!(rt; first_otherwise(rt.alloc(), &texts), None);
 }
 
-/// Is it this text, widened?
+/// Whether the text, widened, is the other text.
 fn is_widened(alloc: Global, text: &str, width: u64, wider: &str) -> bool {
     is_text(widened(alloc, text.as_bytes(), width), wider)
 }
 
-/// Is it not widened to this?
+/// Whether widening to this width is refused.
 fn is_too_wide(alloc: Global, text: &str, width: u64) -> bool {
     widened(alloc, text.as_bytes(), width).err() == Some(Refusal::BadWidth)
 }
@@ -127,7 +127,7 @@ fn wider_images(rt: HostRuntime) {
     assert!(rt; is_too_wide(alloc, TORN, 9));
 }
 
-/// Broken forms, broken locks and broken mailboxes, a line each, behind the rule that each breaks.
+/// Broken forms, broken locks and broken mailboxes: a line for each, after the rule that it breaks.
 const BROKEN: &str = r#"1 []
 1 {"cap":-1,"data":[0,0,0,0,0,0,0,0,0,0,0,0,0,0,0],"limit":10,"lock":[[0,1,1]],"version":2,"width":1}
 2 {"cap":1,"data":[0,0,0,0,0,0,0,0,0,0,0,0,0,0,0],"limit":10,"lock":[[0,1,1]],"version":7,"width":1}
@@ -143,8 +143,7 @@ const BROKEN: &str = r#"1 []
 9 {"cap":1,"data":[0,0,0,1,0,0,0,0,0,0,0,0,0,0,0],"limit":10,"lock":[[0,0,0]],"version":2,"width":1}
 9 {"cap":1,"data":[0,0,0,1,0,1,0,0,0,0,0,0,0,0,0],"limit":10,"lock":[[0,0,0]],"version":2,"width":1}"#;
 
-/// The first line whose text does not break just the rule before it, or breaks one where the rule is 0. Before each text
-/// stands this head.
+/// The first line whose text does not break exactly its rule. Rule 0: the text breaks none. Each text begins with this head.
 fn first_unlike<'a>(alloc: Global, head: &str, lines: &'a str) -> Option<&'a str> {
     let mut rest = lines;
     for _ in 0..lines.len() {
@@ -179,7 +178,7 @@ fn broken_texts(rt: HostRuntime) {
     assert_eq!(rt; first_unlike(rt.alloc(), "", BROKEN), None);
 }
 
-/// The image of *smallest* with so many data words.
+/// The image of *smallest* with this number of data words.
 fn with_data(alloc: Global, count: u64) -> Result<Vec<u8>, Refusal> {
     let mut text = Vec::from_slice(alloc, b"{\"cap\":1,\"data\":[0")?;
     for _ in 1..count {
@@ -189,7 +188,7 @@ fn with_data(alloc: Global, count: u64) -> Result<Vec<u8>, Refusal> {
     Ok(text)
 }
 
-/// The first beginning that does not break rule 1, though more than the line's end is left off.
+/// The first prefix of the text that does not break rule 1. The prefix without the last byte, the line feed, breaks none.
 fn first_read_beginning(alloc: Global, text: &[u8]) -> Option<usize> {
     for end in 0..text.len() {
         let rule = if end + 1 == text.len() { None } else { Some(1) };
@@ -214,9 +213,9 @@ fn beginnings(rt: HostRuntime) {
 /// A capacity, data words and a limit that break no rule.
 const HEAD: &str = "{\"cap\":1,\"data\":[0,0,0,0,0,0,0,0,0,0,0,0,0,0,0],\"limit\":10,";
 
-/// The other members, and the rule that each breaks; 0 for none. The width stands with version 2 alone. A number is whole,
-/// without sign, point or exponent, and fits 64 bits. The lock words of a process are three numbers. No member is missing,
-/// and none is unknown.
+/// The other members, and the rule that each line breaks. 0: none. The width is a member of version 2 alone. A number is
+/// whole, without sign, point or exponent, and fits in 64 bits. A process has three lock words. No member is missing, and
+/// none is unknown.
 const MEMBERS: &str = r#"2 "lock":[[0,1,1]],"version":2}
 2 "lock":[[0,1,1]],"version":1,"width":1}
 2 "lock":[[0,1,1]],"version":0}
@@ -250,7 +249,7 @@ fn members(rt: HostRuntime) {
     assert!(rt; rule_of(rt.alloc(), b"{\"cap\xff\":1}") == Some(1));
 }
 
-/// An image of a process that is in, with the words of width 1.
+/// An image of one process inside, with the data words of width 1.
 fn by_hand(alloc: Global, version: u64, width: u64) -> Result<Image, Refusal> {
     let inside = Own {
         choosing: 0,
@@ -269,7 +268,8 @@ fn by_hand(alloc: Global, version: u64, width: u64) -> Result<Image, Refusal> {
     })
 }
 
-/// Does it break this rule, also where it is widened?
+/// Whether the image breaks this rule, and widening it is refused for it. None: widening it to 9 words is refused as
+/// `BadWidth`.
 fn breaks(alloc: Global, image: &Image, rule: Option<u64>) -> bool {
     let refused = match rule {
         Some(rule) => Refusal::BadImage { rule },
@@ -278,7 +278,7 @@ fn breaks(alloc: Global, image: &Image, rule: Option<u64>) -> bool {
     first_rule(image) == rule && widen(alloc, image, 9).err() == Some(refused)
 }
 
-/// Does an image of this version and this width break this rule?
+/// Whether an image of this version and width breaks this rule.
 fn is_rule(alloc: Global, version: u64, width: u64, rule: Option<u64>) -> bool {
     match by_hand(alloc, version, width) {
         Ok(image) => breaks(alloc, &image, rule),
@@ -295,18 +295,18 @@ fn images_made_by_hand(rt: HostRuntime) {
     assert!(rt; is_rule(alloc, 2, 9, Some(3)) && is_rule(alloc, 2, 0, Some(3)));
 }
 
-/// The start of an image that is read.
+/// The start of the image in a text.
 fn start_in(alloc: Global, text: &str) -> Result<Start, Refusal> {
     let image = read_image(alloc, text.as_bytes())?;
     start_of(alloc, &image)
 }
 
-/// Does a judge take it?
+/// Whether a judge can start from it.
 fn is_taken(alloc: Global, start: &Start) -> bool {
     Judge::from_start(alloc, start).is_ok()
 }
 
-/// Is it the start of one that died inside, with so many messages shown, and this one pending?
+/// Whether it is the start of one process that crashed inside, with this number of messages shown and this one pending.
 fn is_start(start: &Start, shown: usize, pending: Option<Message>) -> bool {
     start.procs == 1
         && start.phases.as_slice() == [Phase::DeadIn].as_slice()
@@ -316,7 +316,7 @@ fn is_start(start: &Start, shown: usize, pending: Option<Message>) -> bool {
         && !start.ruined
 }
 
-/// Is that the start of the image of this text, and does a judge take it?
+/// Whether the text's image has that start, and a judge can start from it.
 fn starts_with(alloc: Global, text: &str, shown: usize, pending: Option<Message>) -> bool {
     match start_in(alloc, text) {
         Ok(start) => is_start(&start, shown, pending) && is_taken(alloc, &start),
@@ -333,7 +333,7 @@ fn starts(rt: HostRuntime) {
     assert!(rt; starts_with(rt.alloc(), SHOWN, 1, None));
 }
 
-/// Are these ahead of a process?
+/// Whether exactly these processes are ahead of process `p`.
 fn are_ahead(start: &Start, p: usize, names: &[u64]) -> bool {
     match start.ahead.as_slice().get(p) {
         Some(set) => set.as_slice() == names,
@@ -341,7 +341,7 @@ fn are_ahead(start: &Start, p: usize, names: &[u64]) -> bool {
     }
 }
 
-/// Four processes: one in the doorway, two ready, and one out, of a closed and ruined mailbox.
+/// Four processes: one in the doorway, two ready and one out. The mailbox is closed and the lock is ruined.
 const FOUR: &str =
     "{\"cap\":1,\"data\":[1,1,0,0,0,0,0,0,0,0,0,0,0,0,0,0,0,0],\"limit\":10,\"lock\":[[1,0,0],[0,5,0],[1,3,0],[0,0,1]],\"version\":2,\"width\":1}";
 
@@ -366,7 +366,7 @@ fn who_is_ahead_in_a_start(rt: HostRuntime) {
     assert!(rt; is_so);
 }
 
-/// Are these the sizes, a data word and the words past the last, and the process that is in?
+/// Whether the rules' functions give the sizes, the data words, 0 past the end, and the process inside.
 fn is_seen(image: &Image) -> bool {
     let one = Layout {
         procs: 1,
@@ -380,7 +380,7 @@ fn is_seen(image: &Image) -> bool {
         && find_in(image.lock.as_slice()) == Some(0)
 }
 
-/// What the rules look at.
+/// The functions that the rules use.
 #[test]
 fn what_the_rules_look_at(rt: HostRuntime) {
     let is_so = match read_image(rt.alloc(), SHOWN.as_bytes()) {

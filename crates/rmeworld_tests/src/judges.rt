@@ -1,5 +1,4 @@
-//! Lists of deeds that are fed to a judge, and starts that it takes. A deed that is refused has its fault behind it, as
-//! `enter 1 overtaken 1 0`.
+//! Lists of deeds for a judge, and starts. A deed that is refused has its fault after it, as in `enter 1 overtaken 1 0`.
 
 use super::phrase::{Phrase, cut, place};
 use judge::{Ahead, Judge, Messages, Phases, Start};
@@ -7,7 +6,7 @@ use redomail::Message;
 use rmecore::{Fault, Phase, Refusal};
 use std::alloc::{AllocError, Global};
 
-/// The fault that a text names, with who goes before whom.
+/// The fault with this name and these processes.
 fn fault_of(text: &str) -> Option<Fault> {
     let phrase = Phrase::read(text);
     let names = "out-of-place|two-inside|not-reentered|overtaken|not-inside|mail-order|after-close";
@@ -25,7 +24,7 @@ fn fault_of(text: &str) -> Option<Fault> {
     }
 }
 
-/// Feeds a deed. Is it refused for this fault, or allowed where there is none?
+/// Feeds a deed. True: it is refused with its fault, or accepted if it has none.
 fn feed(judge: &mut Judge, text: &str) -> bool {
     let phrase = Phrase::read(text);
     let fault = fault_of(phrase.rest);
@@ -37,7 +36,7 @@ fn feed(judge: &mut Judge, text: &str) -> bool {
     }
 }
 
-/// The first deed, counted from 1, that is not judged as it says.
+/// The number, from 1, of the first deed that is judged otherwise.
 fn first_misjudged(judge: &mut Judge, deeds: &str) -> Option<u64> {
     let mut rest = deeds;
     let mut at = 0u64;
@@ -53,7 +52,8 @@ fn first_misjudged(judge: &mut Judge, deeds: &str) -> Option<u64> {
     None
 }
 
-/// The first list that a new judge of so many processes, with room for two messages, misjudges, with the place in it.
+/// The first list that fails, and the deed in it that fails. The judge is new, with this number of processes and room for
+/// two messages.
 fn first_other(alloc: Global, rows: &[(u64, &str)]) -> Option<(usize, u64)> {
     for (row, (procs, deeds)) in rows.iter().enumerate() {
         let at = match Judge::new(alloc, *procs, 2) {
@@ -69,28 +69,28 @@ fn first_other(alloc: Global, rows: &[(u64, &str)]) -> Option<(usize, u64)> {
 
 /// Worked lists of deeds.
 const LISTS: [(u64, &str); 12] = [
-    // 0 is ready before 1 begins: 1 can't enter first
+    // 0 is ready before 1 begins, so 1 can't enter first
     (
         2,
         "begin 0; ready 0; begin 1; ready 1; enter 1 overtaken 1 0",
     ),
     (2, "begin 0; ready 0; begin 1; ready 1; enter 0"),
-    // nobody is inside: nothing is committed
+    // no process is inside, so nothing can be committed
     (1, "commit 0 1 5 not-inside"),
-    // once 0 has withdrawn, 1 waits for nobody
+    // after 0 has withdrawn, 1 waits for no process
     (2, "begin 0; ready 0; begin 1; ready 1; quit 0; enter 1"),
     (2, "begin 0; quit 0; begin 1; ready 1; enter 1"),
-    // 0 is gone, by leaving or by quitting, before 1 enters
+    // 0 leaves or quits before 1 enters
     (
         2,
         "begin 0; ready 0; begin 1; ready 1; enter 0; leave 0; enter 1",
     ),
-    // 0 is back in the doorway, and 1 goes first
+    // 0 is in the doorway again, so 1 enters first
     (
         2,
         "begin 0; ready 0; begin 1; ready 1; quit 0; begin 0; ready 0; enter 0 overtaken 0 1",
     ),
-    // a message is committed and shown, and nobody leaves while it is pending, but where the lock is ruined
+    // a message is committed and shown; no process leaves while a message is pending, unless the lock is ruined
     (
         1,
         "begin 0; ready 0; enter 0; commit 0 1 7 8; show 0 0 1 7 8; leave 0",
@@ -103,7 +103,7 @@ const LISTS: [(u64, &str); 12] = [
         1,
         "begin 0; ready 0; enter 0; commit 0 1 7 8; ruin 0; leave 0",
     ),
-    // what is shown is what was committed, also in its width, and whoever died inside shows it later
+    // the message shown is the one committed, in its width too; a process that crashed inside shows it later
     (
         1,
         "begin 0; ready 0; enter 0; commit 0 1 7 8; show 0 0 1 7 mail-order",
@@ -119,8 +119,8 @@ fn worked_lists(rt: HostRuntime) {
     assert_eq!(rt; first_other(rt.alloc(), &LISTS), None);
 }
 
-/// Each fault, met at the first and at the last process. One that isn't there does nothing, not even crash. Of two that
-/// are ahead, the lesser is named.
+/// Each fault, for the first and for the last process. A process that does not exist has no deed, not even a crash. If two
+/// processes are ahead, the lesser is named.
 const FAULTS: [(u64, &str); 16] = [
     (64, "ready 0 out-of-place"),
     (64, "ready 63 out-of-place"),
@@ -190,9 +190,9 @@ fn limits(rt: HostRuntime) {
     }
 }
 
-/// A start as it is read, line by line: `sizes 3 2`, then a line for each process with its phase and those ahead of it,
-/// as `ready 0 1`; `lone out` is a phase with no such set, `set 1` a set with no phase; `shown` and `pending` are
-/// messages; `closed` and `ruined`.
+/// A start, read from a text. `sizes 3 2` comes first. Then a line for each process has its phase and the processes ahead of
+/// it, as in `ready 0 1`. `lone out` is a phase without a set, `set 1` a set without a phase. `shown` and `pending` have a
+/// message. `closed` and `ruined` have no value.
 #[derive(Drop)]
 struct Parts {
     procs: u64,
@@ -251,7 +251,7 @@ impl Parts {
         Ok(())
     }
 
-    /// Takes a line that tells of no process.
+    /// Takes a line that belongs to no process.
     fn set(&mut self, at: u64, phrase: &Phrase<'_>) {
         match at {
             0 => {
@@ -310,13 +310,13 @@ fn start_of(alloc: Global, text: &str) -> Result<Start, AllocError> {
     Ok(parts.start())
 }
 
-/// A judge from the start that a text tells.
+/// A judge from the start in a text.
 fn judge_of(alloc: Global, text: &str) -> Result<Judge, Refusal> {
     let start = start_of(alloc, text)?;
     Judge::from_start(alloc, &start)
 }
 
-/// The first start that is not refused with the number beside it, or is refused where there is none.
+/// The first start that is not refused with the number beside it. Without a number it must be accepted.
 fn first_start<'a>(alloc: Global, rows: &[(&'a str, Option<u64>)]) -> Option<&'a str> {
     for (text, number) in rows {
         let is_so = match judge_of(alloc, text) {
@@ -333,24 +333,24 @@ fn first_start<'a>(alloc: Global, rows: &[(&'a str, Option<u64>)]) -> Option<&'a
 #[test]
 fn starts(rt: HostRuntime) {
     let rows = [
-        // the refusals in their order
+        // the refusals in order
         ("sizes 0 0; inside", Some(1)),
         ("sizes 65 2; inside", Some(1)),
         ("sizes 1 0; inside", Some(8)),
         ("sizes 1 65537; inside", Some(8)),
         ("sizes 1 2; inside", Some(11)),
-        // one may be ahead of itself, two of one another, one that is out may have a set, and what is pending may be
-        // ruined
+        // a process may be ahead of itself, two may be ahead of each other, a process that is out may have a set, and a
+        // message may be pending in a ruined lock
         (
             "sizes 3 2; out 2; ready 2 1; ready 1; pending 0 1 7; ruined",
             None,
         ),
-        // two dead in
+        // two processes dead in
         ("sizes 3 2; dead-in; out; dead-in", Some(11)),
         // too few phases, and too few sets
         ("sizes 2 2; out; set", Some(11)),
         ("sizes 2 2; out; lone out", Some(11)),
-        // one is named that is not ready, or not there
+        // a process in a set that is not ready, or does not exist
         ("sizes 2 2; door 1; ready 1 0", Some(11)),
         ("sizes 2 2; door 1; ready 1 2", Some(11)),
         ("sizes 2 2; door 1; ready 1 64", Some(11)),
@@ -363,27 +363,27 @@ fn starts(rt: HostRuntime) {
 fn messages_of_starts(rt: HostRuntime) {
     let rows = [
         ("sizes 1 2; out; shown 0 1 7; shown 0 2 7", None),
-        // a number is left out, or stands twice
+        // a number is missing, or occurs twice
         ("sizes 1 2; out; shown 0 2 7", Some(11)),
         ("sizes 1 2; out; shown 0 1 7; shown 0 1 7", Some(11)),
         // no such sender
         ("sizes 1 2; out; shown 1 1 7", Some(11)),
-        // more than there is room for
+        // more messages than the capacity
         (
             "sizes 1 2; out; shown 0 1 7; shown 0 2 7; shown 0 3 7",
             Some(11),
         ),
-        // what is pending is not its sender's next
+        // the pending message does not have its sender's next number
         ("sizes 1 2; out; shown 0 1 7; pending 0 1 7", Some(11)),
         ("sizes 1 2; out; shown 0 1 7; pending 0 3 7", Some(11)),
         ("sizes 1 2; out; shown 0 1 7; pending 1 1 7", Some(11)),
-        // no room
+        // no room for the pending message
         (
             "sizes 1 2; out; shown 0 1 7; shown 0 2 7; pending 0 3 7",
             Some(11),
         ),
         ("sizes 1 2; out; shown 0 1 7; pending 0 2 7", None),
-        // pending with closed
+        // pending in a closed mailbox
         (
             "sizes 1 2; out; shown 0 1 7; pending 0 2 7; closed",
             Some(11),
@@ -392,8 +392,8 @@ fn messages_of_starts(rt: HostRuntime) {
     assert_eq!(rt; first_start(rt.alloc(), &rows), None);
 }
 
-/// From a start: 0 is dead in with a message pending, and 1 is ready, ahead of 2. In the end two are shown, and there is
-/// room for two.
+/// From a start with 0 dead in and its message pending, and 1 ready and ahead of 2. At the end two messages are shown, and
+/// the capacity is two.
 #[test]
 fn going_on(rt: HostRuntime) {
     let text = "sizes 3 2; dead-in 1 1; ready; ready 1; shown 1 1 5; pending 0 1 7";

@@ -1,5 +1,5 @@
-//! The worked rows of the lock in simulation: cores, mailboxes, judges, whole worlds with their images, and the askings of
-//! crash plans. Tests alone: each names public functions of `rmecore`, `redomail`, `judge`, `rmeworld`, `imaging` and `plans`.
+//! The worked rows of the lock in simulation: cores, mailboxes, judges, whole worlds with their images, and crash plans.
+//! Each test names public functions of `rmecore`, `redomail`, `judge`, `rmeworld` and `crash_plans`.
 #![tactic(auto)]
 
 #[cfg(test)]

@@ -1,9 +1,9 @@
-//! A lock process by itself, values, and the numbers and texts of refusals.
+//! The state machine of one process, bodies, and the numbers and texts of refusals.
 
 use rmecore::{Access, Body, CoreCall, Kind, LockProcess, Outer, Refusal, Word};
 use std::alloc::{AllocError, Global};
 
-/// It reads nothing but zeros, up to its doorway.
+/// Rereads three zeros, up to the doorway.
 fn rereads(process: &mut LockProcess) -> bool {
     for word in [Word::Choosing(1), Word::Number(1), Word::Inside(1)] {
         if process.next() != Some(Access::Load(Kind::Reread, word)) {
@@ -14,7 +14,7 @@ fn rereads(process: &mut LockProcess) -> bool {
     true
 }
 
-/// Does it begin its doorway, and take the number behind the one that it sees?
+/// Whether the process begins its doorway, and takes the number after the one that it reads.
 fn takes_five(process: &mut LockProcess) -> bool {
     if process.outlook(0).outer != Some(Outer::Begin(1))
         || process.feed(0).outer != Some(Outer::Begin(1))
@@ -29,7 +29,7 @@ fn takes_five(process: &mut LockProcess) -> bool {
     process.number() == Some(5)
 }
 
-/// A process that is fed by hand.
+/// A process that a test feeds with values.
 #[test]
 fn knows_no_word(rt: HostRuntime) {
     let mut process = LockProcess::new(2, 10, 1);
@@ -45,7 +45,7 @@ fn knows_no_word(rt: HostRuntime) {
 
 const WORDS: [u64; 9] = [7, 8, 9, 10, 11, 12, 13, 14, 15];
 
-/// Is it as wide, and is this its last word?
+/// Whether the body has this width, and its last word is the right one.
 fn is_body(body: &Body, width: u64) -> bool {
     body.width() == width
         && body.word(width.saturating_sub(1)) == Ok(width.saturating_add(6))

@@ -1,5 +1,5 @@
-//! The mailbox's tasks, layouts and content: every task and every reply, each cause of a refusal, words that keep the
-//! rules of the content, words that break one, and each request for memory refused.
+//! The mailbox's tasks, layouts and content: every task and every reply, each cause of a refusal, words that keep the rules
+//! of the content and words that break one, and each allocation failing in turn.
 
 use super::memory::{Memory, are_messages};
 use super::phrase::Phrase;
@@ -14,11 +14,11 @@ const ONE: Layout = Layout {
     width: 1,
 };
 
-/// Each task with its process, its calls and its reply.
+/// Tasks of processes, each with the number of its calls of the cells and its reply.
 const TASKS: &str =
     "append 0 0 1 2: calls 3 out-of-order; append 0 2 1 2: calls 3 out-of-order; append 0 1 1 2: calls 15 stored; append 0 1 3 4: calls 3 already; append 1 1 3 4: calls 15 stored; put 1 3 9: calls 1 put; get 0 3: calls 1 word 9; get 0 2: calls 1 word 0; append 0 2 1 2: calls 3 full; close 0: calls 2 closed-now; close 1: calls 1 already-closed; append 0 2 1 2: calls 3 closed; append 0 1 1 2: calls 3 already; repair 1: calls 1 nothing-to-mend; check 1: calls 1 not-ruined; ruin 1: calls 1 put; check 0: calls 1 ruined";
 
-/// The first task that goes wrong, counted from 1, and 0 for the words or the messages at the end.
+/// The number, from 1, of the first task that fails. 0: the words or the messages at the end are wrong.
 fn first_wrong_task(alloc: Global, memory: &mut Memory) -> Option<u64> {
     let words = [
         1, 1, 2, 0, 1, 1, 3, 4, 0, 0, 0, 9, 1, 1, 0, 1, 1, 2, 1, 1, 3, 4,
@@ -32,7 +32,7 @@ fn first_wrong_task(alloc: Global, memory: &mut Memory) -> Option<u64> {
     if are_so { None } else { Some(0) }
 }
 
-/// Two senders in a mailbox of two places with two words a value.
+/// Two senders in a mailbox with a capacity of two messages and two words a value.
 #[test]
 fn every_reply(rt: HostRuntime) {
     let layout = Layout {
@@ -47,7 +47,7 @@ fn every_reply(rt: HostRuntime) {
     assert_eq!(rt; wrong, None);
 }
 
-/// Are count and armed these?
+/// Whether count and armed have these values.
 fn are_heads(memory: &Memory, count: u64, armed: u64) -> bool {
     memory.words.get(2) == Some(&count) && memory.words.get(3) == Some(&armed)
 }
@@ -60,7 +60,8 @@ fn is_repaired(alloc: Global, memory: &mut Memory, value: Body) -> bool {
         && memory.shows(alloc, "message 0 1 5")
 }
 
-/// A repair of a record that stands whole, at capacity 2: count stays. The last of the append's 13 calls would clear armed.
+/// A repair of a record that was applied already, with a capacity of two: count stays. The last of the append's 13 calls
+/// would clear armed.
 #[test]
 fn repair_of_what_is_done(rt: HostRuntime) {
     let layout = Layout {
@@ -75,7 +76,7 @@ fn repair_of_what_is_done(rt: HostRuntime) {
     assert!(rt; is_so);
 }
 
-/// The number of the refusal of a task, in a mailbox of these sizes; 0 where it is not refused, or no task.
+/// The number of a task's refusal, in a mailbox of these sizes. 0: it is not refused. 99: there is no such task.
 fn refusal_of(sizes: &str, task: &str) -> u64 {
     let sizes = Phrase::read(sizes);
     let layout = Layout {
@@ -94,7 +95,7 @@ fn refusal_of(sizes: &str, task: &str) -> u64 {
     }
 }
 
-/// Each cause of a refusal, and which comes first.
+/// Each cause of a refusal, and their order.
 #[test]
 fn refusals_in_order(rt: HostRuntime) {
     let rows = [
@@ -116,7 +117,7 @@ fn refusals_in_order(rt: HostRuntime) {
     }
 }
 
-/// What comes after the first word that a task reads.
+/// The next access after the first word that a task reads.
 fn after(task: Task, word: u64) -> Option<Next> {
     match Job::new(ONE, 0, task) {
         Ok(mut job) => {
@@ -127,8 +128,8 @@ fn after(task: Task, word: u64) -> Option<Next> {
     }
 }
 
-/// Any armed word but 0 counts as 1, on words that no lawful image has; closed and ruined are asked for exactly 1. A job
-/// that is done goes on with nothing.
+/// Any value of armed except 0 counts as 1, on words that no lawful image has. For closed and ruined only 1 counts. A job
+/// that is done ignores further words.
 #[test]
 fn odd_flags(rt: HostRuntime) {
     assert!(rt; after(Task::Repair, 0) == Some(Next::Done(Reply::Mended(false))));
@@ -147,7 +148,7 @@ fn odd_flags(rt: HostRuntime) {
     assert!(rt; job.next() == Next::Done(Reply::Ruined(true)));
 }
 
-/// The call consistent asks whether the lock is ruined. If so that is its reply; else its repair comes next.
+/// `consistent` first reads whether the lock is ruined. If so, that is its reply. If not, the repair comes next.
 #[test]
 fn consistent_asks_first(rt: HostRuntime) {
     let mut ruined = Job::seam_mending(ONE, 0);
@@ -159,7 +160,7 @@ fn consistent_asks_first(rt: HostRuntime) {
     assert!(rt; usable.next() == Next::Get(3) && usable.reply() == None);
 }
 
-/// Sums and products are held at the greatest u64: a place that no layout has.
+/// Sums and products saturate at the greatest u64, for a place that no layout has.
 #[test]
 fn indexes_are_held(rt: HostRuntime) {
     let layout = Layout {
@@ -175,7 +176,7 @@ fn indexes_are_held(rt: HostRuntime) {
 
 const SOUND: [u64; 15] = [0, 0, 1, 0, 0, 1, 77, 0, 0, 0, 0, 1, 0, 1, 77];
 
-/// Is this no content?
+/// Whether the words have no content.
 fn is_misshapen(alloc: Global, layout: Layout, words: &[u64]) -> bool {
     match content(alloc, layout, words) {
         Ok(_) => false,
@@ -183,7 +184,7 @@ fn is_misshapen(alloc: Global, layout: Layout, words: &[u64]) -> bool {
     }
 }
 
-/// The first of these changes of a word with which the words are content still.
+/// The first of these changes after which the words still have content.
 fn first_sound(alloc: Global, words: &[u64; 15], changes: &[(usize, u64)]) -> Option<usize> {
     for (i, v) in changes {
         let mut changed = *words;
@@ -197,7 +198,7 @@ fn first_sound(alloc: Global, words: &[u64; 15], changes: &[(usize, u64)]) -> Op
     None
 }
 
-/// Are these words no content of one process's mailbox of these sizes?
+/// Whether the words have no content in a mailbox of one process with these sizes.
 fn is_no_layout(alloc: Global, cap: u64, width: u64, words: &[u64]) -> bool {
     let layout = Layout {
         procs: 1,
@@ -211,7 +212,7 @@ fn is_sound(alloc: Global, words: &[u64]) -> bool {
     content(alloc, ONE, words).is_ok()
 }
 
-/// Words of one process, one place and one word a value that break a rule, each.
+/// Words that break a rule each, for one process, a capacity of one and a width of one.
 #[test]
 fn broken_words(rt: HostRuntime) {
     let alloc = rt.alloc();
@@ -223,15 +224,15 @@ fn broken_words(rt: HostRuntime) {
     assert!(rt; is_no_layout(alloc, 18446744073709551615, 1, &SOUND));
 }
 
-/// Words with an armed record, at each point of its apply steps, and with one thing changed.
+/// Words with an armed record after each apply step, and the same with one word changed.
 #[test]
 fn torn_words(rt: HostRuntime) {
     let alloc = rt.alloc();
     // armed, nothing applied
     let torn = [0, 0, 0, 1, 0, 1, 77, 0, 0, 0, 0, 0, 0, 0, 0];
-    // the entry and the last number stand
+    // the entry and the last number are written
     let whole = [0, 0, 0, 1, 0, 1, 77, 0, 0, 0, 0, 1, 0, 1, 77];
-    // count too
+    // count is written too
     let shown = [0, 0, 1, 1, 0, 1, 77, 0, 0, 0, 0, 1, 0, 1, 77];
     assert!(rt; is_sound(alloc, &torn) && is_sound(alloc, &whole) && is_sound(alloc, &shown));
     let changes = [(1, 1), (4, 1), (5, 2), (11, 2)];
@@ -241,7 +242,7 @@ fn torn_words(rt: HostRuntime) {
     assert_eq!(rt; first_sound(alloc, &shown, &changes), None);
 }
 
-/// What the content of sound words is, with so much memory: None where it is refused.
+/// Reads the content with a heap of this many bytes. None: out of memory.
 fn content_within(alloc: Global, budget: usize) -> Result<Option<bool>, AllocError> {
     let heap = LocalHeap::new(alloc, budget)?;
     let answered = match content(&heap, ONE, &SOUND) {
@@ -252,8 +253,7 @@ fn content_within(alloc: Global, budget: usize) -> Result<Option<bool>, AllocErr
     Ok(answered)
 }
 
-/// Each request for memory is refused in turn, by a budget that grows: nothing but want of memory is answered until the
-/// content is.
+/// Each allocation fails in turn, with a budget that grows. The answer is `OutOfMemory` until it is the content.
 #[test]
 fn refused_memory(rt: HostRuntime) {
     let mut refused = 0u64;

@@ -1,4 +1,4 @@
-//! Cells over words in memory, which count their calls and stop at one of them.
+//! Cells over words in plain memory. They count their calls, and stop at a given one.
 
 ghost use Rattle.std.specs.Prelude.{◌≡◌, ◌+◌, true, false, if◌then◌else◌};
 ghost use Rattle.redomail.specs.Layout.{held};
@@ -7,7 +7,7 @@ use super::phrase::{Phrase, cut, reply_of};
 use redomail::{Cells, Job, Layout, Message, Reply, Stop, Task, content, run_task};
 use std::alloc::{AllocError, Global};
 
-/// The words, the calls of the task under way, the call at which it stops (0: none), and the stops so far.
+/// The words, the number of calls of the task, the call at which it stops (0: none), and the number of stops.
 #[derive(Drop)]
 pub struct Memory {
     pub words: Vec<u64>,
@@ -29,7 +29,7 @@ impl Memory {
         })
     }
 
-    // Counts a call. Is it the one that stops?
+    // Counts a call. True: it stops here.
     fn stops_now(&mut self) -> bool
         ensures words { self.new.words ≡ self.old.words }
         ensures stops { self.new.stops ≡ (if result then held (self.old.stops + 1) else self.old.stops) }
@@ -43,7 +43,7 @@ impl Memory {
         true
     }
 
-    /// Runs a task of a process, which stops at this call, and tells how many calls it made. None where there is no such task.
+    /// Runs a process's task that stops at this call. The result has the number of its calls. None: the task is refused.
     pub fn run(
         &mut self,
         sender: u64,
@@ -59,17 +59,17 @@ impl Memory {
         Some((answer, self.calls))
     }
 
-    /// Is a task stopped at this call?
+    /// Whether the task stops at this call.
     pub fn is_stopped(&mut self, sender: u64, task: Task, at: u64) -> bool {
         self.run(sender, task, at) == Some((Err(Stop), at))
     }
 
-    /// Is a task answered so, after so many calls, where it stops at none?
+    /// Whether the task replies so after this number of calls, if it never stops.
     pub fn is_answered(&mut self, sender: u64, task: Task, reply: Reply, calls: u64) -> bool {
         self.run(sender, task, 0) == Some((Ok(reply), calls))
     }
 
-    /// Is a task answered as a line says: a task, the number of its calls, and its reply?
+    /// Runs a line: a task, the number of its calls, and its reply. True: it is so.
     fn takes(&mut self, text: &str) -> bool {
         let mut rest = text;
         let asked = Phrase::read(cut(&mut rest, ": "));
@@ -82,7 +82,7 @@ impl Memory {
         }
     }
 
-    /// The first line whose task is not answered as it says, counted from 1.
+    /// The number, from 1, of the first line that fails.
     pub fn first_wrong(&mut self, script: &str) -> Option<u64> {
         let mut rest = script;
         let mut at = 0u64;
@@ -98,7 +98,7 @@ impl Memory {
         None
     }
 
-    /// Is the content of the words these messages, each with its sender, its number and its value?
+    /// Whether the content of the words is these messages, each with its sender, its number and its value.
     pub fn shows(&self, alloc: Global, messages: &str) -> bool {
         match content(alloc, self.layout, &self.words) {
             Ok(shown) => are_messages(&shown, messages),
@@ -107,7 +107,7 @@ impl Memory {
     }
 }
 
-/// Are these the messages?
+/// Whether the messages are these.
 pub fn are_messages(shown: &[Message], messages: &str) -> bool {
     let mut rest = messages;
     for message in shown {

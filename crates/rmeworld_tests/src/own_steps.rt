@@ -1,21 +1,21 @@
-//! The table of own steps, at 1, 2, 3 and 64 processes.
+//! The table of own steps, with 1, 2, 3 and 64 processes.
 
 use rmecore::{Core, CoreDone, Found, Own, Refusal};
 use std::alloc::Global;
 
 const SIZES: [u64; 4] = [1, 2, 3, 64];
 
-/// The limit where another process holds the only number.
+/// The limit under which another process holds the only number.
 const ONE: u64 = 1;
 
 const MANY: u64 = 10;
 
-/// Where a process died.
+/// The point at which a process crashes.
 #[derive(Clone, Copy)]
 enum Death {
-    /// Behind so many steps of its lock.
+    /// After this number of steps of its lock.
     Behind(u64),
-    /// Between the two words of its exit.
+    /// Between the two stores of its exit.
     HalfOut,
 }
 
@@ -36,7 +36,7 @@ fn take(core: &mut Core, p: u64, steps: u64) -> Result<(), Refusal> {
     Ok(())
 }
 
-/// The process dies there.
+/// Locks, and crashes the process at this point.
 fn die(core: &mut Core, p: u64, death: Death) -> Result<(), Refusal> {
     core.start_lock(p)?;
     match death {
@@ -51,7 +51,7 @@ fn die(core: &mut Core, p: u64, death: Death) -> Result<(), Refusal> {
     Ok(())
 }
 
-/// The answer of a lock, its steps, and those that were blocked.
+/// The answer of a lock, its steps, and the blocked ones among them.
 fn lock(core: &mut Core, p: u64) -> Result<(CoreDone, u64, u64), Refusal> {
     core.start_lock(p)?;
     let done = finish(core, p)?;
@@ -70,7 +70,7 @@ fn recover(core: &mut Core, p: u64) -> Result<(CoreDone, u64), Refusal> {
     Ok((done, core.steps(p)?))
 }
 
-/// The lock of one that died, and the unlock behind it.
+/// Whether a process that crashed here locks with this answer, and then unlocks.
 fn locks_again(core: &mut Core, p: u64, death: Death, answer: (CoreDone, u64, u64)) -> bool {
     die(core, p, death).is_ok()
         && lock(core, p) == Ok(answer)
@@ -81,7 +81,7 @@ fn recovers(core: &mut Core, p: u64, death: Death, answer: (Found, u64)) -> bool
     die(core, p, death).is_ok() && recover(core, p) == Ok((CoreDone::Found(answer.0), answer.1))
 }
 
-/// One that is half out has left the number to others.
+/// The limit of numbers. A process between the two stores of its exit has given up its number.
 fn limit_of(death: Death) -> u64 {
     match death {
         Death::Behind(_) => MANY,
@@ -89,7 +89,7 @@ fn limit_of(death: Death) -> u64 {
     }
 }
 
-/// The last process of so many locks again like this.
+/// Whether the last of n processes crashes here and then locks with this answer and this number of steps.
 fn is_lock(alloc: Global, n: u64, death: Death, done: CoreDone, steps: u64) -> bool {
     match Core::new(alloc, n, limit_of(death)) {
         Ok(mut core) => locks_again(&mut core, n.saturating_sub(1), death, (done, steps, 0)),
@@ -144,7 +144,7 @@ fn recoveries(rt: HostRuntime) {
     }
 }
 
-/// Process 0 takes the only number, and enters where another is half out.
+/// Process 0 takes the only number. If the other process is in its exit, 0 enters too.
 fn holds(core: &mut Core, n: u64, death: Death) -> bool {
     match death {
         Death::Behind(_) => {
@@ -178,7 +178,7 @@ fn numbers_spent(rt: HostRuntime) {
     }
 }
 
-/// 0 is inside while the last one takes 20 readings that are blocked.
+/// 0 is inside while the last process has 20 blocked readings.
 fn waits(core: &mut Core, n: u64) -> bool {
     let p = n.saturating_sub(1);
     lock(core, 0).is_ok()
@@ -190,7 +190,7 @@ fn waits(core: &mut Core, n: u64) -> bool {
         && core.steps(p) == Ok(n.saturating_mul(3).saturating_add(24))
 }
 
-/// The last one is ready, and withdraws in one step.
+/// The last process is ready, and withdraws in one step.
 fn gives_up(core: &mut Core, n: u64) -> bool {
     let p = n.saturating_sub(1);
     core.start_lock(p).is_ok()
@@ -210,7 +210,7 @@ fn own(choosing: u64, number: u64, inside: u64) -> Own {
     }
 }
 
-/// Blocked readings are steps too. A withdraw takes one step, also where nobody else could be waited for.
+/// Blocked readings are steps too. A withdraw takes one step, also if there is no other process.
 #[test]
 fn waiting(rt: HostRuntime) {
     for n in SIZES {

@@ -1,27 +1,27 @@
-//! Phrases: a word, numbers, and what stands behind them, as `append 0 1 77` or `step 0 8 clean`.
+//! Phrases: a word, numbers, and a rest, as in `append 0 1 77` or `step 0 8 clean`.
 
 use redomail::{Deed, Message, Reply, Task};
 use rmecore::{Body, Found, Outer};
 use rmeworld::{Answer, Call};
 
-/// A phrase. A number that is not there is the greatest.
+/// A phrase. A number that is missing counts as the greatest u64.
 #[derive(Clone, Copy)]
 pub struct Phrase<'a> {
     pub word: &'a str,
     numbers: [u64; 12],
     count: usize,
-    /// What stands behind the numbers.
+    /// The text after the numbers.
     pub rest: &'a str,
 }
 
-/// Takes off a text what stands before this, or all of it.
+/// Takes the text before the separator off the front. Without a separator it takes all.
 pub fn cut<'a>(text: &mut &'a str, separator: &str) -> &'a str {
     let (part, rest) = text.split_once(separator).unwrap_or((text, ""));
     *text = rest;
     part
 }
 
-/// The place of a name among names that have strokes between them.
+/// The position of a name among names separated by `|`.
 pub fn place(names: &str, name: &str) -> Option<u64> {
     let mut rest = names;
     for at in 0..names.len() as u64 {
@@ -62,17 +62,17 @@ impl<'a> Phrase<'a> {
         self.numbers.get(at).copied().unwrap_or(u64::MAX)
     }
 
-    /// The numbers from a place on.
+    /// The numbers from a position on.
     pub fn numbers(&self, from: usize) -> &[u64] {
         self.numbers.get(from..self.count).unwrap_or(&[])
     }
 
-    /// The numbers from a place on, as a value.
+    /// The numbers from a position on, as a value.
     pub fn body(&self, from: usize) -> Option<Body> {
         Body::new(self.numbers(from)).ok()
     }
 
-    /// The deed of the lock that it names, as a report does.
+    /// The deed of the lock with this name, as reports write it.
     pub fn outer(&self) -> Option<Outer> {
         let p = self.number(0);
         match place("begin|ready|enter|crash|reenter|leave|quit", self.word)? {
@@ -86,7 +86,7 @@ impl<'a> Phrase<'a> {
         }
     }
 
-    /// The deed that it names.
+    /// The deed with this name.
     pub fn deed(&self) -> Option<Deed> {
         let p = self.number(0);
         match place("commit|show|close|ruin", self.word) {
@@ -107,7 +107,7 @@ impl<'a> Phrase<'a> {
         }
     }
 
-    /// The message that its numbers tell: `message 0 1 77`.
+    /// The message of the numbers, as in `message 0 1 77`.
     pub fn message(&self) -> Option<Message> {
         Some(Message {
             sender: self.number(0),
@@ -116,7 +116,7 @@ impl<'a> Phrase<'a> {
         })
     }
 
-    /// The task of the mailbox that it asks for.
+    /// The task of the mailbox with this name.
     pub fn task(&self) -> Option<Task> {
         match place("repair|close|ruin|check|get|put|append", self.word)? {
             0 => Some(Task::Repair),
@@ -132,7 +132,7 @@ impl<'a> Phrase<'a> {
         }
     }
 
-    /// The call that it asks for.
+    /// The call with this name.
     pub fn call(&self) -> Option<Call> {
         let names = "lock|unlock|consistent|recover|withdraw|close|get|put|append";
         match place(names, self.word)? {
@@ -152,7 +152,7 @@ impl<'a> Phrase<'a> {
     }
 }
 
-/// What a recovering process finds, by its name.
+/// The result of a recovery, by its name.
 pub fn found_of(name: &str) -> Option<Found> {
     let names = "found idle|found left|found doorway|found waiting|found inside";
     match place(names, name)? {
@@ -164,7 +164,7 @@ pub fn found_of(name: &str) -> Option<Found> {
     }
 }
 
-/// The word of the board that is told: `word 9`.
+/// The reply with a board word, as in `word 9`.
 fn word_of(name: &str) -> Option<Reply> {
     let phrase = Phrase::read(name);
     if phrase.word == "word" {
@@ -174,7 +174,7 @@ fn word_of(name: &str) -> Option<Reply> {
     }
 }
 
-/// The reply of the mailbox, by its name.
+/// The mailbox's reply with this name.
 pub fn reply_of(name: &str) -> Option<Reply> {
     let names =
         "stored|already|out-of-order|full|closed|closed-now|already-closed|mended|nothing-to-mend|put|ruined|not-ruined";
@@ -195,7 +195,7 @@ pub fn reply_of(name: &str) -> Option<Reply> {
     }
 }
 
-/// The answer of a world, by its name in a report.
+/// The answer of a world with this name, as reports write it.
 pub fn answer_of(name: &str) -> Option<Answer> {
     let names = "clean|owner-died|numbers-spent|not-recoverable|unlocked|withdrawn";
     match place(names, name) {

@@ -1,9 +1,9 @@
-//! Scripts that are played on a world: calls, steps and crashes, and what is asked of the world between them.
+//! Scripts played on a world: calls, steps and crashes, and questions about the world between them.
 //!
-//! `step 0 8 clean` is eight steps of process 0, the last of which is answered clean, and no other; `step 0 8` is eight
-//! that are not answered. `refused 5 unlock 0` is a call that is refused with this number. `words 0 0 1 1` asks for the
-//! lock words of process 0, `began` for those at the start of its call, `steps`, `blocked` and `deeds` for counts, `data`
-//! for a data word, and `image` for the text of the image.
+//! `step 0 8 clean` is eight steps of process 0. The last has the answer clean, and the others have none. Without an answer
+//! none of the eight may have one. `refused 5 unlock 0` is a call that is refused with this number. `words 0 0 1 1` are the
+//! lock words of process 0, `began` those at the start of its call. `steps`, `blocked` and `deeds` are counts, `data` is a
+//! data word, and `image` the text of the image.
 
 use super::phrase::{Phrase, answer_of, cut, place};
 use rmeworld::write_image;
@@ -12,7 +12,7 @@ use rmecore::{Own, Refusal};
 use rmeworld::{Answer, World};
 use std::alloc::Global;
 
-/// Takes steps. Is this what the last one is answered, and no other?
+/// Takes steps. True: the last one and no other has the wanted answer.
 pub fn step(world: &mut World, p: u64, count: u64, wanted: Option<Answer>) -> bool {
     for k in 0..count {
         let Ok(stepped) = world.advance(p) else {
@@ -26,7 +26,7 @@ pub fn step(world: &mut World, p: u64, count: u64, wanted: Option<Answer>) -> bo
     true
 }
 
-/// Why what is asked is refused.
+/// The refusal of a call or a question.
 fn refusal_of(world: &mut World, phrase: &Phrase<'_>) -> Option<Refusal> {
     let p = phrase.number(0);
     match place("step|crash|steps", phrase.word) {
@@ -37,7 +37,7 @@ fn refusal_of(world: &mut World, phrase: &Phrase<'_>) -> Option<Refusal> {
     }
 }
 
-/// Is this refused, with this number?
+/// Whether a call or a question is refused with this number.
 fn is_refused(world: &mut World, asked: &str) -> bool {
     let mut line = asked;
     let number = cut(&mut line, " ").parse::<u64>().ok();
@@ -47,7 +47,7 @@ fn is_refused(world: &mut World, asked: &str) -> bool {
     }
 }
 
-/// Are these the words that a phrase tells of its process?
+/// Whether the lock words are those of the phrase.
 pub fn are_words(own: Option<Own>, phrase: &Phrase<'_>) -> bool {
     match own {
         Some(own) => phrase.numbers(1) == [own.choosing, own.number, own.inside].as_slice(),
@@ -67,7 +67,7 @@ fn is_written(alloc: Global, world: &World, text: &str) -> bool {
     }
 }
 
-/// Is this word of the image so?
+/// Whether the image has this word.
 fn shows(world: &World, phrase: &Phrase<'_>) -> bool {
     let at = phrase.number(0) as usize;
     let Ok(image) = world.image() else {
@@ -80,7 +80,7 @@ fn shows(world: &World, phrase: &Phrase<'_>) -> bool {
     }
 }
 
-/// Is what is asked so?
+/// Whether the question has this answer.
 fn is_so(world: &World, phrase: &Phrase<'_>) -> bool {
     let p = phrase.number(0);
     match place("steps|blocked|deeds|began", phrase.word) {
@@ -92,7 +92,7 @@ fn is_so(world: &World, phrase: &Phrase<'_>) -> bool {
     }
 }
 
-/// Takes a line. Does it go as it says?
+/// Plays a line. True: it has the result that the line says.
 pub fn line(alloc: Global, world: &mut World, text: &str) -> bool {
     let phrase = Phrase::read(text);
     let p = phrase.number(0);
@@ -108,7 +108,7 @@ pub fn line(alloc: Global, world: &mut World, text: &str) -> bool {
     }
 }
 
-/// Is it a call that is accepted, or is what is asked so?
+/// Whether a call is accepted, or a question has this answer.
 fn starts(world: &mut World, phrase: &Phrase<'_>) -> bool {
     match phrase.call() {
         Some(call) => world.start(phrase.number(0), call).is_ok(),
@@ -116,7 +116,7 @@ fn starts(world: &mut World, phrase: &Phrase<'_>) -> bool {
     }
 }
 
-/// The first line that does not go as it says, counted from 1.
+/// The number, from 1, of the first line with another result than it says.
 pub fn first_wrong(alloc: Global, world: &mut World, script: &str) -> Option<u64> {
     let mut rest = script;
     let mut at = 0u64;
@@ -132,7 +132,7 @@ pub fn first_wrong(alloc: Global, world: &mut World, script: &str) -> Option<u64
     None
 }
 
-/// Are these the deeds of the history?
+/// Whether the history is these deeds.
 pub fn are_deeds(history: &[Deed], deeds: &str) -> bool {
     let mut rest = deeds;
     for deed in history {
@@ -143,7 +143,7 @@ pub fn are_deeds(history: &[Deed], deeds: &str) -> bool {
     rest.is_empty()
 }
 
-/// A new world, of these processes, limit, capacity and width.
+/// A new world with this number of processes, limit, capacity and width.
 pub fn world_of(alloc: Global, sizes: &str) -> Result<World, Refusal> {
     let sizes = Phrase::read(sizes);
     World::new(
@@ -155,7 +155,7 @@ pub fn world_of(alloc: Global, sizes: &str) -> Result<World, Refusal> {
     )
 }
 
-/// Plays a script on a world and compares its history. The line that goes wrong, and 0 for the history.
+/// Plays a script and compares the history. The result is the number of the line that fails. 0: the history is different.
 pub fn wrong_on(alloc: Global, world: &mut World, script: &str, deeds: &str) -> Option<u64> {
     match first_wrong(alloc, world, script) {
         None if are_deeds(world.history(), deeds) => None,

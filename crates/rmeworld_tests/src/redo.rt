@@ -1,18 +1,18 @@
-//! An append cut off at each of its calls, and a repair cut off at each of its own.
+//! An append that stops at each of its calls, and a repair that stops at each of its own.
 
 use super::memory::Memory;
 use redomail::{Layout, Reply, Task};
 use rmecore::Body;
 use std::alloc::{AllocError, Global};
 
-/// One process that appends its message 1 to a mailbox of one place, and what is expected of it.
+/// One process that appends its message 1 to a mailbox with a capacity of one, and the expected numbers.
 #[derive(Clone, Copy)]
 struct Row<'a> {
     value: Body,
-    // the call of the append that arms the record, and how many calls it has
+    // the append's call that arms the record, and the number of its calls
     commit: u64,
     stored: u64,
-    // how many calls a repair has that mends
+    // the number of calls of a repair that mends
     mended: u64,
     // the words at the end, and the message
     words: &'a [u64],
@@ -36,7 +36,7 @@ impl Row<'_> {
         Memory::new(alloc, layout, self.words.len())
     }
 
-    // is the append stopped at call k, or stored where it has no such call?
+    // whether the append stops at call k, or is stored if it has no such call
     fn is_torn(&self, memory: &mut Memory, k: u64) -> bool {
         if k <= self.stored {
             memory.is_stopped(0, self.task(), k)
@@ -45,7 +45,7 @@ impl Row<'_> {
         }
     }
 
-    // is it mended by a repair, and then found there, or not there before?
+    // whether a repair mends it and the message is there, or nothing was committed
     fn is_mended(&self, memory: &mut Memory, k: u64) -> bool {
         let armed = self.commit < k && k <= self.stored;
         let calls = if armed { self.mended } else { 1 };
@@ -59,12 +59,12 @@ impl Row<'_> {
         }
     }
 
-    // are the words whole, and is the content the one message?
+    // whether the words are complete and the content is the one message
     fn ends(&self, alloc: Global, memory: &Memory) -> bool {
         memory.words.as_slice() == self.words && memory.shows(alloc, self.message)
     }
 
-    // the append stopped at call k, then a repair, then the append again
+    // the append stops at call k; then a repair and the append again
     fn torn_once(&self, alloc: Global, k: u64) -> bool {
         match self.memory(alloc) {
             Ok(mut memory) => {
@@ -76,7 +76,7 @@ impl Row<'_> {
         }
     }
 
-    // the append stopped at call k, behind its commit, the repair at its call j, then a repair and the append again
+    // the append stops at call k, after its commit; the repair stops at its call j; then a repair and the append again
     fn torn_twice(&self, alloc: Global, k: u64, j: u64) -> bool {
         match self.memory(alloc) {
             Ok(mut memory) => {

@@ -1,5 +1,5 @@
-//! Images torn at each step of an append and of a repair. Each is lawful, is read back as it was written, and goes on to
-//! the mailbox of a run that nothing cut off.
+//! Images torn at each step of an append and of a repair. Each is lawful and is read as it was written. A world from it ends
+//! with the mailbox of a run without a crash.
 
 use super::phrase::answer_of;
 use super::played::{first_wrong, line, step};
@@ -8,12 +8,12 @@ use rmecore::{Own, Refusal};
 use rmeworld::{Image, World, first_rule};
 use std::alloc::Global;
 
-/// The steps of an append that stores: those to the commit, and the apply steps.
+/// The number of steps of an append that stores: up to the commit, and the apply steps.
 fn append_steps(width: u64) -> u64 {
     commit_steps(width).saturating_add(apply_steps(width))
 }
 
-/// The steps of an append with which its commit is done: three gets, the record, and the put of armed.
+/// The number of steps of an append up to its commit: three gets, the puts of the record, and the put of armed.
 fn commit_steps(width: u64) -> u64 {
     width.saturating_add(6)
 }
@@ -22,7 +22,7 @@ fn apply_steps(width: u64) -> u64 {
     width.saturating_add(5)
 }
 
-/// The steps of a consistent that mends: the gets of ruined, of armed and of the record, and the apply steps.
+/// The number of steps of a `consistent` that mends: the gets of ruined, of armed and of the record, and the apply steps.
 fn mending_steps(width: u64) -> u64 {
     width.saturating_add(4).saturating_add(apply_steps(width))
 }
@@ -37,7 +37,7 @@ fn send(alloc: Global, world: &mut World, width: u64) -> bool {
     line(alloc, world, call)
 }
 
-/// Sends the first message, and takes so many steps of the second append.
+/// Sends the first message, and takes this number of steps of the second append.
 fn begin_sending(alloc: Global, world: &mut World, width: u64, steps: u64) -> bool {
     let first = if width == 1 {
         "lock 0; step 0 8 clean; append 0 1 1; step 0 13 stored"
@@ -47,7 +47,7 @@ fn begin_sending(alloc: Global, world: &mut World, width: u64, steps: u64) -> bo
     first_wrong(alloc, world, first).is_none() && send(alloc, world, width) && take(world, steps)
 }
 
-/// Takes steps, whatever they are answered.
+/// Takes steps, with any answers.
 fn take(world: &mut World, steps: u64) -> bool {
     for _ in 0..steps {
         if world.advance(0).is_err() {
@@ -57,14 +57,14 @@ fn take(world: &mut World, steps: u64) -> bool {
     true
 }
 
-/// Is cut off, comes in again, and takes so many steps of the repair.
+/// Crashes, enters again, and takes this number of steps of the repair.
 fn begin_mending(alloc: Global, world: &mut World, steps: u64) -> bool {
     let again = "crash 0; lock 0; step 0 4 owner-died; consistent 0";
     first_wrong(alloc, world, again).is_none() && take(world, steps)
 }
 
-/// The words of one process inside, with room for two messages, one of them sent, and so many steps of the second append;
-/// and where a repair is told, so many of its steps behind the commit.
+/// The image of one process inside, with a capacity of two messages, one of them sent, after this number of steps of the
+/// second append. With `mended`, it then crashes and takes this number of steps of the repair.
 fn torn(
     alloc: Global,
     width: u64,
@@ -97,7 +97,7 @@ fn is_same(image: &Image, other: &Image) -> bool {
         && image.width == other.width
 }
 
-/// Where a world goes on: a lock, a consistent, and the second append again, each with just the steps that it has to take.
+/// Continues from the image: a lock, a `consistent`, and the second append again, each with exactly its number of steps.
 fn goes_on(alloc: Global, world: &mut World, width: u64, armed: bool, stored: bool) -> bool {
     first_wrong(alloc, world, "lock 0; step 0 4 owner-died; consistent 0").is_none()
         && mends(world, width, armed)
@@ -121,7 +121,7 @@ fn stores(world: &mut World, width: u64, stored: bool) -> bool {
     }
 }
 
-/// A world of what is read of the text of an image that may be torn.
+/// The world of the image that is written and read back. None: it is not the same image.
 fn read_again(alloc: Global, image: &Image) -> Result<Option<World>, Refusal> {
     let read = written_is_read(alloc, image)?;
     if !is_same(image, &read) {
@@ -137,7 +137,7 @@ fn comes_to(world: &World, whole: &Image) -> bool {
     }
 }
 
-/// Is the image lawful, read as it was written, and does it go on to the whole mailbox?
+/// Whether the image is lawful and read as it was written, and a world from it ends with the whole mailbox.
 fn goes_on_from(alloc: Global, image: &Image, whole: &Image, armed: bool, stored: bool) -> bool {
     if first_rule(image).is_some() {
         return false;
@@ -150,7 +150,7 @@ fn goes_on_from(alloc: Global, image: &Image, whole: &Image, armed: bool, stored
     }
 }
 
-/// The first step of the second append behind which a crash is not gone on from.
+/// The first number of steps of the second append after which a crash is not mended.
 fn first_lost_in_append(alloc: Global, width: u64, whole: &Image) -> Option<u64> {
     let most = append_steps(width);
     for k in 0..most.saturating_add(1) {
@@ -167,7 +167,7 @@ fn first_lost_in_append(alloc: Global, width: u64, whole: &Image) -> Option<u64>
     None
 }
 
-/// The first step of a repair behind which a crash is not gone on from.
+/// The first number of steps of a repair after which a crash is not mended.
 fn first_lost_in_repair(alloc: Global, width: u64, whole: &Image) -> Option<u64> {
     let most = mending_steps(width);
     for k in 0..most.saturating_add(1) {
@@ -182,7 +182,7 @@ fn first_lost_in_repair(alloc: Global, width: u64, whole: &Image) -> Option<u64>
     None
 }
 
-/// The first step, of the append or else of the repair, behind which a crash is not gone on from.
+/// The first number of steps, of the append or else of the repair, after which a crash is not mended.
 fn first_lost(alloc: Global, width: u64) -> Option<u64> {
     match torn(alloc, width, append_steps(width), None) {
         Ok(Some(whole)) => first_lost_in_append(alloc, width, &whole).or(first_lost_in_repair(
@@ -198,7 +198,7 @@ fn torn_appends_and_repairs(rt: HostRuntime) {
     assert_eq!(rt; first_lost(rt.alloc(), 3), None);
 }
 
-/// Is it so in the append and in the repair, two steps before the end?
+/// Whether two steps before the end of the append, and of the repair, the words are so.
 fn are_between(alloc: Global, width: u64) -> bool {
     let sent = append_steps(width).saturating_sub(2);
     let mended = mending_steps(width).saturating_sub(2);
@@ -206,14 +206,14 @@ fn are_between(alloc: Global, width: u64) -> bool {
         && is_between(torn(alloc, width, commit_steps(width), Some(mended)), width)
 }
 
-/// Between the put of last and the put of count the sender's last number is told already, and the message isn't shown.
+/// Between the put of last and the put of count, last has the new number already, and the message is not shown yet.
 #[test]
 fn torn_between_last_and_count(rt: HostRuntime) {
     assert!(rt; are_between(rt.alloc(), 1));
     assert!(rt; are_between(rt.alloc(), 3));
 }
 
-/// Is count 1, armed 1, and last 2, with the process inside?
+/// Whether count is 1, armed is 1 and last is 2, with the process inside.
 fn is_between(image: Result<Option<Image>, Refusal>, width: u64) -> bool {
     match image {
         Ok(Some(image)) => has_last_before_count(&image, width.saturating_add(10) as usize),

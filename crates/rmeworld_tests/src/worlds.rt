@@ -5,8 +5,7 @@ use rmecore::Refusal;
 use rmeworld::{Image, World};
 use std::alloc::Global;
 
-/// The first row that does not come to its deeds, with the line that goes wrong. A row has its sizes, its script and its
-/// deeds.
+/// The first row that fails, and the line in it that fails. A row has its sizes, its script and its deeds.
 fn first_other(alloc: Global, rows: &[(&str, &str, &str)]) -> Option<(usize, u64)> {
     for (row, (sizes, script, deeds)) in rows.iter().enumerate() {
         let line = match world_of(alloc, sizes) {
@@ -96,8 +95,8 @@ fn mailbox_rows(rt: HostRuntime) {
     assert_eq!(rt; first_other(rt.alloc(), &rows), None);
 }
 
-/// How many steps each call takes: a lock of one among two, from words 0, 3n + 5 with the ruin check, and an unlock 2; a
-/// re-entry 4, a consistent that mends 9 + 2W, an append that stores 11 + 2W, a refused one 3.
+/// The number of steps of each call. A lock of one process of two, from words 0: 3n + 5 with the ruin check. An unlock: 2. A
+/// re-entry: 4. A `consistent` that mends: 9 + 2W. An append that stores: 11 + 2W, one that is refused: 3.
 #[test]
 fn steps_of_calls(rt: HostRuntime) {
     let rows = [
@@ -115,8 +114,8 @@ fn steps_of_calls(rt: HostRuntime) {
     assert_eq!(rt; first_other(rt.alloc(), &rows), None);
 }
 
-/// Which call is refused, with which number: at rest, inside, by one that came in again and has not mended (it may use the
-/// board, and leave, and nothing else), and which withdraw.
+/// Which calls are refused, with which number: at rest, inside, by a process that entered again and has not mended (it may
+/// use the board and unlock, and nothing else), and which withdraws.
 #[test]
 fn refused_calls(rt: HostRuntime) {
     let rows = [
@@ -149,7 +148,7 @@ fn refused_calls(rt: HostRuntime) {
     assert_eq!(rt; first_other(rt.alloc(), &rows), None);
 }
 
-/// Sizes, and the number of their refusal.
+/// Sizes, with the number of their refusal.
 #[test]
 fn refused_sizes(rt: HostRuntime) {
     let rows = [
@@ -171,7 +170,7 @@ fn refused_sizes(rt: HostRuntime) {
     }
 }
 
-/// The words of one of two processes that is cut off behind its commit.
+/// The image of one of two processes that stops after its commit.
 fn cut_off(alloc: Global) -> Result<Option<Image>, Refusal> {
     let mut world = world_of(alloc, "sizes 2 10 2 1")?;
     let script = "lock 0; step 0 11 clean; append 0 1 77; step 0 7";
@@ -181,7 +180,7 @@ fn cut_off(alloc: Global) -> Result<Option<Image>, Refusal> {
     Ok(Some(world.image()?))
 }
 
-/// Where a world that is made again of an image goes wrong.
+/// The first line that fails on a world from the image.
 fn wrong_again(alloc: Global, image: &Image) -> Option<u64> {
     let script =
         "deeds 0; steps 0 0; began 0 0 1 1; recover 0; step 0 3 found inside; image {\"cap\":2,\"data\":[0,0,0,1,0,1,77,0,0,0,0,0,0,0,0,0,0,0,0],\"limit\":10,\"lock\":[[0,1,1],[0,0,0]],\"version\":2,\"width\":1}";
@@ -191,7 +190,7 @@ fn wrong_again(alloc: Global, image: &Image) -> Option<u64> {
     }
 }
 
-/// A world that is made again of what outlives a crash of everything goes on where the words stand.
+/// A world from an image continues from the image's words.
 #[test]
 fn an_image_goes_on(rt: HostRuntime) {
     let wrong = match cut_off(rt.alloc()) {

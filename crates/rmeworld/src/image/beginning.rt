@@ -1,4 +1,4 @@
-//! Where a judge begins on an image.
+//! The start of an image, for a judge.
 
 ghost use Rattle.std.specs.Prelude.{◌≡◌, ℕ, ◌<◌, IfOk, IfErr, OnOk, length, map, slice_index_or, []};
 ghost use Rattle.rmecore.specs.Lawful.{phase_by, is_ahead as is_ahead_by, start_of as start_by};
@@ -20,8 +20,10 @@ use crate::image::Image;
 use crate::image::rules::{find_in, first_rule, layout, word};
 use std::alloc::{AllocError, Global};
 
-/// What a judge has to start from where a history goes on from an image: who is in the doorway, ready, or dead inside, who
-/// is ahead of whom, and what is shown and pending. `Judge::from_start` takes it, if there is memory. `BadImage` names the first rule that the image breaks.
+/// The start of a history that continues from an image: the phases and ahead sets of the lock words, and what is shown and
+/// pending in the data words. `Judge::from_start` accepts it.
+///
+/// `BadImage` names the first rule that the image breaks. `OutOfMemory`: an allocation failed.
 pub fn start_of(alloc: Global, image: &Image) -> Result<Start, Refusal>
     ensures start { IfOk result (IsStartOf image.now) }
     ensures judged { IfOk result IsStart }
@@ -57,7 +59,7 @@ fn started(alloc: Global, image: &Image) -> Result<Start, Refusal>
     })
 }
 
-// The messages that a lawful image shows.
+// The messages shown in a lawful image.
 fn shown(alloc: Global, image: &Image) -> Result<Vec<Message>, Refusal>
     requires { IsLawfulImage image.now }
     ensures ok { IfOk result (λ messages. messages.items ≡ shown_in image.now) }
@@ -66,7 +68,7 @@ fn shown(alloc: Global, image: &Image) -> Result<Vec<Message>, Refusal>
     content(alloc, layout(image), image.cells.as_slice())
 }
 
-// The phase that a process's words tell of.
+// The phase that a process's words describe.
 fn phase(own: &Own) -> Phase
     ensures { result ≡ phase_by own.now }
 {
@@ -93,7 +95,8 @@ fn phases(alloc: Global, lock: &[Own]) -> Result<Vec<Phase>, AllocError>
     Ok(phases)
 }
 
-// Is q ahead of p? Ready ones are ahead of one in the doorway, and of a ready one those with a smaller pair.
+// Whether q is ahead of p. All ready processes are ahead of one in the doorway. Of a ready process, those with a smaller
+// pair are ahead.
 fn is_ahead(lock: &[Own], p: u64, q: u64) -> bool
     requires first { p < length lock.now }
     requires second { q < length lock.now }
@@ -111,7 +114,7 @@ fn is_ahead(lock: &[Own], p: u64, q: u64) -> bool
     }
 }
 
-// Who is ahead of p.
+// The processes ahead of p.
 fn ahead_of(alloc: Global, lock: &[Own], p: u64) -> Result<Vec<u64>, AllocError>
     requires { p < length lock.now }
     ensures { IfOk result (λ names. (q : ℕ) → is_named names.items q ≡ (start_by (own_at lock.now)).ahead p q) }
@@ -136,7 +139,7 @@ fn ahead_sets(alloc: Global, lock: &[Own]) -> Result<Vec<Vec<u64>>, AllocError>
     Ok(sets)
 }
 
-// The message that is committed and not shown yet.
+// The message that is committed and not shown yet. Its sender is the process inside.
 fn pending(image: &Image) -> Option<Message>
     requires { IsLawfulImage image.now }
     ensures { (p : ℕ) → IsInAlone image.now p → result ≡ (mailbox_of (layout_of image.now) p (words_of image.now.cells)).pending }

@@ -15,10 +15,10 @@ use crate::owns::Owns;
 use serde_json::{Map, Value};
 use std::alloc::Global;
 
-// What isn't an image's JSON.
+// The refusal for a text that is not an image's JSON.
 const MISSHAPEN: Refusal = Refusal::BadImage { rule: 1 };
 
-// Takes the first member of an object, if it has this name.
+// Takes the first member of an object, which must have this name.
 fn take(members: &mut Map<String, Value>, name: &str) -> Result<Value, Refusal>
     ensures ok { IfOk result (λ v. members_view members.old.entries ≡ member name.now (view v) (members_view members.new.entries)) }
     ensures err { IfErr result (λ e. (e ≡ BadImage 1) × ((d : Data) (ms : Members) → members_view members.old.entries ≡ member name.now d ms → ⊥)) }
@@ -29,7 +29,7 @@ fn take(members: &mut Map<String, Value>, name: &str) -> Result<Value, Refusal>
     }
 }
 
-// A whole number.
+// The value as a whole number.
 fn whole(value: &Value) -> Result<u64, Refusal>
     ensures ok { IfOk result (λ n. view value.now ≡ whole_data n) }
     ensures err { IfErr result (λ e. (e ≡ BadImage 1) × ((n : ℕ) → view value.now ≡ whole_data n → ⊥)) }
@@ -40,7 +40,7 @@ fn whole(value: &Value) -> Result<u64, Refusal>
     }
 }
 
-// A list of whole numbers.
+// The value as a list of whole numbers.
 fn numbers(alloc: Global, value: &Value) -> Result<Vec<u64>, Refusal>
     ensures ok { IfOk result (λ ns. view value.now ≡ list_data ns.items) }
     ensures err { IfErr result (λ e. (e ≡ OutOfMemory) ⊎ ((e ≡ BadImage 1) × ((ns : List ℕ) → view value.now ≡ list_data ns → ⊥))) }
@@ -55,7 +55,7 @@ fn numbers(alloc: Global, value: &Value) -> Result<Vec<u64>, Refusal>
     Ok(numbers)
 }
 
-// The lock words of a process: a list of three.
+// The value as the lock words of a process, a list of three numbers.
 fn own(value: &Value) -> Result<Own, Refusal>
     ensures ok { IfOk result (λ x. view value.now ≡ own_data x) }
     ensures err { IfErr result (λ e. (e ≡ BadImage 1) × ((x : OwnOf) → view value.now ≡ own_data x → ⊥)) }
@@ -73,7 +73,7 @@ fn own(value: &Value) -> Result<Own, Refusal>
     })
 }
 
-// A list of lock words.
+// The value as a list of lock words.
 fn owns(alloc: Global, value: &Value) -> Result<Vec<Own>, Refusal>
     ensures ok { IfOk result (λ xs. view value.now ≡ lock_data xs.items) }
     ensures err { IfErr result (λ e. (e ≡ OutOfMemory) ⊎ ((e ≡ BadImage 1) × ((xs : List OwnOf) → view value.now ≡ lock_data xs → ⊥))) }
@@ -88,7 +88,7 @@ fn owns(alloc: Global, value: &Value) -> Result<Vec<Own>, Refusal>
     Ok(owns)
 }
 
-// Takes a whole number that is the first member of an object.
+// Takes the first member, a whole number.
 fn take_whole(members: &mut Map<String, Value>, name: &str) -> Result<u64, Refusal>
     ensures ok { IfOk result (λ n. members_view members.old.entries ≡ member name.now (whole_data n) (members_view members.new.entries)) }
     ensures err { IfErr result (λ e. (e ≡ BadImage 1) × ((n : ℕ) (ms : Members) → members_view members.old.entries ≡ member name.now (whole_data n) ms → ⊥)) }
@@ -97,7 +97,7 @@ fn take_whole(members: &mut Map<String, Value>, name: &str) -> Result<u64, Refus
     whole(&value)
 }
 
-// Takes a list of whole numbers that is the first member of an object.
+// Takes the first member, a list of whole numbers.
 fn take_numbers(
     alloc: Global,
     members: &mut Map<String, Value>,
@@ -110,7 +110,7 @@ fn take_numbers(
     numbers(alloc, &value)
 }
 
-// Takes a list of lock words that is the first member of an object.
+// Takes the first member, a list of lock words.
 fn take_owns(
     alloc: Global,
     members: &mut Map<String, Value>,
@@ -123,7 +123,7 @@ fn take_owns(
     owns(alloc, &value)
 }
 
-// The last member, the width, if it is there.
+// Takes the last member, the width, if there is one.
 fn last_width(members: &mut Map<String, Value>) -> Result<Option<u64>, Refusal>
     ensures ok { IfOk result (λ o. members_view members.old.entries ≡ width_member (is_some o) (unwrap_or o 1)) }
     ensures err { IfErr result (λ e. (e ≡ BadImage 1) × ((wide : Bool) (w : ℕ) → members_view members.old.entries ≡ width_member wide w → ⊥)) }
@@ -138,14 +138,14 @@ fn last_width(members: &mut Map<String, Value>) -> Result<Option<u64>, Refusal>
     Ok(Some(width))
 }
 
-/// An image as a text spells it, and whether the text names its width.
+/// The image in a text, and whether the text has a width member.
 #[derive(Drop)]
 pub(crate) struct Spelled {
     pub(crate) image: Image,
     pub(crate) wide: bool,
 }
 
-/// The image that a JSON value spells.
+/// The image in a JSON value. `BadImage` with rule 1: the value is not an image's.
 pub(crate) fn image_in(alloc: Global, value: Value) -> Result<Spelled, Refusal>
     ensures ok { IfOk result (λ s. view value ≡ image_data s.wide s.image) }
     ensures narrow { IfOk result (λ s. s.wide ≡ false → s.image.width ≡ 1) }

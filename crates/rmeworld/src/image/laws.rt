@@ -1,4 +1,4 @@
-//! Laws of images.
+//! Laws about images.
 
 ghost use Rattle.std.specs.Prelude.{◌≡◌, ℕ, List, Bool, IfOk, IfErr};
 ghost use Rattle.judge.specs.Starts.{IsStart};
@@ -16,23 +16,23 @@ use rmecore::Refusal;
 use crate::image::Image;
 use std::alloc::Global;
 
-/// A wider image is lawful where the image was, and its list is the same, each value with words 0 at its end.
+/// If an image is lawful, the wider image is lawful too. It shows the same messages, each value with words 0 at its end.
 pub fn widening_keeps()
     ensures { WideningKeeps }
 {}
 
-/// A judge can start from the start of a lawful image.
+/// A judge can start from the start of every lawful image.
 pub fn images_are_starts()
     ensures { (i : ImageOf) (s : Start) → IsLawfulImage i → IsStartOf i s → IsStart s }
 {}
 
-/// A text spells no two images, and spells it in one form.
+/// A text has at most one image, in one form.
 pub fn texts_spell_one_image()
     ensures { (text : List ℕ) (wide also : Bool) (i j : ImageOf) → Spells text wide i → Spells text also j → (wide ≡ also) × (i ≡ j) }
 {}
 
-/// What is written of an image is read back: it is the same image, with version 2. Of a lawful image nothing but want of
-/// memory is refused.
+/// Writes an image and reads the text back. The result is the same image with version 2. For a lawful image the only refusal
+/// is `OutOfMemory`.
 pub fn written_is_read(alloc: Global, image: &Image) -> Result<Image, Refusal>
     ensures same { IfOk result (λ read. read ≡ record image.now { version = 2 }) }
     ensures lawful { IsLawfulImage image.now → IfErr result (λ e. e ≡ OutOfMemory) }

@@ -1,4 +1,4 @@
-//! Images read from their text.
+//! Reading images from text.
 
 ghost use Rattle.std.specs.Prelude.{◌≡◌, ℕ, IfOk, IfErr, ◌⊎◌, Bool, Some, None, IsUtf8};
 ghost use Rattle.rmecore.specs.declared.refusal.Refusal.TheVariants.{BadImage, OutOfMemory};
@@ -14,9 +14,11 @@ use crate::image::rules::first_rule;
 use serde_json::Value;
 use std::alloc::Global;
 
-/// The image that a text spells, if it is a lawful one. The text may be any JSON spelling of its members, in any order,
-/// and may leave out the width where the version is 1. `BadImage` names the first rule that is broken; a text that isn't
-/// an image's JSON breaks rule 1.
+/// The lawful image in a text. The text may be any JSON spelling of the image's members, in any order. With version 1 it has
+/// no width member.
+///
+/// `BadImage` names the first rule that is broken. Rule 1: the text is not an image's JSON. `OutOfMemory`: an allocation
+/// failed.
 pub fn read_image(alloc: Global, text: &[u8]) -> Result<Image, Refusal>
     ensures spelled { IfOk result (λ i. (wide : Bool) × Spells text.now wide i × (i.version ≡ version_of wide)) }
     ensures lawful { IfOk result IsLawfulImage }
@@ -40,7 +42,7 @@ fn parse(alloc: Global, text: &[u8]) -> Result<Value, Refusal>
     }
 }
 
-// The image that was spelt, if it keeps the rules.
+// The image of a text, if it keeps rules 2 to 9.
 fn checked(spelled: Spelled) -> Result<Image, Refusal>
     ensures same { IfOk result (λ i. i ≡ spelled.image) }
     ensures version { IfOk result (λ i. i.version ≡ version_of spelled.wide) }

@@ -16,12 +16,12 @@ use redomail::layout::{ARMED, RUINED};
 use rmecore::Own;
 use rmecore::simulated::{MOST_LIMIT, MOST_PROCS};
 
-/// How many messages a mailbox can hold at most.
+/// The greatest capacity of a mailbox, in messages.
 pub const MOST_CAP: u64 = 65_536;
-/// How many words a message can have at most.
+/// The greatest number of words in a message's value.
 pub const MOST_WIDTH: u64 = 8;
 
-/// The first of the rules 2 to 9 that an image breaks, none of a lawful image. Rule 1 is one of texts alone.
+/// The first of the rules 2 to 9 that an image breaks. None: the image is lawful. Rule 1 is about texts alone.
 pub fn first_rule(image: &Image) -> Option<u64>
     ensures lawful { IsNone result ↔ IsLawfulImage image.now }
     ensures broken { IfSome result (λ rule. IsFirstBroken rule image.now) }
@@ -54,7 +54,7 @@ pub fn first_rule(image: &Image) -> Option<u64>
     None
 }
 
-/// Where the data words of an image stand.
+/// The sizes of an image, which decide the indexes of its data words.
 pub fn layout(image: &Image) -> Layout
     ensures { result ≡ layout_of image.now }
 {
@@ -94,7 +94,7 @@ fn is_filled(image: &Image) -> bool
     image.cells.as_slice().len() as u64 == head + (2 + image.width) * image.cap
 }
 
-// Is this a row of the restart table?
+// Whether the words are a row of the restart table.
 fn is_row(own: &Own, limit: u64) -> bool
     ensures { IsTrue result ↔ IsRow limit own.now }
 {
@@ -115,7 +115,7 @@ fn are_rows(lock: &[Own], limit: u64) -> bool
     true
 }
 
-// Has p the least pair of all that hold a number?
+// Whether p has the least pair of all processes that hold a number.
 fn has_least(lock: &[Own], p: u64) -> bool
     requires { p < length lock.now }
     ensures { IsTrue result ↔ ((q : ℕ) → q < length lock.now → q ≢ p → 0 < (own_at lock.now q).number → is_before (own_at lock.now p).number p (own_at lock.now q).number q ≡ true) }
@@ -131,7 +131,7 @@ fn has_least(lock: &[Own], p: u64) -> bool
     true
 }
 
-// Has whoever is in the least pair?
+// Whether each process inside has the least pair.
 fn is_first(lock: &[Own], limit: u64) -> bool
     requires { (p : ℕ) → IsRow limit (own_at lock.now p) }
     ensures { IsTrue result ↔ IsLawful (length lock.now) limit (own_at lock.now) }
@@ -145,14 +145,14 @@ fn is_first(lock: &[Own], limit: u64) -> bool
     true
 }
 
-/// A data word, or 0 past the last.
+/// The data word at an index, 0 past the end.
 pub fn word(words: &[u64], i: u64) -> u64
     ensures { result ≡ slice_index words.now i }
 {
     words.get(i as usize).copied().unwrap_or(0)
 }
 
-// With no record armed: does the list rule hold?
+// Whether the list rule holds, if no record is armed.
 fn is_listed(image: &Image) -> bool
     requires { Keeps 7 image.now }
     ensures { IsTrue result ↔ IsListed image.now }
@@ -170,7 +170,7 @@ fn is_listed(image: &Image) -> bool
     lasts_are(layout, words, counts, layout.procs)
 }
 
-// With a record armed: is it one's that may have left it?
+// Whether the record rule holds, if a record is armed: for the process inside, or in a ruined lock for some process.
 fn is_recorded(image: &Image) -> bool
     requires { Keeps 7 image.now }
     ensures { IsTrue result ↔ IsRecorded image.now }
@@ -194,7 +194,7 @@ fn is_recorded(image: &Image) -> bool
     }
 }
 
-/// The process that is in.
+/// The process that is inside, alive or crashed there.
 pub fn find_in(lock: &[Own]) -> Option<u64>
     ensures some { IfSome result (λ p. (p < length lock.now) × (0 < (own_at lock.now p).number) × (0 < (own_at lock.now p).inside)) }
     ensures none { IsNone result → (p : ℕ) → p < length lock.now → 0 < (own_at lock.now p).number → 0 < (own_at lock.now p).inside → ⊥ }

@@ -1,4 +1,4 @@
-//! Images made wider.
+//! Making images wider.
 
 ghost use Rattle.std.specs.Prelude.{◌≡◌, ◌<◌, ◌≤◌, ◌+◌, ◌++◌, IfOk, IfErr, OnOk, length};
 ghost use Rattle.redomail.specs.Content.{HeadsHold};
@@ -15,8 +15,10 @@ use crate::image::Image;
 use crate::owns::Owns;
 use std::alloc::{AllocError, Global};
 
-/// The image with values of this many words: each value, and the record's, gets words 0 at its end. The answer has
-/// version 2. `BadImage` tells the first rule that the image breaks, `BadWidth` a width below the image's or above 8.
+/// The image with values of `width` words: each value, and the record's, gets words 0 at its end. The result has version 2.
+///
+/// `BadImage` names the first rule that the image breaks. `BadWidth`: the width is below the image's or above 8.
+/// `OutOfMemory`: an allocation failed.
 pub fn widen(alloc: Global, image: &Image, width: u64) -> Result<Image, Refusal>
     ensures wider { IfOk result (λ j. IsWider width image.now j) }
     ensures lawful { IfOk result IsLawfulImage }
@@ -32,7 +34,7 @@ pub fn widen(alloc: Global, image: &Image, width: u64) -> Result<Image, Refusal>
     Ok(wider(alloc, image, width)?)
 }
 
-// The wider image of a lawful one.
+// The wider image of a lawful image.
 fn wider(alloc: Global, image: &Image, width: u64) -> Result<Image, AllocError>
     requires lawful { IsLawfulImage image.now }
     requires least { image.now.width ≤ width }
@@ -74,7 +76,7 @@ fn wide_cells(
     Ok(cells)
 }
 
-// Pushes the words before the first place.
+// Appends the words before the first place.
 fn push_front(
     cells: &mut Vec<u64>,
     layout: Layout,
@@ -95,7 +97,7 @@ fn push_front(
     Ok(())
 }
 
-// Pushes a place.
+// Appends the words of place `a`.
 fn push_place(
     cells: &mut Vec<u64>,
     layout: Layout,
@@ -115,7 +117,7 @@ fn push_place(
     push_wide(cells, &words[value_at..end], width)
 }
 
-// Pushes a value, with words 0 at its end.
+// Appends a value, with words 0 at its end.
 fn push_wide(cells: &mut Vec<u64>, value: &[u64], width: u64) -> Result<(), AllocError>
     requires { length value.now ≤ width }
     ensures { OnOk result (cells.new.items ≡ cells.old.items ++ padded width value.now) }

@@ -1,4 +1,4 @@
-//! Images written as text.
+//! Writing images as text.
 
 ghost use Rattle.std.specs.Prelude.{◌≡◌, IfOk, IfErr, true};
 ghost use Rattle.rmecore.specs.declared.refusal.Refusal.TheVariants.{OutOfMemory};
@@ -10,8 +10,8 @@ use crate::image::Image;
 use serde_json::{Value, json};
 use std::alloc::{AllocError, Global};
 
-/// The one line of an image: compact JSON, its members by rising name, and a line feed. The version that is written is 2,
-/// whatever the image was read from. It checks no rule.
+/// The line of an image: compact JSON, its members by rising name, and a line feed. It always writes version 2. It checks no
+/// rule. `OutOfMemory`: an allocation failed.
 pub fn write_image(alloc: Global, image: &Image) -> Result<Vec<u8>, Refusal>
     ensures ok { IfOk result (λ text. text.items ≡ image_line image.now) }
     ensures spelled { IfOk result (λ text. Spells text.items true (record image.now { version = 2 })) }
@@ -23,7 +23,7 @@ pub fn write_image(alloc: Global, image: &Image) -> Result<Vec<u8>, Refusal>
     Ok(text)
 }
 
-// The image as JSON.
+// The image as a JSON value.
 fn image_value(alloc: Global, image: &Image) -> Result<Value, AllocError>
     ensures { IfOk result (λ v. view v ≡ written_data image.now) }
 {

@@ -1,4 +1,4 @@
-//! Steps of a process by what it is at: a job's, which is fed in its place, and the lock's.
+//! Steps of a process by its script state: a job's steps, which change the job in place, and the lock's steps.
 
 ghost use Rattle.std.specs.Prelude.{◌≡◌, Some, None, IfSome};
 ghost use Rattle.rmecore.specs.Machine.{quiet};
@@ -15,7 +15,7 @@ use crate::process::Process;
 use redomail::{Job, Next, Reply};
 use rmecore::{Access, Kind, Word};
 
-/// The reply of a job that is done.
+/// The reply of a job, if it is done.
 fn reply_of(job: &Job) -> Option<Reply>
     ensures done { IfSome result (λ reply. left job.now ≡ Done reply) }
     ensures goes_on { result ≡ None → HasStep (left job.now) }
@@ -27,7 +27,8 @@ impl Process {
     ghost use Rattle.rmecore.specs.Machine.{word_of};
     ghost use Rattle.rmeworld.specs.Stand.{InWords, IsAllowed, StoresOwn, spot_of, stepped, next_access, spot_after, outcome};
 
-    /// The step that comes next, where it is one of a job. It is what `next` answers, for a job alone.
+    /// The next access, if it is a job's. It is what `next` answers then.
+    // Inline: one call a job's step.
     #[inline(always)]
     pub fn job_next(&self) -> Option<Access>
         ensures working { IfSome result (λ a. IsWorking self.now.errand) }
@@ -46,7 +47,9 @@ impl Process {
         }
     }
 
-    /// Takes the next step of a job, as `feed` does. For others it is nothing, so only its answer is told.
+    /// Takes the next step of a job, as `feed` does. Such a step is never a deed of the lock, so the answer is the whole
+    /// result.
+    // Inline: one call a job's step.
     #[inline(always)]
     pub fn job_on(&mut self, value: u64) -> Option<Answer>
         requires { IsWorking self.old.errand }
@@ -60,6 +63,7 @@ impl Process {
                 job.feed(value);
                 let reply = reply_of(job)?;
                 let why = *why;
+                // For the proof alone: its value is read.
                 let same = why;
                 let answer = reply_answer(same, self.mended, reply);
                 self.errand = Errand::Free;
@@ -70,7 +74,8 @@ impl Process {
         }
     }
 
-    /// Takes the next step of the lock, as `feed` does.
+    /// Takes the next step of the lock's part, as `feed` does.
+    // Inline: one call a step.
     #[inline(always)]
     pub fn lock_on(&mut self, value: u64) -> Outcome
         requires { self.old.errand ≡ Free }

@@ -1,4 +1,4 @@
-//! Steps of a process that are no deed of the lock and end no call, taken in place.
+//! Silent steps of a process, taken in place: no deed of the lock, and not the call's last step.
 
 ghost use Rattle.std.specs.Prelude.{◌≡◌, Some, None, IfSome, IsSome};
 
@@ -12,7 +12,8 @@ impl Process {
     ghost use Rattle.rmecore.specs.Machine.{word_of};
     ghost use Rattle.rmeworld.specs.Stand.{InWords, IsAllowed, StoresOwn, spot_of, stepped, next_access, spot_after, outcome};
 
-    /// Whether the next step is likely to be no deed and to end nothing. Any answer is right.
+    /// Whether the next step is likely to be silent. A wrong guess costs time only.
+    // Inline: one call a silent step.
     #[inline(always)]
     pub(crate) fn is_promising(&self) -> bool {
         match &self.errand {
@@ -27,7 +28,8 @@ impl Process {
         }
     }
 
-    /// The step that comes next, where it is likely to be no deed and to end nothing. It is what `next` answers, or none.
+    /// The next access, if the step is likely to be silent. It is what `next` answers then.
+    // Inline: one call a silent step.
     #[inline(always)]
     pub fn next_quietly(&self) -> Option<Access>
         ensures next { IfSome result (λ a. next_access self.now ≡ Some a) }
@@ -41,8 +43,9 @@ impl Process {
         self.next()
     }
 
-    /// Takes the next step, with the value that it read, where it sees at once that it is no deed of the lock and ends
-    /// nothing, and answers whether it was blocked. Elsewhere nothing changes.
+    /// Takes the next step, with the value that was read, if it can see cheaply that the step is silent. The result is
+    /// whether it was blocked. None: the step was not taken, and nothing changed.
+    // Inline: one call a silent step.
     #[inline(always)]
     pub fn feed_quietly(&mut self, value: u64) -> Option<bool>
         ensures exact { IsSome result → self.new ≡ stepped self.old value }

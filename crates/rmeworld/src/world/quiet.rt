@@ -1,4 +1,4 @@
-//! Steps of a world that are no deed and end no call, told to nobody.
+//! Silent steps of a world: no deed, and not the call's last step. They return no report.
 
 ghost use Rattle.std.specs.Prelude.{◌≡◌, false, None, IsTrue};
 
@@ -8,8 +8,9 @@ use crate::world::World;
 impl World {
     ghost use Rattle.rmeworld.specs.Replayed.{advance_refusal, stepped, advanced};
 
-    /// Takes the next step of process p where it sees at once that it is no deed and ends no call, and answers true.
-    /// Elsewhere nothing changes.
+    /// Takes the next step of process `p` if it can see cheaply that the step is silent. True: the step was taken. False:
+    /// nothing changed.
+    // Apart: keeps the scan's loop small.
     #[inline(never)]
     pub(crate) fn step_unheard(&mut self, p: u64) -> bool
         ensures accepted { IsTrue result → advance_refusal self.old p ≡ None }

@@ -1,4 +1,4 @@
--- Each law holds from any state in which at most one process holds the lock, and so from the empty one.
+-- Each law holds from any state in which at most one process holds the lock, so also from the empty one.
 use Rattle.judge.proofs.Common.{empty}
 use Rattle.judge.proofs.Steps.{Allowed-from_leads}
 use Rattle.judge.proofs.Inside.{Sole-empty, NoTwoInside-from_allowed, DeadReenters-from_allowed}

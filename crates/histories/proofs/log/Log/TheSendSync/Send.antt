@@ -1,4 +1,4 @@
--- A log owns nothing, so it may go to another thread.
+-- A log owns nothing, so it may be sent to another thread.
 use denote.RattleType.{RattleType}
 use denote.Param.Send.{IsSend, owning_send, sendable}
 use Rattle.histories.specs.contracts.log.Log.{the_row, the_type}

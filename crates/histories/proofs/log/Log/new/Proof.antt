@@ -1,4 +1,4 @@
--- `new` makes the empty struct, with the items that its clause names. Assumes `Logic`.
+-- `new` makes the empty struct, with the items of its contract. Assumes `Logic`.
 use Rattle.std.proofs.Common.{[], ◌∷◌, refl}
 use seplogic.Ra.Ura.{Ura}
 use mir.Syntax.{Fn, Args, a_type}

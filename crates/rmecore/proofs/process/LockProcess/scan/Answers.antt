@@ -4,7 +4,7 @@ use Rattle.rmecore.specs.declared.scan.Scan.{Scan}
 use Rattle.rmecore.proofs.Accesses.{orderly, all_allowed, all_least, within, stores_own}
 use Rattle.rmecore.proofs.process.LockProcess.scan.Goals as goal
 
--- what holds of the next access holds of the scan's, which it is
+-- a fact about the next access is a fact about the scan's access, since they are the same
 told : (n : Option Access) (Q : Access → Type 0) → IfSome n Q → (o : Option (Scan × Access)) → IfSome o (λ r. n ≡ Some r.1) → IfSome o (λ r. Q r.1)
 told n Q h None k = tt
 told n Q h (Some r) k = subst (λ m. IfSome m Q) k h

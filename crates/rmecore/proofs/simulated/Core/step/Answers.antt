@@ -11,7 +11,7 @@ perform-value-requires c =
     let each : c.index_mut-process.result.now.procs ≡ length c.deref_mut.result.now = seat.0 ∙ sym seated.words_each ∙ sym (ap length c.deref_mut.ensures.value) in
     subst (λ n. InLock n (word_of c.in-Some.access)) each c.in-Some.ensures.within
 
--- the lengths of the words as they were handed back
+-- the length of the words after they were borrowed
 refilled : (c : goal.After-word) → take c.self.inside.words.len (c.perform-value.new.words ++ drop (length c.perform-value.new.words) c.self.inside.words.items) ≡ c.perform-value.new.words
 refilled c = refill _ _ _ (c.perform-value.auto.words ∙ c.deref_mut.ensures.len)
 

@@ -17,7 +17,7 @@ new c = record {
 next : (c : goal.After-self-4-1) → IsNext c.args.self.now c.args.p c.in-Ok.step.access c.in-Ok.step.found
 next c = let it = c.in-Ok.ensures in record { below = it.below; access = it.access; least = it.least; found = it.found }
 
--- no deed, and no answer
+-- the report: no deed, and no answer
 abbrev told : goal.After-self-4-1 → Stepped
 told c = record (told_by c.args.self.now c.args.p c.in-Ok.step.access c.in-Ok.step.found (unheard c.in-Some.blocked)) { deed = the_deed [] }
 

@@ -33,7 +33,7 @@ cut_fine (stages.Faulty k f) lines rest some sound h = absurd (sound k f refl)
 
 -- ---- the whole source
 
--- an answer that no text has
+-- an answer of the device or of memory, which no text has
 pub IsOfDevice : ReplayFault → Type 0
 IsOfDevice Read = Unit {0}
 IsOfDevice OutOfMemory = Unit {0}

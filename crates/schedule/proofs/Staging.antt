@@ -10,7 +10,7 @@ more_parts : (lines parts : List (List ℕ)) → 0 < length parts → 0 < length
 more_parts lines parts some = omega (arith, length-append lines parts)
 
 module _ {A : Type 0} (item : List (List ℕ) → Result A LineFault) where
-  -- the items of some lines, and those of what stands behind them
+  -- the items of some lines, and those of the lines after them
   abbrev and_then : Result (List A) (ℕ × LineFault) → Result (List A) (ℕ × LineFault) → Result (List A) (ℕ × LineFault)
   and_then front rest = front >>= λ xs. rest >>= λ ys. Ok (xs ++ ys)
 
@@ -56,7 +56,7 @@ module _ {H A : Type 0} (head : List (List ℕ) → Result H LineFault) (item : 
   some_line [] y e = absurd cc
   some_line (first ∷ lines) y e = omega arith
 
-  -- ---- what stands behind some lines
+  -- ---- the lines after some lines
 
   abbrev reads_on : Result (H × List A) (ℕ × LineFault) → (H → Result (List A) (ℕ × LineFault)) → Result (H × List A) (ℕ × LineFault)
   reads_on front rest = front >>= λ y. rest y.0 >>= λ ys. Ok (y.0, y.1 ++ ys)

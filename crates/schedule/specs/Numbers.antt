@@ -1,4 +1,4 @@
--- The numbers of the faults.
+-- The numbers of the faults (the specification's Faults of the text).
 use Rattle.std.specs.Prelude.{ℕ}
 use Rattle.schedule.specs.declared.lines.fault.LineFault.{LineFault}
 use Rattle.schedule.specs.declared.lines.fault.LineFault.TheVariants.{NoHeader, BadWord, BadNumber, TooBig, NoNewline, TrailingText}

@@ -1,4 +1,4 @@
--- The report of a run: the lines of what it tells, the last words, the mailbox, and the verdict.
+-- The report of a run: its deeds and answers, the last words, the mailbox, and the verdict (the specification's Report).
 use Rattle.std.specs.Prelude.{◌≡◌, ℕ, ◌+◌, List, [], ◌∷◌, ◌++◌, map, slice_index, ◌⊎◌, codes}
 use Rattle.std.specs.List.{flat_map}
 use Rattle.std.specs.Fmt.{decimal}
@@ -21,7 +21,7 @@ use Rattle.schedule.specs.Answers.{words_of_answer}
 use Rattle.schedule.specs.Verdicts.{number_of_fault, verdict_on}
 use Rattle.schedule.specs.Runs.{Told, Did, Answered, deeds_of}
 
--- ---- what a run tells
+-- ---- what a run reports
 
 abbrev pub told_line : Told → List ℕ
 told_line (Did deed) = line_of (words_of_deed deed)
@@ -88,7 +88,7 @@ abbrev pub IsEnd : Image → Verdict → List ℕ → Type 0
 IsEnd image verdict text =
     (mail : List ℕ) × IsMailText (layout_of image) image.cells mail × (text ≡ owns_text 0 image.lock ++ mail ++ verdict_line verdict)
 
--- the report of a run that is not refused, from a state of the judge table on, by the words that it leaves
+-- the report of a run without a refusal: judged from this state of the judge table, with the last words of this image
 abbrev pub IsReport : State → Image → List Told → List ℕ → Type 0
 IsReport start image told text =
     (end : List ℕ) × IsEnd image (verdict_on start (deeds_of told)) end × (text ≡ told_text told ++ end)

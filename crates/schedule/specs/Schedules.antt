@@ -1,4 +1,4 @@
--- Schedules as texts.
+-- Schedules as texts (the specification's Schedule grammar).
 use Rattle.std.specs.Prelude.{ℕ, List, [], ◌∷◌, ◌++◌, Result, Ok, codes, slice_index, slice_index_or}
 use Rattle.std.specs.List.{AllByRecursion, flat_map}
 use Rattle.schedule.specs.declared.lines.fault.LineFault.{LineFault}
@@ -9,7 +9,7 @@ use Rattle.schedule.specs.Headers.{Form, IsHeader, words_of_header, header_at}
 use Rattle.schedule.specs.Commands.{words_of_line, IsLine, line_at}
 use Rattle.schedule.specs.Texts.{text_at}
 
--- a schedule without where it lies in memory
+-- a schedule as a value, without its memory
 pub record Scheduled : Type 0 where
   pub procs : ℕ
   pub limit : ℕ
@@ -17,7 +17,7 @@ pub record Scheduled : Type 0 where
   pub width : ℕ
   pub lines : List Line
 
--- the first line of a schedule
+-- the form of a schedule's header
 abbrev pub schedule_form : Form
 schedule_form = record { word = codes "rme"; names = codes "procs" ∷ codes "limit" ∷ codes "cap" ∷ [] }
 
@@ -35,7 +35,7 @@ words_of_head h = words_of_header schedule_form (sizes_of h) h.width
 abbrev pub spelling : Scheduled → List ℕ
 spelling schedule = line_of (words_of_head (head_of schedule)) ++ flat_map (λ line. line_of (words_of_line line)) schedule.lines
 
--- what the types keep
+-- what the types guarantee
 abbrev pub IsHead : Head → Type 0
 IsHead h = IsHeader schedule_form (sizes_of h) h.width
 

@@ -1,4 +1,4 @@
--- Traces as texts.
+-- Traces as texts (the specification's Trace).
 use Rattle.std.specs.Prelude.{ℕ, List, [], ◌∷◌, ◌++◌, Result, Ok, codes, slice_index, slice_index_or}
 use Rattle.std.specs.List.{AllByRecursion, flat_map}
 use Rattle.schedule.specs.declared.lines.fault.LineFault.{LineFault}
@@ -9,14 +9,14 @@ use Rattle.schedule.specs.Headers.{Form, IsHeader, words_of_header, header_at}
 use Rattle.schedule.specs.Deeds.{words_of_deed, IsDeed, deed_at}
 use Rattle.schedule.specs.Texts.{text_at}
 
--- a trace without where it lies in memory
+-- a trace as a value, without its memory
 pub record Traced : Type 0 where
   pub procs : ℕ
   pub cap : ℕ
   pub width : ℕ
   pub deeds : List Deed
 
--- the first line of a trace
+-- the form of a trace's header
 abbrev pub trace_form : Form
 trace_form = record { word = codes "trace"; names = codes "procs" ∷ codes "cap" ∷ [] }
 
@@ -34,7 +34,7 @@ words_of_trace_head h = words_of_header trace_form (trace_sizes h) h.width
 abbrev pub trace_spelling : Traced → List ℕ
 trace_spelling trace = line_of (words_of_trace_head (trace_head_of trace)) ++ flat_map (λ deed. line_of (words_of_deed deed)) trace.deeds
 
--- what the types keep
+-- what the types guarantee
 abbrev pub IsTraceHead : TraceHead → Type 0
 IsTraceHead h = IsHeader trace_form (trace_sizes h) h.width
 

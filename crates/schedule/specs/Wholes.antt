@@ -1,4 +1,5 @@
--- What replaying a text does: the schedule that it spells is played on a new world of its sizes, before a new judge.
+-- What replaying a text does: the schedule that it spells is played on a new world of its sizes, before a new judge
+-- (the specification's Replay clause).
 use Rattle.std.specs.Prelude.{◌≡◌, ℕ, ◌+◌, ◌-◌, ◌^◌, ◌⊎◌, min, Bool, true, List, ◌++◌, Option, Some, None, Result, Ok, Err}
 use Rattle.rmecore.specs.declared.refusal.Refusal.{Refusal}
 use Rattle.rmecore.specs.Refused.{number_of}
@@ -32,8 +33,8 @@ abbrev pub header_fault : Option ℕ → ReplayFault
 header_fault None = OutOfMemory
 header_fault (Some number) = Refused 1 number
 
--- a header that no world has is refused at line 1; else the report is that of the schedule's run, and its verdict is fine.
--- Memory may be wanted before anything is played
+-- sizes that no world has are refused at line 1; else the report is that of the schedule's run, and its verdict is fine.
+-- Memory may run out before anything is played
 abbrev pub OfSchedule : Tape → Tape → Scheduled → Option Refusal → Result Verdict ReplayFault → Type 0
 OfSchedule before now schedule (Some refusal) answer = Silent before now × ((answer ≡ Err (header_fault (number_of refusal))) ⊎ (answer ≡ Err OutOfMemory))
 OfSchedule before now schedule None answer =

@@ -24,7 +24,7 @@ impl Count {
     /// One step.
     pub const ONE: Count = Count { value: 1 };
 
-    /// This number of steps, if it is 1 to 1,000,000.
+    /// This number of steps. None unless it is from 1 to 1,000,000.
     pub fn new(value: u64) -> Option<Count>
         ensures value { IfSome result (λ c. c ≡ value) }
         ensures valid { IsSome result ↔ ((1 ≤ value) × (value ≤ 1000000)) }

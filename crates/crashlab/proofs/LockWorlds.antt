@@ -104,7 +104,7 @@ advanced_layout s p = by (access_at s p)
     by None = refl
     by (Some a) = refl
 
--- The lock's world of these sizes behind these deeds, as the world that it is.
+-- the world of Right of these sizes after these deeds, as the lock's world
 pub record IsLock (l : Layout) (s : VariantState) (history : List Deed) : Type 0 where
   pub world : WorldState
   pub same : as_variant world ≡ s

@@ -1,4 +1,4 @@
--- Processes whose repair is changed: one that counts up from the count that stands, and one that leaves out the last number.
+-- Processes whose repair is changed: one counts up from the count that it reads, one leaves out the last number.
 use Rattle.std.proofs.Common.{◌≡◌, ℕ, Bool, true, false, ◌&&◌, ◌==◌, if◌then◌else◌, Option, Some, None, IfSome, refl, sym, ap, ◌∙◌, subst, eqb-true}
 use Rattle.crashlab.proofs.Common.{cond_both, Access, Load, Store, Gets, Puts, Data as DataAt, kind_of, word_of, carried, Inside, eqb_self, Reply, IsLayout, left, Pending, fed, Script, Get as Asks}
 use Rattle.crashlab.proofs.Common.{Put as Writes, Done, tail, Answer, Errand as Chore, Does, Outcome, Mending, by_script, answer_by, done_by, errand_of, HasStep, Doing}
@@ -16,7 +16,7 @@ use Rattle.crashlab.proofs.Seats.{step_stays}
 use Rattle.crashlab.proofs.Steady.{Steady, step_steady, changed_spot}
 use Rattle.crashlab.proofs.Rows.{IsRow, process_of, Follows, plain_goes}
 
--- with no change left it goes the lock's way
+-- with no change left it goes by the lock's rows
 
 pub nothing_stays : (o : Option Answer) → unless_answered o Nothing ≡ Nothing
 nothing_stays None = refl
@@ -92,7 +92,7 @@ lands variant change s v job e o done step inside told is answer =
     same_index : s.index ≡ (stepped s v).index
     same_index = sym (step_stays s v).2
 
--- behind a step of a changed script comes what is left of it, as it was
+-- after a step of a changed script, what is left of it is as it was
 pub plain_lands : (variant : Variant) (s : Stand) (v : ℕ) (job : Pending) (e : Script Reply) (o : Option Answer) → s.lock ≡ Inside → left job ≡ e → stepped s v ≡ job_left s Mending job e → o ≡ by_script Mending s.mended e
     → Some (record { spot = settled s.mended s.barred Mending e; detour = Straight }) ≡ Some (variant_spot_of (process_of variant (stepped s v) Straight (unless_answered o Nothing)))
 plain_lands variant s v job e o inside told is answer = lands variant Nothing s v job e o (λ r. refl) (λ h. h) inside told is answer

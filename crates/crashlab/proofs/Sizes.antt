@@ -12,7 +12,7 @@ steps_append : (xs ys : List Line) → steps_asked (xs ++ ys) ≡ steps_asked xs
 steps_append [] ys = omega arith
 steps_append (x ∷ xs) ys = omega (arith, steps_append xs ys)
 
--- the steps of the lines before one, of that one, and of those behind it
+-- the steps of the lines before one, of that one, and of those after it
 steps_at : (i : ℕ) (lines : List Line) (line : Line) → slice_get lines i ≡ Some line → steps_asked (take i lines) + (steps_of line + steps_asked (drop (suc i) lines)) ≡ steps_asked lines
 steps_at i [] line e = absurd (cc)
 steps_at zero (l ∷ ls) line e =

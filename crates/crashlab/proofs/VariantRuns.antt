@@ -22,7 +22,7 @@ use Rattle.crashlab.proofs.Detours.{renumber_goes, exit_goes}
 use Rattle.crashlab.proofs.Repairs.{FitsCount, count_row, count_stays}
 use Rattle.crashlab.proofs.Skips.{FitsLeave, skip_row, skip_stays}
 
--- where a process of the variant may stand
+-- the machine states that a process of the variant may have
 
 abbrev pub FitsChange : Variant → Change → Stand → Type 0
 FitsChange CountUp change s = FitsCount change s

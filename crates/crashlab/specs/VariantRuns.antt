@@ -1,4 +1,4 @@
--- What a world of a variant comes to: its starts, steps and crashes, one after the other, from a new one.
+-- Runs of a world of a variant: starts, steps and crashes, one after the other, from a new world (the specification's Run).
 use Rattle.std.specs.Prelude.{◌≡◌, ℕ, List, [], ◌∷◌}
 use Rattle.rmecore.specs.Machine.{kind_of, word_of, carried}
 use Rattle.rmecore.specs.declared.access.Access.{Access}
@@ -18,16 +18,16 @@ abbrev pub run_of : VariantState → List Act → VariantState
 run_of s [] = s
 run_of s (act ∷ acts) = run_of (acted s act) acts
 
--- a world that some run of a new one comes to
+-- a world after some run from a new one
 pub record IsRun (s : VariantState) : Type 0 where
   pub sized : IsSize s.layout
   pub acts : List Act
   pub is : run_of (new_world s.variant s.layout s.limit) acts ≡ s
 
--- where process p stands
+-- the process state of p
 abbrev pub spot_at : VariantState → ℕ → VariantSpot
 spot_at s p = variant_spot_of (stand_at s.processes p)
 
--- the step of process p that this access is, with the word that it finds
+-- the event of process p that this access is, with the word that it finds
 abbrev pub move : VariantState → ℕ → Access → Happening
 move s p a = Moves p (kind_of a) (word_of a) (carried a (found_by s a))

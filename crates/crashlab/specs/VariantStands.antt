@@ -1,4 +1,4 @@
--- What contracts see of one process of a variant, and what its machine does next: the world's process, with what the
+-- The machine state of one process of a variant, and what its machine does next: that of the world's process, with what the
 -- variant changes.
 use Rattle.std.specs.Prelude.{◌≡◌, ℕ, zero, suc, Bool, true, false, ◌||◌, ◌==◌, if◌then◌else◌, [], ◌∷◌, Option, Some, None}
 use Rattle.rmecore.specs.Place.{Place, Reread, Door, Wait, Unmarking, without, others, is_before}
@@ -35,12 +35,12 @@ use Rattle.crashlab.specs.VariantSpots.{VariantSpot}
 
 pub record VariantStand : Type 0 where
   pub variant : Variant
-  -- the world's process, which goes the lock's way
+  -- the world's process, which goes by the lock's rows
   pub stand : Stand
   pub detour : Detour
   pub change : Change
 
--- a process that nothing is changed of
+-- a process of Right, with nothing changed
 pub record IsPlain (s : VariantStand) : Type 0 where
   pub variant : s.variant ≡ Right
   pub detour : s.detour ≡ Straight
@@ -52,7 +52,7 @@ variant_resting variant l limit p = record { variant = variant; stand = resting 
 abbrev pub variant_crashed : VariantStand → VariantStand
 variant_crashed s = record { variant = s.variant; stand = crashed s.stand; detour = Straight; change = Nothing }
 
--- where the variant's process stands, as its definition has it
+-- the process state, as the variant's definition has it
 
 abbrev pub changed_script : Change → Layout → ℕ → Script Reply → Script Reply
 changed_script Nothing l p script = script
@@ -74,7 +74,7 @@ variant_spot_of s =
 
 -- The machine itself, exactly.
 
--- the step that comes next
+-- the next step
 abbrev pub changed_access : Change → Option Access → Option Access
 changed_access Counts (Some (Store Puts (DataAt i) v)) = if i == 2 then Some (Load Gets (DataAt 2)) else Some (Store Puts (DataAt i) v)
 changed_access (Counted count) (Some (Store Puts (DataAt i) v)) = if i == 2 then Some (Store Puts (DataAt 2) count) else Some (Store Puts (DataAt i) v)
@@ -85,7 +85,7 @@ abbrev pub weighed : Option Access → Option Access
 weighed (Some (Load Looks (ChoosingOf j))) = Some (Load Weighs (NumberOf j))
 weighed a = a
 
--- exit on crash: a drop, off any script
+-- exit on crash: a drop, outside any script
 abbrev pub dropping_access : Stand → Chore → Option Access
 dropping_access s IsFree = Some (Store Drops (NumberOf s.index) 0)
 dropping_access s _ = next_access s
@@ -99,14 +99,14 @@ access_beside _ d change s = next_access s
 abbrev pub variant_next_access : VariantStand → Option Access
 variant_next_access s = access_beside s.variant s.detour s.change s.stand
 
--- The rows that are changed of the lock's part: where the step leads that comes next, and on which detour.
+-- The rows that are changed of the lock's part: where the next step leads, and with which variant state.
 
--- no look: who would look weighs, and goes past or stays
+-- no look: a weigh in place of a look, which passes or stays
 abbrev pub weighing_row : ℕ → Place → Option Access → ℕ → Option (Place × Detour)
 weighing_row p (Wait k unpassed looked) (Some (Load Looks (ChoosingOf j))) v = Some (if (v == 0) || is_before k p v j then Wait k (without j unpassed) None else Wait k unpassed looked, Straight)
 weighing_row p place a v = None
 
--- no ties: who weighs an equal number goes past
+-- no ties: a weigh of an equal number passes
 abbrev pub tied_row : Place → Option Access → ℕ → Option (Place × Detour)
 tied_row (Wait k unpassed looked) (Some (Load Weighs (NumberOf j))) v = if k == v then Some (Wait k (without j unpassed) None, Straight) else None
 tied_row place a v = None
@@ -116,7 +116,7 @@ abbrev pub taken_row : ℕ → ℕ → Place → Option (Place × Detour)
 taken_row n p (Reread core.Lock (suc c ∷ suc k ∷ [])) = Some (Door (others n p) 0, Over (suc k))
 taken_row n p place = None
 
--- exit on crash: whom the third reread finds inside drops the number and goes on as one that it finds leaving
+-- exit on crash: a process that the third reread finds inside drops its number, and goes on as if it was found leaving
 abbrev pub inside_row : Place → ℕ → Option (Place × Detour)
 inside_row (Reread call (zero ∷ suc k ∷ [])) (suc i) = Some (Unmarking (lock_or_recover call), Dropping)
 inside_row place v = None
@@ -128,7 +128,7 @@ changed_row Renumber s v = taken_row s.layout.procs s.index s.lock
 changed_row ExitOnCrash s v = inside_row s.lock v
 changed_row _ s v = None
 
--- outside the section, with nothing to be mended
+-- outside the section, with nothing to mend
 abbrev pub outside_at : Stand → Place → Stand
 outside_at s t = record s { lock = t; mended = true; barred = false; errand = IsFree }
 
@@ -140,11 +140,11 @@ abbrev pub by_row : VariantStand → Option (Place × Detour) → ℕ → Varian
 by_row s None v = record s { stand = stepped s.stand v }
 by_row s (Some to) v = led s to.0 to.1
 
--- a step of the lock's on a detour, which stays outside
+-- a step of the lock with a variant state, which stays outside
 abbrev pub beside_way : VariantStand → Detour → ℕ → VariantStand
 beside_way s d v = record s { stand = outside_at (stepped s.stand v) (stepped s.stand v).lock; detour = d }
 
--- renumber: a scan that finds no number left waits with the one that stands. A take ends the detour
+-- renumber: a scan that finds no number left waits with the number that it keeps. A take ends the variant state
 abbrev pub over_by : VariantStand → ℕ → Kind → ℕ → VariantStand
 over_by s k Shuts v = record s { stand = outside_at s.stand (Wait k (others s.stand.layout.procs s.stand.index) None); detour = Straight }
 over_by s k Takes v = beside_way s Straight v
@@ -154,18 +154,18 @@ abbrev pub over_way : VariantStand → ℕ → Option Access → ℕ → Variant
 over_way s k None v = s
 over_way s k (Some a) v = over_by s k (kind_of a) v
 
--- a step of the lock's part. Who drops its number stays where it is
+-- a step of the lock's part. A process that drops its number stays where it is
 abbrev pub lock_beside : Detour → VariantStand → ℕ → VariantStand
 lock_beside Straight s v = by_row s (changed_row s.variant s.stand v) v
 lock_beside (Over k) s v = over_way s k (next_access s.stand) v
 lock_beside Dropping s v = record s { stand = outside_at s.stand s.stand.lock; detour = Straight }
 
--- a script's step is the world's
+-- a step of a script is the world's
 abbrev pub part_beside : Chore → Detour → VariantStand → ℕ → VariantStand
 part_beside IsFree d s v = lock_beside d s v
 part_beside _ d s v = record s { stand = stepped s.stand v }
 
--- a repair that is changed, until it is changed or answered
+-- a repair that is changed, until the change is made or the call is answered
 abbrev pub is_put : ℕ → Option Access → Bool
 is_put j (Some (Store Puts (DataAt i) v)) = i == j
 is_put j _ = false
@@ -200,7 +200,7 @@ stepped_beside _ d s v = part_beside s.stand.errand d s v
 abbrev pub variant_stepped : VariantStand → ℕ → VariantStand
 variant_stepped s v = stepped_beside s.variant s.detour s v
 
--- what the step is for others and for its call
+-- the outcome of a step, for others and for its call
 abbrev pub silent : Outcome
 silent = record { progress = record { outer = None; done = None; blocked = false }; answer = None }
 
@@ -215,7 +215,7 @@ abbrev pub leaving_outcome : VariantStand → Change → ℕ → Outcome
 leaving_outcome s LeavesOut v = if last_put_next (stepped s.stand v) then plain_outcome (stepped s.stand v) 0 else plain_outcome s.stand v
 leaving_outcome s _ v = plain_outcome s.stand v
 
--- a step by a changed row is nothing for others, nor is one on a detour
+-- a step by a changed row is silent, and so is one with a variant state
 abbrev pub unless_changed : Option (Place × Detour) → Outcome → Outcome
 unless_changed None told = told
 unless_changed (Some to) told = silent

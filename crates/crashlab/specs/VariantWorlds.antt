@@ -1,5 +1,5 @@
--- A world of a variant as a machine: why its calls are refused, what they answer, and what they leave. The memory is the
--- world's.
+-- A world of a variant as a machine: why its calls are refused, what they answer, and what they leave (the specification's
+-- Variants). The memory is the world's.
 use Rattle.std.specs.Prelude.{◌≡◌, ℕ, zero, suc, ◌+◌, ◌<◌, nat_lt, if◌then◌else◌, List, [], ◌∷◌, length, replicate, slice_index_or, slice_set, Option, Some, None}
 use Rattle.rmecore.specs.Machine.{kind_of, word_of, carried}
 use Rattle.rmecore.specs.Simulated.{zeros, own_at}
@@ -33,7 +33,7 @@ pub record VariantState : Type 0 where
   pub cells : List ℕ
   pub processes : List VariantStand
 
--- what stands for a process that there is not
+-- the process at an index that has none
 abbrev pub absent : VariantStand
 absent = variant_resting Right (record { procs = 0; cap = 0; width = 0 }) 0 0
 
@@ -44,7 +44,7 @@ stand_at processes p = slice_index_or processes p absent
 abbrev pub HasSeat : Variant → Layout → ℕ → ℕ → VariantStand → Type 0
 HasSeat variant l limit p s = (s.variant ≡ variant) × (s.stand.layout ≡ l) × (s.stand.limit ≡ limit) × (s.stand.index ≡ p)
 
--- the words are as many as the size says, and each process has its seat
+-- the lists are as long as the sizes say, and each process has its index
 pub record IsSeated (s : VariantState) : Type 0 where
   pub sized : IsSize s.layout
   pub words_each : length s.words ≡ s.layout.procs
@@ -87,7 +87,7 @@ unless_step (Some a) = None
 abbrev pub advance_refusal : VariantState → ℕ → Option Refusal
 advance_refusal s p = if nat_lt p s.layout.procs then unless_step (access_at s p) else Some NoSuchProcess
 
--- the word of an access as it stands
+-- the word that an access finds
 abbrev pub found_by : VariantState → Access → ℕ
 found_by s a = reading_of (own_at s.words) (words_of s.cells) (word_of a)
 
@@ -137,11 +137,11 @@ crash_deed p = Outer (Crash p)
 abbrev pub crashed : VariantState → ℕ → VariantState
 crashed s p = record s { processes = slice_set s.processes p (variant_crashed (stand_at s.processes p)) }
 
--- the words that stand, with the sizes
+-- the words of the world, with the sizes
 abbrev pub image_of : VariantState → Image
 image_of s = record { cap = s.layout.cap; cells = s.cells; limit = s.limit; lock = s.words; version = 2; width = s.layout.width }
 
--- all of it
+-- the whole machine
 abbrev pub variant_behaviour : Behaviour VariantState
 variant_behaviour =
     record {

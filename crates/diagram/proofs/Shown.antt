@@ -26,7 +26,7 @@ pub shown_some : (mid now : List Row) (es after rest all : List Event) → event
 shown_some mid now es after rest all still note e =
     ap (λ (xs : List Event). xs ++ after) note ∙ append_assoc (events_in mid) es after ∙ ap (λ (xs : List Event). events_in mid ++ xs) (sym e) ∙ still
 
--- a part that is refused before anything of it is shown, or that memory is wanted for
+-- a part that is refused before anything of it is shown, or that is out of memory
 pub refused_plays : {S : Type 0} (rows now : List Row) (es : List Event) (o : Option Refusal) (left s : S) (e : Refusal) → (e ≡ refusals.OutOfMemory) ⊎ (o ≡ Some e)
     → (o ≡ Some e → es ≡ []) → now ≡ rows → Plays {S = S} {A = Unit {0}} rows now es o left s (Err (stopped (number_of e)))
 refused_plays {S = S} rows now es o left s e why silent same = by (number_of e) refl why

@@ -1,4 +1,4 @@
--- The drawing as text: a column for each process, a row for each step or crash, and at the right what it tells.
+-- The drawing as text: a column for each process, a row for each step or crash, and at the right what it reports.
 use Rattle.std.specs.Prelude.{ℕ, ◌+◌, ◌-◌, ◌==◌, Bool, List, [], ◌∷◌, ◌++◌, length, codes, Option, Some, None, if◌then◌else◌}
 use Rattle.std.specs.Fmt.{decimal}
 use Rattle.std.proofs.Math.ListN.{replicate}
@@ -39,11 +39,12 @@ abbrev pub bar_at : Act → Phase → ℕ
 bar_at (Fell deed) phase = 120
 bar_at act phase = bar_of phase
 
--- how many bytes the text of a cell has. The cross of a repetition is one character of two bytes
+-- the number of bytes of a cell's text. The sign of a repetition is one character of two bytes
 abbrev pub wide_of : Act → ℕ
 wide_of (Quiet happened times) = if times == 1 then 24 else 25
 wide_of act = 24
 
+-- the cell of a row
 abbrev pub cell : Layout → Row → List ℕ
 cell l row = 32 ∷ filled (wide_of row.act) (sign l row.p row.act)
 
@@ -71,13 +72,14 @@ bars (phase ∷ phases) = blank phase ++ bars phases
 abbrev pub lead : Bool → List ℕ
 lead marked = if marked then codes " >>> " else codes " "
 
--- what a row tells, as lines of the report. The second has a row of its own
+-- what a row reports, as lines of the report. The second line has a row of its own
 abbrev pub telling : List Phase → Bool → ℕ → Option Deed → Option Answer → List ℕ
 telling phases marked p None None = 10 ∷ []
 telling phases marked p (Some deed) None = lead marked ++ told_line (Did deed)
 telling phases marked p None (Some answer) = 32 ∷ told_line (Answered p answer)
 telling phases marked p (Some deed) (Some answer) = lead marked ++ told_line (Did deed) ++ bars phases ++ 124 ∷ 32 ∷ told_line (Answered p answer)
 
+-- a row, with what it reports at the right
 abbrev pub row_text : Layout → List Phase → Bool → Row → List ℕ
 row_text l phases marked row = columns l row 0 phases ++ 124 ∷ telling phases marked row.p (deed_of row.act) (answer_of row.act)
 

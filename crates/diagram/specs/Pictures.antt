@@ -18,24 +18,24 @@ use Rattle.diagram.specs.Phases.{phase_shown}
 use Rattle.diagram.specs.Rows.{deed_of, answer_of}
 use Rattle.diagram.specs.Signs.{sign}
 
--- ---- where things stand, in numbers that are held at the greatest u64
+-- ---- positions in pixels, which stop at the greatest u64
 
 abbrev pub held : ℕ → ℕ
 held n = min n (2 ^ 64 - 1)
 
--- the lifeline of a process; that of the mailbox stands where a next process would
+-- the x of a process's lifeline; that of the mailbox is the x of a next process
 abbrev pub x_of : ℕ → ℕ
 x_of p = 192 * min p 64 + 60
 
--- how far the mailbox is from process p
+-- the distance from process p's lifeline to the mailbox's
 abbrev pub far_from : ℕ → ℕ → ℕ
 far_from procs p = x_of procs - x_of p
 
--- a row, counted from 1
+-- the y of a row; rows count from 1
 abbrev pub y_of : ℕ → ℕ
 y_of row = held (held (row * 18) + 82)
 
--- where the lifelines of so many rows end
+-- the y where the lifelines end, below this many rows
 abbrev pub bottom_of : ℕ → ℕ
 bottom_of rows = held (y_of rows + 18)
 
@@ -52,7 +52,7 @@ class_of Waiting = codes "waiting"
 class_of Section = codes "section"
 class_of Dead = codes "dead"
 
--- a lifeline from here down, in the colour of a phase
+-- a lifeline downward from here, in the colour of a phase
 unfoldable pub lifeline : Phase → ℕ → List ℕ
 lifeline phase long = codes "<rect class='" ++ class_of phase ++ around (codes "' x='-4.5' y='.5' width='9' height='") long (codes "'/>")
 
@@ -60,7 +60,7 @@ abbrev pub lifeline_if : Option Phase → ℕ → List ℕ
 lifeline_if None long = []
 lifeline_if (Some phase) long = lifeline phase long
 
--- what follows is drawn from this place on
+-- a group: what follows is drawn from this point on
 unfoldable pub group_at : ℕ → ℕ → List ℕ
 group_at x y = around (codes "<g transform='translate(") x (around (codes " ") y (codes ")'>"))
 
@@ -78,7 +78,7 @@ row_title l row = around (codes "<title>process ") row.p (codes " ") ++ sign l r
 unfoldable pub step_mark : Layout → ℕ → Act → List ℕ
 step_mark l p act = around (codes "<circle r='3'/><text x='10' y='4'><tspan class='p'>") p (codes "</tspan> ") ++ sign l p act ++ codes "</text>"
 
--- a step is a dot with its access beside it, a crash a cross
+-- a step is a dot with its access beside it, a crash is a cross
 abbrev pub mark : Layout → ℕ → Act → List ℕ
 mark l p (Fell deed) = codes "<path class='crash' d='M-6 -6l12 12m0 -12l-12 12'/>"
 mark l p act = step_mark l p act
@@ -86,13 +86,13 @@ mark l p act = step_mark l p act
 unfoldable pub joint : ℕ → List ℕ
 joint far = around (codes "<path class='join' d='M0 7H") far (around (codes "'/><circle r='4' cy='7' cx='") far (codes "'/>"))
 
--- a deed of the mailbox is joined to its lifeline
+-- a deed of the mailbox is joined to the mailbox's lifeline
 abbrev pub join : Option Deed → ℕ → List ℕ
 join None far = []
 join (Some (Outer outer)) far = []
 join (Some deed) far = joint far
 
--- what a step tells, in one line
+-- what a step reports, in one line
 abbrev pub remarks : ℕ → Option Deed → Option Answer → List ℕ
 remarks p None None = []
 remarks p (Some deed) None = told_line (Did deed)
@@ -102,26 +102,26 @@ remarks p (Some deed) (Some answer) = told_line (Did deed) ++ codes " / " ++ tol
 unfoldable pub remarks_at : ℕ → ℕ → Option Deed → Option Answer → List ℕ
 remarks_at far p deed answer = around (codes "<text y='4' x='") (far + 16) (codes "'>") ++ remarks p deed answer ++ codes "</text>"
 
--- it stands at the right
+-- this line at the right
 abbrev pub margin : ℕ → ℕ → Option Deed → Option Answer → List ℕ
 margin far p deed answer = if is_some deed || is_some answer then remarks_at far p deed answer else []
 
--- a frame round what the verdict is against
+-- a frame around the deed that the verdict is against
 abbrev pub flag : Bool → ℕ → List ℕ
 flag marked far =
     if marked then around (codes "<circle class='against' r='8'/><rect class='against' y='-9' height='17' width='270' x='") (far + 10)
     (codes "'><title>the verdict is against this deed</title></rect>")
     else []
 
--- what stands at the lifeline of a row's process, with so much room below it
+-- the part of a row at the lifeline of its process, with this much room below it
 unfoldable pub left_of : Layout → Row → ℕ → List ℕ
 left_of l row below = row_title l row ++ lifeline_if (phase_shown row.act) below ++ mark l row.p row.act
 
--- what stands at the right of a row
+-- the part of a row at its right
 unfoldable pub right_of : Row → ℕ → Bool → List ℕ
 right_of row far marked = join (deed_of row.act) far ++ margin far row.p (deed_of row.act) (answer_of row.act) ++ flag marked far
 
--- a row at this place
+-- a row at this height
 abbrev pub row_picture : Layout → ℕ → ℕ → Bool → Row → List ℕ
 row_picture l y below marked row =
     group_at (x_of row.p) y ++ left_of l row below ++ right_of row (far_from l.procs row.p) marked ++ group_end
@@ -134,7 +134,7 @@ measured wide high = around (codes "<svg xmlns='http://www.w3.org/2000/svg' widt
 unfoldable pub viewed : ℕ → ℕ → List ℕ
 viewed wide high = around (codes " viewBox='0 0 ") wide (around (codes " ") high (codes "'>" ++ 10 ∷ []))
 
--- how things look. The colours differ in hue for every eye, and in lightness where they are printed in grey
+-- the styles. The colours differ in hue for every eye, and in lightness where they are printed in grey
 unfoldable pub text_looks : List ℕ
 text_looks =
     codes "<title>a run of the lock, time downward</title><style>text{font:12px monospace;fill:#000}.p{font-weight:bold}circle{stroke:#fff}"
@@ -145,7 +145,7 @@ line_looks =
     codes ".dead{fill:url(#gone);stroke:#fff;stroke-width:2}.crash{fill:none;stroke:#000;stroke-width:2.5}.mailbox{stroke:#555;stroke-width:3}"
     ++ (codes ".join{stroke:#555;stroke-dasharray:2}.against{fill:none;stroke:#d55e00;stroke-width:2}</style>" ++ 10 ∷ [])
 
--- the pattern of a lifeline that is broken off, and white paper
+-- the pattern of a dead process's lifeline, and a white background
 unfoldable pub paper : List ℕ
 paper =
     codes "<defs><pattern id='gone' width='8' height='6' x='-4' patternUnits='userSpaceOnUse'><rect width='8' height='6' fill='#fff'/>"

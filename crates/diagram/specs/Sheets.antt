@@ -1,4 +1,4 @@
--- What a row is drawn with: the sizes of the whole, and what the rows before it have left.
+-- What a row is drawn with: the sizes of the whole, and the lifeline state after the rows before it.
 use Rattle.std.specs.Prelude.{ℕ, ◌==◌, Bool, List, Option, is_some, if◌then◌else◌, ◌&&◌}
 use Rattle.redomail.specs.declared.deed.Deed.{Deed}
 use Rattle.redomail.specs.declared.layout.Layout.{Layout}
@@ -25,8 +25,8 @@ abbrev pub against : End → ℕ
 against (Judged verdict) = deed_against verdict
 against (Refused line number verdict) = deed_against verdict
 
--- the phases of the processes, how many deeds there were, and how many rows, with the row that is drawn; both are held at
--- the greatest u64
+-- the lifeline state: the phases of the processes, and the numbers of deeds and of rows, with the row that is drawn. The
+-- numbers stop at the greatest u64
 pub record PenState : Type 0 where
   pub phases : List Phase
   pub deeds : ℕ
@@ -43,6 +43,6 @@ pen_with pen row =
       rows = one_more pen.rows;
     }
 
--- the row is the deed of this number
+-- the row has the deed of this number
 abbrev pub is_deed : ℕ → PenState → Row → Bool
 is_deed at pen row = is_some (deed_of row.act) && pen.deeds == at

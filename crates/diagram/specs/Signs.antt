@@ -52,7 +52,7 @@ entry_word at k =
 abbrev pub entry_size : Layout → ℕ
 entry_size l = min (l.width + 2) (2 ^ 64 - 1)
 
--- the data words behind those of the record, counted from there: the board, the last numbers, the entries
+-- the data words after the record's, counted from there: the board, the last numbers, the entries
 abbrev pub word_behind : Layout → ℕ → List ℕ
 word_behind l i =
     if nat_lt i 4 then indexed (codes "board") i
@@ -86,11 +86,11 @@ access_sign l p h =
     if stores h.kind then codes "w " ++ word_sign l p h.word ++ codes "=" ++ decimal h.value
     else codes "r " ++ word_sign l p h.word ++ codes " " ++ decimal h.value
 
--- a load that was repeated as weigh number[1] 1 ×17; the two bytes of the cross are its UTF-8
+-- a repeated load as weigh number[1] 1 ×17; the two bytes of the sign are its UTF-8
 abbrev pub repeated_sign : Layout → ℕ → Happened → ℕ → List ℕ
 repeated_sign l p h times = name_of h.kind ++ codes " " ++ word_sign l p h.word ++ codes " " ++ decimal h.value ++ 32 ∷ 195 ∷ 151 ∷ decimal times
 
--- what a row does. A crash is a mark, and has no text
+-- what a row does. A crash has no text
 abbrev pub sign : Layout → ℕ → Act → List ℕ
 sign l p (Quiet h times) = if times == 1 then access_sign l p h else repeated_sign l p h times
 sign l p (Telling step) = access_sign l p step.happened

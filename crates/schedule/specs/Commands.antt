@@ -38,6 +38,7 @@ IsCall width (calls.Put i v) = (i < 2 ^ 64) × (v < 2 ^ 64)
 IsCall width (calls.Get i) = i < 2 ^ 64
 IsCall width call = Unit {0}
 
+-- the same of a line
 abbrev pub IsLine : ℕ → Line → Type 0
 IsLine width (Start p call) = (p < 2 ^ 64) × IsCall width call
 IsLine width (Step p k) = (p < 2 ^ 64) × (1 ≤ k) × (k ≤ 1000000)
@@ -48,6 +49,7 @@ abbrev pub call_fits : ℕ → Call → Bool
 call_fits width (calls.Append seq value) = length value == width
 call_fits width call = true
 
+-- whether each value that a line holds has this width
 abbrev pub fits : ℕ → Line → Bool
 fits width (Start p call) = call_fits width call
 fits width line = true
@@ -68,9 +70,11 @@ word_of commands.Withdraw = codes "withdraw"
 word_of commands.Step = codes "step"
 word_of commands.Crash = codes "crash"
 
+-- a command with its name
 abbrev pub entry : Command → List ℕ × Command
 entry command = (word_of command, command)
 
+-- all commands by their names
 abbrev pub commands_by_name : List (List ℕ × Command)
 commands_by_name =
     entry commands.Lock

@@ -24,6 +24,7 @@ words_of_outer (outers.Reenter p) = codes "reenter" ∷ decimal p ∷ []
 words_of_outer (outers.Leave p) = codes "leave" ∷ decimal p ∷ []
 words_of_outer (outers.Quit p) = codes "quit" ∷ decimal p ∷ []
 
+-- the words of a deed's line
 abbrev pub words_of_deed : Deed → List (List ℕ)
 words_of_deed (deeds.Outer outer) = words_of_outer outer
 words_of_deed (deeds.Commit p seq value) = codes "commit" ∷ decimal p ∷ decimal seq ∷ map decimal value
@@ -35,6 +36,7 @@ words_of_deed (deeds.Ruin p) = codes "ruin" ∷ decimal p ∷ []
 abbrev pub IsValue : ℕ → List ℕ → Type 0
 IsValue width value = (length value ≡ width) × AllByRecursion (λ v. v < 2 ^ 64) value
 
+-- the same of a deed
 abbrev pub IsDeed : ℕ → Deed → Type 0
 IsDeed width (deeds.Outer outer) = doer outer < 2 ^ 64
 IsDeed width (deeds.Commit p seq value) = (p < 2 ^ 64) × (seq < 2 ^ 64) × IsValue width value
@@ -64,9 +66,11 @@ word_of names.Show = codes "show"
 word_of names.Close = codes "close"
 word_of names.Ruin = codes "ruin"
 
+-- a deed's word with its name
 abbrev pub entry : DeedWord → List ℕ × DeedWord
 entry name = (word_of name, name)
 
+-- all deeds' words by their names
 abbrev pub deeds_by_name : List (List ℕ × DeedWord)
 deeds_by_name =
     entry names.Begin

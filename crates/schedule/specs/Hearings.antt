@@ -19,6 +19,7 @@ pub record Bench : Type 0 where
   pub judge : Kept
   pub hearing : Hearing
 
+-- a judge with a running verdict
 abbrev pub bench : Kept → Hearing → Bench
 bench judge hearing = record { judge = judge; hearing = hearing }
 

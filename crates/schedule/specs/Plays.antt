@@ -22,6 +22,7 @@ abbrev pub halted : Option ℕ → Halt
 halted None = OutOfMemory
 halted (Some number) = Refused number
 
+-- the stop that a refusal by the machine makes
 abbrev pub halt_of : Refusal → Halt
 halt_of refusal = halted (number_of refusal)
 

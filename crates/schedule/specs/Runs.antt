@@ -15,10 +15,12 @@ pub data Told : Type 0 where
   Did : Deed → Told
   Answered : ℕ → Answer → Told
 
+-- the report of a deed, if there is one
 abbrev pub did : Option Deed → List Told
 did None = []
 did (Some deed) = Did deed ∷ []
 
+-- the report of an answer of p, if there is one
 abbrev pub answered : ℕ → Option Answer → List Told
 answered p None = []
 answered p (Some answer) = Answered p answer ∷ []
@@ -27,6 +29,7 @@ answered p (Some answer) = Answered p answer ∷ []
 abbrev pub told_of : ℕ → Option Deed → Option Answer → List Told
 told_of p deed answer = did deed ++ answered p answer
 
+-- the deeds in what is reported
 abbrev pub deeds_of : List Told → List Deed
 deeds_of [] = []
 deeds_of (Did deed ∷ told) = deed ∷ deeds_of told

@@ -23,6 +23,7 @@ first_scene (Some i) = crashed_scene (length i.lock) (own_at i.lock) (words_of i
 abbrev pub told_at : Layout → Scene → Happening → List Told
 told_at l w e = map Did (event_deeds l w e) ++ answered (who e) (answer_to (w.spots (who e)) e)
 
+-- what the events report, from this global state on
 abbrev pub told_in : Layout → ℕ → Scene → List Happening → List Told
 told_in l limit w [] = []
 told_in l limit w (e ∷ es) = told_at l w e ++ told_in l limit (onward l limit w e) es

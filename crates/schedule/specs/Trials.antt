@@ -27,6 +27,7 @@ abbrev pub judge_refusal : ℕ → ℕ → Option Refusal
 judge_refusal procs cap =
     if nat_lt 0 procs && nat_le procs 64 then (if nat_lt 0 cap && nat_le cap 65536 then None else Some BadCap) else Some BadProcs
 
+-- the number of a refusal, if there is one
 abbrev pub numbered : Option Refusal → Option ℕ
 numbered None = None
 numbered (Some refusal) = number_of refusal
@@ -36,6 +37,7 @@ abbrev pub judged_of : Option ℕ → ℕ → ℕ → List Deed → Result Verdi
 judged_of None procs cap deeds = Ok (verdict_on (empty procs cap) deeds)
 judged_of (Some number) procs cap deeds = Err (Refused 1 number)
 
+-- the answer for what reading a trace gives
 abbrev pub answer_of : Result (TraceHead × List Deed) (ℕ × LineFault) → Result Verdict ReplayFault
 answer_of (Ok read) = judged_of (numbered (judge_refusal read.0.procs read.0.cap)) read.0.procs read.0.cap read.1
 answer_of (Err fault) = Err (Text fault.0 (number_of_line fault.1))

@@ -8,6 +8,7 @@ use Rattle.rmecore.specs.Simulated.{one_more}
 use Rattle.schedule.specs.declared.replays.verdict.Verdict.{Verdict}
 use Rattle.schedule.specs.declared.replays.verdict.Verdict.TheVariants.{Fine, Against}
 
+-- the number of a judge's fault, from 1 to 7
 abbrev pub number_of_fault : Fault → ℕ
 number_of_fault OutOfPlace = 1
 number_of_fault TwoInside = 2
@@ -17,6 +18,7 @@ number_of_fault NotInside = 5
 number_of_fault MailOrder = 6
 number_of_fault AfterClose = 7
 
+-- the verdict where deed k is refused, or the rest after it
 abbrev pub ruled : ℕ → Result State Fault → (State → Verdict) → Verdict
 ruled k (Ok s) rest = rest s
 ruled k (Err fault) rest = Against k fault

@@ -17,6 +17,7 @@ use Rattle.schedule.specs.Runs.{Part, run_on}
 use Rattle.schedule.specs.Tapes.{Tape, Reading}
 use Rattle.schedule.specs.Replays.{Replays}
 
+-- the sizes of a schedule's world, without the limit
 abbrev pub layout_of : Scheduled → Layout
 layout_of schedule = record { procs = schedule.procs; cap = schedule.cap; width = schedule.width }
 
@@ -29,6 +30,7 @@ pub record Silent (before now : Tape) : Type 0 where
   pub taken : now.taken ≡ before.taken
   pub fine : now.failures ≡ before.failures
 
+-- the answer where no world has the header's sizes
 abbrev pub header_fault : Option ℕ → ReplayFault
 header_fault None = OutOfMemory
 header_fault (Some number) = Refused 1 number
@@ -56,6 +58,7 @@ pub record WasRead (old new : Reading) (text : List ℕ) : Type 0 where
   pub ended : new.ended ≡ true
   pub fine : new.failures ≡ old.failures
 
+-- what `replay` reads, writes and answers
 abbrev pub ReplaysSource : Reading → Reading → Tape → Tape → Result Verdict ReplayFault → Type 0
 ReplaysSource old new before now answer =
     (Unread old new answer × Silent before now) ⊎ ((text : List ℕ) × WasRead old new text × OfText before now (schedule_at text) answer)

@@ -20,6 +20,7 @@ line_of ws = join_with_byte 32 ws ++ 10 ∷ []
 abbrev pub parts_of : List ℕ → List (List ℕ)
 parts_of text = slice_split (λ b. b == 10) text
 
+-- the first word, if there is one
 abbrev pub first_of : List (List ℕ) → Option (List ℕ)
 first_of [] = None
 first_of (w ∷ ws) = Some w
@@ -29,14 +30,17 @@ pub data Shape : Type 0 where
   Fixed : List ℕ → Shape
   Number : ℕ → ℕ → Shape
 
+-- a place for any number of 64 bits
 abbrev pub any : Shape
 any = Number 0 (2 ^ 64 - 1)
 
+-- this many such places
 abbrev pub many : ℕ → List Shape
 many zero = []
 many (suc n) = any ∷ many n
 
 infixl 10 ◌>>=◌
+-- a result, and what follows where it is no fault
 abbrev pub ◌>>=◌ : {A B E : Type 0} → Result A E → (A → Result B E) → Result B E
 (Ok x) >>= f = f x
 (Err e) >>= f = Err e
@@ -86,6 +90,7 @@ item_after places make command ws = do
   ns ← numbers_at (places command ws) ws
   Ok (make command ns)
 
+-- the item after a first word, which has to name something
 abbrev pub item_named : {C A : Type 0} → (C → List (List ℕ) → List Shape) → (C → List ℕ → A) → Option C → List (List ℕ) → Result A LineFault
 item_named places make None ws = Err BadWord
 item_named places make (Some command) ws = item_after places make command ws
@@ -95,6 +100,7 @@ abbrev pub item_at : {C A : Type 0} → List (List ℕ × C) → (C → List (Li
 item_at entries places make [] = Err BadWord
 item_at entries places make (word ∷ ws) = item_named places make (named entries word) ws
 
+-- no word is left
 abbrev pub is_nil : List (List ℕ) → Bool
 is_nil [] = true
 is_nil (w ∷ ws) = false

@@ -73,6 +73,7 @@ mover (Start p due) = p
 mover (Step p) = p
 mover (Crash p) = p
 
+-- the move is a crash
 abbrev pub is_crash : Move → Bool
 is_crash (Start p due) = false
 is_crash (Step p) = false

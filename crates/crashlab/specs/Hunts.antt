@@ -23,6 +23,7 @@ hunt_layout = record { procs = 3; cap = 64; width = 1 }
 abbrev pub first_world : Variant → VariantState
 first_world variant = new_world variant hunt_layout 1000000
 
+-- the next step of p ends its call
 abbrev pub is_answered : VariantState → ℕ → Bool
 is_answered s p = is_some (stepped s p).answer
 
@@ -31,6 +32,7 @@ abbrev pub after_steps : VariantState → ℕ → ℕ → VariantState
 after_steps s p zero = s
 after_steps s p (suc k) = if is_answered s p then advanced s p else after_steps (advanced s p) p k
 
+-- the world after a line
 abbrev pub after_line : VariantState → Line → VariantState
 after_line s (Start p call) = started s p call
 after_line s (Step p k) = after_steps s p k
@@ -41,6 +43,7 @@ abbrev pub deeds_of_steps : VariantState → ℕ → ℕ → List Deed
 deeds_of_steps s p zero = []
 deeds_of_steps s p (suc k) = list_of (stepped s p).deed ++ (if is_answered s p then [] else deeds_of_steps (advanced s p) p k)
 
+-- the deeds of a line
 abbrev pub deeds_of_line : VariantState → Line → List Deed
 deeds_of_line s (Start p call) = []
 deeds_of_line s (Step p k) = deeds_of_steps s p k
@@ -51,10 +54,12 @@ abbrev pub Unless : Bool → Type 0 → Type 0
 Unless true P = Unit {0}
 Unless false P = P
 
+-- k steps of p, up to the answer of its call, are not refused
 abbrev pub MaySteps : VariantState → ℕ → ℕ → Type 0
 MaySteps s p zero = Unit {0}
 MaySteps s p (suc k) = (advance_refusal s p ≡ None) × Unless (is_answered s p) (MaySteps (advanced s p) p k)
 
+-- nothing of a line is refused
 abbrev pub MayLine : VariantState → Line → Type 0
 MayLine s (Start p call) = start_refusal s p call ≡ None
 MayLine s (Step p k) = MaySteps s p k
@@ -65,10 +70,12 @@ abbrev pub after_lines : VariantState → List Line → VariantState
 after_lines s [] = s
 after_lines s (line ∷ lines) = after_lines (after_line s line) lines
 
+-- the deeds of lines
 abbrev pub deeds_of_lines : VariantState → List Line → List Deed
 deeds_of_lines s [] = []
 deeds_of_lines s (line ∷ lines) = deeds_of_line s line ++ deeds_of_lines (after_line s line) lines
 
+-- nothing of lines is refused
 abbrev pub MayLines : VariantState → List Line → Type 0
 MayLines s [] = Unit {0}
 MayLines s (line ∷ lines) = MayLine s line × MayLines (after_line s line) lines

@@ -24,6 +24,7 @@ use Rattle.crashlab.specs.VariantWorlds.{VariantState, new_world, variant_behavi
 unfoldable pub variant_run : Variant → Scheduled → Part VariantState (ℕ × Refusal)
 variant_run variant schedule = run_on variant_behaviour 2 (new_world variant (layout_of schedule) schedule.limit) schedule.lines
 
+-- a refusal of the header, or else of a line
 abbrev pub at_header : Option Refusal → Option (ℕ × Refusal) → Option (ℕ × Refusal)
 at_header None rest = rest
 at_header (Some refusal) rest = Some (1, refusal)
@@ -32,6 +33,7 @@ at_header (Some refusal) rest = Some (1, refusal)
 abbrev pub refusal_of : Variant → Scheduled → Option (ℕ × Refusal)
 refusal_of variant schedule = at_header (new_refusal (layout_of schedule) schedule.limit) (variant_run variant schedule).refused
 
+-- the verdict on the run of a schedule on the variant
 abbrev pub verdict_of : Variant → Scheduled → Verdict
 verdict_of variant schedule = verdict_on (empty schedule.procs schedule.cap) (deeds_of (variant_run variant schedule).told)
 
@@ -57,6 +59,7 @@ pub record IsLowered (lines : List Line) (i : ℕ) (less : Line) : Type 0 where
   pub was : slice_get lines i ≡ Some (Step process (count + 1))
   pub is : less ≡ Step process count
 
+-- the schedule does not go wrong by this number
 abbrev pub Loses : Variant → ℕ → Scheduled → Type 0
 Loses variant number schedule = GoesWrong variant number schedule → ⊥
 
@@ -65,6 +68,7 @@ pub record IsNeeded (variant : Variant) (number : ℕ) (schedule : Scheduled) (i
   pub line : Loses variant number (replaced i [] schedule)
   pub count : (less : Line) → IsLowered schedule.lines i less → Loses variant number (replaced i (less ∷ []) schedule)
 
+-- each line is needed, with its count
 abbrev pub IsLeast : Variant → ℕ → Scheduled → Type 0
 IsLeast variant number schedule = (i : ℕ) → i < length schedule.lines → IsNeeded variant number schedule i
 
@@ -74,6 +78,7 @@ steps_of (Start p call) = 0
 steps_of (Step p n) = n
 steps_of (Crash p) = 0
 
+-- the number of steps that lines ask for
 abbrev pub steps_asked : List Line → ℕ
 steps_asked [] = 0
 steps_asked (line ∷ lines) = steps_of line + steps_asked lines
@@ -108,9 +113,11 @@ abbrev pub Answers : Variant → Scheduled → Result Verdict ReplayFault → Ty
 Answers variant schedule (Ok verdict) = (refusal_of variant schedule ≡ None) × (verdict ≡ verdict_of variant schedule)
 Answers variant schedule (Err fault) = IsWhy variant schedule fault
 
+-- the schedule with other lines
 abbrev pub with_lines : Scheduled → List Line → Scheduled
 with_lines schedule lines = record schedule { lines = lines }
 
+-- the number of lines and of steps
 abbrev pub size : Scheduled → ℕ
 size schedule = length schedule.lines + steps_asked schedule.lines
 

@@ -9,11 +9,13 @@ use Rattle.crashlab.specs.VariantSpots.{VariantSpot}
 use Rattle.crashlab.specs.VariantStands.{variant_spot_of}
 use Rattle.crashlab.specs.VariantWorlds.{VariantState, stand_at, new_world, start_refusal, started, found_by, advance_refusal, advanced, crash_refusal, crashed}
 
+-- the world after a start, step or crash; one that is refused changes nothing
 abbrev pub acted : VariantState → Act → VariantState
 acted s (Starts p call) = unless (start_refusal s p call) s (started s p call)
 acted s (Steps p) = unless (advance_refusal s p) s (advanced s p)
 acted s (Crashes p) = unless (crash_refusal s p) s (crashed s p)
 
+-- the world after a list of these
 abbrev pub run_of : VariantState → List Act → VariantState
 run_of s [] = s
 run_of s (act ∷ acts) = run_of (acted s act) acts

@@ -24,6 +24,7 @@ counting_up cap (Get a next) = Get a (λ x. counting_up cap (next x))
 counting_up cap (Put a v rest) = if a == 2 then Get 2 (λ count. Put 2 (raised cap count) rest) else Put a v (counting_up cap rest)
 counting_up cap (Done reply) = Done reply
 
+-- what the variant makes of the repair's script
 abbrev pub variant_script : Variant → Layout → ℕ → Script Reply → Script Reply
 variant_script CountUp l p script = counting_up l.cap script
 variant_script LastSkipped l p script = leaving_out (last_at l p) script

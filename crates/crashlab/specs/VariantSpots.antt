@@ -23,6 +23,7 @@ use Rattle.crashlab.specs.declared.variant.Variant.{Variant}
 use Rattle.crashlab.specs.Variants.{variant_next, variant_deed, variant_answer, variant_access}
 use Rattle.crashlab.specs.VariantScripts.{variant_consistent}
 
+-- a process state of the lock, with a variant state
 pub record VariantSpot : Type 0 where
   pub spot : Spot
   pub detour : Detour
@@ -41,6 +42,7 @@ abbrev pub at_detour : Layout → ℕ → Place → Bool → Bool → Detour →
 at_detour l p s b c Straight t Straight = beside Straight (at_lock l p s b c (Some t))
 at_detour l p s b c d t e = Some (record { spot = outside t; detour = e })
 
+-- the same for a step that may not be allowed
 abbrev pub at_variant : Layout → ℕ → Place → Bool → Bool → Detour → Option (Place × Detour) → Option VariantSpot
 at_variant l p s b c d None = None
 at_variant l p s b c d (Some at) = at_detour l p s b c d at.0 at.1
@@ -55,6 +57,7 @@ abbrev pub variant_begun : Variant → Layout → ℕ → Place → Bool → Err
 variant_begun variant l p s false Free Consistent = inside_only s false true Mending (variant_consistent variant l p)
 variant_begun variant l p s b errand call = begun_from l p s b errand call
 
+-- the process state after an event of the process, if the event is allowed
 abbrev pub variant_spot : Variant → Layout → ℕ → VariantSpot → Happening → Option VariantSpot
 variant_spot variant l limit s (Begins p call) = beside s.detour (variant_begun variant l p s.spot.lock s.spot.mended s.spot.errand call)
 variant_spot variant l limit s (Falls p) = beside Straight (Some dead)
@@ -66,6 +69,7 @@ abbrev pub variant_outer_by : Variant → ℕ → Place → Errand → Detour �
 variant_outer_by variant p s Free d kind v = variant_deed variant p s d kind v
 variant_outer_by variant p s _ d kind v = None
 
+-- the deed of the lock at an event
 abbrev pub variant_outer : Variant → VariantSpot → Happening → Option Outer
 variant_outer variant s (Begins p call) = None
 variant_outer variant s (Falls p) = Some (Crash p)
@@ -77,6 +81,7 @@ abbrev pub variant_answer_by : Variant → Place → Bool → Bool → Errand �
 variant_answer_by variant s b c Free d kind v = by_lock c (variant_answer variant s d kind v)
 variant_answer_by variant s b c (Doing why left) d kind v = by_script why b (tail left v)
 
+-- the answer of a step from a process state, if it ends its call
 abbrev pub variant_answer_at : Variant → VariantSpot → Kind → ℕ → Option Answer
 variant_answer_at variant s kind v = variant_answer_by variant s.spot.lock s.spot.mended s.spot.barred s.spot.errand s.detour kind v
 
@@ -85,6 +90,7 @@ abbrev pub variant_done_by : Variant → Place → Errand → Detour → Kind �
 variant_done_by variant s Free d kind v = variant_answer variant s d kind v
 variant_done_by variant s (Doing why left) d kind v = None
 
+-- the same of the lock's part
 abbrev pub variant_done_at : Variant → VariantSpot → Kind → ℕ → Option CoreDone
 variant_done_at variant s kind v = variant_done_by variant s.spot.lock s.spot.errand s.detour kind v
 
@@ -93,5 +99,6 @@ abbrev pub variant_access_by : Variant → ℕ → ℕ → Place → Errand → 
 variant_access_by variant limit p s Free d = variant_access variant limit p s d
 variant_access_by variant limit p s (Doing why left) d = access_by limit p s (Doing why left)
 
+-- the next step from a process state
 abbrev pub variant_access_at : Variant → ℕ → ℕ → VariantSpot → Option Access
 variant_access_at variant limit p s = variant_access_by variant limit p s.spot.lock s.spot.errand s.detour

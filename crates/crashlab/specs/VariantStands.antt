@@ -33,6 +33,7 @@ use Rattle.crashlab.specs.Variants.{lock_or_recover}
 use Rattle.crashlab.specs.VariantScripts.{leaving_out, raised, counting_up}
 use Rattle.crashlab.specs.VariantSpots.{VariantSpot}
 
+-- the machine state of one process of a variant
 pub record VariantStand : Type 0 where
   pub variant : Variant
   -- the world's process, which goes by the lock's rows
@@ -46,14 +47,17 @@ pub record IsPlain (s : VariantStand) : Type 0 where
   pub detour : s.detour ≡ Straight
   pub change : s.change ≡ Nothing
 
+-- a process at rest
 abbrev pub variant_resting : Variant → Layout → ℕ → ℕ → VariantStand
 variant_resting variant l limit p = record { variant = variant; stand = resting l limit p; detour = Straight; change = Nothing }
 
+-- a process after a crash
 abbrev pub variant_crashed : VariantStand → VariantStand
 variant_crashed s = record { variant = s.variant; stand = crashed s.stand; detour = Straight; change = Nothing }
 
 -- the process state, as the variant's definition has it
 
+-- what is left of a repair's script, with this change
 abbrev pub changed_script : Change → Layout → ℕ → Script Reply → Script Reply
 changed_script Nothing l p script = script
 changed_script LeavesOut l p script = leaving_out (last_at l p) script
@@ -61,10 +65,12 @@ changed_script Counts l p script = counting_up l.cap script
 changed_script (Counted v) l p (Writes i x rest) = Writes i v rest
 changed_script (Counted v) l p script = script
 
+-- the script state with this change of a repair
 abbrev pub changed_errand : Change → Layout → ℕ → Errand → Errand
 changed_errand change l p (Doing Mending left) = Doing Mending (changed_script change l p left)
 changed_errand change l p errand = errand
 
+-- the process state that a machine state has
 abbrev pub variant_spot_of : VariantStand → VariantSpot
 variant_spot_of s =
     record {
@@ -90,12 +96,14 @@ abbrev pub dropping_access : Stand → Chore → Option Access
 dropping_access s IsFree = Some (Store Drops (NumberOf s.index) 0)
 dropping_access s _ = next_access s
 
+-- the next step of a process of this variant
 abbrev pub access_beside : Variant → Detour → Change → Stand → Option Access
 access_beside NoLook d change s = weighed (next_access s)
 access_beside ExitOnCrash Dropping change s = dropping_access s s.errand
 access_beside CountUp d change s = changed_access change (next_access s)
 access_beside _ d change s = next_access s
 
+-- the next step
 abbrev pub variant_next_access : VariantStand → Option Access
 variant_next_access s = access_beside s.variant s.detour s.change s.stand
 
@@ -121,6 +129,7 @@ abbrev pub inside_row : Place → ℕ → Option (Place × Detour)
 inside_row (Reread call (zero ∷ suc k ∷ [])) (suc i) = Some (Unmarking (lock_or_recover call), Dropping)
 inside_row place v = None
 
+-- the changed row that the next step is by, if there is one
 abbrev pub changed_row : Variant → Stand → ℕ → Option (Place × Detour)
 changed_row NoLook s v = weighing_row s.index s.lock (next_access s) v
 changed_row NoTies s v = tied_row s.lock (next_access s) v
@@ -132,10 +141,12 @@ changed_row _ s v = None
 abbrev pub outside_at : Stand → Place → Stand
 outside_at s t = record s { lock = t; mended = true; barred = false; errand = IsFree }
 
+-- a process that goes where a changed row leads
 abbrev pub led : VariantStand → Place → Detour → VariantStand
 led s t Straight = record s { stand = record s.stand { lock = t } }
 led s t d = record s { stand = outside_at s.stand t; detour = d }
 
+-- a process after a step by a changed row, or else by the lock's
 abbrev pub by_row : VariantStand → Option (Place × Detour) → ℕ → VariantStand
 by_row s None v = record s { stand = stepped s.stand v }
 by_row s (Some to) v = led s to.0 to.1
@@ -150,6 +161,7 @@ over_by s k Shuts v = record s { stand = outside_at s.stand (Wait k (others s.st
 over_by s k Takes v = beside_way s Straight v
 over_by s k kind v = beside_way s (Over k) v
 
+-- the same for a step that there may not be
 abbrev pub over_way : VariantStand → ℕ → Option Access → ℕ → VariantStand
 over_way s k None v = s
 over_way s k (Some a) v = over_by s k (kind_of a) v
@@ -170,21 +182,26 @@ abbrev pub is_put : ℕ → Option Access → Bool
 is_put j (Some (Store Puts (DataAt i) v)) = i == j
 is_put j _ = false
 
+-- the change, until the call is answered
 abbrev pub unless_answered : Option Answer → Change → Change
 unless_answered None change = change
 unless_answered (Some answer) change = Nothing
 
+-- the lock's step, which keeps the change until the answer
 abbrev pub going_on : VariantStand → Change → ℕ → VariantStand
 going_on s change v = record s { stand = stepped s.stand v; change = unless_answered (outcome s.stand (next_access s.stand) v).answer change }
 
+-- count up: the get of count, or the lock's step
 abbrev pub counted_up : VariantStand → Change → ℕ → VariantStand
 counted_up s Counts v =
     if is_put 2 (next_access s.stand) then record s { change = Counted (raised s.stand.layout.cap v) } else going_on s Counts v
 counted_up s _ v = going_on s Nothing v
 
+-- the put of the sender's last number is the next step
 abbrev pub last_put_next : Stand → Bool
 last_put_next s = is_put (last_at s.layout s.index) (next_access s)
 
+-- last skipped: a step that also passes over that put, or the lock's step
 abbrev pub left_out : VariantStand → Change → ℕ → VariantStand
 left_out s LeavesOut v =
     if last_put_next (stepped s.stand v) then record s { stand = stepped (stepped s.stand v) 0; change = Nothing } else going_on s LeavesOut v
@@ -197,6 +214,7 @@ stepped_beside CountUp d s v = counted_up s s.change v
 stepped_beside LastSkipped d s v = left_out s s.change v
 stepped_beside _ d s v = part_beside s.stand.errand d s v
 
+-- the process after its next step, with the value that it read
 abbrev pub variant_stepped : VariantStand → ℕ → VariantStand
 variant_stepped s v = stepped_beside s.variant s.detour s v
 
@@ -204,13 +222,16 @@ variant_stepped s v = stepped_beside s.variant s.detour s v
 abbrev pub silent : Outcome
 silent = record { progress = record { outer = None; done = None; blocked = false }; answer = None }
 
+-- the outcome of the lock's step
 abbrev pub plain_outcome : Stand → ℕ → Outcome
 plain_outcome s v = outcome s (next_access s) v
 
+-- count up: the get of count is silent
 abbrev pub counting_outcome : VariantStand → Change → ℕ → Outcome
 counting_outcome s Counts v = if is_put 2 (next_access s.stand) then silent else plain_outcome s.stand v
 counting_outcome s _ v = plain_outcome s.stand v
 
+-- last skipped: the outcome of a step that passes over the put is that of the put
 abbrev pub leaving_outcome : VariantStand → Change → ℕ → Outcome
 leaving_outcome s LeavesOut v = if last_put_next (stepped s.stand v) then plain_outcome (stepped s.stand v) 0 else plain_outcome s.stand v
 leaving_outcome s _ v = plain_outcome s.stand v
@@ -220,20 +241,24 @@ abbrev pub unless_changed : Option (Place × Detour) → Outcome → Outcome
 unless_changed None told = told
 unless_changed (Some to) told = silent
 
+-- the outcome of a step of the lock's part
 abbrev pub lock_outcome : Detour → VariantStand → ℕ → Outcome
 lock_outcome Straight s v = unless_changed (changed_row s.variant s.stand v) (plain_outcome s.stand v)
 lock_outcome _ s v = silent
 
+-- the outcome of a step of the lock's part, or of a script
 abbrev pub part_outcome : Chore → Detour → VariantStand → ℕ → Outcome
 part_outcome IsFree d s v = lock_outcome d s v
 part_outcome _ d s v = plain_outcome s.stand v
 
+-- the outcome of a step of a process of this variant
 abbrev pub outcome_beside : Variant → Detour → VariantStand → ℕ → Outcome
 outcome_beside Right d s v = plain_outcome s.stand v
 outcome_beside CountUp d s v = counting_outcome s s.change v
 outcome_beside LastSkipped d s v = leaving_outcome s s.change v
 outcome_beside _ d s v = part_outcome s.stand.errand d s v
 
+-- the outcome of the next step, with the value that it read
 abbrev pub variant_outcome : VariantStand → ℕ → Outcome
 variant_outcome s v = outcome_beside s.variant s.detour s v
 
@@ -243,9 +268,11 @@ repair_change CountUp = Counts
 repair_change LastSkipped = LeavesOut
 repair_change _ = Nothing
 
+-- the change that a call starts with
 abbrev pub change_of : Variant → Call → Change
 change_of variant call.Consistent = repair_change variant
 change_of variant _ = Nothing
 
+-- the process after a start
 abbrev pub variant_started : VariantStand → Call → VariantStand
 variant_started s call = record s { stand = started s.stand call; change = change_of s.variant call }

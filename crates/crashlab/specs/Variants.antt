@@ -19,10 +19,12 @@ use Rattle.crashlab.specs.declared.detour.Detour.TheVariants.{Straight, Dropping
 use Rattle.crashlab.specs.declared.variant.Variant.{Variant}
 use Rattle.crashlab.specs.declared.variant.Variant.TheVariants.{NoLook, NoTies, Renumber, ExitOnCrash}
 
+-- a place, if there is one, with this variant state
 abbrev pub and_detour : Detour → Option Place → Option (Place × Detour)
 and_detour d None = None
 and_detour d (Some place) = Some (place, d)
 
+-- this place, where the condition holds
 abbrev pub only_at : Bool → Place × Detour → Option (Place × Detour)
 only_at b at = if b then Some at else None
 
@@ -52,6 +54,7 @@ renumber n limit p place (Over k) Shuts word v = instead (next n limit p place S
 renumber n limit p (Reread Lock (suc c ∷ suc k ∷ [])) Straight Rereads (InsideOf q) v = only_at (q == p) (Door (others n p) 0, Over (suc k))
 renumber n limit p place detour kind word v = and_detour detour (next n limit p place kind word v)
 
+-- the lock or the recover that is under way
 abbrev pub lock_or_recover : CoreCall → CoreCall
 lock_or_recover Lock = Lock
 lock_or_recover _ = Recover

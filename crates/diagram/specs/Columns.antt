@@ -19,6 +19,7 @@ use Rattle.diagram.specs.Signs.{sign}
 
 -- ---- the columns
 
+-- this many spaces
 abbrev pub spaces : ℕ → List ℕ
 spaces n = replicate n 32
 
@@ -85,6 +86,7 @@ row_text l phases marked row = columns l row 0 phases ++ 124 ∷ telling phases 
 
 -- ---- above and below
 
+-- the number of a process above its column
 unfoldable pub head : ℕ → List ℕ
 head p = filled 26 (decimal p)
 
@@ -93,12 +95,15 @@ abbrev pub heads : ℕ → List Phase → List ℕ
 heads p [] = []
 heads p (phase ∷ phases) = head p ++ heads (p + 1) phases
 
+-- the line above the rows
 abbrev pub top_text : List Phase → List ℕ
 top_text phases = heads 0 phases ++ 124 ∷ 10 ∷ []
 
+-- the verdict, or the line that was refused
 abbrev pub end_line : End → List ℕ
 end_line (Judged verdict) = verdict_line verdict
 end_line (Refused line number verdict) = codes "line " ++ decimal line ++ codes " refused " ++ decimal number ++ 10 ∷ []
 
+-- how the run ends, and what the bars mean
 abbrev pub end_text : End → List ℕ
 end_text end = end_line end ++ codes ". rest  : doorway  | waiting  # section  x crash" ++ 10 ∷ []

@@ -8,6 +8,7 @@ use Rattle.schedule.specs.declared.lines.line.Line.TheVariants.{Start, Step, Cra
 use Rattle.schedule.specs.Runs.{Told, Did, told_of, line_on}
 use Rattle.rmeworld.specs.Behaviours.{Behaviour}
 
+-- a step of a process, or its crash
 pub data Event : Type 0 where
   Took : ℕ → Stepped → Event
   Fell : ℕ → Deed → Event
@@ -17,6 +18,7 @@ abbrev pub told_by : Event → List Told
 told_by (Took p step) = told_of p step.deed step.answer
 told_by (Fell p deed) = Did deed ∷ []
 
+-- what events report
 abbrev pub told_in : List Event → List Told
 told_in events = flat_map told_by events
 

@@ -32,6 +32,7 @@ use Rattle.diagram.specs.Signs.{sign}
 
 -- ---- one event
 
+-- a step as it is drawn in a row
 abbrev pub act_of_step : Option Deed → Option Answer → Stepped → Act
 act_of_step None None step = acts.Quiet step.happened 1
 act_of_step deed answer step = acts.Telling step
@@ -57,6 +58,7 @@ row_told l phases row = place_line l phases row ++ told_by row.p row.act
 
 -- ---- a run
 
+-- the phases after a row
 abbrev pub phases_with : List Phase → Row → List Phase
 phases_with phases row = with_phase phases row.p (phase_shown row.act)
 

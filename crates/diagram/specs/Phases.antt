@@ -39,6 +39,7 @@ phase_of_last kinds.Reread = Some Rest
 phase_of_last kinds.Shut = Some Rest
 phase_of_last kind = phase_of_kind kind
 
+-- the phase that a step shows which has a deed or ends a call
 abbrev pub phase_of_telling : Option Deed → Kind → Option Phase
 phase_of_telling (Some deed) kind = Some (phase_of_deed deed)
 phase_of_telling None kind = phase_of_last kind

@@ -32,14 +32,17 @@ events_shown p (Quiet happened times) = replicate times (Took p (quiet happened)
 events_shown p (Telling step) = Took p step ∷ []
 events_shown p (Fell deed) = events.Fell p deed ∷ []
 
+-- the events that rows show
 abbrev pub events_in : List Row → List Event
 events_in rows = flat_map (λ row. events_shown row.p row.act) rows
 
+-- the deed of a row, if it has one
 abbrev pub deed_of : Act → Option Deed
 deed_of (Quiet happened times) = None
 deed_of (Telling step) = step.deed
 deed_of (Fell deed) = Some deed
 
+-- the answer of the call that a row ends, if it ends one
 abbrev pub answer_of : Act → Option Answer
 answer_of (Quiet happened times) = None
 answer_of (Telling step) = step.answer

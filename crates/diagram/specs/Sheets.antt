@@ -13,9 +13,11 @@ use Rattle.diagram.specs.declared.phase.Phase.{Phase}
 use Rattle.diagram.specs.Phases.{phase_shown, with_phase}
 use Rattle.diagram.specs.Rows.{deed_of}
 
+-- the sizes that a header names, without the limit
 abbrev pub layout_of : Head → Layout
 layout_of head = record { procs = head.procs; cap = head.cap; width = head.width }
 
+-- the number of the deed that a verdict is against; 0 if there is none
 abbrev pub deed_against : Verdict → ℕ
 deed_against Fine = 0
 deed_against (Against at fault) = at
@@ -32,9 +34,11 @@ pub record PenState : Type 0 where
   pub deeds : ℕ
   pub rows : ℕ
 
+-- the number of deeds with a row of this deed
 abbrev pub deeds_with : Option Deed → ℕ → ℕ
 deeds_with deed n = if is_some deed then one_more n else n
 
+-- the lifeline state after a row
 abbrev pub pen_with : PenState → Row → PenState
 pen_with pen row =
     record {

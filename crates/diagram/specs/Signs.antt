@@ -10,6 +10,7 @@ use Rattle.redomail.specs.declared.layout.Layout.{Layout}
 use Rattle.diagram.specs.declared.act.Act.{Act}
 use Rattle.diagram.specs.declared.act.Act.TheVariants.{Quiet, Telling, Fell}
 
+-- the name of a kind of step (the specification's step kinds)
 abbrev pub name_of : Kind → List ℕ
 name_of kinds.Open = codes "open"
 name_of kinds.Peek = codes "peek"
@@ -49,6 +50,7 @@ entry_word at k =
     else if k == 1 then indexed (codes "seq") at
     else indexed (codes "value") at ++ indexed [] (k - 2)
 
+-- the number of words of an entry: sender, number and value
 abbrev pub entry_size : Layout → ℕ
 entry_size l = min (l.width + 2) (2 ^ 64 - 1)
 
@@ -74,6 +76,7 @@ data_word l i =
     else if i == 5 then codes "rec_seq"
     else recorded_word l (i - 6)
 
+-- the name of a word, as p writes it (the specification's Shared words)
 abbrev pub word_sign : Layout → ℕ → Word → List ℕ
 word_sign l p (words.Choosing j) = lock_word (codes "choosing") p j
 word_sign l p (words.Number j) = lock_word (codes "number") p j

@@ -1,4 +1,4 @@
--- The end of a report, and the whole.
+-- The end of a report, and the whole report.
 use Rattle.std.proofs.Common.{◌≡◌, ℕ, ◌+◌, ◌-◌, ◌^◌, min, List, [], ◌++◌, Option, Some, None, Err, refl, sym, ap, subst, ◌∙◌, append_assoc, ◌⊎◌, inl, inr, append-nil}
 use Rattle.schedule.proofs.ReplaysCommon.{Refusal, Deed, Kept, Keeps, State, Image, Hearing, ReplayFault, Text, Read, OutOfMemory, Refused, Write, Verdict, opened, bench, with_more, heard_with, Hears, Tape}
 use Rattle.schedule.proofs.ReplaysCommon.{Writes, BreaksOff, Ends, IsRefused, told_text, owns_text, words_of_verdict, verdict_line, IsEnd, Part, deeds_of, verdict_on}

@@ -1,4 +1,4 @@
--- Reading a trace line by line gives what reading it whole gives.
+-- Reading a trace line by line gives the same as reading its whole text.
 use Rattle.std.proofs.Common.{◌≡◌, ℕ, ◌+◌, ◌<◌, false, eqb, List, [], ◌∷◌, ◌++◌, length, Result, Ok, Err, refl, sym, ap, ◌∙◌, append_assoc, arith, length-append, ne_eqb}
 use Rattle.schedule.proofs.ReplaysCommon.{LineFault, text_at, items_at, words_of, ◌>>=◌}
 use Rattle.schedule.specs.Texts.{on_line}
@@ -87,7 +87,7 @@ module _ {H A : Type 0} (head : List (List ℕ) → Result H LineFault) (item : 
           ap (pair h) (items_then (item h) 2 lines parts some)
           ∙ behind_items h (items_at (item h) 2 (lines ++ [] ∷ [])) (λ g. items_at (item g) (2 + length lines) parts)
 
-  -- one line more
+  -- one more line
   whole_then : (lines : List (List ℕ)) (line : List ℕ) → 0 < length lines → whole (lines ++ line ∷ []) ≡ reads_on (whole lines) (λ h. items_at (item h) (length lines + 1) (line ∷ [] ∷ []))
   whole_then lines line more = ap (text_at head item) (append_assoc lines (line ∷ []) ([] ∷ [])) ∙ text_then lines (line ∷ [] ∷ []) more (omega arith)
 

@@ -21,7 +21,7 @@ items_at item k (line ∷ next ∷ parts) = do
   xs ← items_at item (k + 1) (next ∷ parts)
   Ok (x ∷ xs)
 
--- a whole text, by its parts
+-- the header and the items of a whole text, by its parts
 unfoldable pub text_at : {H A : Type 0} → (List (List ℕ) → Result H LineFault) → (H → List (List ℕ) → Result A LineFault) → List (List ℕ) → Result (H × List A) (ℕ × LineFault)
 text_at head item [] = Err (1, NoHeader)
 text_at head item (rest ∷ []) = if length rest == 0 then Err (1, NoHeader) else Err (1, NoNewline)

@@ -1,10 +1,10 @@
-//! How many steps a line asks for.
+//! The number of steps that a line asks for.
 
 ghost use Rattle.std.specs.Prelude.{◌≡◌, ℕ, ◌≤◌, ◌↔◌, IsSome, IfSome};
 
 use std::marker::Model;
 
-/// A number from 1 to 1,000,000.
+/// A number of steps, from 1 to 1,000,000.
 #[derive(Clone, Copy, Debug, PartialEq, Eq)]
 pub struct Count {
     value: u64,
@@ -36,7 +36,7 @@ impl Count {
         }
     }
 
-    /// The number.
+    /// The number of steps.
     pub fn get(self) -> u64
         ensures value { result ≡ self }
         ensures least { 1 ≤ result }

@@ -97,7 +97,7 @@ pub plain_lands : (variant : Variant) (s : Stand) (v : ℕ) (job : Pending) (e :
     → Some (record { spot = settled s.mended s.barred Mending e; detour = Straight }) ≡ Some (variant_spot_of (process_of variant (stepped s v) Straight (unless_answered o Nothing)))
 plain_lands variant s v job e o inside told is answer = lands variant Nothing s v job e o (λ r. refl) (λ h. h) inside told is answer
 
--- what the outcome of a step of a script is
+-- the outcome of a step of a script
 pub outcome_is : (s : Stand) (e : Script Reply) (a : Access) (v : ℕ) → errand_of s.errand ≡ Doing Mending e → ((outcome s (Some a) v).progress.outer ≡ None) × ((outcome s (Some a) v).answer ≡ by_script Mending s.mended (tail e (carried a v))) × ((outcome s (Some a) v).progress.done ≡ None)
 outcome_is s e a v at = (ap (λ x. outer_by s.index s.lock x (kind_of a) (carried a v)) at, ap (λ x. answer_by s.lock s.mended s.barred x (kind_of a) (carried a v)) at, ap (λ x. done_by s.lock x (kind_of a) (carried a v)) at)
 
@@ -168,7 +168,7 @@ count_by s v (Done r) job at h inside told is = absurd h
 counts_row : (s : Stand) (v : ℕ) → Steady s → IsMending s.errand → Follows (process_of CountUp s Straight Counts) v
 counts_row s v h k = let m = mends_of s v h k in subst (CountGoal s v) (sym m.at) (count_by s v m.script m.job m.at m.step m.inside m.told m.is)
 
--- a put of count that puts what was counted
+-- a put of count that puts the counted value
 pub record FitsCounted (s : Stand) : Type 0 where
   pub value : ℕ
   pub rest : Script Reply

@@ -34,7 +34,7 @@ next_is s v job (Done r) told is = ap last_put_next is
 next_is s v job (Asks j rest) told is = ap last_put_next is ∙ ap (λ f. is_put (last_of s) (access_by s.limit s.index Inside (Doing Mending f))) told
 next_is s v job (Writes j x rest) told is = ap last_put_next is ∙ ap (λ f. is_put (last_of s) (access_by s.limit s.index Inside (Doing Mending f))) told
 
--- where a step leads, and what it is
+-- where a step leads, and its outcome
 abbrev SkipAfter : Stand → ℕ → Bool → Option Answer → VariantStand
 SkipAfter s v put o = if put then process_of LastSkipped (stepped (stepped s v) 0) Straight Nothing else process_of LastSkipped (stepped s v) Straight (unless_answered o LeavesOut)
 

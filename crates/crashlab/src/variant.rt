@@ -3,7 +3,7 @@
 /// The lock, or one of its wrong variants. Each wrong variant differs from `Right` in one thing.
 #[derive(Clone, Copy, Debug, PartialEq, Eq)]
 pub enum Variant {
-    /// The lock as it is.
+    /// The lock itself.
     Right,
     /// A waiter does not look whether another process is choosing. It only weighs numbers.
     NoLook,

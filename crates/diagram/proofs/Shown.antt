@@ -122,7 +122,7 @@ module _ {S : Type 0} (b : Behaviour S) where
   unfolding events_of
   crash_refused s p e refused = rw refused refl
 
-  -- a line is played as what it is
+  -- a line is played by its kind
   pub plays_line : (first now : List Row) (s last left : S) (line : Line) (es : List Event) (o : Option Refusal) (r : Result (Unit {0}) Stop)
       → events_of b s line ≡ es → (line_on b s line).refused ≡ o → (o ≡ None → (line_on b s line).left ≡ left)
       → Plays first now es o left last r → Plays first now (events_of b s line) (line_on b s line).refused (line_on b s line).left last r

@@ -90,7 +90,7 @@ row_text l phases marked row = columns l row 0 phases ++ 124 ∷ telling phases 
 unfoldable pub head : ℕ → List ℕ
 head p = filled 26 (decimal p)
 
--- the numbers of the processes from p on, over their columns
+-- the numbers of the processes from p on, above their columns
 abbrev pub heads : ℕ → List Phase → List ℕ
 heads p [] = []
 heads p (phase ∷ phases) = head p ++ heads (p + 1) phases

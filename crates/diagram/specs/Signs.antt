@@ -39,7 +39,7 @@ stores kind = false
 abbrev pub indexed : List ℕ → ℕ → List ℕ
 indexed name i = name ++ 91 ∷ (decimal i ++ 93 ∷ [])
 
--- a lock word of process j, as p writes it: its own without index
+-- a lock word of process j, as p writes it: its own without an index
 abbrev pub lock_word : List ℕ → ℕ → ℕ → List ℕ
 lock_word name p j = if j == p then name else indexed name j
 

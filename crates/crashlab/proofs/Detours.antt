@@ -1,4 +1,4 @@
--- Processes that leave the lock's way: one that takes a new number, and one that goes out where a crash left it inside.
+-- Processes that leave the lock's rows: one that takes a new number, and one that leaves where a crash left it inside.
 use Rattle.std.proofs.Common.{◌≡◌, ℕ, zero, suc, Bool, [], ◌∷◌, Option, Some, None, IsSome, IfSome, unwrap_or, refl, sym, ap, ◌∙◌}
 use Rattle.crashlab.proofs.Common.{Access, Kind, Take as Takes, Shut as Shuts, Word, access, kind_of, word_of, carried, Place, next, Reread, Wait, eqb_self, Layout, left, Errand as Chore}
 use Rattle.crashlab.proofs.Common.{Free as IsFree, Does, Stand, Nothing, Detour, Straight, Dropping, Over, Renumber, ExitOnCrash, at_variant, VariantStand, variant_spot_of}
@@ -30,7 +30,7 @@ taken_at l limit p (Reread core.Lock (zero ∷ more)) b c v h = lock_goes Renumb
 taken_at l limit p (Reread core.Lock []) b c v h = lock_goes Renumber l limit p (Reread core.Lock []) b c v h tt (refl, refl, refl)
 taken_at l limit p s b c v h = lock_goes Renumber l limit p s b c v h tt (all (access limit p s) (Agrees Renumber l.procs limit p s v) (λ a. (refl, refl, refl)))
 
--- while it scans again, beside the number k that stands
+-- while it scans again and keeps the number k
 
 module _ (l : Layout) (limit p : ℕ) (s : Place) (b c : Bool) (k v : ℕ) where
   abbrev from : Stand

@@ -59,7 +59,7 @@ module _ {S : Type 0} (b : Behaviour S) where
   unfolding run_on
   first_line k s line lines may = rw may refl
 
--- ---- on a variant's world: what a hunt writes of a run is its run
+-- ---- on a variant's world: the run of a found schedule is the one that the hunt's definitions give
 
 deeds_did : (deed : Option Deed) → deeds_of (did deed) ≡ list_of deed
 deeds_did None = refl
@@ -72,7 +72,7 @@ record IsSteps (p n : ℕ) (s : VariantState) : Type 0 where
   deeds : deeds_of (steps variant_behaviour p n s).0 ≡ deeds_of_steps s p n
   left : (steps variant_behaviour p n s).1 ≡ after_steps s p n
 
--- one step more, where what comes behind it is so
+-- one more step, where the steps after it are so
 steps_more : (p n : ℕ) (s : VariantState) (answered : Bool) → is_answered s p ≡ answered → MaySteps s p (suc n) → (answered ≡ false → IsSteps p n (advanced s p)) → IsSteps p (suc n) s
 steps_more p n s true closed may rest =
     let e = last_step variant_behaviour p n s may.0 closed in

@@ -76,7 +76,7 @@ module _ (variant : Variant) (schedule : Scheduled) (world : VariantState) (judg
         refused = refused;
       }
 
--- the lock's world behind lines that may come
+-- the lock's world after lines that it does not refuse
 
 steps_lock : (l : Layout) (s : VariantState) (h : List Deed) (p k : ℕ) → IsLock l s h → MaySteps s p k → IsLock l (after_steps s p k) (h ++ deeds_of_steps s p k)
 steps_lock l s h p zero lock may = subst (IsLock l s) (sym (append-nil h)) lock
@@ -108,7 +108,7 @@ never_found law schedule found =
     let both : Ok legal.0 ≡ Err found.fault = sym legal.1 ∙ ap (judged_all (empty 3 64)) found.deeds ∙ found.refused in
     cc
 
--- a move that has told the judge its deed
+-- a move whose deed was given to the judge
 told_ends :
     (variant : Variant) (schedule : Scheduled) (world : VariantState) (judge : Kept) → IsPlayed variant schedule world judge → (line : Line) → MayLine world line
     → (next : VariantState) → next ≡ after_line world line → (deed : Option Deed) → deeds_of_line world line ≡ list_of deed

@@ -1,4 +1,4 @@
--- What the variant that is the lock does is what the world does.
+-- What a world of Right does is what a world of the lock does.
 use Rattle.std.proofs.Common.{◌≡◌, ℕ, zero, suc, ◌+◌, ◌<◌, false, List, [], ◌∷◌, ◌++◌, map, slice_set, nat_lt, if◌then◌else◌, Option, Some, None, IfSome, refl, sym, ap, ◌∙◌, subst, lt-ltb}
 use Rattle.crashlab.proofs.Common.{Nothing, Right, Consistent, Access, Place, Inside, Deed, Layout, words_of, Call, Outcome, mail_by, or_else, words_by, cells_by, the_deed, list_of}
 use Rattle.crashlab.proofs.Common.{Stand, spot_of, next_access, access_by, errand_of, outcome, started as stand_started, StoresOwn, IsLockWorld, VariantStand, variant_next_access, variant_stepped}
@@ -104,7 +104,7 @@ advanced_layout s p = by (access_at s p)
     by None = refl
     by (Some a) = refl
 
--- The lock's world of these sizes behind these deeds, as the world that it is.
+-- the world of Right of these sizes after these deeds, as the lock's world
 pub record IsLock (l : Layout) (s : VariantState) (history : List Deed) : Type 0 where
   pub world : WorldState
   pub same : as_variant world ≡ s

@@ -1,4 +1,4 @@
--- Processes whose repair is changed: one that counts up from the count that stands, and one that leaves out the last number.
+-- Processes whose repair is changed: one counts up from the count that it reads, one leaves out the last number.
 use Rattle.std.proofs.Common.{◌≡◌, ℕ, Bool, true, false, ◌&&◌, ◌==◌, if◌then◌else◌, Option, Some, None, IfSome, refl, sym, ap, ◌∙◌, subst, eqb-true}
 use Rattle.crashlab.proofs.Common.{cond_both, Access, Load, Store, Gets, Puts, Data as DataAt, kind_of, word_of, carried, Inside, eqb_self, Reply, IsLayout, left, Pending, fed, Script, Get as Asks}
 use Rattle.crashlab.proofs.Common.{Put as Writes, Done, tail, Answer, Errand as Chore, Does, Outcome, Mending, by_script, answer_by, done_by, errand_of, HasStep, Doing}
@@ -16,7 +16,7 @@ use Rattle.crashlab.proofs.Seats.{step_stays}
 use Rattle.crashlab.proofs.Steady.{Steady, step_steady, changed_spot}
 use Rattle.crashlab.proofs.Rows.{IsRow, process_of, Follows, plain_goes}
 
--- with no change left it goes the lock's way
+-- with no change left it goes by the lock's rows
 
 pub nothing_stays : (o : Option Answer) → unless_answered o Nothing ≡ Nothing
 nothing_stays None = refl
@@ -92,12 +92,12 @@ lands variant change s v job e o done step inside told is answer =
     same_index : s.index ≡ (stepped s v).index
     same_index = sym (step_stays s v).2
 
--- behind a step of a changed script comes what is left of it, as it was
+-- after a step of a changed script, what is left of it is as it was
 pub plain_lands : (variant : Variant) (s : Stand) (v : ℕ) (job : Pending) (e : Script Reply) (o : Option Answer) → s.lock ≡ Inside → left job ≡ e → stepped s v ≡ job_left s Mending job e → o ≡ by_script Mending s.mended e
     → Some (record { spot = settled s.mended s.barred Mending e; detour = Straight }) ≡ Some (variant_spot_of (process_of variant (stepped s v) Straight (unless_answered o Nothing)))
 plain_lands variant s v job e o inside told is answer = lands variant Nothing s v job e o (λ r. refl) (λ h. h) inside told is answer
 
--- what the outcome of a step of a script is
+-- the outcome of a step of a script
 pub outcome_is : (s : Stand) (e : Script Reply) (a : Access) (v : ℕ) → errand_of s.errand ≡ Doing Mending e → ((outcome s (Some a) v).progress.outer ≡ None) × ((outcome s (Some a) v).answer ≡ by_script Mending s.mended (tail e (carried a v))) × ((outcome s (Some a) v).progress.done ≡ None)
 outcome_is s e a v at = (ap (λ x. outer_by s.index s.lock x (kind_of a) (carried a v)) at, ap (λ x. answer_by s.lock s.mended s.barred x (kind_of a) (carried a v)) at, ap (λ x. done_by s.lock x (kind_of a) (carried a v)) at)
 
@@ -168,7 +168,7 @@ count_by s v (Done r) job at h inside told is = absurd h
 counts_row : (s : Stand) (v : ℕ) → Steady s → IsMending s.errand → Follows (process_of CountUp s Straight Counts) v
 counts_row s v h k = let m = mends_of s v h k in subst (CountGoal s v) (sym m.at) (count_by s v m.script m.job m.at m.step m.inside m.told m.is)
 
--- a put of count that puts what was counted
+-- a put of count that puts the counted value
 pub record FitsCounted (s : Stand) : Type 0 where
   pub value : ℕ
   pub rest : Script Reply

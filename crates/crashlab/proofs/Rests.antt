@@ -2,7 +2,7 @@
 use Rattle.std.proofs.Common.{◌≡◌, ℕ, zero, suc, ◌+◌, ◌<◌, [], ◌∷◌, ◌++◌, length, refl, sym, ap, ◌∙◌, subst, arith}
 use Rattle.crashlab.proofs.Common.{length-replicate, zeros, Layout, size, IsSize, Variant, variant_resting, stand_at, IsSeated, at_rest_from, new_world, HasSeat}
 
--- one more of them stands at the end
+-- one more of them at the end
 pub rest_more : (variant : Variant) (l : Layout) (limit p n : ℕ) → at_rest_from variant l limit p n ++ variant_resting variant l limit (p + n) ∷ [] ≡ at_rest_from variant l limit p (suc n)
 rest_more variant l limit p zero = let e : p + 0 ≡ p = omega arith in ap (λ q. variant_resting variant l limit q ∷ []) e
 rest_more variant l limit p (suc n) =

@@ -1,4 +1,4 @@
--- A step of a variant's process: what is to be shown of it, and that it is so where its definition has the lock's row.
+-- A step of a variant's process: what has to be proved of it, and the proof where its definition has the lock's row.
 use Rattle.std.proofs.Common.{◌≡◌, ℕ, Bool, Option, Some, None, IfSome, refl, sym, ap, ◌∙◌, subst}
 use Rattle.crashlab.proofs.Common.{Access, access, kind_of, word_of, carried, Place, next, Layout, Reply, left, Script, Errand as Chore, Free as IsFree, Does, Outcome, Why, answer_by}
 use Rattle.crashlab.proofs.Common.{done_by, errand_of, Doing, next_spot, outer_by, Stand, access_by, spot_of, next_access, outcome, happening, Change, Nothing, Detour, Straight, Dropping, Over}
@@ -14,7 +14,7 @@ use Rattle.crashlab.specs.Variants.{variant_next, variant_deed, variant_answer}
 use Rattle.crashlab.specs.VariantSpots.{VariantSpot}
 use Rattle.crashlab.proofs.Steady.{Steady, step_goes, step_steady, nothing_changed}
 
--- the definition's step leads from the one spot to the other, and this is its outcome
+-- the definition's step leads from the one process state to the other, and this is its outcome
 abbrev pub IsRow : Variant → Stand → VariantSpot → VariantSpot → Outcome → ℕ → Access → Type 0
 IsRow variant s from to o v a =
     (variant_spot variant s.layout s.limit from (happening s a v) ≡ Some to) × (variant_outer variant from (happening s a v) ≡ o.progress.outer) × (variant_answer_at variant from (kind_of a) (carried a v) ≡ o.answer)
@@ -23,11 +23,11 @@ IsRow variant s from to o v a =
 abbrev pub process_of : Variant → Stand → Detour → Change → VariantStand
 process_of variant s d change = record { variant = variant; stand = s; detour = d; change = change }
 
--- the step that comes next is the definition's
+-- the next step is the definition's
 abbrev pub Follows : VariantStand → ℕ → Type 0
 Follows t v = IfSome (variant_next_access t) (IsRow t.variant t.stand (variant_spot_of t) (variant_spot_of (variant_stepped t v)) (variant_outcome t v) v)
 
--- the detours that the variant may be on
+-- the variant states that the variant may have
 abbrev pub MayGo : Variant → Detour → Type 0
 MayGo Renumber Dropping = ⊥
 MayGo Renumber d = Unit {0}
@@ -36,7 +36,7 @@ MayGo ExitOnCrash d = Unit {0}
 MayGo variant Straight = Unit {0}
 MayGo variant d = ⊥
 
--- what is to be shown of a process whose script is not changed, by its next step and what that leaves: the step is the
+-- what has to be proved of a process whose script is not changed, by its next step and what that leaves: the step is the
 -- definition's, and what it leaves is again such a process
 pub record Goes (variant : Variant) (s : Stand) (d : Detour) (o : Option Access) (to : VariantStand) (told : Outcome) (v : ℕ) : Type 0 where
   pub row : IfSome o (IsRow variant s (variant_spot_of (process_of variant s d Nothing)) (variant_spot_of to) told v)
@@ -44,7 +44,7 @@ pub record Goes (variant : Variant) (s : Stand) (d : Detour) (o : Option Access)
   pub detour : MayGo variant to.detour
   pub change : to.change ≡ Nothing
 
--- so of a process of the variant on this detour
+-- this holds of a process of the variant with this variant state
 abbrev pub Walks : Variant → Stand → Detour → ℕ → Type 0
 Walks variant s d v = Goes variant s d (variant_next_access (process_of variant s d Nothing)) (variant_stepped (process_of variant s d Nothing) v) (variant_outcome (process_of variant s d Nothing) v) v
 

@@ -1,4 +1,4 @@
--- The next step of a process that nothing is changed of.
+-- The next step of a process of Right, with nothing changed.
 use Rattle.std.proofs.Common.{◌≡◌, ℕ, Some, None, sym, ap, ◌∙◌, subst}
 use Rattle.crashlab.proofs.Common.{Access, words_of, Outcome, GoesOn, mail_by, or_else, the_deed, outcome, IsPlain, VariantState, stand_at, stepped, found_by, outcome_of, stepped_if, access_beside, outcome_beside, VariantStand, variant_next_access, next_access}
 use Rattle.rmecore.specs.declared.scan.Scan.{Scan}
@@ -7,7 +7,7 @@ use Rattle.rmeworld.proofs.Advancing.{scan_is_quiet, scan_ends_nothing}
 pub plain_next : (t : VariantStand) (a : Access) → IsPlain t → next_access t.stand ≡ Some a → variant_next_access t ≡ Some a
 plain_next t a plain next = ap (λ variant. access_beside variant t.detour t.change t.stand) plain.variant ∙ next
 
--- so of a scan it is no deed, and ends no call
+-- a step of a scan is silent: it has no deed, and ends no call
 pub scan_tells : (s : VariantState) (p : ℕ) (scan : Scan) (a : Access) → IsPlain (stand_at s.processes p) → GoesOn (stand_at s.processes p).stand scan a → ((stepped s p).deed ≡ None) × ((stepped s p).answer ≡ None)
 scan_tells s p scan a plain goes =
     let t = stand_at s.processes p in

@@ -113,7 +113,7 @@ pub start_keeps :
 start_keeps (Ok done) s t c ok err seat = seat_stays s t (subst (Stays s) (sym ok) (variant_start_stays s c)) seat
 start_keeps (Err e) s t c ok err seat = subst (HasSeat _ _ _ _) (sym err) seat
 
--- the word of a step, for words that are as many as the processes
+-- the word of a step, where there are as many words as processes
 pub seat_within : {variant : Variant} {l : Layout} {limit p n : ℕ} {word : Word} (t : VariantStand) (a : Access) → HasSeat variant l limit p t → InWords t.stand.layout.procs (word_of a) → word ≡ word_of a → n ≡ l.procs → InWords n word
 seat_within {n = n} t a seat within is each = subst (InWords n) (sym is) (subst (λ m. InWords m (word_of a)) (ap (λ (x : Layout). x.procs) seat.1 ∙ sym each) within)
 

@@ -1,4 +1,4 @@
--- How long a changed schedule is.
+-- The length of a changed schedule.
 use Rattle.std.proofs.Common.{◌≡◌, ℕ, zero, suc, ◌+◌, ◌<◌, List, [], ◌∷◌, ◌++◌, take, drop, length, get_or, Some, refl, sym, ap, ◌∙◌, arith, add-one, length-append, length-drop}
 use Rattle.std.specs.List.{slice_get}
 use Rattle.std.proofs.lemmas.List.{length-take}
@@ -12,7 +12,7 @@ steps_append : (xs ys : List Line) → steps_asked (xs ++ ys) ≡ steps_asked xs
 steps_append [] ys = omega arith
 steps_append (x ∷ xs) ys = omega (arith, steps_append xs ys)
 
--- the steps of the lines before one, of that one, and of those behind it
+-- the steps of the lines before one, of that one, and of those after it
 steps_at : (i : ℕ) (lines : List Line) (line : Line) → slice_get lines i ≡ Some line → steps_asked (take i lines) + (steps_of line + steps_asked (drop (suc i) lines)) ≡ steps_asked lines
 steps_at i [] line e = absurd (cc)
 steps_at zero (l ∷ ls) line e =
@@ -53,7 +53,7 @@ with_lowered schedule i less low =
       smaller = omega (arith, fewer, steps, left);
     }
 
--- there is one such line at most
+-- there is at most one such line
 pub one_lowered : (lines : List Line) (i : ℕ) (less other : Line) → IsLowered lines i less → IsLowered lines i other → less ≡ other
 one_lowered lines i less other a b =
     let same : Some (Step a.process (a.count + 1)) ≡ Some (Step b.process (b.count + 1)) = sym a.was ∙ b.was in

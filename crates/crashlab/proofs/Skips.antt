@@ -1,4 +1,4 @@
--- A process whose repair leaves out its last number: where that put comes next, it is passed over.
+-- A process whose repair leaves out its last number: where that put is next, it is skipped.
 use Rattle.std.proofs.Common.{◌≡◌, ℕ, Bool, true, false, ◌==◌, if◌then◌else◌, Option, Some, None, IfSome, refl, sym, ap, ◌∙◌, subst}
 use Rattle.crashlab.proofs.Common.{Access, Load, Store, Gets, Puts, Data as DataAt, kind_of, word_of, carried, Place, Inside, eqb_self, Reply, last_at, left, Pending, Script, Get as Asks}
 use Rattle.crashlab.proofs.Common.{Put as Writes, Done, tail, Answer, Outcome, Mending, by_script, errand_of, HasStep, Doing, only_spot, settled, Stand, access_by, next_access, outcome, job_left}
@@ -10,7 +10,7 @@ use Rattle.crashlab.proofs.Steady.{Steady, step_steady}
 use Rattle.crashlab.proofs.Rows.{process_of, Follows, plain_goes}
 use Rattle.crashlab.proofs.Repairs.{Unchanged, nothing_stays, IsMending, Mends, mends_of, lands, plain_lands, outcome_is, allowed_put, same_script, answered}
 
--- with no change left it goes the lock's way
+-- with no change left it goes by the lock's rows
 
 skip_plain : (s : Stand) (v : ℕ) → Steady s → Follows (process_of LastSkipped s Straight Nothing) v
 skip_plain s v h = subst (Unchanged LastSkipped s v) (sym (nothing_stays (plain_outcome s v).answer)) (plain_goes LastSkipped s v h tt (λ a. (refl, refl, refl))).row
@@ -34,7 +34,7 @@ next_is s v job (Done r) told is = ap last_put_next is
 next_is s v job (Asks j rest) told is = ap last_put_next is ∙ ap (λ f. is_put (last_of s) (access_by s.limit s.index Inside (Doing Mending f))) told
 next_is s v job (Writes j x rest) told is = ap last_put_next is ∙ ap (λ f. is_put (last_of s) (access_by s.limit s.index Inside (Doing Mending f))) told
 
--- where a step leads, and what it is
+-- where a step leads, and its outcome
 abbrev SkipAfter : Stand → ℕ → Bool → Option Answer → VariantStand
 SkipAfter s v put o = if put then process_of LastSkipped (stepped (stepped s v) 0) Straight Nothing else process_of LastSkipped (stepped s v) Straight (unless_answered o LeavesOut)
 

@@ -1,4 +1,4 @@
--- One process of a world over its stand alone: each step and each start of its machine is the definition's.
+-- One process of a world over its machine state alone: each step and each start of its machine is the definition's.
 use Rattle.std.proofs.Common.{◌≡◌, ℕ, Bool, true, false, Option, Some, None, IsSome, IfSome, unwrap_or, refl, sym, ap, ◌∙◌, subst}
 use Rattle.crashlab.proofs.Common.{Access, Place, Inside, Layout, IsLayout, Call, Consistent, Mending, errand_of, Doing, Spot, next_spot, begun_from, Stand, spot_of, next_access, started, spot_after}
 use Rattle.crashlab.proofs.Common.{IsAllowed, happening, Change, Nothing, Variant, CountUp, LastSkipped, variant_begun, changed_errand, change_of, changed_script}
@@ -36,7 +36,7 @@ pub nothing_changed : (l : Layout) (p : ℕ) (e : Errand) → changed_errand Not
 nothing_changed l p (Doing Mending left) = refl
 nothing_changed l p _ = refl
 
--- the spot of a variant's process, from the spot of the world's
+-- the process state of a variant's process, from that of the world's
 abbrev pub changed_spot : Change → Layout → ℕ → Spot → Spot
 changed_spot change l p spot = record spot { errand = changed_errand change l p spot.errand }
 
@@ -45,7 +45,7 @@ mends CountUp l p = refl
 mends LastSkipped l p = refl
 mends _ l p = refl
 
--- a start of a variant's process that isn't refused is the definition's
+-- a start of a variant's process that is not refused is the definition's
 pub start_goes : (variant : Variant) (s : Stand) (change : Change) (c : Call) → Steady s → start_refusal s.layout (spot_of s) c ≡ None
     → variant_begun variant s.layout s.index s.lock s.mended (changed_errand change s.layout s.index (errand_of s.errand)) c ≡ Some (changed_spot (change_of variant c) s.layout s.index (spot_of (started s c)))
 start_goes variant s change c h r = by s.lock s.mended (errand_of s.errand) c _ (begins s c h.layout h.ordered r).0

@@ -1,4 +1,4 @@
--- In every run of a world of a variant each process goes by the variant's definition.
+-- In every run of a world of a variant each process follows the variant's definition.
 use Rattle.std.proofs.Common.{◌≡◌, ℕ, ◌+◌, ◌<◌, nat_lt, if◌then◌else◌, Bool, true, false, List, [], ◌∷◌, slice_set, Option, Some, None, IfSome, refl, sym, ap, ◌∙◌, subst, ltb-true, get_or-set_same}
 use Rattle.crashlab.proofs.Common.{Access, Refusal, kind_of, word_of, carried, Layout, IsLayout, Call, Consistent, Begins, Falls, Moves, Stand, spot_of, IsSize, started as stand_started, happening}
 use Rattle.crashlab.proofs.Common.{Change, Nothing, LeavesOut, Counts, Counted, Detour, Straight, Variant, Right, NoLook, NoTies, Renumber, ExitOnCrash, CountUp, LastSkipped, IsRun, spot_at, beside}
@@ -22,7 +22,7 @@ use Rattle.crashlab.proofs.Detours.{renumber_goes, exit_goes}
 use Rattle.crashlab.proofs.Repairs.{FitsCount, count_row, count_stays}
 use Rattle.crashlab.proofs.Skips.{FitsLeave, skip_row, skip_stays}
 
--- where a process of the variant may stand
+-- the machine states that a process of the variant may have
 
 abbrev pub FitsChange : Variant → Change → Stand → Type 0
 FitsChange CountUp change s = FitsCount change s

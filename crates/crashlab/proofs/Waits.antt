@@ -1,4 +1,4 @@
--- Waiters that go by a row of the variant's: one that doesn't look, and one that goes past an equal number.
+-- Waiters that go by a changed row: one that does not look, and one that passes an equal number.
 use Rattle.std.proofs.Common.{◌≡◌, ℕ, ◌+◌, Bool, true, false, ◌||◌, ◌==◌, nat_lt, if◌then◌else◌, List, [], ◌∷◌, Option, Some, None, refl, sym, ap, ◌∙◌, subst}
 use Rattle.crashlab.proofs.Common.{cond_both, Access, Load, Look as Looks, Weigh as Weighs, Choosing as ChoosingOf, Number as NumberOf, access, place_of, Place, Reread, Wait, is_before, eqb_self}
 use Rattle.crashlab.proofs.Common.{Layout, Reply, left, Script, Get as Asks, Put as Writes, Done, Errand as Chore, Free as IsFree, Does, Why, errand_of, Doing, Stand, access_by}
@@ -68,7 +68,7 @@ looks_go s v h = by s.errand h
         let t : Stand = record s { errand = Does why job } in
         subst (λ o. Goes NoLook t Straight o (variant_stepped (process_of NoLook t Straight Nothing) v) (plain_outcome t v) v) (sym (unweighed s.limit s.index s.lock why (left job))) (script_goes NoLook t Straight v h tt why (left job) refl)
 
--- no ties: who weighs an equal number goes past
+-- no ties: a weigh of an equal number passes
 
 module _ (l : Layout) (limit p k : ℕ) (unpassed : List ℕ) (j : ℕ) (b c : Bool) (v : ℕ) where
   abbrev weighing : Stand

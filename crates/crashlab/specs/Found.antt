@@ -1,4 +1,4 @@
--- What comes of a move of a hunt.
+-- What a move of a hunt ends in (the specification's drawing rule of the hunt).
 use Rattle.crashlab.specs.declared.moves.Made.{Made}
 use Rattle.crashlab.specs.declared.moves.Made.TheVariants.{On, Caught}
 use Rattle.crashlab.specs.declared.variant.Variant.{Variant}
@@ -24,7 +24,7 @@ use Rattle.crashlab.specs.declared.variant.Variant.TheVariants.{Right}
 use Rattle.crashlab.specs.Hunts.{IsFound, IsPlayed}
 use Rattle.crashlab.specs.VariantWorlds.{VariantState}
 
--- a schedule that is found, and never under the lock, by its theorem
+-- a schedule that is found; none is found of Right, by the lock theorem
 pub record IsCaught (variant : Variant) (schedule : Scheduled) : Type 0 where
   pub found : IsFound variant schedule
   pub wrong : EveryStoryIsLegal → variant ≡ Right → ⊥
@@ -34,7 +34,7 @@ abbrev pub Ends : Variant → Scheduled → VariantState → Kept → Made → T
 Ends variant schedule world judge On = IsPlayed variant schedule world judge
 Ends variant schedule world judge Caught = IsCaught variant schedule
 
--- with one more line
+-- the schedule with one more line
 abbrev pub with_line : Scheduled → Line → Scheduled
 with_line schedule line = record schedule { lines = schedule.lines ++ line ∷ [] }
 
@@ -45,12 +45,12 @@ pub record IsRefused (history : List Deed) (deed : Option Deed) : Type 0 where
   pub fault : Fault
   pub refused : judged_all (empty 3 64) (history ++ last ∷ []) ≡ Err fault
 
--- the line is written, and the deed of the move, if it has one, is told to the judge
+-- the judge was given the deed of the move, if it has one, and allows or refuses it
 abbrev pub Told : List Deed → Option Deed → Kept → Made → Type 0
 Told history deed judge On = StandsAfter (empty 3 64) (history ++ list_of deed) judge
 Told history deed judge Caught = IsRefused history deed
 
--- a call of a hunt
+-- a call that a hunt starts
 abbrev pub call_by : Due → Call
 call_by Lock = call.Lock
 call_by Consistent = call.Consistent
@@ -67,12 +67,13 @@ line_by (Crash p) = line.Crash p
 abbrev pub route_of : List Move → Scheduled
 route_of moves = record { procs = 3; limit = 1000000; cap = 64; width = 1; lines = map line_by moves }
 
--- whose move it is
+-- the process of a move
 abbrev pub mover : Move → ℕ
 mover (Start p due) = p
 mover (Step p) = p
 mover (Crash p) = p
 
+-- the move is a crash
 abbrev pub is_crash : Move → Bool
 is_crash (Start p due) = false
 is_crash (Step p) = false

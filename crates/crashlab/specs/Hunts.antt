@@ -1,4 +1,5 @@
--- What a hunt finds: a schedule whose deeds, in a new world of the variant, are legal but for the last.
+-- What a hunt finds: a schedule whose deeds, on a new world of the variant, are legal but for the last
+-- (the specification's Definitions met).
 use Rattle.std.specs.Prelude.{◌≡◌, ℕ, zero, suc, Bool, true, false, if◌then◌else◌, List, [], ◌∷◌, ◌++◌, None, is_some, Err}
 use Rattle.rmecore.specs.declared.fault.Fault.{Fault}
 use Rattle.redomail.specs.declared.deed.Deed.{Deed}
@@ -14,59 +15,67 @@ use Rattle.schedule.specs.Schedules.{Scheduled}
 use Rattle.crashlab.specs.declared.variant.Variant.{Variant}
 use Rattle.crashlab.specs.VariantWorlds.{VariantState, new_world, start_refusal, started, advance_refusal, stepped, advanced, crash_refusal, crash_deed, crashed}
 
--- the world of a hunt
+-- the sizes of a hunt's world (the specification's drawing rule of the hunt)
 abbrev pub hunt_layout : Layout
 hunt_layout = record { procs = 3; cap = 64; width = 1 }
 
+-- a new world of a hunt
 abbrev pub first_world : Variant → VariantState
 first_world variant = new_world variant hunt_layout 1000000
 
+-- the next step of p ends its call
 abbrev pub is_answered : VariantState → ℕ → Bool
 is_answered s p = is_some (stepped s p).answer
 
--- what a line leaves in a world: steps end with the answer of their call
+-- the world after a line; steps end with the answer of their call
 abbrev pub after_steps : VariantState → ℕ → ℕ → VariantState
 after_steps s p zero = s
 after_steps s p (suc k) = if is_answered s p then advanced s p else after_steps (advanced s p) p k
 
+-- the world after a line
 abbrev pub after_line : VariantState → Line → VariantState
 after_line s (Start p call) = started s p call
 after_line s (Step p k) = after_steps s p k
 after_line s (Crash p) = crashed s p
 
--- the deeds that it does
+-- the deeds of a line
 abbrev pub deeds_of_steps : VariantState → ℕ → ℕ → List Deed
 deeds_of_steps s p zero = []
 deeds_of_steps s p (suc k) = list_of (stepped s p).deed ++ (if is_answered s p then [] else deeds_of_steps (advanced s p) p k)
 
+-- the deeds of a line
 abbrev pub deeds_of_line : VariantState → Line → List Deed
 deeds_of_line s (Start p call) = []
 deeds_of_line s (Step p k) = deeds_of_steps s p k
 deeds_of_line s (Crash p) = crash_deed p ∷ []
 
--- and that nothing of it is refused
+-- nothing of a line is refused
 abbrev pub Unless : Bool → Type 0 → Type 0
 Unless true P = Unit {0}
 Unless false P = P
 
+-- k steps of p, up to the answer of its call, are not refused
 abbrev pub MaySteps : VariantState → ℕ → ℕ → Type 0
 MaySteps s p zero = Unit {0}
 MaySteps s p (suc k) = (advance_refusal s p ≡ None) × Unless (is_answered s p) (MaySteps (advanced s p) p k)
 
+-- nothing of a line is refused
 abbrev pub MayLine : VariantState → Line → Type 0
 MayLine s (Start p call) = start_refusal s p call ≡ None
 MayLine s (Step p k) = MaySteps s p k
 MayLine s (Crash p) = crash_refusal s p ≡ None
 
--- the same of a list of lines, one after another
+-- the same for a list of lines
 abbrev pub after_lines : VariantState → List Line → VariantState
 after_lines s [] = s
 after_lines s (line ∷ lines) = after_lines (after_line s line) lines
 
+-- the deeds of lines
 abbrev pub deeds_of_lines : VariantState → List Line → List Deed
 deeds_of_lines s [] = []
 deeds_of_lines s (line ∷ lines) = deeds_of_line s line ++ deeds_of_lines (after_line s line) lines
 
+-- nothing of lines is refused
 abbrev pub MayLines : VariantState → List Line → Type 0
 MayLines s [] = Unit {0}
 MayLines s (line ∷ lines) = MayLine s line × MayLines (after_line s line) lines
@@ -78,7 +87,7 @@ pub record IsOfHunt (schedule : Scheduled) : Type 0 where
   pub cap : schedule.cap ≡ 64
   pub width : schedule.width ≡ 1
 
--- The schedule runs in a new world of the variant, and its deeds are legal but for the last, which the judge refuses.
+-- the schedule runs on a new world of the variant, and its deeds are legal but for the last, which the judge refuses
 pub record IsFound (variant : Variant) (schedule : Scheduled) : Type 0 where
   pub size : IsOfHunt schedule
   pub runs : MayLines (first_world variant) schedule.lines
@@ -89,7 +98,7 @@ pub record IsFound (variant : Variant) (schedule : Scheduled) : Type 0 where
   pub legal : IsLegal 3 64 before
   pub refused : judged_all (empty 3 64) (before ++ last ∷ []) ≡ Err fault
 
--- A round so far: the world is what the schedule leaves, and the judge stands after its deeds.
+-- a round so far: the world is the one after the schedule, and the judge was given the schedule's deeds
 pub record IsPlayed (variant : Variant) (schedule : Scheduled) (world : VariantState) (judge : Kept) : Type 0 where
   pub size : IsOfHunt schedule
   pub runs : MayLines (first_world variant) schedule.lines

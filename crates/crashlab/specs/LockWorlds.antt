@@ -1,4 +1,4 @@
--- Worlds of the variant that is the lock: what some story of a new world comes to.
+-- Worlds of Right: they are those that executions of the lock lead to.
 use Rattle.std.specs.Prelude.{◌≡◌, List, map}
 use Rattle.redomail.specs.declared.deed.Deed.{Deed}
 use Rattle.rmeworld.specs.Spot.{Happening}
@@ -11,16 +11,16 @@ use Rattle.crashlab.specs.declared.variant.Variant.TheVariants.{Right}
 use Rattle.crashlab.specs.VariantStands.{VariantStand}
 use Rattle.crashlab.specs.VariantWorlds.{VariantState}
 
--- the world's process, of which nothing is changed
+-- a process of the lock as one of Right
 abbrev pub unchanged : Stand → VariantStand
 unchanged s = record { variant = Right; stand = s; detour = Straight; change = Nothing }
 
--- the world with the same words and processes, as one of the variant that is the lock
+-- a world of the lock as one of Right
 abbrev pub as_variant : WorldState → VariantState
 as_variant w =
     record { variant = Right; layout = w.layout; limit = w.limit; words = w.words; cells = w.cells; processes = map unchanged w.processes }
 
--- The world is what a story of a new one comes to, and these are the story's deeds.
+-- some execution from a new world leads to this world, and these are its deeds
 pub record IsLockWorld (s : VariantState) (history : List Deed) : Type 0 where
   pub world : WorldState
   pub same : as_variant world ≡ s

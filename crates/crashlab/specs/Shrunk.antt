@@ -1,4 +1,4 @@
--- A schedule that goes wrong on a variant, made least.
+-- A schedule that goes wrong on a variant, minimized.
 use Rattle.std.specs.Prelude.{◌≡◌, ℕ, ◌+◌, ◌<◌, ◌≤◌, List, [], ◌∷◌, ◌++◌, take, drop, length, slice_get, Option, Some, None, Result, Ok, Err}
 use Rattle.rmecore.specs.declared.fault.Fault.{Fault}
 use Rattle.rmecore.specs.declared.refusal.Refusal.{Refusal}
@@ -18,24 +18,26 @@ use Rattle.schedule.specs.Runs.{Part, deeds_of, run_on}
 use Rattle.crashlab.specs.declared.variant.Variant.{Variant}
 use Rattle.crashlab.specs.VariantWorlds.{VariantState, new_world, variant_behaviour}
 
--- ---- what a schedule comes to
+-- ---- the run of a schedule and its verdict
 
 -- the run of a schedule on a new world of the variant
 unfoldable pub variant_run : Variant → Scheduled → Part VariantState (ℕ × Refusal)
 variant_run variant schedule = run_on variant_behaviour 2 (new_world variant (layout_of schedule) schedule.limit) schedule.lines
 
+-- a refusal of the header, or else of a line
 abbrev pub at_header : Option Refusal → Option (ℕ × Refusal) → Option (ℕ × Refusal)
 at_header None rest = rest
 at_header (Some refusal) rest = Some (1, refusal)
 
--- the line at which it is refused: its first one, where no world has its sizes
+-- the line that is refused: the header, where no world has the sizes
 abbrev pub refusal_of : Variant → Scheduled → Option (ℕ × Refusal)
 refusal_of variant schedule = at_header (new_refusal (layout_of schedule) schedule.limit) (variant_run variant schedule).refused
 
+-- the verdict on the run of a schedule on the variant
 abbrev pub verdict_of : Variant → Scheduled → Verdict
 verdict_of variant schedule = verdict_on (empty schedule.procs schedule.cap) (deeds_of (variant_run variant schedule).told)
 
--- The variant's world refuses nothing of the schedule, and the verdict on its run is against this number.
+-- the variant's world refuses nothing of the schedule, and the verdict on its run is against this number
 pub record GoesWrong (variant : Variant) (number : ℕ) (schedule : Scheduled) : Type 0 where
   pub accepted : refusal_of variant schedule ≡ None
   pub at : ℕ
@@ -45,7 +47,7 @@ pub record GoesWrong (variant : Variant) (number : ℕ) (schedule : Scheduled) :
 
 -- ---- least
 
--- the lines with number i replaced by these
+-- line i replaced by these lines
 abbrev pub replaced : ℕ → List Line → Scheduled → Scheduled
 replaced i new schedule = record schedule { lines = take i schedule.lines ++ (new ++ drop (i + 1) schedule.lines) }
 
@@ -57,6 +59,7 @@ pub record IsLowered (lines : List Line) (i : ℕ) (less : Line) : Type 0 where
   pub was : slice_get lines i ≡ Some (Step process (count + 1))
   pub is : less ≡ Step process count
 
+-- the schedule does not go wrong by this number
 abbrev pub Loses : Variant → ℕ → Scheduled → Type 0
 Loses variant number schedule = GoesWrong variant number schedule → ⊥
 
@@ -65,15 +68,17 @@ pub record IsNeeded (variant : Variant) (number : ℕ) (schedule : Scheduled) (i
   pub line : Loses variant number (replaced i [] schedule)
   pub count : (less : Line) → IsLowered schedule.lines i less → Loses variant number (replaced i (less ∷ []) schedule)
 
+-- each line is needed, with its count
 abbrev pub IsLeast : Variant → ℕ → Scheduled → Type 0
 IsLeast variant number schedule = (i : ℕ) → i < length schedule.lines → IsNeeded variant number schedule i
 
--- how many steps the lines ask for
+-- the number of steps that the lines ask for
 abbrev pub steps_of : Line → ℕ
 steps_of (Start p call) = 0
 steps_of (Step p n) = n
 steps_of (Crash p) = 0
 
+-- the number of steps that lines ask for
 abbrev pub steps_asked : List Line → ℕ
 steps_asked [] = 0
 steps_asked (line ∷ lines) = steps_of line + steps_asked lines
@@ -84,33 +89,35 @@ pub record IsNoLonger (before now : Scheduled) : Type 0 where
   pub lines : length now.lines ≤ length before.lines
   pub steps : steps_asked now.lines ≤ steps_asked before.lines
 
--- what a schedule that goes wrong is made
+-- the result of minimizing a schedule that goes wrong
 pub record IsShrunk (variant : Variant) (number : ℕ) (before now : Scheduled) : Type 0 where
   pub shorter : IsNoLonger before now
   pub wrong : GoesWrong variant number now
   pub least : IsLeast variant number now
 
--- what shrinking answers: none where all deeds are allowed, else a least schedule that goes wrong by the same number
+-- what minimizing answers: none where all deeds are allowed, else a least schedule that goes wrong by the same number
 abbrev pub Shrinks : Variant → Scheduled → Option Scheduled → Type 0
 Shrinks variant schedule None = (refusal_of variant schedule ≡ None) × (verdict_of variant schedule ≡ Fine)
 Shrinks variant schedule (Some least) = (number : ℕ) × GoesWrong variant number schedule × IsShrunk variant number schedule least
 
--- why it answers nothing: the line that is refused, as a replay tells it
+-- why it answers no schedule: the line that is refused, as a replay answers it
 abbrev pub IsWhy : Variant → Scheduled → ReplayFault → Type 0
 IsWhy variant schedule (Refused line number) = (refusal : Refusal) × (refusal_of variant schedule ≡ Some (line, refusal)) × (number_of refusal ≡ Some number)
 IsWhy variant schedule OutOfMemory = Unit {0}
 IsWhy variant schedule fault = ⊥
 
--- ---- on the way
+-- ---- between
 
 -- what playing it answers
 abbrev pub Answers : Variant → Scheduled → Result Verdict ReplayFault → Type 0
 Answers variant schedule (Ok verdict) = (refusal_of variant schedule ≡ None) × (verdict ≡ verdict_of variant schedule)
 Answers variant schedule (Err fault) = IsWhy variant schedule fault
 
+-- the schedule with other lines
 abbrev pub with_lines : Scheduled → List Line → Scheduled
 with_lines schedule lines = record schedule { lines = lines }
 
+-- the number of lines and of steps
 abbrev pub size : Scheduled → ℕ
 size schedule = length schedule.lines + steps_asked schedule.lines
 

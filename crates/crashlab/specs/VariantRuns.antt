@@ -1,4 +1,4 @@
--- What a world of a variant comes to: its starts, steps and crashes, one after the other, from a new one.
+-- Runs of a world of a variant: starts, steps and crashes, one after the other, from a new world (the specification's Run).
 use Rattle.std.specs.Prelude.{◌≡◌, ℕ, List, [], ◌∷◌}
 use Rattle.rmecore.specs.Machine.{kind_of, word_of, carried}
 use Rattle.rmecore.specs.declared.access.Access.{Access}
@@ -9,25 +9,27 @@ use Rattle.crashlab.specs.VariantSpots.{VariantSpot}
 use Rattle.crashlab.specs.VariantStands.{variant_spot_of}
 use Rattle.crashlab.specs.VariantWorlds.{VariantState, stand_at, new_world, start_refusal, started, found_by, advance_refusal, advanced, crash_refusal, crashed}
 
+-- the world after a start, step or crash; one that is refused changes nothing
 abbrev pub acted : VariantState → Act → VariantState
 acted s (Starts p call) = unless (start_refusal s p call) s (started s p call)
 acted s (Steps p) = unless (advance_refusal s p) s (advanced s p)
 acted s (Crashes p) = unless (crash_refusal s p) s (crashed s p)
 
+-- the world after a list of these
 abbrev pub run_of : VariantState → List Act → VariantState
 run_of s [] = s
 run_of s (act ∷ acts) = run_of (acted s act) acts
 
--- a world that some run of a new one comes to
+-- a world after some run from a new one
 pub record IsRun (s : VariantState) : Type 0 where
   pub sized : IsSize s.layout
   pub acts : List Act
   pub is : run_of (new_world s.variant s.layout s.limit) acts ≡ s
 
--- where process p stands
+-- the process state of p
 abbrev pub spot_at : VariantState → ℕ → VariantSpot
 spot_at s p = variant_spot_of (stand_at s.processes p)
 
--- the step of process p that this access is, with the word that it finds
+-- the event of process p that this access is, with the word that it finds
 abbrev pub move : VariantState → ℕ → Access → Happening
 move s p a = Moves p (kind_of a) (word_of a) (carried a (found_by s a))

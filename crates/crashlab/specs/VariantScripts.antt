@@ -1,4 +1,4 @@
--- What the wrong variants make of the repair.
+-- What the wrong variants change of the repair (the specification's Variants: CountUp and LastSkipped).
 use Rattle.std.specs.Prelude.{ℕ, ◌+◌, ◌==◌, if◌then◌else◌}
 use Rattle.redomail.specs.declared.layout.Layout.{Layout}
 use Rattle.redomail.specs.declared.reply.Reply.{Reply}
@@ -14,7 +14,7 @@ leaving_out i (Get a next) = Get a (λ x. leaving_out i (next x))
 leaving_out i (Put a v rest) = if a == i then rest else Put a v (leaving_out i rest)
 leaving_out i (Done reply) = Done reply
 
--- one more than the count that stands, or the same at the capacity
+-- one more than the count that was read, or the same at the capacity
 abbrev pub raised : ℕ → ℕ → ℕ
 raised cap count = if count == cap then count else held (count + 1)
 
@@ -24,11 +24,12 @@ counting_up cap (Get a next) = Get a (λ x. counting_up cap (next x))
 counting_up cap (Put a v rest) = if a == 2 then Get 2 (λ count. Put 2 (raised cap count) rest) else Put a v (counting_up cap rest)
 counting_up cap (Done reply) = Done reply
 
+-- what the variant makes of the repair's script
 abbrev pub variant_script : Variant → Layout → ℕ → Script Reply → Script Reply
 variant_script CountUp l p script = counting_up l.cap script
 variant_script LastSkipped l p script = leaving_out (last_at l p) script
 variant_script _ l p script = script
 
--- the call that repairs
+-- the script of consistent, the call that repairs
 abbrev pub variant_consistent : Variant → Layout → ℕ → Script Reply
 variant_consistent variant l p = variant_script variant l p (consistent l p)

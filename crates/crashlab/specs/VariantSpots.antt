@@ -1,4 +1,5 @@
--- Where a process of a variant stands, and the spot that follows from its own happenings alone.
+-- The process state of a process of a variant, which follows from its own events alone (the specification's Place, with what
+-- the variant adds).
 use Rattle.std.specs.Prelude.{ℕ, Bool, true, false, Option, Some, None}
 use Rattle.rmecore.specs.Place.{Place}
 use Rattle.rmecore.specs.declared.access.Access.{Access}
@@ -22,24 +23,26 @@ use Rattle.crashlab.specs.declared.variant.Variant.{Variant}
 use Rattle.crashlab.specs.Variants.{variant_next, variant_deed, variant_answer, variant_access}
 use Rattle.crashlab.specs.VariantScripts.{variant_consistent}
 
+-- a process state of the lock, with a variant state
 pub record VariantSpot : Type 0 where
   pub spot : Spot
   pub detour : Detour
 
--- this spot, on this detour
+-- this process state, with this variant state
 abbrev pub beside : Detour → Option Spot → Option VariantSpot
 beside d None = None
 beside d (Some spot) = Some (record { spot = spot; detour = d })
 
--- a spot outside the section, where nothing is to be mended
+-- a process state outside the section, with nothing to mend
 abbrev pub outside : Place → Spot
 outside place = record { lock = place; mended = true; barred = false; errand = Free }
 
--- where the lock's part of a variant goes on from a place to a place. A detour begins and ends outside
+-- where a step of the variant's lock leads. A variant state begins and ends outside the section
 abbrev pub at_detour : Layout → ℕ → Place → Bool → Bool → Detour → Place → Detour → Option VariantSpot
 at_detour l p s b c Straight t Straight = beside Straight (at_lock l p s b c (Some t))
 at_detour l p s b c d t e = Some (record { spot = outside t; detour = e })
 
+-- the same for a step that may not be allowed
 abbrev pub at_variant : Layout → ℕ → Place → Bool → Bool → Detour → Option (Place × Detour) → Option VariantSpot
 at_variant l p s b c d None = None
 at_variant l p s b c d (Some at) = at_detour l p s b c d at.0 at.1
@@ -49,48 +52,53 @@ abbrev pub variant_moved : Variant → Layout → ℕ → ℕ → Place → Bool
 variant_moved variant l limit p s b c Free d kind word v = at_variant l p s b c d (variant_next variant l.procs limit p s d kind word v)
 variant_moved variant l limit p s b c (Doing why left) d kind word v = beside d (moved_by l limit p s b c (Doing why left) kind word v)
 
--- a start as in the world, but that consistent runs the variant's repair
+-- a start as in the world, but consistent runs the variant's repair
 abbrev pub variant_begun : Variant → Layout → ℕ → Place → Bool → Errand → Call → Option Spot
 variant_begun variant l p s false Free Consistent = inside_only s false true Mending (variant_consistent variant l p)
 variant_begun variant l p s b errand call = begun_from l p s b errand call
 
+-- the process state after an event of the process, if the event is allowed
 abbrev pub variant_spot : Variant → Layout → ℕ → VariantSpot → Happening → Option VariantSpot
 variant_spot variant l limit s (Begins p call) = beside s.detour (variant_begun variant l p s.spot.lock s.spot.mended s.spot.errand call)
 variant_spot variant l limit s (Falls p) = beside Straight (Some dead)
 variant_spot variant l limit s (Moves p kind word v) = variant_moved variant l limit p s.spot.lock s.spot.mended s.spot.barred s.spot.errand s.detour kind word v
 variant_spot variant l limit s (Glances p word v) = Some s
 
--- the deed of the lock, from the process's spot before it
+-- the deed of the lock at an event, from the process state before it
 abbrev pub variant_outer_by : Variant → ℕ → Place → Errand → Detour → Kind → ℕ → Option Outer
 variant_outer_by variant p s Free d kind v = variant_deed variant p s d kind v
 variant_outer_by variant p s _ d kind v = None
 
+-- the deed of the lock at an event
 abbrev pub variant_outer : Variant → VariantSpot → Happening → Option Outer
 variant_outer variant s (Begins p call) = None
 variant_outer variant s (Falls p) = Some (Crash p)
 variant_outer variant s (Moves p kind word v) = variant_outer_by variant p s.spot.lock s.spot.errand s.detour kind v
 variant_outer variant s (Glances p word v) = None
 
--- the answer of a step, if it is its call's last
+-- the answer of a step that ends its call
 abbrev pub variant_answer_by : Variant → Place → Bool → Bool → Errand → Detour → Kind → ℕ → Option Answer
 variant_answer_by variant s b c Free d kind v = by_lock c (variant_answer variant s d kind v)
 variant_answer_by variant s b c (Doing why left) d kind v = by_script why b (tail left v)
 
+-- the answer of a step from a process state, if it ends its call
 abbrev pub variant_answer_at : Variant → VariantSpot → Kind → ℕ → Option Answer
 variant_answer_at variant s kind v = variant_answer_by variant s.spot.lock s.spot.mended s.spot.barred s.spot.errand s.detour kind v
 
--- the answer of the lock's part, where that ends with the step
+-- the answer of the lock's part, where the step ends it
 abbrev pub variant_done_by : Variant → Place → Errand → Detour → Kind → ℕ → Option CoreDone
 variant_done_by variant s Free d kind v = variant_answer variant s d kind v
 variant_done_by variant s (Doing why left) d kind v = None
 
+-- the same of the lock's part
 abbrev pub variant_done_at : Variant → VariantSpot → Kind → ℕ → Option CoreDone
 variant_done_at variant s kind v = variant_done_by variant s.spot.lock s.spot.errand s.detour kind v
 
--- the step that comes next: the script's, or the lock's
+-- the next step: the script's, or the lock's
 abbrev pub variant_access_by : Variant → ℕ → ℕ → Place → Errand → Detour → Option Access
 variant_access_by variant limit p s Free d = variant_access variant limit p s d
 variant_access_by variant limit p s (Doing why left) d = access_by limit p s (Doing why left)
 
+-- the next step from a process state
 abbrev pub variant_access_at : Variant → ℕ → ℕ → VariantSpot → Option Access
 variant_access_at variant limit p s = variant_access_by variant limit p s.spot.lock s.spot.errand s.detour

@@ -1,4 +1,4 @@
--- What contracts see of one process of a variant, and what its machine does next: the world's process, with what the
+-- The machine state of one process of a variant, and what its machine does next: that of the world's process, with what the
 -- variant changes.
 use Rattle.std.specs.Prelude.{◌≡◌, ℕ, zero, suc, Bool, true, false, ◌||◌, ◌==◌, if◌then◌else◌, [], ◌∷◌, Option, Some, None}
 use Rattle.rmecore.specs.Place.{Place, Reread, Door, Wait, Unmarking, without, others, is_before}
@@ -33,27 +33,31 @@ use Rattle.crashlab.specs.Variants.{lock_or_recover}
 use Rattle.crashlab.specs.VariantScripts.{leaving_out, raised, counting_up}
 use Rattle.crashlab.specs.VariantSpots.{VariantSpot}
 
+-- the machine state of one process of a variant
 pub record VariantStand : Type 0 where
   pub variant : Variant
-  -- the world's process, which goes the lock's way
+  -- the world's process, which goes by the lock's rows
   pub stand : Stand
   pub detour : Detour
   pub change : Change
 
--- a process that nothing is changed of
+-- a process of Right, with nothing changed
 pub record IsPlain (s : VariantStand) : Type 0 where
   pub variant : s.variant ≡ Right
   pub detour : s.detour ≡ Straight
   pub change : s.change ≡ Nothing
 
+-- a process at rest
 abbrev pub variant_resting : Variant → Layout → ℕ → ℕ → VariantStand
 variant_resting variant l limit p = record { variant = variant; stand = resting l limit p; detour = Straight; change = Nothing }
 
+-- a process after a crash
 abbrev pub variant_crashed : VariantStand → VariantStand
 variant_crashed s = record { variant = s.variant; stand = crashed s.stand; detour = Straight; change = Nothing }
 
--- where the variant's process stands, as its definition has it
+-- the process state, as the variant's definition has it
 
+-- what is left of a repair's script, with this change
 abbrev pub changed_script : Change → Layout → ℕ → Script Reply → Script Reply
 changed_script Nothing l p script = script
 changed_script LeavesOut l p script = leaving_out (last_at l p) script
@@ -61,10 +65,12 @@ changed_script Counts l p script = counting_up l.cap script
 changed_script (Counted v) l p (Writes i x rest) = Writes i v rest
 changed_script (Counted v) l p script = script
 
+-- the script state with this change of a repair
 abbrev pub changed_errand : Change → Layout → ℕ → Errand → Errand
 changed_errand change l p (Doing Mending left) = Doing Mending (changed_script change l p left)
 changed_errand change l p errand = errand
 
+-- the process state that a machine state has
 abbrev pub variant_spot_of : VariantStand → VariantSpot
 variant_spot_of s =
     record {
@@ -74,7 +80,7 @@ variant_spot_of s =
 
 -- The machine itself, exactly.
 
--- the step that comes next
+-- the next step
 abbrev pub changed_access : Change → Option Access → Option Access
 changed_access Counts (Some (Store Puts (DataAt i) v)) = if i == 2 then Some (Load Gets (DataAt 2)) else Some (Store Puts (DataAt i) v)
 changed_access (Counted count) (Some (Store Puts (DataAt i) v)) = if i == 2 then Some (Store Puts (DataAt 2) count) else Some (Store Puts (DataAt i) v)
@@ -85,28 +91,30 @@ abbrev pub weighed : Option Access → Option Access
 weighed (Some (Load Looks (ChoosingOf j))) = Some (Load Weighs (NumberOf j))
 weighed a = a
 
--- exit on crash: a drop, off any script
+-- exit on crash: a drop, outside any script
 abbrev pub dropping_access : Stand → Chore → Option Access
 dropping_access s IsFree = Some (Store Drops (NumberOf s.index) 0)
 dropping_access s _ = next_access s
 
+-- the next step of a process of this variant
 abbrev pub access_beside : Variant → Detour → Change → Stand → Option Access
 access_beside NoLook d change s = weighed (next_access s)
 access_beside ExitOnCrash Dropping change s = dropping_access s s.errand
 access_beside CountUp d change s = changed_access change (next_access s)
 access_beside _ d change s = next_access s
 
+-- the next step
 abbrev pub variant_next_access : VariantStand → Option Access
 variant_next_access s = access_beside s.variant s.detour s.change s.stand
 
--- The rows that are changed of the lock's part: where the step leads that comes next, and on which detour.
+-- The rows that are changed of the lock's part: where the next step leads, and with which variant state.
 
--- no look: who would look weighs, and goes past or stays
+-- no look: a weigh in place of a look, which passes or stays
 abbrev pub weighing_row : ℕ → Place → Option Access → ℕ → Option (Place × Detour)
 weighing_row p (Wait k unpassed looked) (Some (Load Looks (ChoosingOf j))) v = Some (if (v == 0) || is_before k p v j then Wait k (without j unpassed) None else Wait k unpassed looked, Straight)
 weighing_row p place a v = None
 
--- no ties: who weighs an equal number goes past
+-- no ties: a weigh of an equal number passes
 abbrev pub tied_row : Place → Option Access → ℕ → Option (Place × Detour)
 tied_row (Wait k unpassed looked) (Some (Load Weighs (NumberOf j))) v = if k == v then Some (Wait k (without j unpassed) None, Straight) else None
 tied_row place a v = None
@@ -116,11 +124,12 @@ abbrev pub taken_row : ℕ → ℕ → Place → Option (Place × Detour)
 taken_row n p (Reread core.Lock (suc c ∷ suc k ∷ [])) = Some (Door (others n p) 0, Over (suc k))
 taken_row n p place = None
 
--- exit on crash: whom the third reread finds inside drops the number and goes on as one that it finds leaving
+-- exit on crash: a process that the third reread finds inside drops its number, and goes on as if it was found leaving
 abbrev pub inside_row : Place → ℕ → Option (Place × Detour)
 inside_row (Reread call (zero ∷ suc k ∷ [])) (suc i) = Some (Unmarking (lock_or_recover call), Dropping)
 inside_row place v = None
 
+-- the changed row that the next step is by, if there is one
 abbrev pub changed_row : Variant → Stand → ℕ → Option (Place × Detour)
 changed_row NoLook s v = weighing_row s.index s.lock (next_access s) v
 changed_row NoTies s v = tied_row s.lock (next_access s) v
@@ -128,63 +137,71 @@ changed_row Renumber s v = taken_row s.layout.procs s.index s.lock
 changed_row ExitOnCrash s v = inside_row s.lock v
 changed_row _ s v = None
 
--- outside the section, with nothing to be mended
+-- outside the section, with nothing to mend
 abbrev pub outside_at : Stand → Place → Stand
 outside_at s t = record s { lock = t; mended = true; barred = false; errand = IsFree }
 
+-- a process that goes where a changed row leads
 abbrev pub led : VariantStand → Place → Detour → VariantStand
 led s t Straight = record s { stand = record s.stand { lock = t } }
 led s t d = record s { stand = outside_at s.stand t; detour = d }
 
+-- a process after a step by a changed row, or else by the lock's
 abbrev pub by_row : VariantStand → Option (Place × Detour) → ℕ → VariantStand
 by_row s None v = record s { stand = stepped s.stand v }
 by_row s (Some to) v = led s to.0 to.1
 
--- a step of the lock's on a detour, which stays outside
+-- a step of the lock with a variant state, which stays outside
 abbrev pub beside_way : VariantStand → Detour → ℕ → VariantStand
 beside_way s d v = record s { stand = outside_at (stepped s.stand v) (stepped s.stand v).lock; detour = d }
 
--- renumber: a scan that finds no number left waits with the one that stands. A take ends the detour
+-- renumber: a scan that finds no number left waits with the number that it keeps. A take ends the variant state
 abbrev pub over_by : VariantStand → ℕ → Kind → ℕ → VariantStand
 over_by s k Shuts v = record s { stand = outside_at s.stand (Wait k (others s.stand.layout.procs s.stand.index) None); detour = Straight }
 over_by s k Takes v = beside_way s Straight v
 over_by s k kind v = beside_way s (Over k) v
 
+-- the same for a step that there may not be
 abbrev pub over_way : VariantStand → ℕ → Option Access → ℕ → VariantStand
 over_way s k None v = s
 over_way s k (Some a) v = over_by s k (kind_of a) v
 
--- a step of the lock's part. Who drops its number stays where it is
+-- a step of the lock's part. A process that drops its number stays where it is
 abbrev pub lock_beside : Detour → VariantStand → ℕ → VariantStand
 lock_beside Straight s v = by_row s (changed_row s.variant s.stand v) v
 lock_beside (Over k) s v = over_way s k (next_access s.stand) v
 lock_beside Dropping s v = record s { stand = outside_at s.stand s.stand.lock; detour = Straight }
 
--- a script's step is the world's
+-- a step of a script is the world's
 abbrev pub part_beside : Chore → Detour → VariantStand → ℕ → VariantStand
 part_beside IsFree d s v = lock_beside d s v
 part_beside _ d s v = record s { stand = stepped s.stand v }
 
--- a repair that is changed, until it is changed or answered
+-- a repair that is changed, until the change is made or the call is answered
 abbrev pub is_put : ℕ → Option Access → Bool
 is_put j (Some (Store Puts (DataAt i) v)) = i == j
 is_put j _ = false
 
+-- the change, until the call is answered
 abbrev pub unless_answered : Option Answer → Change → Change
 unless_answered None change = change
 unless_answered (Some answer) change = Nothing
 
+-- the lock's step, which keeps the change until the answer
 abbrev pub going_on : VariantStand → Change → ℕ → VariantStand
 going_on s change v = record s { stand = stepped s.stand v; change = unless_answered (outcome s.stand (next_access s.stand) v).answer change }
 
+-- count up: the get of count, or the lock's step
 abbrev pub counted_up : VariantStand → Change → ℕ → VariantStand
 counted_up s Counts v =
     if is_put 2 (next_access s.stand) then record s { change = Counted (raised s.stand.layout.cap v) } else going_on s Counts v
 counted_up s _ v = going_on s Nothing v
 
+-- the put of the sender's last number is the next step
 abbrev pub last_put_next : Stand → Bool
 last_put_next s = is_put (last_at s.layout s.index) (next_access s)
 
+-- last skipped: a step that also passes over that put, or the lock's step
 abbrev pub left_out : VariantStand → Change → ℕ → VariantStand
 left_out s LeavesOut v =
     if last_put_next (stepped s.stand v) then record s { stand = stepped (stepped s.stand v) 0; change = Nothing } else going_on s LeavesOut v
@@ -197,43 +214,51 @@ stepped_beside CountUp d s v = counted_up s s.change v
 stepped_beside LastSkipped d s v = left_out s s.change v
 stepped_beside _ d s v = part_beside s.stand.errand d s v
 
+-- the process after its next step, with the value that it read
 abbrev pub variant_stepped : VariantStand → ℕ → VariantStand
 variant_stepped s v = stepped_beside s.variant s.detour s v
 
--- what the step is for others and for its call
+-- the outcome of a step, for others and for its call
 abbrev pub silent : Outcome
 silent = record { progress = record { outer = None; done = None; blocked = false }; answer = None }
 
+-- the outcome of the lock's step
 abbrev pub plain_outcome : Stand → ℕ → Outcome
 plain_outcome s v = outcome s (next_access s) v
 
+-- count up: the get of count is silent
 abbrev pub counting_outcome : VariantStand → Change → ℕ → Outcome
 counting_outcome s Counts v = if is_put 2 (next_access s.stand) then silent else plain_outcome s.stand v
 counting_outcome s _ v = plain_outcome s.stand v
 
+-- last skipped: the outcome of a step that passes over the put is that of the put
 abbrev pub leaving_outcome : VariantStand → Change → ℕ → Outcome
 leaving_outcome s LeavesOut v = if last_put_next (stepped s.stand v) then plain_outcome (stepped s.stand v) 0 else plain_outcome s.stand v
 leaving_outcome s _ v = plain_outcome s.stand v
 
--- a step by a changed row is nothing for others, nor is one on a detour
+-- a step by a changed row is silent, and so is one with a variant state
 abbrev pub unless_changed : Option (Place × Detour) → Outcome → Outcome
 unless_changed None told = told
 unless_changed (Some to) told = silent
 
+-- the outcome of a step of the lock's part
 abbrev pub lock_outcome : Detour → VariantStand → ℕ → Outcome
 lock_outcome Straight s v = unless_changed (changed_row s.variant s.stand v) (plain_outcome s.stand v)
 lock_outcome _ s v = silent
 
+-- the outcome of a step of the lock's part, or of a script
 abbrev pub part_outcome : Chore → Detour → VariantStand → ℕ → Outcome
 part_outcome IsFree d s v = lock_outcome d s v
 part_outcome _ d s v = plain_outcome s.stand v
 
+-- the outcome of a step of a process of this variant
 abbrev pub outcome_beside : Variant → Detour → VariantStand → ℕ → Outcome
 outcome_beside Right d s v = plain_outcome s.stand v
 outcome_beside CountUp d s v = counting_outcome s s.change v
 outcome_beside LastSkipped d s v = leaving_outcome s s.change v
 outcome_beside _ d s v = part_outcome s.stand.errand d s v
 
+-- the outcome of the next step, with the value that it read
 abbrev pub variant_outcome : VariantStand → ℕ → Outcome
 variant_outcome s v = outcome_beside s.variant s.detour s v
 
@@ -243,9 +268,11 @@ repair_change CountUp = Counts
 repair_change LastSkipped = LeavesOut
 repair_change _ = Nothing
 
+-- the change that a call starts with
 abbrev pub change_of : Variant → Call → Change
 change_of variant call.Consistent = repair_change variant
 change_of variant _ = Nothing
 
+-- the process after a start
 abbrev pub variant_started : VariantStand → Call → VariantStand
 variant_started s call = record s { stand = started s.stand call; change = change_of s.variant call }

@@ -1,5 +1,5 @@
--- A world of a variant as a machine: why its calls are refused, what they answer, and what they leave. The memory is the
--- world's.
+-- A world of a variant as a machine: why its calls are refused, what they answer, and what they leave (the specification's
+-- Variants). The memory is the world's.
 use Rattle.std.specs.Prelude.{◌≡◌, ℕ, zero, suc, ◌+◌, ◌<◌, nat_lt, if◌then◌else◌, List, [], ◌∷◌, length, replicate, slice_index_or, slice_set, Option, Some, None}
 use Rattle.rmecore.specs.Machine.{kind_of, word_of, carried}
 use Rattle.rmecore.specs.Simulated.{zeros, own_at}
@@ -25,6 +25,7 @@ use Rattle.crashlab.specs.declared.variant.Variant.{Variant}
 use Rattle.crashlab.specs.declared.variant.Variant.TheVariants.{Right}
 use Rattle.crashlab.specs.VariantStands.{VariantStand, variant_resting, variant_crashed, variant_next_access, variant_stepped, variant_outcome, variant_started}
 
+-- a world of a variant
 pub record VariantState : Type 0 where
   pub variant : Variant
   pub layout : Layout
@@ -33,10 +34,11 @@ pub record VariantState : Type 0 where
   pub cells : List ℕ
   pub processes : List VariantStand
 
--- what stands for a process that there is not
+-- the process at an index that has none
 abbrev pub absent : VariantStand
 absent = variant_resting Right (record { procs = 0; cap = 0; width = 0 }) 0 0
 
+-- process p of a world
 abbrev pub stand_at : List VariantStand → ℕ → VariantStand
 stand_at processes p = slice_index_or processes p absent
 
@@ -44,7 +46,7 @@ stand_at processes p = slice_index_or processes p absent
 abbrev pub HasSeat : Variant → Layout → ℕ → ℕ → VariantStand → Type 0
 HasSeat variant l limit p s = (s.variant ≡ variant) × (s.stand.layout ≡ l) × (s.stand.limit ≡ limit) × (s.stand.index ≡ p)
 
--- the words are as many as the size says, and each process has its seat
+-- the lists are as long as the sizes say, and each process has its index
 pub record IsSeated (s : VariantState) : Type 0 where
   pub sized : IsSize s.layout
   pub words_each : length s.words ≡ s.layout.procs
@@ -69,10 +71,12 @@ new_world variant l limit =
       processes = at_rest_from variant l limit 0 l.procs;
     }
 
+-- why a start is refused (the specification's refusals of `start`)
 abbrev pub start_refusal : VariantState → ℕ → Call → Option Refusal
 start_refusal s p call =
     if nat_lt p s.layout.procs then spot_refusal s.layout (spot_of (stand_at s.processes p).stand) call else Some NoSuchProcess
 
+-- the world after a start
 abbrev pub started : VariantState → ℕ → Call → VariantState
 started s p call = record s { processes = slice_set s.processes p (variant_started (stand_at s.processes p) call) }
 
@@ -80,17 +84,20 @@ started s p call = record s { processes = slice_set s.processes p (variant_start
 abbrev pub access_at : VariantState → ℕ → Option Access
 access_at s p = variant_next_access (stand_at s.processes p)
 
+-- a step is refused where there is none
 abbrev pub unless_step : Option Access → Option Refusal
 unless_step None = Some NothingToDo
 unless_step (Some a) = None
 
+-- why a step is refused
 abbrev pub advance_refusal : VariantState → ℕ → Option Refusal
 advance_refusal s p = if nat_lt p s.layout.procs then unless_step (access_at s p) else Some NoSuchProcess
 
--- the word of an access as it stands
+-- the word that an access finds
 abbrev pub found_by : VariantState → Access → ℕ
 found_by s a = reading_of (own_at s.words) (words_of s.cells) (word_of a)
 
+-- the outcome of a step of p
 abbrev pub outcome_of : VariantState → ℕ → Access → Outcome
 outcome_of s p a = variant_outcome (stand_at s.processes p) (found_by s a)
 
@@ -98,6 +105,7 @@ outcome_of s p a = variant_outcome (stand_at s.processes p) (found_by s a)
 abbrev pub deeds_of : VariantState → ℕ → Access → List Deed
 deeds_of s p a = or_else (outcome_of s p a).progress.outer (mail_by s.layout p (words_of s.cells) a)
 
+-- what a step of p answers
 abbrev pub stepped_by : VariantState → ℕ → Access → Stepped
 stepped_by s p a =
     record {
@@ -106,6 +114,7 @@ stepped_by s p a =
       answer = (outcome_of s p a).answer;
     }
 
+-- the world after a step of p
 abbrev pub advanced_by : VariantState → ℕ → Access → VariantState
 advanced_by s p a =
     record s {
@@ -114,34 +123,41 @@ advanced_by s p a =
       processes = slice_set s.processes p (variant_stepped (stand_at s.processes p) (found_by s a));
     }
 
+-- the same for a step that there may not be
 abbrev pub stepped_if : VariantState → ℕ → Option Access → Stepped
 stepped_if s p None = no_step
 stepped_if s p (Some a) = stepped_by s p a
 
+-- the same for a step that there may not be
 abbrev pub advanced_if : VariantState → ℕ → Option Access → VariantState
 advanced_if s p None = s
 advanced_if s p (Some a) = advanced_by s p a
 
+-- what the next step of p answers
 abbrev pub stepped : VariantState → ℕ → Stepped
 stepped s p = stepped_if s p (access_at s p)
 
+-- the world after the next step of p
 abbrev pub advanced : VariantState → ℕ → VariantState
 advanced s p = advanced_if s p (access_at s p)
 
+-- why a crash is refused
 abbrev pub crash_refusal : VariantState → ℕ → Option Refusal
 crash_refusal s p = if nat_lt p s.layout.procs then None else Some NoSuchProcess
 
+-- the deed of a crash
 abbrev pub crash_deed : ℕ → Deed
 crash_deed p = Outer (Crash p)
 
+-- the world after a crash
 abbrev pub crashed : VariantState → ℕ → VariantState
 crashed s p = record s { processes = slice_set s.processes p (variant_crashed (stand_at s.processes p)) }
 
--- the words that stand, with the sizes
+-- the words of the world, with the sizes
 abbrev pub image_of : VariantState → Image
 image_of s = record { cap = s.layout.cap; cells = s.cells; limit = s.limit; lock = s.words; version = 2; width = s.layout.width }
 
--- all of it
+-- the whole machine
 abbrev pub variant_behaviour : Behaviour VariantState
 variant_behaviour =
     record {

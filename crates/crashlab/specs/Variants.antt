@@ -1,4 +1,5 @@
--- The wrong variants of the lock: the rows of its definition that each of them changes. Right changes none.
+-- The wrong variants of the lock (the specification's Variants): the rows of its definition that each of them changes.
+-- Right changes none.
 use Rattle.std.specs.Prelude.{ℕ, zero, suc, Bool, ◌&&◌, ◌||◌, ◌==◌, if◌then◌else◌, [], ◌∷◌, Option, Some, None}
 use Rattle.rmecore.specs.Place.{Place, Reread, Door, Wait, Unmarking, has, without, others, is_before, only, next}
 use Rattle.rmecore.specs.World.{step_deed}
@@ -18,14 +19,16 @@ use Rattle.crashlab.specs.declared.detour.Detour.TheVariants.{Straight, Dropping
 use Rattle.crashlab.specs.declared.variant.Variant.{Variant}
 use Rattle.crashlab.specs.declared.variant.Variant.TheVariants.{NoLook, NoTies, Renumber, ExitOnCrash}
 
+-- a place, if there is one, with this variant state
 abbrev pub and_detour : Detour → Option Place → Option (Place × Detour)
 and_detour d None = None
 and_detour d (Some place) = Some (place, d)
 
+-- this place, where the condition holds
 abbrev pub only_at : Bool → Place × Detour → Option (Place × Detour)
 only_at b at = if b then Some at else None
 
--- this, where the lock has any step
+-- this place, where the lock has a step
 abbrev pub instead : Option Place → Place × Detour → Option (Place × Detour)
 instead None at = None
 instead (Some place) at = Some at
@@ -44,19 +47,20 @@ no_ties n limit p (Wait k unpassed (Some i)) Weighs (NumberOf j) v =
 no_ties n limit p place kind word v = next n limit p place kind word v
 
 -- renumber: a lock that finds a number taken in the doorway scans again and takes a new one. Where the numbers are spent
--- it waits with the number that stands
+-- it waits with the number that it keeps
 abbrev pub renumber : ℕ → ℕ → ℕ → Place → Detour → Kind → Word → ℕ → Option (Place × Detour)
 renumber n limit p place (Over k) Takes word v = and_detour Straight (next n limit p place Takes word v)
 renumber n limit p place (Over k) Shuts word v = instead (next n limit p place Shuts word v) (Wait k (others n p) None, Straight)
 renumber n limit p (Reread Lock (suc c ∷ suc k ∷ [])) Straight Rereads (InsideOf q) v = only_at (q == p) (Door (others n p) 0, Over (suc k))
 renumber n limit p place detour kind word v = and_detour detour (next n limit p place kind word v)
 
+-- the lock or the recover that is under way
 abbrev pub lock_or_recover : CoreCall → CoreCall
 lock_or_recover Lock = Lock
 lock_or_recover _ = Recover
 
--- exit on crash: a lock or recover that finds the process inside drops the number, and then goes on as one that has found
--- it leaving
+-- exit on crash: a lock or recover that finds the process inside drops the number, and then goes on as if it was found
+-- leaving
 abbrev pub exit_on_crash : ℕ → ℕ → ℕ → Place → Detour → Kind → Word → ℕ → Option (Place × Detour)
 exit_on_crash n limit p place Dropping Drops (NumberOf q) v = only_at ((q == p) && (v == 0)) (place, Straight)
 exit_on_crash n limit p place Dropping Marks word v = None
@@ -71,21 +75,21 @@ variant_next Renumber n limit p place detour kind word v = renumber n limit p pl
 variant_next ExitOnCrash n limit p place detour kind word v = exit_on_crash n limit p place detour kind word v
 variant_next _ n limit p place detour kind word v = and_detour detour (next n limit p place kind word v)
 
--- the deed of a step: none on a detour, nor where the exit of one that was found inside begins
+-- the deed of a step: none with a variant state, nor where a process that was found inside begins to leave
 abbrev pub variant_deed : Variant → ℕ → Place → Detour → Kind → ℕ → Option Outer
 variant_deed variant p place Dropping kind v = None
 variant_deed variant p place (Over k) kind v = None
 variant_deed ExitOnCrash p (Reread call seen) Straight kind v = None
 variant_deed variant p place Straight kind v = step_deed p place kind v
 
--- the answer of the lock's part at this step: none on a detour, nor where that exit begins
+-- the answer of the lock's part at this step: none with a variant state, nor where such a process begins to leave
 abbrev pub variant_answer : Variant → Place → Detour → Kind → ℕ → Option CoreDone
 variant_answer variant place Dropping kind v = None
 variant_answer variant place (Over k) kind v = None
 variant_answer ExitOnCrash (Reread call (zero ∷ suc k ∷ [])) Straight Rereads (suc i) = None
 variant_answer variant place Straight kind v = answer place kind v
 
--- the step that comes next. A scan takes the first of its list
+-- the next step. A scan takes the first of its list
 abbrev pub variant_access : Variant → ℕ → ℕ → Place → Detour → Option Access
 variant_access NoLook limit p (Wait k (j ∷ js) None) detour = Some (Load Weighs (NumberOf j))
 variant_access variant limit p place Dropping = Some (Store Drops (NumberOf p) 0)

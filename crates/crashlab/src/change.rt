@@ -1,14 +1,14 @@
-//! What is changed of a repair under way.
+//! What a wrong variant changes of a repair.
 
-/// What a wrong variant still changes of a repair that is under way.
+/// What a wrong variant still changes of the repair under way.
 #[derive(Clone, Copy, Debug, PartialEq, Eq)]
 pub enum Change {
     /// Nothing, or nothing more.
     Nothing,
     /// The put of the sender's last number is left out.
     LeavesOut,
-    /// Before the put of count comes a get of count.
+    /// A get of count is added before the put of count.
     Counts,
-    /// The put of count puts this.
+    /// The put of count puts this value instead.
     Counted(u64),
 }

@@ -1,12 +1,12 @@
-//! Where a wrong variant leaves the lock's way.
+//! The variant state of a process.
 
-/// What a process of a wrong variant has beside a place of the lock.
+/// What a process of a wrong variant has besides a place of the lock.
 #[derive(Clone, Copy, Debug, PartialEq, Eq)]
 pub enum Detour {
-    /// Nothing.
+    /// Nothing: it goes by the lock's rows.
     Straight,
-    /// A number that it has still to drop, since it was found inside after a crash.
+    /// A number that it has still to drop, since a reread found it inside.
     Dropping,
-    /// A number that stands while it scans the doorway again.
+    /// A number that it keeps while it scans the doorway again.
     Over(u64),
 }

@@ -1,14 +1,14 @@
-//! Why there was no hunt.
+//! Why a hunt gives no answer.
 
 use thiserror::Error;
 
-/// Why a hunt gave no answer.
+/// Why a hunt gives no answer.
 #[derive(Clone, Copy, Debug, PartialEq, Eq, Error)]
 pub enum HuntFault {
-    /// Not 1 to 10,000 rounds.
+    /// The number of rounds is not 1 to 10,000.
     #[error("bad rounds")]
     BadRounds,
-    /// Not 1 to 10,000 moves a round.
+    /// The number of moves a round is not 1 to 10,000.
     #[error("bad steps")]
     BadSteps,
     #[error("out of memory")]

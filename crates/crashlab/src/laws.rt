@@ -13,10 +13,10 @@ ghost use Rattle.crashlab.specs.VariantRuns.{IsRun, spot_at, move};
 
 use crate::variant::Variant;
 
-/// In every run of a world of a variant each process goes by the variant's definition, which is the lock's but for the rows
-/// that the variant changes. It begins at rest; its starts, steps and crashes lead where the definition says; the step that
-/// comes next is the definition's, of the least process where there is a choice; and what is told of the step as the lock's
-/// deed, the answer of the lock's part and the call's answer is the definition's.
+/// In every run of a world of a variant each process follows the variant's definition. This is the lock's, but for the rows
+/// that the variant changes. A process begins at rest. Its starts, steps and crashes lead where the definition says.
+/// Its next step is the definition's, with the least process where there is a choice. The deed of the lock, the answer of
+/// the lock's part and the call's answer are the definition's.
 pub fn variants_keep_to_their_rows()
     ensures rest { (variant : Variant) (l : Layout) (limit p : ℕ) → p < l.procs → spot_at (new_world variant l limit) p ≡ record { spot = at_rest; detour = Straight } }
     ensures starts { (s : VariantState) (p : ℕ) (call : Call) → IsRun s → start_refusal s p call ≡ None → variant_spot s.variant s.layout s.limit (spot_at s p) (Begins p call) ≡ Some (spot_at (started s p call) p) }
@@ -28,7 +28,7 @@ pub fn variants_keep_to_their_rows()
     ensures falls { (s : VariantState) (p : ℕ) → IsRun s → p < s.layout.procs → variant_spot s.variant s.layout s.limit (spot_at s p) (Falls p) ≡ Some (spot_at (crashed s p) p) }
 {}
 
-/// The variant that is the lock changes no row: its spots and its deeds are the lock's.
+/// The variant that is the lock changes no row: its process states and its deeds are the lock's.
 pub fn right_changes_nothing()
     ensures spots { (l : Layout) (limit : ℕ) (spot : Spot) (h : Happening) → variant_spot Variant.Right l limit (record { spot = spot; detour = Straight }) h ≡ beside Straight (next_spot l limit spot h) }
     ensures deeds { (spot : Spot) (h : Happening) → variant_outer Variant.Right (record { spot = spot; detour = Straight }) h ≡ outer spot h }

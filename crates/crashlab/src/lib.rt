@@ -1,4 +1,4 @@
-//! Wrong variants of the lock, the hunt that finds their faults, and schedules made least.
+//! Wrong variants of the lock, the hunt that finds their faults, and the minimizing of schedules.
 #![tactic(auto)]
 
 pub mod change;

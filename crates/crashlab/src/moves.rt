@@ -1,4 +1,4 @@
-//! Moves of a hunt.
+//! The moves of a hunt.
 
 ghost use Rattle.std.specs.Prelude.{◌≡◌, ◌∷◌, []};
 ghost use Rattle.crashlab.specs.Found.{call_by, line_by};
@@ -7,18 +7,18 @@ use schedule::{Count, Line};
 use rmecore::Body;
 use rmeworld::Call;
 
-/// A call of a hunt.
+/// A call that a hunt starts.
 #[derive(Clone, Copy, Debug, PartialEq, Eq)]
 pub enum Due {
     Lock,
     Consistent,
-    /// The message of this number, whose one word is its number.
+    /// Appends the message of this number, whose one word is the number.
     Append(u64),
     Unlock,
 }
 
 impl Due {
-    /// The call itself, which is five times as long.
+    /// The call itself, which takes five times the room.
     pub fn call(self) -> Call
         ensures { result ≡ call_by self }
     {
@@ -68,11 +68,11 @@ impl Move {
     }
 }
 
-/// What the judge says of a move.
+/// What a move of a round ends in.
 #[derive(Clone, Copy, Debug, PartialEq, Eq)]
 pub enum Made {
-    /// The round goes on. A move that the world refuses is none.
+    /// The round goes on: the move has no deed, or the judge allows it.
     On,
-    /// The judge refuses its deed.
+    /// The judge refuses the deed of the move.
     Caught,
 }

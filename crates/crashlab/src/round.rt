@@ -1,4 +1,4 @@
-//! One move of a hunt: made in the world, and its deed told to the judge.
+//! One move of a hunt: it is made in the world, and its deed is given to the judge.
 
 ghost use Rattle.std.specs.Prelude.{◌≡◌, None, IfSome};
 ghost use Rattle.judge.specs.Kept.{Kept};
@@ -14,8 +14,9 @@ use crate::variant_world::VariantWorld;
 use judge::Judge;
 use rmeworld::Call;
 
-/// Makes a move in a world, of whose deeds the judge was told so far, and notes what is seen of it. The answer is none where
-/// the world refuses the move, which then is none.
+/// Makes a move in a world, gives its deed to the judge, and notes its outcome in the observer. The judge was given all
+/// deeds of the world before. None where the world refuses the move: then nothing changes, and the round has no such move.
+// Inline: one call a move.
 #[inline(always)]
 pub fn make(
     world: &mut VariantWorld,
@@ -34,7 +35,8 @@ pub fn make(
     }
 }
 
-/// Starts a call that may carry a message. It stands apart, since the room for one is emptied whatever the call.
+/// Starts a call that may carry a message.
+// Apart: clears room for a message.
 #[inline(never)]
 fn take_up(world: &mut VariantWorld, sights: &mut Sights, p: u64, due: Due) -> Option<Made>
     ensures ends { IfSome result (λ m. (variant : VariantOf) (schedule : Scheduled) (judge : Kept) → IsPlayed variant schedule world.old judge → Ends variant (with_line schedule (line_by (Move.Start p due))) world.new judge m) }
@@ -43,7 +45,8 @@ fn take_up(world: &mut VariantWorld, sights: &mut Sights, p: u64, due: Due) -> O
     start(world, sights, p, due, due.call())
 }
 
-/// Starts a call, of which the judge hears nothing.
+/// Starts a call. A start has no deed.
+// Inline: one call a start.
 #[inline(always)]
 fn start(
     world: &mut VariantWorld,
@@ -65,7 +68,8 @@ fn start(
     }
 }
 
-/// Takes a step. Nothing comes of most: no deed, and no answer.
+/// Takes a step. Most steps have no deed and no answer.
+// Inline: one call a move.
 #[inline(always)]
 fn walk(world: &mut VariantWorld, judge: &mut Judge, sights: &mut Sights, p: u64) -> Option<Made>
     ensures ends { IfSome result (λ m. (variant : VariantOf) (schedule : Scheduled) → IsPlayed variant schedule world.old judge.old → Ends variant (with_line schedule (line_by (Move.Step p))) world.new judge.new m) }
@@ -77,7 +81,7 @@ fn walk(world: &mut VariantWorld, judge: &mut Judge, sights: &mut Sights, p: u64
     step(world, judge, sights, p)
 }
 
-/// Takes a step that may be a deed, or end its call.
+/// Takes a step that may have a deed, or end its call.
 fn step(world: &mut VariantWorld, judge: &mut Judge, sights: &mut Sights, p: u64) -> Option<Made>
     ensures ends { IfSome result (λ m. (variant : VariantOf) (schedule : Scheduled) → IsPlayed variant schedule world.old judge.old → Ends variant (with_line schedule (line_by (Move.Step p))) world.new judge.new m) }
     ensures same { result ≡ None → (world.new ≡ world.old) × (judge.new ≡ judge.old) }

@@ -10,8 +10,8 @@ use schedule::Schedule;
 use std::alloc::Global;
 use std::marker::Model;
 
-/// The moves of a round so far. Contracts see the schedule that they spell; its lines, each three times as long, are made
-/// once it is asked for.
+/// The moves of a round so far. Contracts see the schedule that they spell. Its lines take three times the room, so they are
+/// made only when the schedule is asked for.
 #[derive(Drop)]
 pub struct Route {
     moves: Vec<Move>,
@@ -27,7 +27,7 @@ impl Model for Route {
 }
 
 impl Route {
-    /// No move yet.
+    /// No moves.
     pub fn new(alloc: Global) -> Route
         ensures { result ≡ route_of [] }
     {
@@ -36,7 +36,7 @@ impl Route {
         }
     }
 
-    /// One more move.
+    /// Adds a move.
     pub fn push(&mut self, made: Move) -> Result<(), HuntFault>
         ensures line { OnOk result (self.new ≡ with_line self.old (line_by made)) }
         ensures memory { IfErr result (λ e. e ≡ HuntFault.OutOfMemory) }

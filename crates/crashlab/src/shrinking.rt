@@ -1,4 +1,4 @@
-//! A schedule that goes wrong on a variant, made least.
+//! Minimizes a schedule that goes wrong on a variant.
 
 mod change;
 mod far;

@@ -1,4 +1,4 @@
-//! What a hunt sees of the processes, and the move that it makes of a draw.
+//! The observer of a hunt: what it knows of the processes, and the move that it makes of a drawn word.
 
 ghost use Rattle.std.specs.Prelude.{◌≡◌, ◌/◌, ◌%◌, ◌↔◌, IsTrue};
 ghost use Rattle.crashlab.specs.Found.{mover, is_crash};
@@ -7,23 +7,23 @@ use crate::moves::{Due, Move};
 use redomail::Reply;
 use rmeworld::Answer;
 
-/// What a process is at.
+/// What a process is doing.
 #[derive(Clone, Copy, Debug, PartialEq, Eq)]
 enum Stage {
-    /// Outside, at rest or dead.
+    /// It is outside, at rest or dead.
     Outside,
-    /// In a call.
+    /// It is in this call.
     Calling(Due),
-    /// Inside, with no call under way.
+    /// It is inside, with no call under way.
     Inside,
 }
 
-/// What is seen of one process.
+/// What is known of one process.
 #[derive(Clone, Copy, Debug, PartialEq, Eq)]
 struct Sight {
     stage: Stage,
     mended: bool,
-    /// Whether an append was answered since it came in.
+    /// Whether an append was answered since its entry or re-entry.
     appended: bool,
     /// The number of its next message.
     next: u64,
@@ -37,7 +37,7 @@ const UNSEEN: Sight = Sight {
 };
 
 impl Sight {
-    /// The call that a process takes up that is in none.
+    /// The call that the process starts next, while it has none under way.
     fn due(&self) -> Due {
         if self.stage == Stage::Outside {
             Due::Lock
@@ -50,7 +50,7 @@ impl Sight {
         }
     }
 
-    /// The call under way was answered.
+    /// Notes the answer of the call under way.
     fn answered(&mut self, due: Due, answer: Answer) {
         self.stage = Stage::Inside;
         match answer {
@@ -75,7 +75,7 @@ impl Sight {
     }
 }
 
-/// What is seen of all processes.
+/// What is known of all processes.
 #[derive(Debug, Drop)]
 pub struct Sights {
     sights: [Sight; 3],
@@ -89,7 +89,7 @@ impl Sights {
         }
     }
 
-    /// The move of a draw: of its process a crash, a step, or the call that is due.
+    /// The move of a drawn word: a crash, a step, or the next call of its process.
     pub fn draw(&self, word: u32) -> Move
         ensures process { mover result ≡ word % 3 }
         ensures crash { IsTrue (is_crash result) ↔ (word / 64 % 16 ≡ 0) }
@@ -106,21 +106,21 @@ impl Sights {
         }
     }
 
-    /// A process crashed.
+    /// Notes that a process crashed.
     pub fn crashed(&mut self, p: u64) {
         if let Some(sight) = self.sights.get_mut(p as usize) {
             sight.stage = Stage::Outside;
         }
     }
 
-    /// A process started a call.
+    /// Notes that a process started a call.
     pub fn started(&mut self, p: u64, due: Due) {
         if let Some(sight) = self.sights.get_mut(p as usize) {
             sight.stage = Stage::Calling(due);
         }
     }
 
-    /// A process took a step, which was answered where it ended its call.
+    /// Notes that a process took a step, and the answer where the step ended its call.
     pub fn stepped(&mut self, p: u64, answer: Option<Answer>) {
         let Some(answer) = answer else {
             return;

@@ -1,4 +1,4 @@
-//! What the judge of a hunt hears of a move.
+//! Gives the judge of a hunt the deed of a move.
 
 ghost use Rattle.std.specs.Prelude.{◌≡◌, ◌∷◌, List, Some, length};
 ghost use Rattle.redomail.specs.Layout.{IsLayout, words_of, size};
@@ -14,7 +14,8 @@ use redomail::{Deed, Layout};
 use rmecore::{Access, Outer};
 use rmeworld::memory::deed_of;
 
-/// Tells the judge a deed.
+/// Gives the judge a deed. `Caught` where it refuses the deed.
+// Inline: one call a deed.
 #[inline(always)]
 pub fn tell(judge: &mut Judge, deed: &Deed) -> Made
     ensures { (history : List DeedOf) → StandsAfter (empty 3 64) history judge.old → Told history (Some deed.now) judge.new result }
@@ -25,7 +26,8 @@ pub fn tell(judge: &mut Judge, deed: &Deed) -> Made
     Made::On
 }
 
-/// Tells the judge the deed of a step of process p, if it is one. Most steps are loads, and few of these are deeds.
+/// Gives the judge the deed of a step of process p, if it has one. Most steps are loads, and few loads have a deed.
+// Inline: one call a step.
 #[inline(always)]
 pub fn tell_step(
     judge: &mut Judge,
@@ -47,7 +49,8 @@ pub fn tell_step(
     }
 }
 
-/// As `tell_step`, of a step that may be a deed.
+/// As `tell_step`, for a step that may have a deed.
+// Apart: most steps have none.
 #[inline(never)]
 fn tell_deed(
     judge: &mut Judge,

@@ -1,10 +1,10 @@
-//! The private memory of a process of a variant, in plain parts.
+//! The private memory of a process of a variant.
 
 use crate::change::Change;
 use crate::detour::Detour;
 use rmeworld::PrivateMemory;
 
-/// All that a crash takes from a process of a variant.
+/// The private memory of a process of a variant: all that a crash takes from it.
 #[derive(Clone, Copy)]
 pub struct VariantMemory {
     pub process: PrivateMemory,

@@ -1,5 +1,5 @@
-//! What one process of a variant does, as a machine over its private memory alone: the world's process, with what the
-//! variant changes.
+//! One process of a variant, as a machine over its private memory alone: the world's process, with what the variant
+//! changes.
 
 ghost use Rattle.std.specs.Prelude.{◌≡◌, ◌<◌, ◌↔◌, false, IsTrue, OnOk, OnErr, IfErr, IsErrOf, IfSome, Some, None};
 ghost use Rattle.crashlab.specs.VariantScripts.{raised as raised_to};
@@ -19,7 +19,7 @@ use rmeworld::errand::Errand;
 use rmeworld::{Answer, Call, Outcome, Process};
 use std::marker::Model;
 
-/// A step that is nothing for others and ends no call.
+/// The outcome of a silent step: no deed, no answer, not blocked.
 const SILENT: Outcome = Outcome {
     progress: Progress {
         outer: None,
@@ -29,7 +29,7 @@ const SILENT: Outcome = Outcome {
     answer: None,
 };
 
-/// One process of a variant. It takes no memory.
+/// One process of a variant. Its calls take no memory.
 #[derive(Debug, Drop)]
 pub struct VariantProcess {
     variant: Variant,
@@ -58,7 +58,7 @@ impl VariantProcess {
     ghost use Rattle.rmeworld.specs.Refused.{start_refusal};
     ghost use Rattle.crashlab.specs.VariantStands.{IsPlain, variant_resting, variant_crashed, variant_next_access, variant_stepped, variant_outcome, variant_started};
 
-    /// A process at rest, of a world of this size.
+    /// A process at rest, in a world of these sizes.
     pub fn new(variant: Variant, layout: Layout, limit: u64, index: u64) -> VariantProcess
         requires size { IsSize layout }
         requires below { index < layout.procs }
@@ -73,6 +73,7 @@ impl VariantProcess {
     }
 
     /// Loses the private memory.
+    // Inline: one call a crash.
     #[inline(always)]
     pub fn crash(&mut self)
         ensures { self.new ≡ variant_crashed self.old }
@@ -82,7 +83,7 @@ impl VariantProcess {
         self.change = Change::Nothing;
     }
 
-    /// A seam of this workspace, for who writes the states of processes down: the private memory.
+    /// For this workspace alone, which saves and restores states of processes: the private memory.
     pub fn seam_memory(&self) -> VariantMemory
         ensures { with_variant_memory self.now result ≡ self.now }
     {
@@ -93,8 +94,7 @@ impl VariantProcess {
         }
     }
 
-    /// A seam of this workspace, as `seam_memory`, the other way: this is the private memory from now on, where the world's
-    /// process takes it. Elsewhere it answers false and changes nothing.
+    /// As `seam_memory`: sets the private memory. Answers false, and changes nothing, where the process can't have it.
     pub fn seam_set(&mut self, memory: &VariantMemory) -> bool
         ensures set { IsTrue result → self.new ≡ with_variant_memory self.old memory.now }
         ensures same { result ≡ false → self.new ≡ self.old }
@@ -108,7 +108,8 @@ impl VariantProcess {
         true
     }
 
-    /// The step that comes next, if a call is under way.
+    /// The next step, if a call is under way.
+    // Inline: one call a step.
     #[inline(always)]
     pub fn next(&self) -> Option<Access>
         ensures next { result ≡ variant_next_access self.now }
@@ -124,7 +125,8 @@ impl VariantProcess {
         }
     }
 
-    /// As `next`, of a process that something may be changed of.
+    /// As `next`, for a variant that may change the step.
+    // Apart: wrong variants alone.
     #[inline(never)]
     fn next_otherwise(&self) -> Option<Access>
         ensures next { result ≡ variant_next_access self.now }
@@ -155,7 +157,8 @@ impl VariantProcess {
         }
     }
 
-    /// A scan that goes on, of a process that nothing is changed of, and the load that comes next in it.
+    /// The scan that the process is in, and its next load. None unless the process is one of the lock, with nothing changed.
+    // Inline: one call a step.
     #[inline(always)]
     pub(crate) fn scan(&self) -> Option<(Scan, Access)>
         ensures plain { IfSome result (λ r. IsPlain self.now) }
@@ -173,6 +176,7 @@ impl VariantProcess {
     }
 
     /// Takes the next step of such a scan, as `feed` does.
+    // Inline: one call a step.
     #[inline(always)]
     pub(crate) fn scan_on(&mut self, scan: Scan, value: u64) -> Outcome
         requires plain { IsPlain self.old }
@@ -184,7 +188,8 @@ impl VariantProcess {
         self.process.scan_on(scan, value)
     }
 
-    /// The step that comes next, where it is likely to be no deed and to end nothing, of a process that nothing is changed of.
+    /// The next step, where it is likely to be silent. None unless the process is one of the lock, with nothing changed.
+    // Inline: one call a step.
     #[inline(always)]
     pub(crate) fn next_quietly(&self) -> Option<Access>
         ensures plain { IfSome result (λ a. IsPlain self.now) }
@@ -197,8 +202,9 @@ impl VariantProcess {
         }
     }
 
-    /// Takes the next step of such a process, with the value that it read, where it sees at once that it is no deed of the lock
-    /// and ends nothing, and answers true. Elsewhere nothing changes.
+    /// Takes the next step of such a process, with the value that it read, where it is seen at once to be silent. Answers
+    /// true then. Else it answers false, and changes nothing.
+    // Inline: one call a step.
     #[inline(always)]
     pub(crate) fn feed_quietly(&mut self, value: u64) -> bool
         requires plain { IsPlain self.old }
@@ -212,7 +218,8 @@ impl VariantProcess {
         }
     }
 
-    /// The step that comes next, where it is one of a job, of a process that nothing is changed of.
+    /// The next step, where it is one of a job. None unless the process is one of the lock, with nothing changed.
+    // Inline: one call a step.
     #[inline(always)]
     pub(crate) fn job_next(&self) -> Option<Access>
         ensures plain { IfSome result (λ a. IsPlain self.now) }
@@ -224,7 +231,8 @@ impl VariantProcess {
         }
     }
 
-    /// Takes the next step of such a job, as `feed` does. For others it is nothing, so only its answer is told.
+    /// Takes the next step of such a job, as `feed` does. It is silent but for its answer, so only that is answered.
+    // Inline: one call a step.
     #[inline(always)]
     pub(crate) fn job_on(&mut self, value: u64) -> Option<Answer>
         requires plain { IsPlain self.old }
@@ -236,6 +244,7 @@ impl VariantProcess {
     }
 
     /// Starts a call, as the world's process does.
+    // Inline: one call a start.
     #[inline(always)]
     pub fn start(&mut self, call: Call) -> Result<(), Refusal>
         ensures accepted { OnOk result (start_refusal self.old.stand.layout (spot_of self.old.stand) call ≡ None) }
@@ -257,8 +266,9 @@ impl VariantProcess {
         Ok(())
     }
 
-    /// Takes the next step, with the value that it read. A step that stores ignores the value, and where there is no step
-    /// nothing changes.
+    /// Takes the next step, with the value that it read. A step that stores ignores the value.
+    /// Where there is no step nothing changes.
+    // Inline: one call a step.
     #[inline(always)]
     pub fn feed(&mut self, value: u64) -> Outcome
         ensures exact { self.new ≡ variant_stepped self.old value }
@@ -271,7 +281,8 @@ impl VariantProcess {
         }
     }
 
-    /// As `feed`, of any variant.
+    /// As `feed`, for any variant and any part of a call.
+    // Apart: few steps come here.
     #[inline(never)]
     fn feed_otherwise(&mut self, value: u64) -> Outcome
         ensures exact { self.new ≡ variant_stepped self.old value }
@@ -293,7 +304,7 @@ impl VariantProcess {
 impl VariantProcess {
     ghost use Rattle.crashlab.specs.VariantStands.{counted_up, left_out, plain_outcome, counting_outcome, leaving_outcome};
 
-    /// A step of one whose repair counts up from the count that stands.
+    /// Takes a step of a variant whose repair counts up from the count that it reads.
     fn count_up(&mut self, value: u64) -> Outcome
         ensures exact { self.new ≡ counted_up self.old self.old.change value }
         ensures outcome { result ≡ counting_outcome self.old self.old.change value }
@@ -313,7 +324,7 @@ impl VariantProcess {
         outcome
     }
 
-    /// A step of one whose repair leaves out the sender's last number.
+    /// Takes a step of a variant whose repair leaves out the sender's last number.
     fn leave_out(&mut self, value: u64) -> Outcome
         ensures exact { self.new ≡ left_out self.old self.old.change value }
         ensures outcome { result ≡ leaving_outcome self.old self.old.change value }
@@ -337,7 +348,7 @@ impl VariantProcess {
     }
 }
 
-/// One more than the count that stands, or the same at the capacity.
+/// One more than the count that was read, or the same at the capacity.
 fn raised(cap: u64, count: u64) -> u64
     ensures { result ≡ raised_to cap count }
 {
@@ -348,7 +359,7 @@ fn raised(cap: u64, count: u64) -> u64
     }
 }
 
-/// What the variant changes of a call's script.
+/// What the variant changes of the script of a call.
 fn change_by(variant: Variant, call: &Call) -> Change
     ensures { result ≡ change_of variant call.now }
 {
@@ -359,7 +370,7 @@ fn change_by(variant: Variant, call: &Call) -> Change
     }
 }
 
-/// Whether this is a put of the data word i.
+/// Whether the step is a put of data word i.
 fn puts(access: Option<Access>, i: u64) -> bool
     ensures { result ≡ is_put i access }
 {

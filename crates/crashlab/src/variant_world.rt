@@ -1,4 +1,4 @@
-//! A whole world of a variant in memory, each step taken on request.
+//! A world of a variant in memory. Each step is taken on request.
 
 ghost use Rattle.std.specs.Prelude.{◌≡◌, ◌<◌, ◌⊎◌, ℕ, IfOk, IfErr, ◌↔◌, false, length, slice_get, IfSome, IsSome, IsTrue, OnOk, OnErr, IsErrOf, Some, None, vec_len};
 ghost use Rattle.rmecore.specs.Machine.{carried};
@@ -28,7 +28,7 @@ const ZEROS: Own = Own {
     inside: 0,
 };
 
-/// All processes of a variant with their private memories, over the words that they share.
+/// A world of a variant: its processes with their private memories, and the words that they share.
 #[derive(Debug, Drop)]
 pub struct VariantWorld {
     variant: Variant,
@@ -116,6 +116,7 @@ impl VariantWorld {
     ghost use Rattle.rmeworld.specs.InPlace.{Works};
 
     /// Starts a call of process p.
+    // Inline: one call a start.
     #[inline(always)]
     pub(crate) fn take_start(&mut self, p: u64, call: Call) -> Result<(), Refusal>
         ensures accepted { OnOk result (start_refusal self.old p call ≡ None) }
@@ -162,7 +163,8 @@ impl VariantWorld {
         })
     }
 
-    /// Takes the next step of process p, as `take_step` does, and tells a judge of a hunt the deed, if it is one.
+    /// Takes the next step of process p, as `take_step` does, and gives the judge of a hunt its deed, if it has one.
+    // Inline: one call a step.
     #[inline(always)]
     pub(crate) fn step_before(
         &mut self,
@@ -189,7 +191,8 @@ impl VariantWorld {
         Ok((made, outcome.answer))
     }
 
-    /// The step of a job that comes next of process p, of a process that nothing is changed of.
+    /// The next step of process p, where it is one of a job. None unless the process is of the lock, with nothing changed.
+    // Inline: one call a step.
     #[inline(always)]
     pub(crate) fn job_next(&self, p: u64) -> Option<Access>
         ensures below { IfSome result (λ a. p < self.now.layout.procs) }
@@ -202,7 +205,8 @@ impl VariantWorld {
         self.processes[p as usize].job_next()
     }
 
-    /// Takes such a step, and tells a judge of a hunt the deed, if it is one.
+    /// Takes such a step, and gives the judge of a hunt its deed, if it has one.
+    // Inline: one call a step.
     #[inline(always)]
     pub(crate) fn job_on(
         &mut self,
@@ -225,8 +229,9 @@ impl VariantWorld {
         (made, answer)
     }
 
-    /// Takes the next step of process p where it is one of a scan of the lock, which is no deed and ends no call, and
-    /// answers true. Any other step it leaves to `take_step`, and answers false.
+    /// Takes the next step of process p where it is seen at once to be silent: it has no deed and ends no call. Answers true
+    /// then. Leaves any other step to `take_step`, and answers false.
+    // Inline: one call a step.
     #[inline(always)]
     pub(crate) fn take_quiet_step(&mut self, p: u64) -> bool
         ensures accepted { IsTrue result → advance_refusal self.old p ≡ None }
@@ -243,7 +248,8 @@ impl VariantWorld {
         }
     }
 
-    /// As `take_quiet_step`, of a step that is none of a scan.
+    /// As `take_quiet_step`, for a step that is none of a scan.
+    // Inline: one call a step.
     #[inline(always)]
     fn step_unheard(&mut self, p: u64) -> bool
         ensures accepted { IsTrue result → advance_refusal self.old p ≡ None }
@@ -268,7 +274,8 @@ impl VariantWorld {
         true
     }
 
-    /// A scan of process p that goes on, of a process that nothing is changed of, and its next load.
+    /// The scan that process p is in, and its next load. None unless the process is one of the lock, with nothing changed.
+    // Inline: one call a step.
     #[inline(always)]
     fn scan(&self, p: u64) -> Option<(Scan, Access)>
         ensures below { IfSome result (λ r. p < self.now.layout.procs) }
@@ -282,6 +289,7 @@ impl VariantWorld {
     }
 
     /// Takes the next step of such a scan.
+    // Inline: one call a step.
     #[inline(always)]
     fn scan_on(&mut self, p: u64, scan: Scan, access: Access)
         requires below { p < self.old.layout.procs }
@@ -297,6 +305,7 @@ impl VariantWorld {
     }
 
     /// Crashes process p.
+    // Inline: one call a crash.
     #[inline(always)]
     pub(crate) fn take_crash(&mut self, p: u64) -> Result<Deed, Refusal>
         ensures accepted { OnOk result (crash_refusal self.old p ≡ None) }
@@ -321,7 +330,7 @@ impl VariantWorld {
     ghost use Rattle.crashlab.specs.VariantSeams.{with_variant_memory, with_process};
     ghost use Rattle.crashlab.specs.VariantWorlds.{stand_at};
 
-    /// Its sizes.
+    /// The sizes of the world.
     pub fn layout(&self) -> Layout
         ensures layout { result ≡ self.now.layout }
         ensures size { IsSize result }
@@ -329,14 +338,14 @@ impl VariantWorld {
         self.layout
     }
 
-    /// A seam of this workspace, for who writes worlds down: the data words.
+    /// For this workspace alone, which saves and restores worlds: the data words.
     pub fn seam_cells(&self) -> &[u64]
         ensures { result.now ≡ self.now.cells }
     {
         self.cells.as_slice()
     }
 
-    /// A seam of this workspace, as `seam_cells`: the lock words of process p and its private memory.
+    /// As `seam_cells`: the lock words and the private memory of process p. None where there is no process p.
     pub fn seam_process(&self, p: u64) -> Option<(Own, VariantMemory)>
         ensures some { IsSome result ↔ (p < self.now.layout.procs) }
         ensures own { IfSome result (λ r. slice_get self.now.words p ≡ Some r.0) }
@@ -349,8 +358,8 @@ impl VariantWorld {
         Some((self.words[p as usize], memory))
     }
 
-    /// A seam of this workspace, as `seam_cells`, the other way: these are the data words from now on, in the memory that is
-    /// there. It answers false and changes nothing where they are not as many as the sizes say.
+    /// As `seam_cells`: sets the data words, and takes no memory.
+    /// Answers false, and changes nothing, where their number is not the one of the sizes.
     pub fn seam_set_cells(&mut self, cells: &[u64]) -> bool
         ensures set { IsTrue result → self.new ≡ record self.old { cells = cells.now } }
         ensures same { result ≡ false → self.new ≡ self.old }
@@ -363,8 +372,8 @@ impl VariantWorld {
         true
     }
 
-    /// A seam of this workspace, as `seam_process`, the other way: these are the lock words of process p and its private
-    /// memory from now on. It answers false and changes nothing where there is no process p, or where that can't take it.
+    /// As `seam_process`: sets the lock words and the private memory of process p. Answers false, and changes nothing, where
+    /// there is no process p, or where it can't have that memory.
     pub fn seam_set_process(&mut self, p: u64, own: Own, memory: &VariantMemory) -> bool
         ensures set { IsTrue result → self.new ≡ with_process self.old p own memory.now }
         ensures same { result ≡ false → self.new ≡ self.old }
@@ -381,7 +390,7 @@ impl VariantWorld {
     }
 }
 
-/// The value of a step: what it read, or what it writes.
+/// The value of a step: the one that it reads, or the one that it writes.
 fn carried_by(access: Access, found: u64) -> u64
     ensures { result ≡ carried access found }
 {

@@ -1,4 +1,4 @@
-//! Tests of texts, replays, wrong variants, hunts, least schedules and searches: each worked row.
+//! Tests of texts, replays, wrong variants, hunts, minimized schedules and searches: each worked row of these.
 #![tactic(auto)]
 
 mod search;

@@ -1,4 +1,4 @@
-//! The worked rows of the search: a small space, with its shortest path known beforehand.
+//! Worked rows of the search, and a small state space whose shortest path is known beforehand.
 
 pub mod jugs;
 #[cfg(test)]

@@ -1,5 +1,5 @@
-//! The worked rows of schedules, reports and traces, of wrong variants and of hunts. Tests alone:
-//! each names public functions of `lines`, `schedule`, `trials`, `crashlab` or `shrinking`.
+//! The worked rows of schedules, reports and traces, of wrong variants and of hunts. Tests alone: each calls public
+//! functions of `schedule` or `crashlab`.
 
 #[cfg(test)]
 mod cuts;

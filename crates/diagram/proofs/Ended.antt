@@ -1,4 +1,4 @@
--- A run that is told step by step, and how that ends.
+-- A run that is written step by step, and its end.
 use Rattle.std.proofs.Common.{◌≡◌, ℕ, List, [], ◌++◌, Option, Some, None, Result, Ok, Err, refl, sym, ap, subst, ◌∙◌, append_assoc}
 use Rattle.diagram.proofs.Common.{append-nil, Refusal, State, Image, ReplayFault, Verdict, Tape, Writes, Begins, Part, deeds_of, verdict_on, begins_further, begins_wider, End, Judged, Refused, Spells}
 use Rattle.diagram.proofs.Common.{Ending, Follows, IsAllFollowed, EndsAs, IsJudged}
@@ -6,7 +6,7 @@ use Rattle.schedule.specs.declared.replays.replay_fault.ReplayFault.TheVariants 
 use Rattle.schedule.specs.Replays.{Closes}
 use Rattle.schedule.specs.Reports.{IsEnd}
 
--- the end of the report is not written whole
+-- the end of the report is not written as a whole
 pub not_closed : (t u : Tape) (image : Image) (verdict : Verdict) (fault : ReplayFault) → Closes {A = Unit {0}} t u image verdict (Err fault) → Ending t u image (Judged verdict) (Err fault)
 not_closed t u image verdict faults.Write h = h
 not_closed t u image verdict faults.OutOfMemory h = (λ end is. ((h.0 end is).0, (h.0 end is).1), h.1)
@@ -18,13 +18,13 @@ module _ {S : Type 0} (t u : Tape) (start : State) (image_of : S → Image) (run
   begins_all None text all h = rw all.2 (begins_wider t.taken u.taken steps all.0 h)
   begins_all (Some refusal) text all h = rw all h
 
-  -- the steps are not written whole
+  -- the steps are not written as a whole
   pub steps_fail : (fault : ReplayFault) → Spells {A = Unit {0}} t u steps (Err fault) → Follows t u start image_of run steps (Err fault)
   steps_fail faults.Write h = (λ text all. begins_all run.refused text all h.0, h.1)
   steps_fail faults.OutOfMemory h = (λ text all. begins_all run.refused text all h.0, h.1)
   steps_fail _ h = absurd h
 
--- what is written behind the steps is a beginning of the end, and so is the whole
+-- a beginning of what is written after the steps, after the steps, is a beginning of the whole
 begins_end : {S : Type 0} (t u v : Tape) (start : State) (image_of : S → Image) (run : Part S (ℕ × Refusal)) (s : S) (steps : List ℕ) (verdict : Verdict) → Writes t u steps
     → ((end : List ℕ) → IsEnd (image_of s) verdict end → Begins u.taken v.taken end) → run.refused ≡ None → verdict ≡ verdict_on start (deeds_of run.told) → s ≡ run.left
     → (text : List ℕ) → IsAllFollowed start image_of run run.refused steps text → Begins t.taken v.taken text

@@ -1,4 +1,4 @@
--- Rows whose deeds are heard one after another.
+-- Rows whose deeds are judged one after another.
 use Rattle.std.proofs.Common.{◌≡◌, ℕ, zero, suc, List, [], ◌∷◌, ◌++◌, refl, ap, ◌∙◌}
 use Rattle.diagram.proofs.Common.{replicate, append-nil, flat_map-cons, flat_map-append, Happened, Deed, Bench, Hears, deeds_of, did, told_of, hears_both, deeds_append, deeds_told, Act, Row, Event}
 use Rattle.diagram.proofs.Common.{Took, told_in, events_in, events_shown, quiet, deed_of}
@@ -10,7 +10,7 @@ quiet_tells : (p : ℕ) (happened : Happened) (times : ℕ) → told_in (replica
 quiet_tells p happened zero = refl
 quiet_tells p happened (suc n) = told_cons (Took p (quiet happened)) (replicate n (Took p (quiet happened))) ∙ quiet_tells p happened n
 
--- a row tells its deed
+-- a row reports its deed
 pub row_deeds : (p : ℕ) (act : Act) → deeds_of (told_in (events_shown p act)) ≡ deeds_of (did (deed_of act))
 row_deeds p (Quiet happened times) = ap deeds_of (quiet_tells p happened times)
 row_deeds p (Telling step) =
@@ -25,7 +25,7 @@ events_last rows row =
     events_append rows (row ∷ []) ∙ ap (λ (es : List Event). events_in rows ++ es)
     (flat_map-cons (λ row. events_shown row.p row.act) row [] ∙ append-nil (events_shown row.p row.act))
 
--- one more row is heard
+-- one more row is judged
 pub hears_row : (first mid now : Bench) (rows : List Row) (row : Row) → Hears first (deeds_of (told_in (events_in rows))) mid → Hears mid (deeds_of (did (deed_of row.act))) now
     → Hears first (deeds_of (told_in (events_in (rows ++ row ∷ [])))) now
 hears_row first mid now rows row before one =

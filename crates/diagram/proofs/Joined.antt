@@ -16,7 +16,7 @@ joined r old mid new x y a h = on_ok r (new ≡ mid ++ y) (new ≡ old ++ (x ++ 
 pub joined_three : {A E : Type 0} (r : Result A E) (old one two new x y z : List ℕ) → one ≡ old ++ x → two ≡ one ++ y → OnOk r (new ≡ two ++ z) → OnOk r (new ≡ old ++ (x ++ y ++ z))
 joined_three r old one two new x y z a b h = joined r old two new (x ++ y) z (two_parts old one two x y a b) h
 
--- two numbers, one behind the other
+-- two numbers, one after the other
 around_twice : (a b e : List ℕ) (n m : ℕ) → (a ++ decimal n ++ b) ++ (decimal m ++ e) ≡ (a ++ decimal n) ++ (b ++ decimal m ++ e)
 around_twice a b e n m =
     append_assoc (a ++ decimal n) b (decimal m ++ e) ∙ ap (λ (t : List ℕ). (a ++ decimal n) ++ t) (sym (append_assoc b (decimal m) e))

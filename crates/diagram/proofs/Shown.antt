@@ -26,7 +26,7 @@ pub shown_some : (mid now : List Row) (es after rest all : List Event) → event
 shown_some mid now es after rest all still note e =
     ap (λ (xs : List Event). xs ++ after) note ∙ append_assoc (events_in mid) es after ∙ ap (λ (xs : List Event). events_in mid ++ xs) (sym e) ∙ still
 
--- a part that is refused before anything of it is shown, or that memory is wanted for
+-- a part that is refused before anything of it is shown, or that is out of memory
 pub refused_plays : {S : Type 0} (rows now : List Row) (es : List Event) (o : Option Refusal) (left s : S) (e : Refusal) → (e ≡ refusals.OutOfMemory) ⊎ (o ≡ Some e)
     → (o ≡ Some e → es ≡ []) → now ≡ rows → Plays {S = S} {A = Unit {0}} rows now es o left s (Err (stopped (number_of e)))
 refused_plays {S = S} rows now es o left s e why silent same = by (number_of e) refl why
@@ -122,7 +122,7 @@ module _ {S : Type 0} (b : Behaviour S) where
   unfolding events_of
   crash_refused s p e refused = rw refused refl
 
-  -- a line is played as what it is
+  -- a line is played by its kind
   pub plays_line : (first now : List Row) (s last left : S) (line : Line) (es : List Event) (o : Option Refusal) (r : Result (Unit {0}) Stop)
       → events_of b s line ≡ es → (line_on b s line).refused ≡ o → (o ≡ None → (line_on b s line).left ≡ left)
       → Plays first now es o left last r → Plays first now (events_of b s line) (line_on b s line).refused (line_on b s line).left last r

@@ -1,4 +1,4 @@
--- Rows that are told one after another.
+-- Rows that are written one after another.
 use Rattle.std.proofs.Common.{◌≡◌, ℕ, zero, suc, List, [], ◌∷◌, ◌++◌, map, refl, sym, ap, ◌∙◌, append_assoc}
 use Rattle.diagram.proofs.Common.{replicate, flat_map-cons, Happened, Row, Phase, Event, Took, row_of, row_told, phases_with, phases_behind, rows_told, followed, events_in, events_shown, quiet}
 use Rattle.redomail.specs.declared.layout.Layout.{Layout}
@@ -22,7 +22,7 @@ pub again_and_again : (p n : ℕ) (happened : Happened) → replicate n (record 
 again_and_again p zero happened = refl
 again_and_again p (suc n) happened = ap (λ (rows : List Row). record { p = p; act = acts.Quiet happened 1 } ∷ rows) (again_and_again p n happened)
 
--- what a row shows, and what those behind it show
+-- what a row shows, and what the rows after it show
 pub followed_more : (l : Layout) (phases : List Phase) (row : Row) (rows : List Row)
     → followed l phases (events_in (row ∷ rows))
     ≡ rows_told l phases (map row_of (events_shown row.p row.act)) ++ followed l (phases_behind phases (map row_of (events_shown row.p row.act))) (events_in rows)

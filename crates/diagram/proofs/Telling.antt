@@ -1,4 +1,4 @@
--- Events tell what the run of a schedule tells.
+-- Events report what the run of a schedule reports.
 use Rattle.std.proofs.Common.{◌≡◌, ℕ, zero, suc, ◌+◌, Bool, true, false, is_some, if◌then◌else◌, List, [], ◌∷◌, ◌++◌, Option, Some, None, refl, ap, ◌∙◌}
 use Rattle.diagram.proofs.Common.{append-nil, flat_map-cons, flat_map-append, Refusal, Deed, Line, Start, Step, Crash, Part, told_of, Told, Behaviour, unless, Did, steps, line_on, run_on, Event, Took}
 use Rattle.diagram.proofs.Common.{told_in, Fell, told_by, steps_of, events_of, events_on}
@@ -10,7 +10,7 @@ told_cons e es = flat_map-cons told_by e es
 pub told_append : (es fs : List Event) → told_in (es ++ fs) ≡ told_in es ++ told_in fs
 told_append es fs = flat_map-append told_by es fs
 
--- a start that is refused, or not, tells nothing
+-- a start reports nothing, refused or not
 start_tells : {S : Type 0} (o : Option Refusal) (s t : S) → [] ≡ (unless o s [] t).told
 start_tells None s t = refl
 start_tells (Some e) s t = refl

@@ -3,7 +3,7 @@ use Rattle.std.proofs.Common.{◌≡◌, ℕ, ◌+◌, ◌-◌, ◌^◌, min, Li
 use Rattle.diagram.proofs.Common.{append-nil, ReplayFault, WritesFront, Tape, Writes, begins_further, begins_wider, begins_nothing, Spells}
 use Rattle.schedule.specs.declared.replays.replay_fault.ReplayFault.TheVariants.{OutOfMemory, Read, Refused, Text, Write}
 
--- a part behind what was written, and no more
+-- a part after what was written, and no more
 pub spells_last : (t u v : Tape) (text part whole : List ℕ) (r : Result (Unit {0}) ReplayFault) → Writes t u text → whole ≡ text ++ part → Spells u v part r → Spells t v whole r
 spells_last t u v text part whole (Ok x) written e h =
     record { taken = h.taken ∙ ap (λ (xs : List ℕ). xs ++ part) written.taken ∙ append_assoc t.taken text part ∙ ap (λ (xs : List ℕ). t.taken ++ xs) (sym e); fine = h.fine ∙ written.fine }
@@ -31,7 +31,7 @@ pub all_parts : (t u : Tape) (whole : List ℕ) → WritesFront t.taken u.taken 
 all_parts t u whole so_far fine =
     record { taken = so_far.written ∙ ap (λ (xs : List ℕ). t.taken ++ xs) (sym (so_far.left ∙ append-nil so_far.front)); fine = fine }
 
--- a part is not written whole
+-- a part is not written as a whole
 pub stops_within : (t u v : Tape) (whole part after : List ℕ) (fault : ReplayFault) → WritesFront t.taken u.taken whole (part ++ after) → u.failures ≡ t.failures
     → Spells {A = Unit {0}} u v part (Err fault) → Spells {A = Unit {0}} t v whole (Err fault)
 stops_within t u v whole part after Write so_far fine h =
@@ -48,7 +48,7 @@ pub fails_behind : (t u v : Tape) (text : List ℕ) → Writes t u text → v.ta
 fails_behind t u v text written same failed =
     (([], record { front = text; written = same ∙ written.taken; left = sym (append-nil text) }), rw (← written.fine) failed)
 
--- the last part behind those that are written
+-- the last part after those that are written
 pub spells_rest : (t u v : Tape) (whole part : List ℕ) (r : Result (Unit {0}) ReplayFault) → WritesFront t.taken u.taken whole part → u.failures ≡ t.failures → Spells u v part r → Spells t v whole r
 spells_rest t u v whole part r so_far fine h =
     spells_last t u v so_far.front part whole r (record { taken = so_far.written; fine = fine }) so_far.left h

@@ -1,4 +1,4 @@
--- The drawing as text: a column for each process, a row for each step or crash, and at the right what it tells.
+-- The drawing as text: a column for each process, a row for each step or crash, and at the right what it reports.
 use Rattle.std.specs.Prelude.{ℕ, ◌+◌, ◌-◌, ◌==◌, Bool, List, [], ◌∷◌, ◌++◌, length, codes, Option, Some, None, if◌then◌else◌}
 use Rattle.std.specs.Fmt.{decimal}
 use Rattle.std.proofs.Math.ListN.{replicate}
@@ -19,6 +19,7 @@ use Rattle.diagram.specs.Signs.{sign}
 
 -- ---- the columns
 
+-- this many spaces
 abbrev pub spaces : ℕ → List ℕ
 spaces n = replicate n 32
 
@@ -39,11 +40,12 @@ abbrev pub bar_at : Act → Phase → ℕ
 bar_at (Fell deed) phase = 120
 bar_at act phase = bar_of phase
 
--- how many bytes the text of a cell has. The cross of a repetition is one character of two bytes
+-- the number of bytes of a cell's text. The sign of a repetition is one character of two bytes
 abbrev pub wide_of : Act → ℕ
 wide_of (Quiet happened times) = if times == 1 then 24 else 25
 wide_of act = 24
 
+-- the cell of a row
 abbrev pub cell : Layout → Row → List ℕ
 cell l row = 32 ∷ filled (wide_of row.act) (sign l row.p row.act)
 
@@ -71,32 +73,37 @@ bars (phase ∷ phases) = blank phase ++ bars phases
 abbrev pub lead : Bool → List ℕ
 lead marked = if marked then codes " >>> " else codes " "
 
--- what a row tells, as lines of the report. The second has a row of its own
+-- what a row reports, as lines of the report. The second line has a row of its own
 abbrev pub telling : List Phase → Bool → ℕ → Option Deed → Option Answer → List ℕ
 telling phases marked p None None = 10 ∷ []
 telling phases marked p (Some deed) None = lead marked ++ told_line (Did deed)
 telling phases marked p None (Some answer) = 32 ∷ told_line (Answered p answer)
 telling phases marked p (Some deed) (Some answer) = lead marked ++ told_line (Did deed) ++ bars phases ++ 124 ∷ 32 ∷ told_line (Answered p answer)
 
+-- a row, with what it reports at the right
 abbrev pub row_text : Layout → List Phase → Bool → Row → List ℕ
 row_text l phases marked row = columns l row 0 phases ++ 124 ∷ telling phases marked row.p (deed_of row.act) (answer_of row.act)
 
 -- ---- above and below
 
+-- the number of a process above its column
 unfoldable pub head : ℕ → List ℕ
 head p = filled 26 (decimal p)
 
--- the numbers of the processes from p on, over their columns
+-- the numbers of the processes from p on, above their columns
 abbrev pub heads : ℕ → List Phase → List ℕ
 heads p [] = []
 heads p (phase ∷ phases) = head p ++ heads (p + 1) phases
 
+-- the line above the rows
 abbrev pub top_text : List Phase → List ℕ
 top_text phases = heads 0 phases ++ 124 ∷ 10 ∷ []
 
+-- the verdict, or the line that was refused
 abbrev pub end_line : End → List ℕ
 end_line (Judged verdict) = verdict_line verdict
 end_line (Refused line number verdict) = codes "line " ++ decimal line ++ codes " refused " ++ decimal number ++ 10 ∷ []
 
+-- how the run ends, and what the bars mean
 abbrev pub end_text : End → List ℕ
 end_text end = end_line end ++ codes ". rest  : doorway  | waiting  # section  x crash" ++ 10 ∷ []

@@ -1,4 +1,4 @@
--- What a run does: each step with the word that is read or written, and each crash.
+-- The events of a run: each step with the word that it reads or writes, and each crash (the specification's Run).
 use Rattle.std.specs.Prelude.{ℕ, zero, suc, List, [], ◌∷◌, ◌++◌, is_some, if◌then◌else◌}
 use Rattle.std.specs.List.{flat_map}
 use Rattle.redomail.specs.declared.deed.Deed.{Deed}
@@ -8,15 +8,17 @@ use Rattle.schedule.specs.declared.lines.line.Line.TheVariants.{Start, Step, Cra
 use Rattle.schedule.specs.Runs.{Told, Did, told_of, line_on}
 use Rattle.rmeworld.specs.Behaviours.{Behaviour}
 
+-- a step of a process, or its crash
 pub data Event : Type 0 where
   Took : ℕ → Stepped → Event
   Fell : ℕ → Deed → Event
 
--- what an event tells: its deed, then its answer
+-- what an event reports: its deed, then its answer
 abbrev pub told_by : Event → List Told
 told_by (Took p step) = told_of p step.deed step.answer
 told_by (Fell p deed) = Did deed ∷ []
 
+-- what events report
 abbrev pub told_in : List Event → List Told
 told_in events = flat_map told_by events
 
@@ -29,7 +31,7 @@ module _ {S : Type 0} (b : Behaviour S) where
       else (let step : Stepped = b.stepped s p in
       Took p step ∷ (if is_some step.answer then [] else steps_of p n (b.advanced s p)))
 
-  -- the events of one line. A start is none
+  -- the events of one line. A start has none
   unfoldable pub events_of : S → Line → List Event
   events_of s (Start p call) = []
   events_of s (Step p n) = steps_of p n s

@@ -1,5 +1,5 @@
--- A run told step by step: behind each step or crash stands in which phase its process is and what it has read or written,
--- and then what it tells; at the end what a report ends with.
+-- A run written step by step: for each step or crash the phase of its process and what it reads or writes, and then what it
+-- reports; at the end the last lines of a report.
 use Rattle.std.specs.Prelude.{◌≡◌, ℕ, ◌+◌, ◌-◌, ◌^◌, min, List, [], ◌∷◌, ◌++◌, map, codes, Option, Some, None, Result, Ok, Err, OnOk, get_or}
 use Rattle.rmecore.specs.declared.refusal.Refusal.{Refusal}
 use Rattle.rmecore.specs.Refused.{number_of}
@@ -32,6 +32,7 @@ use Rattle.diagram.specs.Signs.{sign}
 
 -- ---- one event
 
+-- a step as it is drawn in a row
 abbrev pub act_of_step : Option Deed → Option Answer → Stepped → Act
 act_of_step None None step = acts.Quiet step.happened 1
 act_of_step deed answer step = acts.Telling step
@@ -46,21 +47,22 @@ abbrev pub access_of : Layout → ℕ → Act → List ℕ
 access_of l p (acts.Fell deed) = []
 access_of l p act = 32 ∷ sign l p act
 
--- where the process of a row stands
+-- the phase of a row's process, and what the row reads or writes
 unfoldable pub place_line : Layout → List Phase → Row → List ℕ
 place_line l phases row =
     around (codes "at ") row.p (codes " ") ++ class_of (get_or phases row.p Rest) ++ access_of l row.p row.act ++ 10 ∷ []
 
--- a row behind which the processes are in these phases
+-- a row, after which the processes are in these phases
 unfoldable pub row_told : Layout → List Phase → Row → List ℕ
 row_told l phases row = place_line l phases row ++ told_by row.p row.act
 
 -- ---- a run
 
+-- the phases after a row
 abbrev pub phases_with : List Phase → Row → List Phase
 phases_with phases row = with_phase phases row.p (phase_shown row.act)
 
--- the phases of the processes behind rows
+-- the phases of the processes after rows
 abbrev pub phases_behind : List Phase → List Row → List Phase
 phases_behind phases [] = phases
 phases_behind phases (row ∷ rows) = phases_behind (phases_with phases row) rows
@@ -74,13 +76,13 @@ rows_told l phases (row ∷ rows) = row_told l (phases_with phases row) row ++ r
 abbrev pub followed : Layout → List Phase → List Event → List ℕ
 followed l phases events = rows_told l phases (map row_of events)
 
--- rows are told, and their processes stand behind them; or a beginning, and why not the rest
+-- rows are written, and the phases after them are left; or a beginning is written, and the reason why not the rest
 abbrev pub Tells : {A : Type 0} → Tape → Tape → Layout → List Phase → List Phase → List Row → Result A ReplayFault → Type 0
 Tells before now l phases behind rows result = Spells before now (rows_told l phases rows) result × OnOk result (behind ≡ phases_behind phases rows)
 
 -- ---- the whole
 
--- what is written behind the steps of a run that has ended so, on a machine with this image
+-- what is written after the steps of a run that has ended so, on a machine with this image
 abbrev pub Ending : Tape → Tape → Image → End → Result Verdict ReplayFault → Type 0
 Ending before now image (Judged verdict) (Ok said) = (said ≡ verdict) × ((end : List ℕ) × IsEnd image verdict end × Writes before now end)
 Ending before now image (Judged verdict) (Err Write) =
@@ -98,7 +100,7 @@ IsAllFollowed start image_of run None steps text =
     (end : List ℕ) × IsEnd (image_of run.left) (verdict_on start (deeds_of run.told)) end × (text ≡ steps ++ end)
 IsAllFollowed start image_of run (Some refusal) steps text = text ≡ steps
 
--- all was written, and the verdict is the one of the run
+-- all was written, and the verdict is that of the run
 pub record IsFollowed {S : Type 0} (before now : Tape) (start : State) (image_of : S → Image) (run : Part S (ℕ × Refusal)) (steps : List ℕ) (verdict : Verdict) : Type 0 where
   pub accepted : run.refused ≡ None
   pub verdict_is : verdict ≡ verdict_on start (deeds_of run.told)
@@ -106,7 +108,7 @@ pub record IsFollowed {S : Type 0} (before now : Tape) (start : State) (image_of
   pub all : IsAllFollowed start image_of run None steps text
   pub writes : Writes before now text
 
--- or why there is no verdict, as a replay says it; where a device or memory fails, a beginning was written
+-- or why there is no verdict, as a replay answers it; where a device or memory fails, a beginning was written
 abbrev pub Follows : {S : Type 0} → Tape → Tape → State → (S → Image) → Part S (ℕ × Refusal) → List ℕ → Result Verdict ReplayFault → Type 0
 Follows before now start image_of run steps (Ok verdict) = IsFollowed before now start image_of run steps verdict
 Follows before now start image_of run steps (Err (Refused line number)) =

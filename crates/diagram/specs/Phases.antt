@@ -1,4 +1,4 @@
--- What a process is, as others see it.
+-- The phase of a process, as its steps show it.
 use Rattle.std.specs.Prelude.{ℕ, List, Option, Some, None, slice_set}
 use Rattle.rmecore.specs.declared.kind.Kind.{Kind}
 use Rattle.rmecore.specs.declared.kind.Kind.TheVariants as kinds
@@ -21,8 +21,8 @@ phase_of_deed (deeds.Outer (outers.Quit p)) = Rest
 phase_of_deed (deeds.Outer (outers.Crash p)) = Dead
 phase_of_deed deed = Section
 
--- the phase that a step shows by its kind, where it is no deed: it is a step of the doorway, of waiting, or of the section, or
--- the last of an exit. After a crash it tells where the process goes on
+-- the phase that a step without a deed shows by its kind: it is a step of the doorway, of waiting, or of the section, or the
+-- last of an exit. After a crash it shows where the process goes on
 abbrev pub phase_of_kind : Kind → Option Phase
 phase_of_kind kinds.Peek = Some Doorway
 phase_of_kind kinds.Shut = Some Waiting
@@ -33,12 +33,13 @@ phase_of_kind kinds.Put = Some Section
 phase_of_kind kinds.Mark = Some Rest
 phase_of_kind kind = None
 
--- the same where it ends a call: a recover ends at rest
+-- the same for a step that ends a call: a recover ends at rest
 abbrev pub phase_of_last : Kind → Option Phase
 phase_of_last kinds.Reread = Some Rest
 phase_of_last kinds.Shut = Some Rest
 phase_of_last kind = phase_of_kind kind
 
+-- the phase that a step shows which has a deed or ends a call
 abbrev pub phase_of_telling : Option Deed → Kind → Option Phase
 phase_of_telling (Some deed) kind = Some (phase_of_deed deed)
 phase_of_telling None kind = phase_of_last kind

@@ -18,24 +18,25 @@ use Rattle.diagram.specs.Phases.{phase_shown}
 use Rattle.diagram.specs.Rows.{deed_of, answer_of}
 use Rattle.diagram.specs.Signs.{sign}
 
--- ---- where things stand, in numbers that are held at the greatest u64
+-- ---- positions in pixels, which stop at the greatest u64
 
+-- a number, at most the greatest u64
 abbrev pub held : ℕ → ℕ
 held n = min n (2 ^ 64 - 1)
 
--- the lifeline of a process; that of the mailbox stands where a next process would
+-- the x of a process's lifeline; that of the mailbox is the x of a next process
 abbrev pub x_of : ℕ → ℕ
 x_of p = 192 * min p 64 + 60
 
--- how far the mailbox is from process p
+-- the distance from process p's lifeline to the mailbox's
 abbrev pub far_from : ℕ → ℕ → ℕ
 far_from procs p = x_of procs - x_of p
 
--- a row, counted from 1
+-- the y of a row; rows count from 1
 abbrev pub y_of : ℕ → ℕ
 y_of row = held (held (row * 18) + 82)
 
--- where the lifelines of so many rows end
+-- the y where the lifelines end, below this many rows
 abbrev pub bottom_of : ℕ → ℕ
 bottom_of rows = held (y_of rows + 18)
 
@@ -45,6 +46,7 @@ bottom_of rows = held (y_of rows + 18)
 abbrev pub around : List ℕ → ℕ → List ℕ → List ℕ
 around before n after = before ++ decimal n ++ after
 
+-- the name of a phase, which is the class of its colour
 abbrev pub class_of : Phase → List ℕ
 class_of Rest = codes "rest"
 class_of Doorway = codes "doorway"
@@ -52,105 +54,116 @@ class_of Waiting = codes "waiting"
 class_of Section = codes "section"
 class_of Dead = codes "dead"
 
--- a lifeline from here down, in the colour of a phase
+-- a lifeline downward from here, in the colour of a phase
 unfoldable pub lifeline : Phase → ℕ → List ℕ
 lifeline phase long = codes "<rect class='" ++ class_of phase ++ around (codes "' x='-4.5' y='.5' width='9' height='") long (codes "'/>")
 
+-- such a lifeline, if there is a phase
 abbrev pub lifeline_if : Option Phase → ℕ → List ℕ
 lifeline_if None long = []
 lifeline_if (Some phase) long = lifeline phase long
 
--- what follows is drawn from this place on
+-- a group: what follows is drawn from this point on
 unfoldable pub group_at : ℕ → ℕ → List ℕ
 group_at x y = around (codes "<g transform='translate(") x (around (codes " ") y (codes ")'>"))
 
+-- the end of a group
 abbrev pub group_end : List ℕ
 group_end = codes "</g>" ++ 10 ∷ []
 
 -- ---- a row
 
+-- what a row reports
 abbrev pub told_by : ℕ → Act → List ℕ
 told_by p act = told_text (told_of p (deed_of act) (answer_of act))
 
+-- the title of a row, which a viewer shows where the reader points at it
 unfoldable pub row_title : Layout → Row → List ℕ
 row_title l row = around (codes "<title>process ") row.p (codes " ") ++ sign l row.p row.act ++ 10 ∷ (told_by row.p row.act ++ codes "</title>")
 
+-- the dot of a step, with its access
 unfoldable pub step_mark : Layout → ℕ → Act → List ℕ
 step_mark l p act = around (codes "<circle r='3'/><text x='10' y='4'><tspan class='p'>") p (codes "</tspan> ") ++ sign l p act ++ codes "</text>"
 
--- a step is a dot with its access beside it, a crash a cross
+-- a step is a dot with its access beside it, a crash is a cross
 abbrev pub mark : Layout → ℕ → Act → List ℕ
 mark l p (Fell deed) = codes "<path class='crash' d='M-6 -6l12 12m0 -12l-12 12'/>"
 mark l p act = step_mark l p act
 
+-- the line from a deed to the mailbox, this long
 unfoldable pub joint : ℕ → List ℕ
 joint far = around (codes "<path class='join' d='M0 7H") far (around (codes "'/><circle r='4' cy='7' cx='") far (codes "'/>"))
 
--- a deed of the mailbox is joined to its lifeline
+-- a deed of the mailbox is joined to the mailbox's lifeline
 abbrev pub join : Option Deed → ℕ → List ℕ
 join None far = []
 join (Some (Outer outer)) far = []
 join (Some deed) far = joint far
 
--- what a step tells, in one line
+-- what a step reports, in one line
 abbrev pub remarks : ℕ → Option Deed → Option Answer → List ℕ
 remarks p None None = []
 remarks p (Some deed) None = told_line (Did deed)
 remarks p None (Some answer) = told_line (Answered p answer)
 remarks p (Some deed) (Some answer) = told_line (Did deed) ++ codes " / " ++ told_line (Answered p answer)
 
+-- what a step reports, at the right
 unfoldable pub remarks_at : ℕ → ℕ → Option Deed → Option Answer → List ℕ
 remarks_at far p deed answer = around (codes "<text y='4' x='") (far + 16) (codes "'>") ++ remarks p deed answer ++ codes "</text>"
 
--- it stands at the right
+-- this line at the right
 abbrev pub margin : ℕ → ℕ → Option Deed → Option Answer → List ℕ
 margin far p deed answer = if is_some deed || is_some answer then remarks_at far p deed answer else []
 
--- a frame round what the verdict is against
+-- a frame around the deed that the verdict is against
 abbrev pub flag : Bool → ℕ → List ℕ
 flag marked far =
     if marked then around (codes "<circle class='against' r='8'/><rect class='against' y='-9' height='17' width='270' x='") (far + 10)
     (codes "'><title>the verdict is against this deed</title></rect>")
     else []
 
--- what stands at the lifeline of a row's process, with so much room below it
+-- the part of a row at the lifeline of its process, with this much room below it
 unfoldable pub left_of : Layout → Row → ℕ → List ℕ
 left_of l row below = row_title l row ++ lifeline_if (phase_shown row.act) below ++ mark l row.p row.act
 
--- what stands at the right of a row
+-- the part of a row at its right
 unfoldable pub right_of : Row → ℕ → Bool → List ℕ
 right_of row far marked = join (deed_of row.act) far ++ margin far row.p (deed_of row.act) (answer_of row.act) ++ flag marked far
 
--- a row at this place
+-- a row at this height
 abbrev pub row_picture : Layout → ℕ → ℕ → Bool → Row → List ℕ
 row_picture l y below marked row =
     group_at (x_of row.p) y ++ left_of l row below ++ right_of row (far_from l.procs row.p) marked ++ group_end
 
 -- ---- above and below
 
+-- the size of the picture
 unfoldable pub measured : ℕ → ℕ → List ℕ
 measured wide high = around (codes "<svg xmlns='http://www.w3.org/2000/svg' width='") wide (around (codes "' height='") high (codes "'"))
 
+-- the view box of the picture
 unfoldable pub viewed : ℕ → ℕ → List ℕ
 viewed wide high = around (codes " viewBox='0 0 ") wide (around (codes " ") high (codes "'>" ++ 10 ∷ []))
 
--- how things look. The colours differ in hue for every eye, and in lightness where they are printed in grey
+-- the styles. The colours differ in hue for every eye, and in lightness where they are printed in grey
 unfoldable pub text_looks : List ℕ
 text_looks =
     codes "<title>a run of the lock, time downward</title><style>text{font:12px monospace;fill:#000}.p{font-weight:bold}circle{stroke:#fff}"
     ++ codes ".rest{fill:#fff;stroke:#777}.doorway{fill:#f0e442;stroke:#555}.waiting{fill:#e69f00;stroke:#555}.section{fill:#0072b2;stroke:#0072b2}"
 
+-- the styles of the other marks
 unfoldable pub line_looks : List ℕ
 line_looks =
     codes ".dead{fill:url(#gone);stroke:#fff;stroke-width:2}.crash{fill:none;stroke:#000;stroke-width:2.5}.mailbox{stroke:#555;stroke-width:3}"
     ++ (codes ".join{stroke:#555;stroke-dasharray:2}.against{fill:none;stroke:#d55e00;stroke-width:2}</style>" ++ 10 ∷ [])
 
--- the pattern of a lifeline that is broken off, and white paper
+-- the pattern of a dead process's lifeline, and a white background
 unfoldable pub paper : List ℕ
 paper =
     codes "<defs><pattern id='gone' width='8' height='6' x='-4' patternUnits='userSpaceOnUse'><rect width='8' height='6' fill='#fff'/>"
     ++ codes "<rect x='3' width='2' height='2'/></pattern></defs><rect width='100%' height='100%' fill='#fff'/>" ++ 10 ∷ []
 
+-- the name of a colour in the key
 unfoldable pub key_name : Phase → List ℕ
 key_name phase = codes "<text x='10' y='12'>" ++ class_of phase ++ codes "</text>"
 
@@ -158,15 +171,18 @@ key_name phase = codes "<text x='10' y='12'>" ++ class_of phase ++ codes "</text
 unfoldable pub key : ℕ → Phase → List ℕ
 key x phase = group_at x 30 ++ lifeline phase 14 ++ key_name phase ++ group_end
 
+-- the key: what the colours, the cross and the ring mean
 unfoldable pub keys : List ℕ
 keys =
     key 24 Rest ++ key 84 Doorway ++ key 168 Waiting ++ key 252 Section ++ key 336 Dead
     ++ codes "<path class='crash' d='M394 32l10 10m0 -10l-10 10'/><text x='412' y='42'>crash</text>"
     ++ (codes "<circle class='against' cx='470' cy='37' r='6'/><text x='482' y='42'>against</text>" ++ 10 ∷ [])
 
+-- the head of the file, and the key
 unfoldable pub head_picture : ℕ → ℕ → List ℕ
 head_picture wide high = measured wide high ++ viewed wide high ++ text_looks ++ line_looks ++ paper ++ keys
 
+-- the name of a process above its lifeline
 unfoldable pub lifeline_name : ℕ → List ℕ
 lifeline_name p = around (codes "<title>process ") p (around (codes "</title><text class='p' text-anchor='middle' y='-8'>") p (codes "</text>"))
 
@@ -179,17 +195,21 @@ abbrev pub lifeline_tops : ℕ → ℕ → List Phase → List ℕ
 lifeline_tops long p [] = []
 lifeline_tops long p (phase ∷ phases) = lifeline_top p phase long ++ lifeline_tops long (p + 1) phases
 
+-- the lifeline of the mailbox
 unfoldable pub mailbox_top : ℕ → ℕ → List ℕ
 mailbox_top x long =
     group_at x 80 ++ around (codes "<title>mailbox</title><text class='p' text-anchor='middle' y='-8'>mailbox</text><path class='mailbox' d='M0 0V") long (codes "'/>")
     ++ group_end
 
+-- the part above the rows
 abbrev pub top_picture : ℕ → ℕ → List Phase → List ℕ
 top_picture procs bottom phases =
     head_picture (x_of procs + 300) (held (bottom + 40)) ++ mailbox_top (x_of procs) (bottom - 80) ++ lifeline_tops (bottom - 80) 0 phases
 
+-- how the run ends, at this height, and the end of the file
 abbrev pub last_picture : ℕ → End → List ℕ
 last_picture y end = around (codes "<text x='20' y='") y (codes "'>") ++ end_line end ++ (codes "</text></svg>" ++ 10 ∷ [])
 
+-- how the run ends, below the lifelines, and the end of the file
 abbrev pub end_picture : ℕ → End → List ℕ
 end_picture bottom end = last_picture (held (bottom + 24)) end

@@ -22,49 +22,52 @@ use Rattle.diagram.specs.declared.drawing.End.TheVariants as ends
 use Rattle.diagram.specs.Events.{Event, Took}
 use Rattle.diagram.specs.Events as events
 
--- a step that is no deed and ends no call
+-- a silent step: it has no deed and ends no call
 abbrev pub quiet : Happened → Stepped
 quiet happened = record { happened = happened; deed = None; answer = None }
 
--- the events that a row shows. One that tells nothing is shown as often as it was taken
+-- the events that a row shows. A silent step is shown as often as it was taken
 abbrev pub events_shown : ℕ → Act → List Event
 events_shown p (Quiet happened times) = replicate times (Took p (quiet happened))
 events_shown p (Telling step) = Took p step ∷ []
 events_shown p (Fell deed) = events.Fell p deed ∷ []
 
+-- the events that rows show
 abbrev pub events_in : List Row → List Event
 events_in rows = flat_map (λ row. events_shown row.p row.act) rows
 
+-- the deed of a row, if it has one
 abbrev pub deed_of : Act → Option Deed
 deed_of (Quiet happened times) = None
 deed_of (Telling step) = step.deed
 deed_of (Fell deed) = Some deed
 
+-- the answer of the call that a row ends, if it ends one
 abbrev pub answer_of : Act → Option Answer
 answer_of (Quiet happened times) = None
 answer_of (Telling step) = step.answer
 answer_of (Fell deed) = None
 
--- a refusal for want of memory has no number
+-- the refusal OutOfMemory has no number
 abbrev pub stopped : Option ℕ → Stop
 stopped None = stops.OutOfMemory
 stopped (Some number) = stops.Refused number
 
--- how a part of a run was played: all of it, or up to a refusal. Where there is no memory nothing is said
+-- how a part of a run was played: all of it, or up to a refusal. Of out of memory nothing is said
 abbrev pub Plays : {S A : Type 0} → List Row → List Row → List Event → Option Refusal → S → S → Result A Stop → Type 0
 Plays before now events refused left s (Ok x) = (events_in now ≡ events_in before ++ events) × (refused ≡ None) × (s ≡ left)
 Plays before now events refused left s (Err (stops.Refused number)) =
     (events_in now ≡ events_in before ++ events) × ((refusal : Refusal) × (refused ≡ Some refusal) × (number_of refusal ≡ Some number))
 Plays before now events refused left s (Err stops.OutOfMemory) = Unit {0}
 
--- how the lines of a run were played, and where the machine stands behind all
+-- how the lines of a run were played, and the machine after all of them
 abbrev pub PlaysOn : {S A : Type 0} → List Row → List Row → List Event → Part S (ℕ × Refusal) → S → Result A (ℕ × Stop) → Type 0
 PlaysOn before now events run s (Ok x) = (events_in now ≡ events_in before ++ events) × (run.refused ≡ None) × (s ≡ run.left)
 PlaysOn before now events run s (Err (line, stops.Refused number)) =
     (events_in now ≡ events_in before ++ events) × ((refusal : Refusal) × (run.refused ≡ Some (line, refusal)) × (number_of refusal ≡ Some number))
 PlaysOn before now events run s (Err (line, stops.OutOfMemory)) = Unit {0}
 
--- how a run ends: with the verdict on its deeds, and where a line is refused at that line
+-- how a run ends: with the verdict on its deeds, and at the refused line, if there is one
 abbrev pub EndsAs : {S : Type 0} → State → Part S (ℕ × Refusal) → End → Type 0
 EndsAs start run (ends.Judged verdict) = (run.refused ≡ None) × (verdict ≡ verdict_on start (deeds_of run.told))
 EndsAs start run (ends.Refused line number verdict) =
@@ -75,17 +78,17 @@ abbrev pub IsJudged : End → Type 0
 IsJudged (ends.Judged verdict) = Unit {0}
 IsJudged end = ⊥
 
--- one more row stands there, unless there is no memory
+-- one more row is there, or out of memory
 abbrev pub Adds : {A : Type 0} → List Row → List Row → Row → Result A Stop → Type 0
 Adds before now row (Ok x) = now ≡ before ++ row ∷ []
 Adds before now row (Err stop) = stop ≡ stops.OutOfMemory
 
--- one more event is shown, unless there is no memory
+-- one more event is shown, or out of memory
 abbrev pub Notes : {A : Type 0} → List Row → List Row → Event → Result A Stop → Type 0
 Notes before now event (Ok x) = events_in now ≡ events_in before ++ event ∷ []
 Notes before now event (Err stop) = stop ≡ stops.OutOfMemory
 
--- how a run ends whose lines were played so
+-- how a run ends, by how its lines were played
 abbrev pub IsEndOf : {A : Type 0} → Result A (ℕ × Stop) → Verdict → End → Type 0
 IsEndOf (Ok x) verdict (ends.Judged said) = said ≡ verdict
 IsEndOf (Err (line, stops.Refused number)) verdict (ends.Refused at why said) = (at ≡ line) × (why ≡ number) × (said ≡ verdict)

@@ -1,4 +1,4 @@
--- What a row is drawn with: the sizes of the whole, and what the rows before it have left.
+-- What a row is drawn with: the sizes of the whole, and the lifeline state after the rows before it.
 use Rattle.std.specs.Prelude.{ℕ, ◌==◌, Bool, List, Option, is_some, if◌then◌else◌, ◌&&◌}
 use Rattle.redomail.specs.declared.deed.Deed.{Deed}
 use Rattle.redomail.specs.declared.layout.Layout.{Layout}
@@ -13,9 +13,11 @@ use Rattle.diagram.specs.declared.phase.Phase.{Phase}
 use Rattle.diagram.specs.Phases.{phase_shown, with_phase}
 use Rattle.diagram.specs.Rows.{deed_of}
 
+-- the sizes that a header names, without the limit
 abbrev pub layout_of : Head → Layout
 layout_of head = record { procs = head.procs; cap = head.cap; width = head.width }
 
+-- the number of the deed that a verdict is against; 0 if there is none
 abbrev pub deed_against : Verdict → ℕ
 deed_against Fine = 0
 deed_against (Against at fault) = at
@@ -25,16 +27,18 @@ abbrev pub against : End → ℕ
 against (Judged verdict) = deed_against verdict
 against (Refused line number verdict) = deed_against verdict
 
--- the phases of the processes, how many deeds there were, and how many rows, with the row that is drawn; both are held at
--- the greatest u64
+-- the lifeline state: the phases of the processes, and the numbers of deeds and of rows, with the row that is drawn. The
+-- numbers stop at the greatest u64
 pub record PenState : Type 0 where
   pub phases : List Phase
   pub deeds : ℕ
   pub rows : ℕ
 
+-- the number of deeds with a row of this deed
 abbrev pub deeds_with : Option Deed → ℕ → ℕ
 deeds_with deed n = if is_some deed then one_more n else n
 
+-- the lifeline state after a row
 abbrev pub pen_with : PenState → Row → PenState
 pen_with pen row =
     record {
@@ -43,6 +47,6 @@ pen_with pen row =
       rows = one_more pen.rows;
     }
 
--- the row is the deed of this number
+-- the row has the deed of this number
 abbrev pub is_deed : ℕ → PenState → Row → Bool
 is_deed at pen row = is_some (deed_of row.act) && pen.deeds == at

@@ -10,6 +10,7 @@ use Rattle.redomail.specs.declared.layout.Layout.{Layout}
 use Rattle.diagram.specs.declared.act.Act.{Act}
 use Rattle.diagram.specs.declared.act.Act.TheVariants.{Quiet, Telling, Fell}
 
+-- the name of a kind of step (the specification's step kinds)
 abbrev pub name_of : Kind → List ℕ
 name_of kinds.Open = codes "open"
 name_of kinds.Peek = codes "peek"
@@ -38,7 +39,7 @@ stores kind = false
 abbrev pub indexed : List ℕ → ℕ → List ℕ
 indexed name i = name ++ 91 ∷ (decimal i ++ 93 ∷ [])
 
--- a lock word of process j, as p writes it: its own without index
+-- a lock word of process j, as p writes it: its own without an index
 abbrev pub lock_word : List ℕ → ℕ → ℕ → List ℕ
 lock_word name p j = if j == p then name else indexed name j
 
@@ -49,10 +50,11 @@ entry_word at k =
     else if k == 1 then indexed (codes "seq") at
     else indexed (codes "value") at ++ indexed [] (k - 2)
 
+-- the number of words of an entry: sender, number and value
 abbrev pub entry_size : Layout → ℕ
 entry_size l = min (l.width + 2) (2 ^ 64 - 1)
 
--- the data words behind those of the record, counted from there: the board, the last numbers, the entries
+-- the data words after the record's, counted from there: the board, the last numbers, the entries
 abbrev pub word_behind : Layout → ℕ → List ℕ
 word_behind l i =
     if nat_lt i 4 then indexed (codes "board") i
@@ -74,6 +76,7 @@ data_word l i =
     else if i == 5 then codes "rec_seq"
     else recorded_word l (i - 6)
 
+-- the name of a word, as p writes it (the specification's Shared words)
 abbrev pub word_sign : Layout → ℕ → Word → List ℕ
 word_sign l p (words.Choosing j) = lock_word (codes "choosing") p j
 word_sign l p (words.Number j) = lock_word (codes "number") p j
@@ -86,11 +89,11 @@ access_sign l p h =
     if stores h.kind then codes "w " ++ word_sign l p h.word ++ codes "=" ++ decimal h.value
     else codes "r " ++ word_sign l p h.word ++ codes " " ++ decimal h.value
 
--- a load that was repeated as weigh number[1] 1 ×17; the two bytes of the cross are its UTF-8
+-- a repeated load as weigh number[1] 1 ×17; the two bytes of the sign are its UTF-8
 abbrev pub repeated_sign : Layout → ℕ → Happened → ℕ → List ℕ
 repeated_sign l p h times = name_of h.kind ++ codes " " ++ word_sign l p h.word ++ codes " " ++ decimal h.value ++ 32 ∷ 195 ∷ 151 ∷ decimal times
 
--- what a row does. A crash is a mark, and has no text
+-- what a row does. A crash has no text
 abbrev pub sign : Layout → ℕ → Act → List ℕ
 sign l p (Quiet h times) = if times == 1 then access_sign l p h else repeated_sign l p h times
 sign l p (Telling step) = access_sign l p step.happened

@@ -1,4 +1,4 @@
-//! What is drawn: one row for each step and each crash.
+//! The rows of a drawing: one for each step and each crash.
 
 ghost use Rattle.std.specs.Prelude.{◌≡◌};
 ghost use Rattle.diagram.specs.Rows.{deed_of, answer_of};
@@ -10,9 +10,10 @@ use rmeworld::{Answer, Stepped};
 /// What a process does in one row.
 #[derive(Clone, Copy, Debug, PartialEq, Eq)]
 pub enum Act {
-    /// A step that is no deed and ends no call. One that waits counts how often it was taken with nothing else between.
+    /// A silent step: it has no deed and ends no call.
+    /// A blocked step counts how often it was taken with no other step between.
     Quiet(Happened, u64),
-    /// A step that is a deed, or ends a call.
+    /// A step that has a deed, or ends a call.
     Telling(Stepped),
     /// A crash.
     Fell(Deed),
@@ -26,7 +27,7 @@ pub struct Row {
 }
 
 impl Row {
-    /// The deed that it is, if it is one.
+    /// The deed of the row, if it has one.
     pub fn deed(&self) -> Option<Deed>
         ensures { result ≡ deed_of self.now.act }
     {
@@ -37,7 +38,7 @@ impl Row {
         }
     }
 
-    /// The answer of the call that it ends, if it ends one.
+    /// The answer of the call that the row ends, if it ends one.
     pub fn answer(&self) -> Option<Answer>
         ensures { result ≡ answer_of self.now.act }
     {

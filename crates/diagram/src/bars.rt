@@ -1,4 +1,4 @@
-//! The columns of the text.
+//! The columns of the text drawing.
 
 ghost use Rattle.std.specs.Prelude.{◌≡◌, ◌++◌, ◌∷◌, [], OnOk};
 ghost use Rattle.diagram.specs.Columns.{bar_at as bar_in, bar_of as bar_for, bars, blank, cell, column, columns, head, heads, wide_of as wide_in};
@@ -22,7 +22,7 @@ fn bar_of(phase: Phase) -> u8
     }
 }
 
-/// The bar beside what a process does.
+/// The first byte of a cell: the bar of the phase, or `x` for a crash.
 fn bar_at(act: &Act, phase: Phase) -> u8
     ensures { result ≡ bar_in act.now phase }
 {
@@ -32,7 +32,7 @@ fn bar_at(act: &Act, phase: Phase) -> u8
     }
 }
 
-/// How many bytes the text of a cell has.
+/// The number of bytes of a cell's text. The sign of a repetition is one character of two bytes.
 fn wide_of(act: &Act) -> usize
     ensures { result ≡ wide_in act.now }
 {
@@ -42,7 +42,7 @@ fn wide_of(act: &Act) -> usize
     }
 }
 
-/// Writes what a row does, in its column.
+/// Writes the cell of a row: what its process does.
 fn put_cell(out: &mut Vec<u8>, layout: &Layout, row: &Row) -> Result<(), AllocError>
     ensures { OnOk result (out.new.items ≡ out.old.items ++ cell layout.now row.now) }
 {
@@ -105,7 +105,7 @@ pub fn put_bars(out: &mut Vec<u8>, phases: &[Phase]) -> Result<(), AllocError>
     Ok(())
 }
 
-/// Writes the number of a process over its column.
+/// Writes the number of a process above its column.
 #[tactic(auto, unfolding(crate::specs::Columns::head))]
 fn put_number(out: &mut Vec<u8>, p: u64) -> Result<(), AllocError>
     ensures { OnOk result (out.new.items ≡ out.old.items ++ head p) }
@@ -115,7 +115,7 @@ fn put_number(out: &mut Vec<u8>, p: u64) -> Result<(), AllocError>
     fill(out, start, 26)
 }
 
-/// Writes the numbers of the processes over their columns.
+/// Writes the numbers of the processes above their columns.
 pub fn put_heads(out: &mut Vec<u8>, phases: &[Phase]) -> Result<(), AllocError>
     ensures { OnOk result (out.new.items ≡ out.old.items ++ heads 0 phases.now) }
 {

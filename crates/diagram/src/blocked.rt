@@ -1,10 +1,10 @@
-//! Steps that wait.
+//! Blocked steps that are repeated.
 
 ghost use Rattle.std.specs.Prelude.{◌≡◌, None, IsTrue};
 
 use rmecore::{Happened, Kind, Word};
 
-/// Whether both kinds are the same of those that may wait.
+/// Whether both kinds are the same, and may be blocked.
 fn wait_alike(first: Kind, second: Kind) -> bool
     ensures { IsTrue result → first ≡ second }
 {
@@ -26,14 +26,14 @@ fn is_same_word(first: Word, second: Word) -> bool
     }
 }
 
-/// Whether the step is an access alone, and ends nothing.
+/// Whether the step has no deed of the lock, and no answer of the lock's part.
 fn is_bare(happened: &Happened) -> bool
     ensures { IsTrue result → (happened.now.outer ≡ None) × (happened.now.done ≡ None) }
 {
     happened.outer.is_none() && happened.done.is_none()
 }
 
-/// Whether a step is one that waits, and is taken once more.
+/// Whether the second step repeats the first: a blocked step that reads the same value of the same word.
 pub fn is_blocked_again(first: &Happened, second: &Happened) -> bool
     ensures { IsTrue result → first.now ≡ second.now }
 {

@@ -1,4 +1,4 @@
-//! The lines of a schedule, played on a machine, as the rows of a drawing.
+//! Plays the lines of a schedule on a machine, and collects the rows of a drawing.
 
 ghost use Rattle.std.specs.Prelude.{◌≡◌, ◌≤◌, ◌<◌, ◌-◌, ◌^◌, ◌∷◌, ◌++◌, [], None, IfSome, IsTrue, IsFalse};
 ghost use Rattle.diagram.specs.declared.act.Act.TheVariants.{Quiet as ActQuiet};
@@ -27,7 +27,7 @@ fn times_of(row: &Row, p: u64, happened: &Happened) -> Option<u64>
     None
 }
 
-/// Counts the step once more where it is the last row, if it is.
+/// Counts the step in the last row, if it repeats that row. Answers whether it does.
 fn again(rows: &mut Vec<Row>, p: u64, happened: &Happened) -> bool
     ensures counted { IsTrue result → events_in rows.new.items ≡ events_in rows.old.items ++ Took p (quiet happened.now) ∷ [] }
     ensures other { IsFalse result → rows.new.items ≡ rows.old.items }
@@ -46,11 +46,11 @@ fn again(rows: &mut Vec<Row>, p: u64, happened: &Happened) -> bool
     true
 }
 
-/// One more row.
+/// Adds a row.
 fn note_act(rows: &mut Vec<Row>, p: u64, act: Act) -> Result<(), Stop>
     ensures { Adds rows.old.items rows.new.items (record { p = p; act = act }) result }
 {
-    // Rattle's borrow checker has to see what an act holds.
+    // The borrow checker has to see what an act holds.
     let act = match act {
         Act::Quiet(happened, times) => Act::Quiet(happened, times),
         Act::Telling(stepped) => Act::Telling(stepped),
@@ -60,7 +60,7 @@ fn note_act(rows: &mut Vec<Row>, p: u64, act: Act) -> Result<(), Stop>
     Ok(())
 }
 
-/// One more step that tells nothing.
+/// Adds a silent step.
 fn note_quiet(rows: &mut Vec<Row>, p: u64, happened: &Happened) -> Result<(), Stop>
     ensures { Notes rows.old.items rows.new.items (Took p (quiet happened.now)) result }
 {
@@ -70,7 +70,7 @@ fn note_quiet(rows: &mut Vec<Row>, p: u64, happened: &Happened) -> Result<(), St
     note_act(rows, p, Act::Quiet(*happened, 1))
 }
 
-/// One more step.
+/// Adds a step.
 fn note(rows: &mut Vec<Row>, p: u64, stepped: &Stepped) -> Result<(), Stop>
     ensures { Notes rows.old.items rows.new.items (Took p stepped.now) result }
 {
@@ -80,7 +80,7 @@ fn note(rows: &mut Vec<Row>, p: u64, stepped: &Stepped) -> Result<(), Stop>
     }
 }
 
-/// At most n more steps of p, until its call is answered.
+/// Takes at most n more steps of p, until its call is answered. A refusal ends them, and is no fault.
 fn more_steps<M: Machine>(machine: &mut M, rows: &mut Vec<Row>, p: u64, n: u64) -> Result<(), Stop>
     ensures { let b = M.behaviour in Plays rows.old.items rows.new.items (steps_of b p n machine.old) None (steps b p n machine.old).1 machine.new result }
 {
@@ -100,7 +100,7 @@ fn more_steps<M: Machine>(machine: &mut M, rows: &mut Vec<Row>, p: u64, n: u64) 
     Ok(())
 }
 
-/// One step of p, and then more until n are taken or its call is answered.
+/// Takes steps of p until n are taken or its call is answered. They are refused where the first one is.
 fn take_steps<M: Machine>(machine: &mut M, rows: &mut Vec<Row>, p: u64, n: u64) -> Result<(), Stop>
     requires { 1 ≤ n }
     ensures { let b = M.behaviour in Plays rows.old.items rows.new.items (steps_of b p n machine.old) (M.behaviour.advance_refusal machine.old p) (steps b p n machine.old).1 machine.new result }
@@ -113,7 +113,7 @@ fn take_steps<M: Machine>(machine: &mut M, rows: &mut Vec<Row>, p: u64, n: u64) 
     more_steps(machine, rows, p, n - 1)
 }
 
-/// A crash of p.
+/// Crashes p.
 fn take_crash<M: Machine>(machine: &mut M, rows: &mut Vec<Row>, p: u64) -> Result<(), Stop>
     ensures { let b = M.behaviour in Plays rows.old.items rows.new.items (events_of b machine.old (LineCrash p)) (M.behaviour.crash_refusal machine.old p) (M.behaviour.crashed machine.old p) machine.new result }
 {
@@ -121,7 +121,7 @@ fn take_crash<M: Machine>(machine: &mut M, rows: &mut Vec<Row>, p: u64) -> Resul
     note_act(rows, p, Act::Fell(deed))
 }
 
-/// One line.
+/// Plays one line.
 fn take_line<M: Machine>(machine: &mut M, rows: &mut Vec<Row>, line: &Line) -> Result<(), Stop>
     ensures { let b = M.behaviour in Plays rows.old.items rows.new.items (events_of b machine.old line.now) (line_on b machine.old line.now).refused (line_on b machine.old line.now).left machine.new result }
 {
@@ -135,7 +135,7 @@ fn take_line<M: Machine>(machine: &mut M, rows: &mut Vec<Row>, line: &Line) -> R
     }
 }
 
-/// The lines of a schedule, of which the first has number 2. Where they stop, at which line and why.
+/// Plays the lines of a schedule. The first of them has number 2. Where they stop, answers the line and the reason.
 pub fn take_lines<M: Machine>(
     machine: &mut M,
     rows: &mut Vec<Row>,

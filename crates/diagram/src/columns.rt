@@ -20,7 +20,7 @@ fn lead(marked: bool) -> &'static [u8]
     if marked { b" >>> " } else { b" " }
 }
 
-/// Writes what a row tells, as lines of the report.
+/// Writes what a row reports, as lines of the report.
 fn put_telling(
     out: &mut Vec<u8>,
     phases: &[Phase],
@@ -48,7 +48,7 @@ fn put_telling(
     put_answer(out, p, answer)
 }
 
-/// Writes a row, with what it tells at the right.
+/// Writes a row, with what it reports at the right.
 pub fn put_row(
     out: &mut Vec<u8>,
     layout: &Layout,
@@ -63,7 +63,7 @@ pub fn put_row(
     put_telling(out, phases, marked, row.p, &row.deed(), row.answer())
 }
 
-/// Writes the numbers of the processes over their columns.
+/// Writes the numbers of the processes above their columns.
 pub fn put_top(out: &mut Vec<u8>, phases: &[Phase]) -> Result<(), AllocError>
     ensures { OnOk result (out.new.items ≡ out.old.items ++ top_text phases.now) }
 {

@@ -14,7 +14,7 @@ use judge::Judge;
 use schedule::Verdict;
 use schedule::replays::hearing::Hearing;
 
-/// Hears the judge on the deed that a row is, if it is one.
+/// Gives the judge the deed of a row, if it has one.
 fn hear(hearing: &mut Hearing, judge: &mut Judge, row: &Row)
     ensures { Hears (bench judge.old hearing.old) (deeds_of (did (deed_of row.now.act))) (bench judge.new hearing.new) }
 {
@@ -24,7 +24,7 @@ fn hear(hearing: &mut Hearing, judge: &mut Judge, row: &Row)
     hearing.hear(judge, &deed);
 }
 
-/// What a judge says of the deeds that rows show.
+/// The verdict of a judge on the deeds of rows.
 pub fn verdict_on(judge: &mut Judge, rows: &[Row]) -> Verdict
     ensures { (start : State) → Keeps judge.old start → result ≡ verdict_of start (deeds_of (told_in (events_in rows.now))) }
 {

@@ -20,12 +20,12 @@ use schedule::{OutOfMemory, Schedule};
 use std::alloc::Global;
 use schedule::Verdict;
 
-/// How a run ends that is drawn.
+/// How a run ends.
 #[derive(Clone, Copy, Debug, PartialEq, Eq)]
 pub enum End {
-    /// All lines were played; what the judge says of the deeds.
+    /// All lines were played. The verdict is on all deeds.
     Judged(Verdict),
-    /// The machine refused this line with this number; what the judge says of the deeds before it.
+    /// The machine refused this line, with the number of this `Refusal`. The verdict is on the deeds before it.
     Refused {
         line: u64,
         number: u64,
@@ -33,18 +33,18 @@ pub enum End {
     },
 }
 
-/// A schedule's run in rows.
+/// The rows of a schedule's run, and how the run ends.
 #[derive(Debug, Drop)]
 pub struct Drawing {
-    /// The sizes.
+    /// The header of the schedule.
     pub head: Head,
-    /// The phase in which each process begins.
+    /// The phase in which all processes begin.
     pub first: Phase,
     pub rows: Vec<Row>,
     pub end: End,
 }
 
-/// How a run ends whose lines were played so, with this verdict.
+/// How a run ends, by how its lines were played and the verdict on its deeds.
 fn end_of(played: Result<(), (u64, Stop)>, verdict: Verdict) -> Result<End, OutOfMemory>
     ensures { IfOk result (λ end. IsEndOf played verdict end) }
 {
@@ -59,8 +59,9 @@ fn end_of(played: Result<(), (u64, Stop)>, verdict: Verdict) -> Result<End, OutO
     }
 }
 
-/// Plays the lines of a schedule on a machine, before a judge, and keeps what is to be drawn: the rows take memory, a
-/// repetition takes none. `first` is the phase of the machine's processes: at rest in a new world, dead in that of an image.
+/// Plays the lines of a schedule on a machine, before a judge, and keeps the rows of its drawing. Each row takes memory; a
+/// repetition takes none. `first` is the phase in which the machine's processes begin: `Rest` on a new world, `Dead` on the
+/// world of an image.
 pub fn draw<M: Machine>(
     alloc: Global,
     machine: &mut M,
@@ -70,11 +71,11 @@ pub fn draw<M: Machine>(
 ) -> Result<Drawing, OutOfMemory>
     // The rows show just the run of the schedule on the machine: its steps and crashes.
     ensures events { IfOk result (λ drawing. events_in drawing.rows.items ≡ events_on M.behaviour machine.old schedule.now.lines) }
-    // They tell just what a replay reports.
+    // The rows report just what a replay reports.
     ensures told { IfOk result (λ drawing. told_in (events_in drawing.rows.items) ≡ (run_on M.behaviour 2 machine.old schedule.now.lines).told) }
-    // And end as it ends.
+    // The drawing ends as the run ends.
     ensures end { (start : State) → Keeps judge.old start → IfOk result (λ drawing. EndsAs start (run_on M.behaviour 2 machine.old schedule.now.lines) drawing.end) }
-    // The machine is left as the run leaves it.
+    // After a verdict the machine is as the run leaves it.
     ensures left { IfOk result (λ drawing. IsJudged drawing.end → machine.new ≡ (run_on M.behaviour 2 machine.old schedule.now.lines).left) }
     ensures sizes { IfOk result (λ drawing. (drawing.head ≡ head_of schedule.now) × (drawing.first ≡ first)) }
 {

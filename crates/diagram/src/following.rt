@@ -1,4 +1,4 @@
-//! A run told step by step.
+//! Writes a run step by step.
 
 ghost use Rattle.std.specs.Prelude.{◌≡◌, ◌++◌, OnOk, get_or, map};
 ghost use Rattle.std.proofs.Math.ListN.{replicate};
@@ -46,7 +46,7 @@ fn row_of(p: u64, step: &Stepped) -> Row
     }
 }
 
-/// The phase of a process.
+/// The phase of process p; past the list at rest.
 fn phase_of(phases: &[Phase], p: u64) -> Phase
     ensures { result ≡ get_or phases.now p Phase.Rest }
 {
@@ -66,7 +66,7 @@ fn put_access(out: &mut Vec<u8>, layout: &Layout, row: &Row) -> Result<(), Alloc
     }
 }
 
-/// Writes where the process of a row stands.
+/// Writes the phase of a row's process, and what the row reads or writes.
 #[tactic(auto, unfolding(crate::specs::Followed::place_line))]
 fn put_place(
     out: &mut Vec<u8>,
@@ -82,7 +82,7 @@ fn put_place(
     put_text(out, b"\n")
 }
 
-/// Writes a row, and what it tells.
+/// Writes a row, and what it reports.
 #[tactic(auto, unfolding(crate::specs::Followed::row_told))]
 fn put_row(
     out: &mut Vec<u8>,
@@ -96,7 +96,7 @@ fn put_row(
     put_told(out, row)
 }
 
-/// Writes a row, where the pen has taken it.
+/// Writes a row to a sink. The lifeline state has taken the row.
 fn write_row<W: Sink>(
     page: &mut Vec<u8>,
     layout: &Layout,
@@ -130,7 +130,7 @@ fn write_times<W: Sink>(
     Ok(())
 }
 
-/// Writes what a row shows.
+/// Writes the steps that a row shows, or its crash.
 fn write_shown<W: Sink>(
     page: &mut Vec<u8>,
     layout: &Layout,
@@ -151,7 +151,7 @@ fn write_shown<W: Sink>(
     }
 }
 
-/// Writes what rows show.
+/// Writes the steps and crashes that rows show.
 fn write_rows<W: Sink>(
     page: &mut Vec<u8>,
     layout: &Layout,
@@ -167,7 +167,7 @@ fn write_rows<W: Sink>(
     Ok(())
 }
 
-/// Writes the steps and crashes of a run, from a drawing of it.
+/// Writes the steps and crashes of a run, from its drawing.
 fn write_steps<W: Sink>(alloc: Global, drawing: &Drawing, w: &mut W) -> Result<(), ReplayFault>
     ensures { Spells (W.tape w.old) (W.tape w.new) (followed (layout_in drawing.now.head) (replicate drawing.now.head.procs drawing.now.first) (events_in drawing.now.rows.items)) result }
 {
@@ -177,7 +177,7 @@ fn write_steps<W: Sink>(alloc: Global, drawing: &Drawing, w: &mut W) -> Result<(
     write_rows(&mut page, &layout, &mut pen, drawing.rows.as_slice(), w)
 }
 
-/// Writes the end of the report of a machine, behind the steps that led there; of a run that was refused there is none.
+/// Writes the end of a machine's report after the steps. A run that was refused has no such end.
 fn write_end<M: Machine, W: Sink>(
     alloc: Global,
     machine: &M,
@@ -201,7 +201,7 @@ fn write_end<M: Machine, W: Sink>(
     }
 }
 
-/// Plays the lines of a schedule on a machine, before a judge, as `draw` does, and writes its run step by step.
+/// Plays the lines of a schedule on a machine, before a judge, as `draw` does, and writes the run step by step.
 pub fn follow<M: Machine, W: Sink>(
     alloc: Global,
     machine: &mut M,
@@ -210,10 +210,10 @@ pub fn follow<M: Machine, W: Sink>(
     first: Phase,
     w: &mut W,
 ) -> Result<Verdict, ReplayFault>
-    // Just this run is told, and its verdict answered; or why not.
+    // Just this run is written and its verdict answered, or the reason why not.
     ensures follows { (start : State) → Keeps judge.old start → Follows (W.tape w.old) (W.tape w.new) start M.behaviour.image_of (run_on M.behaviour 2 machine.old schedule.now.lines)
         (followed (layout_in (head_of schedule.now)) (replicate schedule.now.procs first) (events_on M.behaviour machine.old schedule.now.lines)) result }
-    // After a verdict the machine is left as the run leaves it.
+    // After a verdict the machine is as the run leaves it.
     ensures left { OnOk result (machine.new ≡ (run_on M.behaviour 2 machine.old schedule.now.lines).left) }
 {
     let Ok(drawing) = draw(alloc, machine, judge, schedule, first) else {

@@ -1,4 +1,4 @@
-//! What stands above and below the rows of the picture.
+//! The parts of the SVG drawing above and below its rows. All sizes are in pixels.
 
 ghost use Rattle.std.specs.Prelude.{◌≡◌, ◌≤◌, ◌-◌, ◌++◌, OnOk};
 ghost use Rattle.diagram.specs.Pictures.{end_picture, head_picture, key, key_name, keys, last_picture, lifeline_name, lifeline_top, lifeline_tops, line_looks, mailbox_top, measured, paper, text_looks, top_picture, viewed};
@@ -10,7 +10,7 @@ use crate::paging::{put_around, put_text};
 use crate::phase::Phase;
 use std::alloc::AllocError;
 
-/// Writes how large the picture is.
+/// Writes the size of the picture.
 #[tactic(auto, unfolding(crate::specs::Pictures::measured))]
 fn put_measures(out: &mut Vec<u8>, wide: u64, high: u64) -> Result<(), AllocError>
     ensures { OnOk result (out.new.items ≡ out.old.items ++ measured wide high) }
@@ -24,7 +24,7 @@ fn put_measures(out: &mut Vec<u8>, wide: u64, high: u64) -> Result<(), AllocErro
     put_around(out, b"", high, b"'")
 }
 
-/// Writes which part of the plane the picture shows.
+/// Writes the view box of the picture.
 #[tactic(auto, unfolding(crate::specs::Pictures::viewed))]
 fn put_view(out: &mut Vec<u8>, wide: u64, high: u64) -> Result<(), AllocError>
     ensures { OnOk result (out.new.items ≡ out.old.items ++ viewed wide high) }
@@ -33,7 +33,7 @@ fn put_view(out: &mut Vec<u8>, wide: u64, high: u64) -> Result<(), AllocError>
     put_around(out, b"", high, b"'>\n")
 }
 
-/// Writes how texts and lifelines look.
+/// Writes the styles of texts and lifelines.
 #[tactic(auto, unfolding(crate::specs::Pictures::text_looks))]
 fn put_text_looks(out: &mut Vec<u8>) -> Result<(), AllocError>
     ensures { OnOk result (out.new.items ≡ out.old.items ++ text_looks) }
@@ -48,7 +48,7 @@ fn put_text_looks(out: &mut Vec<u8>) -> Result<(), AllocError>
     )
 }
 
-/// Writes how other marks look.
+/// Writes the styles of the other marks.
 #[tactic(auto, unfolding(crate::specs::Pictures::line_looks))]
 fn put_line_looks(out: &mut Vec<u8>) -> Result<(), AllocError>
     ensures { OnOk result (out.new.items ≡ out.old.items ++ line_looks) }
@@ -63,7 +63,7 @@ fn put_line_looks(out: &mut Vec<u8>) -> Result<(), AllocError>
     )
 }
 
-/// Writes the pattern of a lifeline that is broken off, and white paper.
+/// Writes the pattern of a dead process's lifeline, and a white background.
 #[tactic(auto, unfolding(crate::specs::Pictures::paper))]
 fn put_paper(out: &mut Vec<u8>) -> Result<(), AllocError>
     ensures { OnOk result (out.new.items ≡ out.old.items ++ paper) }
@@ -78,7 +78,7 @@ fn put_paper(out: &mut Vec<u8>) -> Result<(), AllocError>
     )
 }
 
-/// Writes the name of a colour.
+/// Writes the name of a colour in the key.
 #[tactic(auto, unfolding(crate::specs::Pictures::key_name))]
 fn put_key_name(out: &mut Vec<u8>, phase: Phase) -> Result<(), AllocError>
     ensures { OnOk result (out.new.items ≡ out.old.items ++ key_name phase) }
@@ -119,7 +119,7 @@ fn put_keys(out: &mut Vec<u8>) -> Result<(), AllocError>
     )
 }
 
-/// Writes the name of a process over its lifeline.
+/// Writes the name of a process above its lifeline.
 #[tactic(auto, unfolding(crate::specs::Pictures::lifeline_name))]
 fn put_name(out: &mut Vec<u8>, p: u64) -> Result<(), AllocError>
     ensures { OnOk result (out.new.items ≡ out.old.items ++ lifeline_name p) }
@@ -144,7 +144,7 @@ fn put_top_of(out: &mut Vec<u8>, p: u64, phase: Phase, long: u64) -> Result<(), 
     put_group_end(out)
 }
 
-/// Writes the tops of all processes' lifelines.
+/// Writes the tops of the lifelines of all processes.
 fn put_tops(out: &mut Vec<u8>, long: u64, phases: &[Phase]) -> Result<(), AllocError>
     ensures { OnOk result (out.new.items ≡ out.old.items ++ lifeline_tops long 0 phases.now) }
 {
@@ -171,7 +171,7 @@ fn put_mailbox(out: &mut Vec<u8>, x: u64, long: u64) -> Result<(), AllocError>
     put_group_end(out)
 }
 
-/// Writes the head of the file, and what things mean.
+/// Writes the head of the file, and the key.
 #[tactic(auto, unfolding(crate::specs::Pictures::head_picture))]
 fn put_head(out: &mut Vec<u8>, wide: u64, high: u64) -> Result<(), AllocError>
     ensures { OnOk result (out.new.items ≡ out.old.items ++ head_picture wide high) }
@@ -184,7 +184,7 @@ fn put_head(out: &mut Vec<u8>, wide: u64, high: u64) -> Result<(), AllocError>
     put_keys(out)
 }
 
-/// Writes what stands above the rows of so many processes, whose lifelines end at the bottom.
+/// Writes the part above the rows, for this many processes, whose lifelines end at the bottom.
 pub fn put_top(
     out: &mut Vec<u8>,
     procs: u64,

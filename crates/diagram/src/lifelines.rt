@@ -1,4 +1,4 @@
-//! The pieces of the picture, and where they stand.
+//! The lifelines of the SVG drawing, and where its parts are, in pixels.
 
 ghost use Rattle.std.specs.Prelude.{◌≡◌, ◌≤◌, ◌<◌, ◌^◌, ◌++◌, OnOk};
 ghost use Rattle.diagram.specs.Pictures.{bottom_of as bottom_for, class_of as class_for, far_from as far_between, group_at, group_end, lifeline, lifeline_if, x_of as x_for, y_of as y_for};
@@ -7,7 +7,7 @@ use crate::paging::{put_around, put_text};
 use crate::phase::Phase;
 use std::alloc::AllocError;
 
-/// Where the lifeline of a process stands; that of the mailbox where a next one would.
+/// The x of a process's lifeline. That of the mailbox is the x of a next process.
 pub fn x_of(p: u64) -> u64
     ensures at { result ≡ x_for p }
     ensures most { result ≤ 12348 }
@@ -15,7 +15,7 @@ pub fn x_of(p: u64) -> u64
     192 * p.min(64) + 60
 }
 
-/// How far the mailbox is from a process.
+/// The distance from a process's lifeline to the mailbox's.
 pub fn far_from(procs: u64, p: u64) -> u64
     ensures far { result ≡ far_between procs p }
     ensures most { result ≤ 12348 }
@@ -23,21 +23,21 @@ pub fn far_from(procs: u64, p: u64) -> u64
     x_of(procs).saturating_sub(x_of(p))
 }
 
-/// Where a row stands, counted from 1.
+/// The y of a row. Rows count from 1.
 pub fn y_of(row: u64) -> u64
     ensures { result ≡ y_for row }
 {
     row.saturating_mul(18).saturating_add(82)
 }
 
-/// Where the lifelines of so many rows end.
+/// The y where the lifelines end, below this many rows.
 pub fn bottom_of(rows: u64) -> u64
     ensures { result ≡ bottom_for rows }
 {
     y_of(rows).saturating_add(18)
 }
 
-/// The name of a phase, which has its colour.
+/// The name of a phase, which is the class of its colour.
 pub fn class_of(phase: Phase) -> &'static [u8]
     ensures { result.now ≡ class_for phase }
 {
@@ -50,7 +50,7 @@ pub fn class_of(phase: Phase) -> &'static [u8]
     }
 }
 
-/// Writes a lifeline from here down, in the colour of a phase.
+/// Writes a lifeline downward from here, in the colour of a phase.
 #[tactic(auto, unfolding(crate::specs::Pictures::lifeline))]
 pub fn put_lifeline(out: &mut Vec<u8>, phase: Phase, long: u64) -> Result<(), AllocError>
     ensures { OnOk result (out.new.items ≡ out.old.items ++ lifeline phase long) }
@@ -60,7 +60,7 @@ pub fn put_lifeline(out: &mut Vec<u8>, phase: Phase, long: u64) -> Result<(), Al
     put_around(out, b"' x='-4.5' y='.5' width='9' height='", long, b"'/>")
 }
 
-/// Writes a lifeline from here down where a phase is shown.
+/// Writes such a lifeline, if there is a phase.
 pub fn put_lifeline_if(out: &mut Vec<u8>, phase: Option<Phase>, long: u64) -> Result<(), AllocError>
     ensures { OnOk result (out.new.items ≡ out.old.items ++ lifeline_if phase long) }
 {
@@ -70,7 +70,7 @@ pub fn put_lifeline_if(out: &mut Vec<u8>, phase: Option<Phase>, long: u64) -> Re
     }
 }
 
-/// Writes from which place on what follows is drawn.
+/// Begins a group: what follows is drawn from this point on.
 #[tactic(auto, unfolding(crate::specs::Pictures::group_at))]
 pub fn put_group(out: &mut Vec<u8>, x: u64, y: u64) -> Result<(), AllocError>
     ensures { OnOk result (out.new.items ≡ out.old.items ++ group_at x y) }
@@ -79,7 +79,7 @@ pub fn put_group(out: &mut Vec<u8>, x: u64, y: u64) -> Result<(), AllocError>
     put_around(out, b"", y, b")'>")
 }
 
-/// Writes the end of what is drawn from a place on.
+/// Ends a group.
 pub fn put_group_end(out: &mut Vec<u8>) -> Result<(), AllocError>
     ensures { OnOk result (out.new.items ≡ out.old.items ++ group_end) }
 {

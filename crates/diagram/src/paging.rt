@@ -1,4 +1,4 @@
-//! Writes at the end of a page.
+//! Writes parts of a text at the end of a page.
 
 ghost use Rattle.std.specs.Prelude.{◌≡◌, ◌≤◌, ◌-◌, ◌++◌, ◌∷◌, [], length, OnOk};
 ghost use Rattle.std.specs.Fmt.{decimal};
@@ -23,7 +23,7 @@ pub fn put_text(out: &mut Vec<u8>, text: &[u8]) -> Result<(), AllocError>
     out.extend_from_slice(text)
 }
 
-/// Writes a text and a number behind it.
+/// Writes a text, and a number after it.
 pub fn put_piece(out: &mut Vec<u8>, text: &[u8], number: u64) -> Result<(), AllocError>
     ensures { OnOk result (out.new.items ≡ out.old.items ++ text.now ++ decimal number) }
 {
@@ -44,7 +44,7 @@ pub fn put_around(
     put_text(out, after)
 }
 
-/// Writes a name with an index.
+/// Writes a name, and an index in brackets after it.
 pub fn put_indexed(out: &mut Vec<u8>, name: &[u8], index: u64) -> Result<(), AllocError>
     ensures { OnOk result (out.new.items ≡ out.old.items ++ indexed name.now index) }
 {
@@ -52,7 +52,7 @@ pub fn put_indexed(out: &mut Vec<u8>, name: &[u8], index: u64) -> Result<(), All
     put_around(out, b"[", index, b"]")
 }
 
-/// Writes as many spaces.
+/// Writes this many spaces.
 pub fn put_spaces(out: &mut Vec<u8>, count: usize) -> Result<(), AllocError>
     ensures { OnOk result (out.new.items ≡ out.old.items ++ spaces count) }
 {
@@ -62,7 +62,7 @@ pub fn put_spaces(out: &mut Vec<u8>, count: usize) -> Result<(), AllocError>
     Ok(())
 }
 
-/// Writes spaces behind what was written from this place on, up to a width.
+/// Writes spaces after what was written from `start` on, up to a width.
 pub fn fill(out: &mut Vec<u8>, start: usize, wide: usize) -> Result<(), AllocError>
     requires { start ≤ length out.old.items }
     ensures { OnOk result (out.new.items ≡ out.old.items ++ spaces (wide - (length out.old.items - start))) }

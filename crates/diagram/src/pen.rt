@@ -1,4 +1,4 @@
-//! What the rows before have left.
+//! The state of the lifelines after the rows so far.
 
 ghost use Rattle.std.specs.Prelude.{◌≡◌, ◌≤◌, IfOk};
 ghost use Rattle.std.proofs.Math.ListN.{replicate};
@@ -9,7 +9,7 @@ use crate::phase::{Phase, phase_shown};
 use std::alloc::{AllocError, Global};
 use std::marker::Model;
 
-/// The phases of the processes, how many deeds there were, and how many rows.
+/// The phases of the processes, the number of deeds, and the number of rows.
 #[derive(Drop)]
 pub struct Pen {
     phases: Vec<Phase>,
@@ -26,7 +26,7 @@ impl Model for Pen {
 }
 
 impl Pen {
-    /// Before the first row, with so many processes in the same phase.
+    /// Before the first row: this many processes, all in this phase.
     pub fn new(alloc: Global, procs: u64, first: Phase) -> Result<Pen, AllocError>
         ensures { IfOk result (λ pen. pen ≡ record { phases = replicate procs first; deeds = 0; rows = 0 }) }
     {
@@ -45,21 +45,21 @@ impl Pen {
         self.phases.as_slice()
     }
 
-    /// How many rows it has taken.
+    /// The number of rows that it has taken.
     pub fn rows(&self) -> u64
         ensures { result ≡ self.now.rows }
     {
         self.rows
     }
 
-    /// Whether the row, the last that it has taken, is the deed of this number.
+    /// Whether the row, the last that it has taken, has the deed of this number.
     pub fn is_deed(&self, at: u64, row: &Row) -> bool
         ensures { result ≡ is_deed_in at self.now row.now }
     {
         row.deed().is_some() && self.deeds == at
     }
 
-    /// Takes a row.
+    /// Takes the next row.
     pub fn take(&mut self, row: &Row)
         ensures { self.new ≡ pen_with self.old row.now }
     {

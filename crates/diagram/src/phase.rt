@@ -1,4 +1,4 @@
-//! What a process is, as others see it.
+//! The phase of a process, as its steps show it.
 
 ghost use Rattle.std.specs.Prelude.{◌≡◌, Some};
 ghost use Rattle.redomail.specs.declared.deed.Deed.TheVariants.{Outer as DeedOuter};
@@ -8,10 +8,10 @@ use crate::act::{Act, Row};
 use redomail::Deed;
 use rmecore::{Kind, Outer};
 
-/// What a process is.
+/// The phase of a process, as its steps show it.
 #[derive(Clone, Copy, Debug, PartialEq, Eq)]
 pub enum Phase {
-    /// It is outside, and takes no number.
+    /// It is outside, and not on its way in.
     Rest,
     /// It takes a number.
     Doorway,
@@ -19,7 +19,7 @@ pub enum Phase {
     Waiting,
     /// It is inside.
     Section,
-    /// It has crashed, and not yet shown where it goes on.
+    /// It has crashed, and no step has shown yet where it goes on.
     Dead,
 }
 
@@ -47,7 +47,7 @@ fn phase_of_deed(deed: &Deed) -> Phase
     }
 }
 
-/// The phase that a step of this kind shows where it is no deed, if it shows one.
+/// The phase that a step of this kind shows where it has no deed.
 fn phase_of_kind(kind: Kind) -> Option<Phase>
     ensures { result ≡ phase_by kind }
 {
@@ -61,7 +61,7 @@ fn phase_of_kind(kind: Kind) -> Option<Phase>
     }
 }
 
-/// The phase that a step of this kind shows where it ends a call and is no deed: a recover ends at rest.
+/// The phase that a step of this kind shows where it ends a call and has no deed: a recover ends at rest.
 fn phase_of_last(kind: Kind) -> Option<Phase>
     ensures { result ≡ phase_at_last kind }
 {
@@ -71,7 +71,7 @@ fn phase_of_last(kind: Kind) -> Option<Phase>
     }
 }
 
-/// The phase that a row shows of its process. Where it shows none, it is the one before.
+/// The phase of its process that a row shows. None where the process stays in its phase.
 pub fn phase_shown(row: &Row) -> Option<Phase>
     ensures { result ≡ phase_in row.now.act }
 {

@@ -1,4 +1,4 @@
-//! The rows of the picture.
+//! The rows of the SVG drawing.
 
 ghost use Rattle.std.specs.Prelude.{◌≡◌, ◌≤◌, ◌++◌, OnOk};
 ghost use Rattle.diagram.specs.Pictures.{flag, join, joint, left_of, margin, mark, remarks, remarks_at, right_of, row_picture, row_title, step_mark, told_by};
@@ -13,7 +13,7 @@ use redomail::{Deed, Layout};
 use rmeworld::Answer;
 use std::alloc::AllocError;
 
-/// Writes what a row tells.
+/// Writes what a row reports.
 pub fn put_told(out: &mut Vec<u8>, row: &Row) -> Result<(), AllocError>
     ensures { OnOk result (out.new.items ≡ out.old.items ++ told_by row.now.p row.now.act) }
 {
@@ -26,7 +26,7 @@ pub fn put_told(out: &mut Vec<u8>, row: &Row) -> Result<(), AllocError>
     Ok(())
 }
 
-/// Writes what a row says where a reader points at it.
+/// Writes the title of a row, which a viewer shows where the reader points at it.
 #[tactic(auto, unfolding(crate::specs::Pictures::row_title))]
 fn put_title(out: &mut Vec<u8>, layout: &Layout, row: &Row) -> Result<(), AllocError>
     ensures { OnOk result (out.new.items ≡ out.old.items ++ row_title layout.now row.now) }
@@ -63,7 +63,7 @@ fn put_mark(out: &mut Vec<u8>, layout: &Layout, row: &Row) -> Result<(), AllocEr
     }
 }
 
-/// Writes the line from a deed to the mailbox.
+/// Writes the line from a deed to the mailbox, `far` pixels long.
 #[tactic(auto, unfolding(crate::specs::Pictures::joint))]
 fn put_line(out: &mut Vec<u8>, far: u64) -> Result<(), AllocError>
     ensures { OnOk result (out.new.items ≡ out.old.items ++ joint far) }
@@ -77,7 +77,7 @@ fn put_line(out: &mut Vec<u8>, far: u64) -> Result<(), AllocError>
     put_around(out, b"", far, b"'/>")
 }
 
-/// Joins a deed of the mailbox to its lifeline.
+/// Joins a deed of the mailbox to the mailbox's lifeline.
 fn put_join(out: &mut Vec<u8>, deed: &Option<Deed>, far: u64) -> Result<(), AllocError>
     ensures { OnOk result (out.new.items ≡ out.old.items ++ join deed.now far) }
 {
@@ -88,7 +88,7 @@ fn put_join(out: &mut Vec<u8>, deed: &Option<Deed>, far: u64) -> Result<(), Allo
     }
 }
 
-/// Writes what a step tells, in one line.
+/// Writes what a step reports, in one line.
 fn put_remarks(
     out: &mut Vec<u8>,
     p: u64,
@@ -111,7 +111,7 @@ fn put_remarks(
     put_answer(out, p, answer)
 }
 
-/// Writes it at the right.
+/// Writes this line at the right.
 #[tactic(auto, unfolding(crate::specs::Pictures::remarks_at))]
 fn put_remarks_at(
     out: &mut Vec<u8>,
@@ -128,7 +128,7 @@ fn put_remarks_at(
     put_text(out, b"</text>")
 }
 
-/// Writes what a row tells, if it tells anything.
+/// Writes what a row reports, if it reports anything.
 fn put_margin(
     out: &mut Vec<u8>,
     far: u64,
@@ -145,7 +145,7 @@ fn put_margin(
     put_remarks_at(out, far, p, deed, answer)
 }
 
-/// Writes a frame round the deed that the verdict is against.
+/// Writes a frame around the deed that the verdict is against.
 fn put_flag(out: &mut Vec<u8>, marked: bool, far: u64) -> Result<(), AllocError>
     requires { far ≤ 12348 }
     ensures { OnOk result (out.new.items ≡ out.old.items ++ flag marked far) }
@@ -161,7 +161,7 @@ fn put_flag(out: &mut Vec<u8>, marked: bool, far: u64) -> Result<(), AllocError>
     )
 }
 
-/// Writes what stands at the right of a row.
+/// Writes the part of a row at its right.
 #[tactic(auto, unfolding(crate::specs::Pictures::right_of))]
 fn put_right(out: &mut Vec<u8>, row: &Row, far: u64, marked: bool) -> Result<(), AllocError>
     requires { far ≤ 12348 }
@@ -172,7 +172,7 @@ fn put_right(out: &mut Vec<u8>, row: &Row, far: u64, marked: bool) -> Result<(),
     put_flag(out, marked, far)
 }
 
-/// Writes what stands at the lifeline of a row's process.
+/// Writes the part of a row at the lifeline of its process.
 #[tactic(auto, unfolding(crate::specs::Pictures::left_of))]
 fn put_left(out: &mut Vec<u8>, layout: &Layout, row: &Row, below: u64) -> Result<(), AllocError>
     ensures { OnOk result (out.new.items ≡ out.old.items ++ left_of layout.now row.now below) }
@@ -182,7 +182,7 @@ fn put_left(out: &mut Vec<u8>, layout: &Layout, row: &Row, below: u64) -> Result
     put_mark(out, layout, row)
 }
 
-/// Writes a row at this place, with so much room below it.
+/// Writes a row at the height `y`, with `below` pixels down to the end of its lifeline.
 pub fn put_row(
     out: &mut Vec<u8>,
     layout: &Layout,

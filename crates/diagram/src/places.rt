@@ -7,7 +7,7 @@ use crate::paging::{put_indexed, put_text};
 use redomail::Layout;
 use std::alloc::AllocError;
 
-/// Writes the name of the word k of the entry at a place.
+/// Writes the name of word k of the entry at a place.
 fn put_entry(out: &mut Vec<u8>, at: u64, k: u64) -> Result<(), AllocError>
     ensures { OnOk result (out.new.items ≡ out.old.items ++ entry_word at k) }
 {
@@ -21,7 +21,7 @@ fn put_entry(out: &mut Vec<u8>, at: u64, k: u64) -> Result<(), AllocError>
     put_indexed(out, b"", k - 2)
 }
 
-/// Writes the name of a word behind the record's, counted from there.
+/// Writes the name of a data word after the record's. The index counts from there.
 fn put_behind(out: &mut Vec<u8>, layout: &Layout, index: u64) -> Result<(), AllocError>
     ensures { OnOk result (out.new.items ≡ out.old.items ++ word_behind layout.now index) }
 {
@@ -37,7 +37,7 @@ fn put_behind(out: &mut Vec<u8>, layout: &Layout, index: u64) -> Result<(), Allo
     put_entry(out, index / size, index % size)
 }
 
-/// Writes the name of a word of the record or behind it, counted from there.
+/// Writes the name of a data word of the record's value, or after it. The index counts from there.
 fn put_recorded(out: &mut Vec<u8>, layout: &Layout, index: u64) -> Result<(), AllocError>
     ensures { OnOk result (out.new.items ≡ out.old.items ++ recorded_word layout.now index) }
 {

@@ -1,4 +1,4 @@
-//! What a drawing is written with.
+//! What all rows of a drawing are drawn with.
 
 ghost use Rattle.std.specs.Prelude.{◌≡◌, length};
 ghost use Rattle.diagram.specs.Sheets.{against as against_in, deed_against as deed_in, layout_of as layout_in};
@@ -9,7 +9,7 @@ use redomail::Layout;
 use schedule::texts::head::Head;
 use schedule::Verdict;
 
-/// How a drawing is spelled.
+/// The style of a drawing.
 #[derive(Clone, Copy, Debug, PartialEq, Eq)]
 pub enum Style {
     /// A column for each process, a row for each step or crash.
@@ -18,14 +18,14 @@ pub enum Style {
     Svg,
 }
 
-/// What a drawing is written with.
+/// What all rows of a drawing are drawn with.
 #[derive(Clone, Copy, Debug, PartialEq, Eq)]
 pub struct Sheet {
     pub style: Style,
     pub layout: Layout,
-    /// How many rows there are.
+    /// The number of rows.
     pub rows: u64,
-    /// The number of the deed that the verdict is against, 0 if there is none.
+    /// The number of the deed that the verdict is against; 0 if there is none.
     pub against: u64,
 }
 
@@ -46,7 +46,7 @@ fn against(end: &End) -> u64
     }
 }
 
-/// The sizes that a header names, but for the limit.
+/// The sizes that a header names, without the limit.
 pub fn layout_of(head: Head) -> Layout
     ensures { result ≡ layout_in head }
 {
@@ -57,7 +57,7 @@ pub fn layout_of(head: Head) -> Layout
     }
 }
 
-/// The sheet of a drawing.
+/// What the rows of this drawing are drawn with.
 pub fn sheet_of(style: Style, drawing: &Drawing) -> Sheet
     ensures { result ≡ sheet_for style drawing.now.head drawing.now.rows.items drawing.now.end }
 {

@@ -11,9 +11,9 @@ use std::alloc::AllocFailed;
 /// Why the lines of a schedule are not played to their end.
 #[derive(Clone, Copy, Debug, PartialEq, Eq)]
 pub enum Stop {
-    /// The machine refuses; the number is that of the refusal.
+    /// The machine refuses the line. The number is that of the `Refusal`.
     Refused(u64),
-    /// There was no memory.
+    /// Out of memory.
     OutOfMemory,
 }
 

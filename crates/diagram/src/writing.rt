@@ -1,4 +1,4 @@
-//! Writing a drawing.
+//! Writes a drawing.
 
 ghost use Rattle.std.specs.Prelude.{◌≡◌, ◌++◌, OnOk};
 ghost use Rattle.diagram.specs.Drawings.{end_in, row_spelled, rows_spelled, sheet_of as sheet_for, spelled, spelled_from, Spells, top_in};
@@ -15,7 +15,7 @@ use schedule::texts::device::write_all;
 use std::alloc::{AllocError, Global};
 use schedule::ReplayFault;
 
-/// Writes a row, where the pen has taken it.
+/// Writes a row. The lifeline state has taken the row.
 fn put_row(out: &mut Vec<u8>, sheet: &Sheet, pen: &Pen, row: &Row) -> Result<(), AllocError>
     ensures { OnOk result (out.new.items ≡ out.old.items ++ row_spelled sheet.now pen.now row.now) }
 {
@@ -30,7 +30,7 @@ fn put_row(out: &mut Vec<u8>, sheet: &Sheet, pen: &Pen, row: &Row) -> Result<(),
     }
 }
 
-/// Writes what stands above the rows.
+/// Writes the part above the rows.
 fn put_top(out: &mut Vec<u8>, sheet: &Sheet, phases: &[Phase]) -> Result<(), AllocError>
     ensures { OnOk result (out.new.items ≡ out.old.items ++ top_in sheet.now.style sheet.now phases.now) }
 {
@@ -40,7 +40,7 @@ fn put_top(out: &mut Vec<u8>, sheet: &Sheet, phases: &[Phase]) -> Result<(), All
     }
 }
 
-/// Writes what stands below the rows.
+/// Writes the part below the rows.
 fn put_end(out: &mut Vec<u8>, sheet: &Sheet, end: &End) -> Result<(), AllocError>
     ensures { OnOk result (out.new.items ≡ out.old.items ++ end_in sheet.now.style sheet.now end.now) }
 {
@@ -50,7 +50,7 @@ fn put_end(out: &mut Vec<u8>, sheet: &Sheet, end: &End) -> Result<(), AllocError
     }
 }
 
-/// Writes what stands above the rows to a sink.
+/// Writes the part above the rows to a sink.
 fn write_top<W: Sink>(
     page: &mut Vec<u8>,
     sheet: &Sheet,
@@ -98,7 +98,7 @@ fn write_rows<W: Sink>(
     Ok(())
 }
 
-/// Writes what stands below the rows to a sink.
+/// Writes the part below the rows to a sink.
 fn write_last<W: Sink>(
     page: &mut Vec<u8>,
     sheet: &Sheet,
@@ -113,7 +113,7 @@ fn write_last<W: Sink>(
     Ok(())
 }
 
-/// Writes what stands below the rows to a sink, and flushes it.
+/// Writes the part below the rows to a sink, and flushes it.
 fn write_end<W: Sink>(
     page: &mut Vec<u8>,
     sheet: &Sheet,
@@ -150,7 +150,7 @@ pub fn write_drawing<W: Sink>(
     style: Style,
     w: &mut W,
 ) -> Result<(), ReplayFault>
-    // Just the drawing's text is written; or a beginning of it, and why not the rest.
+    // Just the drawing's text is written, or a beginning of it and the reason why not the rest.
     ensures { Spells (W.tape w.old) (W.tape w.new) (spelled (sheet_for style drawing.now.head drawing.now.rows.items drawing.now.end) drawing.now.first drawing.now.rows.items drawing.now.end) result }
 {
     let sheet = sheet_of(style, drawing);

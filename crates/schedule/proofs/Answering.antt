@@ -23,7 +23,7 @@ pub cut_faulty : (lines : List (List ℕ)) (rest : List ℕ) (k : ℕ) (f : Line
     → trace_answer (lines ++ rest ∷ []) ≡ Err (Text k (number_of f))
 cut_faulty lines rest k f some h = ap answer_of (faulty_last trace_head_at item lines rest (k, f) h.1 some h.0)
 
--- the last line is not ended, and no earlier one is faulty
+-- the last line has no LF, and no earlier line is faulty
 pub cut_fine : (stage : Stage) (lines : List (List ℕ)) (rest : List ℕ) → 0 < length rest → ((k : ℕ) (f : LineFault) → stage ≡ stages.Faulty k f → ⊥) → Stands stage lines
     → trace_answer (lines ++ rest ∷ []) ≡ Err (Text (length lines + 1) 5)
 cut_fine stages.First lines rest some sound none = rw none (ap answer_of (none_last trace_head_at item rest some))
@@ -33,7 +33,7 @@ cut_fine (stages.Faulty k f) lines rest some sound h = absurd (sound k f refl)
 
 -- ---- the whole source
 
--- an answer that no text has
+-- an answer of the device or of memory, which no text has
 pub IsOfDevice : ReplayFault → Type 0
 IsOfDevice Read = Unit {0}
 IsOfDevice OutOfMemory = Unit {0}

@@ -1,4 +1,4 @@
--- The end of a report, and the whole.
+-- The end of a report, and the whole report.
 use Rattle.std.proofs.Common.{◌≡◌, ℕ, ◌+◌, ◌-◌, ◌^◌, min, List, [], ◌++◌, Option, Some, None, Err, refl, sym, ap, subst, ◌∙◌, append_assoc, ◌⊎◌, inl, inr, append-nil}
 use Rattle.schedule.proofs.ReplaysCommon.{Refusal, Deed, Kept, Keeps, State, Image, Hearing, ReplayFault, Text, Read, OutOfMemory, Refused, Write, Verdict, opened, bench, with_more, heard_with, Hears, Tape}
 use Rattle.schedule.proofs.ReplaysCommon.{Writes, BreaksOff, Ends, IsRefused, told_text, owns_text, words_of_verdict, verdict_line, IsEnd, Part, deeds_of, verdict_on}
@@ -7,12 +7,12 @@ use Rattle.schedule.specs.Replays.{IsAll, Reported, CutShort, Closes}
 use Rattle.schedule.proofs.Heard.{no_more}
 use Rattle.schedule.proofs.Playing.{begins_further, begins_wider, breaks_further, breaks_wider, breaks_nothing, none_behind, line_some}
 
--- it ends with a line
+-- it is not empty
 end_some : (image : Image) (verdict : Verdict) (end : List ℕ) → IsEnd image verdict end → end ≡ [] → ⊥
 end_some image verdict end is none =
     line_some (words_of_verdict verdict) (none_behind (owns_text 0 image.lock ++ is.0) (verdict_line verdict) (sym is.2 ∙ none))
 
--- there is no memory for the page
+-- out of memory for the page
 pub closes_nothing : (t : Tape) (image : Image) (verdict : Verdict) → ((end : List ℕ) → IsEnd image verdict end → BreaksOff t.taken t.taken end) × (t.failures ≡ t.failures)
 closes_nothing t image verdict = (λ end is. breaks_nothing t.taken end (end_some image verdict end is), refl)
 
@@ -74,7 +74,7 @@ module _ {S : Type 0} (start : State) (image_of : S → Image) (run : Part S (�
     rw (← writes.fine) h.1,
   )
 
-  -- there is no memory for the image
+  -- out of memory for the image
   pub no_image : (before mid : Tape) → Writes before mid (told_text run.told) → run.refused ≡ None → CutShort before mid start image_of run OutOfMemory
   no_image before mid writes accepted =
       let image = image_of run.left in
@@ -107,7 +107,7 @@ pub never_refused : (before now : Tape) (image : Image) (verdict : Verdict) (fau
 never_refused before now image verdict (Refused line number) h is = h
 never_refused before now image verdict _ h is = is
 
--- the verdict of all deeds that were heard
+-- the verdict on all deeds that were judged
 pub ruled_on : (judge now : Kept) (first hearing : Hearing) (deeds : List Deed) (start : State) → first ≡ opened → Hears (bench judge first) deeds (bench now hearing) → Keeps judge start
     → hearing.verdict ≡ verdict_on start deeds
 ruled_on judge now first hearing deeds start fresh hears keeps =

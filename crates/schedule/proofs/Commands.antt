@@ -1,4 +1,4 @@
--- The lines of a schedule: what is read is spelled so, and what is spelled so is read.
+-- The lines of a schedule: reading and spelling are inverse.
 use Rattle.std.proofs.Common.{◌≡◌, ℕ, Bool, true, false, cond, eqb, List, [], ◌∷◌, map, drop, Ok, refl, sym, ap, ◌∙◌, arith, inl, inr, lit<, codes, ne_eqb}
 use Rattle.schedule.proofs.LinesCommon.{cases_eq, decimal, word_of, words_of_line, IsLine, commands_by_name, places, line_with, line_at, Shape, Number, any, many, has_fixed, numbers_at, is_nil, item_after}
 use Rattle.schedule.specs.declared.lines.line.Line.TheVariants.{Start, Step, Crash}
@@ -63,12 +63,12 @@ fixed width commands.Append ws = many_fixed width (drop 1 (drop 1 ws))
 fixed width commands.Step ws = steps_fixed (is_nil (drop 1 ws)) ws
 fixed width _ ws = refl
 
--- what is read is spelled so
+-- a line that is read is the spelling of its result
 line_takes : (width : ℕ) (ws : List (List ℕ)) (l : Line) → line_at width ws ≡ Ok l → (ws ≡ words_of_line l) × IsLine width l
 line_takes width ws l e =
     item_takes commands_by_name (places width) line_with words_of_line (IsLine width) word_of ws l (refl, (refl, (refl, (refl, (refl, (refl, (refl, (refl, (refl, (refl, (refl, tt))))))))))) (narrow width) (fixed width) (says width) e
 
--- what is spelled so is read
+-- the spelling of a line is read back
 line_again : (width : ℕ) (l : Line) → IsLine width l → line_at width (words_of_line l) ≡ Ok l
 unfolding item_after
 line_again width (Start p (calls.Append seq v)) h =

@@ -11,7 +11,7 @@ tail_same x (part ∷ parts) xs lt e = cc
 no_cut : (x : ℕ) (xs : List ℕ) (parts : List (List ℕ)) → [] ∷ parts ≡ (x ∷ xs) ∷ [] → ⊥
 no_cut x xs parts e = cc
 
--- what has no LF stands before the first part
+-- a text without LF is the beginning of the first part
 pub parts_of-append : (a rest front : List ℕ) (tail : List (List ℕ)) → parts_of a ≡ a ∷ [] → parts_of rest ≡ front ∷ tail → parts_of (a ++ rest) ≡ (a ++ front) ∷ tail
 parts_of-append [] rest front tail whole e = e
 parts_of-append (x ∷ xs) rest front tail whole e =
@@ -25,7 +25,7 @@ parts_of-append (x ∷ xs) rest front tail whole e =
 some_part : (text : List ℕ) → 0 < length (parts_of text)
 some_part text = omega (arith, length-slice_split (λ b. eqb b 10) text)
 
--- the parts of a text and of what comes after it
+-- the parts of a text with another text after it
 abbrev glue : List (List ℕ) → List ℕ → List (List ℕ)
 glue [] b = parts_of b
 glue (rest ∷ []) b = parts_of (rest ++ b)
@@ -59,7 +59,7 @@ glue_last (line ∷ lines) rest b =
 pub parts_of-pieces : (a b rest : List ℕ) (lines : List (List ℕ)) → parts_of a ≡ lines ++ rest ∷ [] → parts_of (a ++ b) ≡ lines ++ parts_of (rest ++ b)
 parts_of-pieces a b rest lines e = parts_of-glue a b ∙ ap (λ (ps : List (List ℕ)). glue ps b) e ∙ glue_last lines rest b
 
--- a text is no shorter than its lines
+-- a text has at least as many bytes as lines
 pub lines-few : (text rest : List ℕ) (lines : List (List ℕ)) → parts_of text ≡ lines ++ rest ∷ [] → length lines ≤ length text
 lines-few text rest lines e =
     omega (arith, length-slice_split (λ b. eqb b 10) text, count_by-le-length (λ b. eqb b 10) text, ap length e, length-append lines (rest ∷ []))

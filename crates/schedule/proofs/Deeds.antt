@@ -1,4 +1,4 @@
--- The deed lines: what is read is spelled so, and what is spelled so is read.
+-- The deed lines: reading and spelling are inverse.
 use Rattle.std.proofs.Common.{◌≡◌, ℕ, ◌^◌, ◌<◌, true, List, [], ◌∷◌, length, map, drop, Ok, refl, sym, ap, ◌∙◌, arith, lit<, codes}
 use Rattle.schedule.proofs.LinesCommon.{decimal, AllByRecursion, deed_at, words_of_deed, IsDeed, deeds_by_name, deed_with, Shape, any, many, has_fixed, numbers_at, item_after}
 use Rattle.redomail.specs.declared.deed.Deed.{Deed}
@@ -44,7 +44,7 @@ fixed width names.Commit ws = many_fixed width (drop 1 (drop 1 ws))
 fixed width names.Show ws = many_fixed width (drop 1 (drop 1 (drop 1 ws)))
 fixed width _ ws = refl
 
--- what is read is spelled so
+-- a line that is read is the spelling of its result
 deed_takes : (width : ℕ) (ws : List (List ℕ)) (d : Deed) → deed_at width ws ≡ Ok d → (ws ≡ words_of_deed d) × IsDeed width d
 deed_takes width ws d e =
     item_takes deeds_by_name (places width) deed_with words_of_deed (IsDeed width) word_of ws d (refl, (refl, (refl, (refl, (refl, (refl, (refl, (refl, (refl, (refl, (refl, tt))))))))))) (narrow width) (fixed width) (says width) e
@@ -54,7 +54,7 @@ value_again width v h =
     let fit = many_fit width v h.0 h.1 in
     ap (numbers_at (many width)) (sym (many_from width v fit).0) ∙ numbers_again (many width) v fit
 
--- what is spelled so is read
+-- the spelling of a deed is read back
 deed_again : (width : ℕ) (d : Deed) → IsDeed width d → deed_at width (words_of_deed d) ≡ Ok d
 unfolding item_after
 deed_again width (deeds.Commit p seq v) h = rw (reads p h.0, reads seq h.1, value_again width v h.2) refl

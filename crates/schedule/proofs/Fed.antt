@@ -1,4 +1,4 @@
--- Lines that a judge hears from the front of a text.
+-- Lines at the front of a text, whose deeds are given to a judge.
 use Rattle.std.proofs.Common.{◌≡◌, ℕ, ◌+◌, ◌-◌, ◌^◌, min, List, [], ◌∷◌, ◌++◌, Ok, refl, sym, ap, subst, ◌∙◌, append_assoc, arith, length-append, append-nil}
 use Rattle.schedule.proofs.ReplaysCommon.{Deed, Kept, Hearing, Stage, TraceHead, deed_at, opened, bench, Hears, parts_of, trace_head_at, Stands, Fed, words_of}
 use Rattle.schedule.specs.Fronts.{Begins}

@@ -1,4 +1,4 @@
--- Lines whose first word names their places: what is read is spelled so.
+-- Lines whose first word decides their places: a line that is read is the spelling of its result.
 use Rattle.std.proofs.Common.{◌≡◌, ℕ, ◌-◌, ◌^◌, ◌<◌, true, List, [], ◌∷◌, drop, Option, Some, None, Ok, refl, sym, ap, subst, ◌∙◌, arith, lit<}
 use Rattle.schedule.proofs.LinesCommon.{decimal, AllByRecursion, LineFault, Shape, any, has_fixed, numbers_at, first_of, named, item_named, item_at, item_after, number_in}
 use Rattle.schedule.proofs.Places.{bind_ok, ok_is, spelled, Fits, AreNarrow, number_again, numbers_take, named_is}

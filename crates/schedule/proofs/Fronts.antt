@@ -1,4 +1,4 @@
--- What a text begins with.
+-- The front of a text.
 use Rattle.std.proofs.Common.{◌≡◌, ℕ, ◌+◌, ◌-◌, ◌*◌, ◌/◌, ◌%◌, ◌^◌, ◌<◌, ◌≤◌, true, false, eqb, List, [], ◌∷◌, ◌++◌, Result, refl, sym, ap, ◌∙◌, append_assoc, arith, codes, ne_eqb}
 use Rattle.schedule.proofs.LexerCommon.{decimal, join_with_byte, LineFault, Step, words_of_line, line_at, parts_of, line_of}
 use Rattle.std.proofs.lemmas.Fmt.{decimal_digit, decimal_step}
@@ -23,7 +23,7 @@ next_digit text rest after value byte digit some small is front =
     let longer : decimal (value * 10 + (byte - 48)) ≡ decimal value ++ byte ∷ [] = rw (top, low) at step in
     front ∙ ap (λ (t : List ℕ). decimal value ++ t) is ∙ sym (append_assoc (decimal value) (byte ∷ []) after) ∙ ap (λ (t : List ℕ). t ++ after) (sym longer)
 
--- ---- a line that is spelled as it is written
+-- ---- a line in its one spelling
 
 module _ {A : Type 0} {read : List (List ℕ) → Result A LineFault} {words : A → List (List ℕ)} {Valid : A → Type 0} (codec : IsCodec A read words Valid) where
   pub begins : (x : A) → Valid x → (text after : List ℕ) → text ≡ line_of (words x) ++ after → Begins read text x after
@@ -68,7 +68,7 @@ more_steps width p k text word rest more end after small least most a b c d e =
     (a ∙ ap (λ (t : List ℕ). codes "step " ++ t) (b ∙ ap (λ (t : List ℕ). decimal p ++ t) (c ∙ ap (λ (t : List ℕ). 32 ∷ t) (d ∙ ap (λ (t : List ℕ). decimal k ++ t) e)))
     ∙ spelled_steps p k after least)
 
--- a digit names who takes one step
+-- a digit names the process that takes one step
 pub digit_step : (width byte : ℕ) (text after : List ℕ) → is_ascii_digit byte ≡ true → text ≡ codes "step " ++ (byte ∷ (10 ∷ after)) → Begins (line_at width) text (Step (byte - 48) 1) after
 digit_step width byte text after digit e =
     let range : (48 ≤ byte) × (byte ≤ 57) = grind arith in

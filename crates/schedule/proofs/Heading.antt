@@ -1,4 +1,4 @@
--- Where a text is not replayed at all.
+-- Where a text is not played at all.
 use Rattle.std.proofs.Common.{◌≡◌, ℕ, Option, Some, None, Result, Ok, Err, refl, ◌∙◌, ◌⊎◌, inl, inr}
 use Rattle.schedule.proofs.ReplaysCommon.{Refusal, number_of, cause, new_refusal, LineFault, OutOfMemory, Tape, Scheduled, Silent, header_fault, layout_of, OfSchedule, OfText}
 use Rattle.rmecore.specs.declared.refusal.Refusal.TheVariants as refusals
@@ -6,7 +6,7 @@ use Rattle.rmecore.specs.declared.refusal.Refusal.TheVariants as refusals
 pub silent : (t : Tape) → Silent t t
 silent t = record { taken = refl; fine = refl }
 
--- there was no memory, and nothing was written
+-- out of memory, and nothing was written
 pub no_memory : (t : Tape) (schedule : Scheduled) (o : Option Refusal) → OfSchedule t t schedule o (Err OutOfMemory)
 no_memory t schedule None = inr (silent t, refl)
 no_memory t schedule (Some refusal) = (silent t, inr refl)
@@ -15,7 +15,7 @@ pub no_memory_at_all : (t : Tape) (r : Result Scheduled (ℕ × LineFault)) → 
 no_memory_at_all t (Err fault) = (silent t, inr refl)
 no_memory_at_all t (Ok schedule) = no_memory t schedule (new_refusal (layout_of schedule) schedule.limit)
 
--- a refusal is a cause, unless memory was wanting
+-- a refusal is a cause, unless it is out of memory
 is_cause : (e : Refusal) → ((e ≡ refusals.OutOfMemory) × (cause e ≡ None)) ⊎ (cause e ≡ Some e)
 is_cause refusals.OutOfMemory = inl (refl, refl)
 is_cause _ = inr refl

@@ -1,4 +1,4 @@
--- First lines: what is read is spelled so, and what is spelled so is read.
+-- Headers: reading and spelling are inverse.
 use Rattle.std.proofs.Common.{◌≡◌, ℕ, suc, ◌^◌, ◌<◌, ◌≤◌, ◌==◌, Bool, true, false, cond, not, if◌then◌else◌, slice_index_or, eqb, codes, List, [], ◌∷◌, ◌++◌, length, Ok, refl, sym, ap, ◌∙◌, arith, inl, inr, lit<, lit≤, ne_eqb}
 use Rattle.schedule.proofs.TextsCommon.{AllByRecursion, LineFault, NoHeader, Form, named_sizes, words_of_width, words_of_header, IsHeader, is_wide, size_places, width_places, header_places, Shape}
 use Rattle.schedule.proofs.TextsCommon.{has_fixed, numbers_at, ◌>>=◌}
@@ -134,7 +134,7 @@ module _ {H : Type 0} (form : Form) (make : List ℕ → H) (sizes : H → List 
   abbrev words : H → List (List ℕ)
   words h = words_of_header form (sizes h) (width h)
 
-  -- what is read is spelled so
+  -- a header that is read is the spelling of its result
   pub header_takes : (ws : List (List ℕ)) (h : H) → header_at form make ws ≡ Ok h → (ws ≡ words h) × IsHeader form (sizes h) (width h)
   unfolding header_at
   header_takes ws h e =
@@ -156,7 +156,7 @@ module _ {H : Type 0} (form : Form) (make : List ℕ → H) (sizes : H → List 
       ∙ ap (λ (xs : List (List ℕ)). form.word ∷ cond (eqb w.width 1) (codes "1") (codes "2") ∷ xs) (s.said ∙ ap (λ (xs : List (List ℕ)). named_sizes form.names s.sizes ++ xs) w.said) in
       rw (same_sizes, same_width) (n.0 ∙ said, valid)
 
-  -- what is spelled so is read
+  -- the spelling of a header is read back
   pub header_again : (h : H) → IsHeader form (sizes h) (width h) → header_at form make (words h) ≡ Ok h
   unfolding header_at
   header_again h valid =

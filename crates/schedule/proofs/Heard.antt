@@ -1,4 +1,4 @@
--- Deeds that are heard one after another.
+-- Deeds that are judged one after another.
 use Rattle.std.proofs.Common.{◌≡◌, ℕ, List, [], ◌∷◌, ◌++◌, Result, Ok, Err, refl, sym, ap, subst, ◌∙◌, append_assoc, append-nil}
 use Rattle.schedule.proofs.ReplaysCommon.{Fault, one_more, Deed, Kept, Keeps, State, judged, after, Hearing, Verdict, Fine, Against, opened, bench, with_more, heard_with, Hears, Bench, if_allowed, heard}
 use Rattle.schedule.proofs.ReplaysCommon.{ruled, verdict_from}
@@ -23,7 +23,7 @@ heard_on k s (d ∷ ds) es = by (judged s d) (λ t. heard_on (one_more k) t ds e
     by (Ok t) later = later t
     by (Err fault) later = refl
 
--- the verdict on the first deeds tells whether the others are judged
+-- the verdict on the first deeds decides whether the others are judged
 heard_both : (v : Verdict) (k : ℕ) (s : State) (ds es : List Deed) → heard_with v s (ds ++ es) ≡ heard_with (with_more v k s ds) (heard_with v s ds) es
 heard_both Fine k s ds es = heard_on k s ds es
 heard_both (Against at fault) k s ds es = refl
@@ -65,7 +65,7 @@ pub hears_on : (judge : Kept) (a : Hearing) (at : ℕ) (fault : Fault) (ds : Lis
     → Hears (bench judge a) ds (bench judge a)
 hears_on judge a at fault ds is s sits = rw is (λ keeps. keeps, λ more. refl)
 
--- the judge of all deeds of a run stands where the table does
+-- the judge of all deeds of a run is in the state of the judge table
 pub stands_heard : (judge now : Kept) (first hearing : Hearing) (deeds : List Deed) (start : State) → first ≡ opened → Hears (bench judge first) deeds (bench now hearing) → Keeps judge start
     → Keeps now (heard start deeds)
 stands_heard judge now first hearing deeds start fresh hears keeps = subst (λ (h : Hearing). Keeps now (heard_with h.verdict start deeds)) fresh ((hears start (λ fine. keeps)).0 keeps)

@@ -1,4 +1,4 @@
--- Lines that are read where they stand.
+-- Lines that are read in place.
 use Rattle.std.proofs.Common.{◌≡◌, ℕ, ◌+◌, ◌-◌, ◌≤◌, List, [], ◌∷◌, ◌++◌, length, drop, Result, Ok, Err, refl, sym, ap, ◌∙◌, arith, length-append}
 use Rattle.schedule.proofs.LexerCommon.{LineFault, line_at, Scheduled, head_at, schedule_at, scheduled_with, parts_of, text_at, items_at, words_of, ◌>>=◌}
 use Rattle.schedule.specs.declared.texts.fault.TextFault.{TextFault}
@@ -11,7 +11,7 @@ use Rattle.schedule.specs.declared.texts.fault.TextFault.TheVariants as faults
 use Rattle.schedule.proofs.Items.{items_at-cut, with_items, items_go_on, items_stop, items_end, empty_reads}
 use Rattle.schedule.proofs.Places.{bind_ok, ok_is}
 
--- what stands behind the front of a text
+-- the text after the front of a text
 pub behind_front : (text front after : List ℕ) → text ≡ front ++ after → drop (length text - length after) text ≡ after
 behind_front text front after e =
     let n : length text - length after ≡ length front = omega (arith, ap length e ∙ length-append front after) in
@@ -26,7 +26,7 @@ module _ {A : Type 0} (item : List (List ℕ) → Result A LineFault) where
       → items_at item k (parts_of text) ≡ (items_at item (k + 1) (parts_of after) >>= λ xs. Ok (x ∷ xs))
   items_at-begins k text after x b = rw (items_at-cut item k text b.line after b.parts, b.says) refl
 
-  -- it is as long as its first line, with LF, and what stands behind
+  -- it is as long as its first line, with LF, and the text after it
   pub shorter : (text after : List ℕ) (x : A) → Begins item text x after → length after + 1 ≤ length text
   shorter text after x b = omega (arith, ap length b.whole ∙ length-append b.line (10 ∷ after))
 

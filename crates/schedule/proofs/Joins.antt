@@ -1,4 +1,4 @@
--- Words joined by spaces are cut into themselves, and lines likewise.
+-- Cutting words that are joined by spaces gives back the words, and the same for lines.
 use Rattle.std.proofs.Common.{◌≡◌, ℕ, ◌^◌, ◌<◌, leb, Bool, true, false, ltb, eqb, List, [], ◌∷◌, ◌++◌, map, Result, Ok, refl, ap, ◌∙◌, append_assoc, arith, ltb-true, lt-ltb, ne_eqb, eq-eqb, leb-true}
 use Rattle.schedule.proofs.LinesCommon.{and_parts, and_from, digits_decimal, slice_split-cons_no, is_ascii_digit, decimal, slice_split, onto_first, join_with_byte, AllByRecursion, list_all, parts_of, line_of}
 use Rattle.schedule.proofs.LinesCommon.{words_of, LineFault}
@@ -77,7 +77,7 @@ pub decimals_plain : (w : List ℕ) (v : List ℕ) → is_above 32 w ≡ true �
 decimals_plain w [] e h = e
 decimals_plain w (n ∷ v) e h = (e, decimals_plain (decimal n) v (decimal_above n h.0) h.1)
 
--- reading and spelling that belong together
+-- reading and spelling that are inverse
 pub record IsCodec (A : Type 0) (read : List (List ℕ) → Result A LineFault) (words : A → List (List ℕ)) (Valid : A → Type 0) : Type 0 where
   pub takes : (ws : List (List ℕ)) (x : A) → read ws ≡ Ok x → (ws ≡ words x) × Valid x
   pub again : (x : A) → Valid x → read (words x) ≡ Ok x

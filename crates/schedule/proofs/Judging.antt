@@ -44,7 +44,7 @@ is_refused procs cap refusal number by_procs by_cap (inr (inl is)) n =
     rw (few_from procs why.0 why.1, small_false cap why.2) (ap number_of (sym is) ∙ n)
 is_refused procs cap refusal number by_procs by_cap (inr (inr is)) n = absurd (let no : number_of OutOfMemory ≡ Some number = ap number_of (sym is) ∙ n in cc)
 
--- a judge of nothing stands at its start
+-- a judge that was given no deed is in its start state
 pub stands_first : (start : State) (judge : Kept) → StandsAfter start [] judge → Keeps judge start
 stands_first start judge h =
     let same : start ≡ h.state = ok_is {E = Fault} start h.state h.legal in

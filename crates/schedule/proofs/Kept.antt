@@ -1,4 +1,4 @@
--- What each call of a machine keeps, beside what was told, the run of a schedule keeps.
+-- What each call of a machine preserves, together with what is reported, the run of a schedule preserves.
 use Rattle.std.proofs.Common.{◌≡◌, ℕ, zero, suc, ◌+◌, false, is_some, List, [], ◌∷◌, ◌++◌, Option, Some, None, refl, sym, subst, inl, inr, append_assoc, append-nil}
 use Rattle.schedule.proofs.ReplaysCommon.{cases_Bool, Refusal, Call, Stepped, Line, Start, Step, Crash, Part, Told, Did, told_of, Behaviour, unless, followed, steps, line_on, run_on}
 
@@ -7,7 +7,7 @@ accepted None e = refl
 accepted (Some refusal) e = cc
 
 module _ {S : Type 0} (b : Behaviour S) (P : S → List Told → Type 0) where
-  -- each call keeps it, with what it tells
+  -- each call preserves it, with what it reports
   pub record IsKept : Type 0 where
     pub started : (s : S) (h : List Told) (p : ℕ) (call : Call) → P s h → b.start_refusal s p call ≡ None → P (b.started s p call) h
     pub advanced : (s : S) (h : List Told) (p : ℕ) → P s h → b.advance_refusal s p ≡ None → P (b.advanced s p) (h ++ told_of p (b.stepped s p).deed (b.stepped s p).answer)

@@ -1,4 +1,4 @@
--- What proof files of this crate cite from modules that two or more of them share, passed on from one place. Declares nothing.
+-- What proof files of this crate cite from modules that two or more of them share, passed on from here. Declares nothing.
 pub use Rattle.std.specs.Fmt.{decimal}
 pub use Rattle.std.specs.List.{join_with_byte}
 pub use Rattle.schedule.specs.declared.lines.fault.LineFault.{LineFault}

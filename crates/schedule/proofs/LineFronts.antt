@@ -1,4 +1,4 @@
--- The lines of a schedule at the front of a text, but those of steps.
+-- The lines of a schedule at the front of a text, except those of steps.
 use Rattle.std.proofs.Common.{◌≡◌, ℕ, List, [], ◌∷◌, ◌++◌, sym, ap, ◌∙◌, append_assoc, codes}
 use Rattle.schedule.proofs.LexerCommon.{decimal, Start, words_of_line, line_of, spaced}
 use Rattle.rmeworld.specs.declared.call.Call.TheVariants as calls

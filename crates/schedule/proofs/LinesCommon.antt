@@ -1,4 +1,4 @@
--- What proof files of this crate cite from modules that two or more of them share, passed on from one place. Declares nothing.
+-- What proof files of this crate cite from modules that two or more of them share, passed on from here. Declares nothing.
 pub use Rattle.std.proofs.lemmas.Bool.{cases_eq, cases_Bool, and_parts, and_from, or_cases, or_left, or_right, not-true, not-false, not_from_false, cond-true, cond-false}
 pub use Rattle.std.proofs.lemmas.Fmt.{decimal_digit, digits_decimal, decimal-digits_value, decimal_nonempty, digits_value-decimal, first_decimal}
 pub use Rattle.std.proofs.lemmas.Grind.{common_steps}

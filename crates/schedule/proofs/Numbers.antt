@@ -26,7 +26,7 @@ value_over ds i all lt over = omega (arith, value_step ds i all lt, digits_value
 ascii_is : (c : ℕ) → is_ascii_digit c ≡ true → digit_value c ≡ c - 48
 ascii_is c e = grind arith
 
--- one digit more of a word that is short
+-- one more digit of a short word
 pub short_step : (ds : List ℕ) (i : ℕ) → length ds ≤ 19 → i < length ds → list_all is_ascii_digit (take i ds) ≡ true → is_ascii_digit (get_or ds i 0) ≡ true
     → (list_all is_ascii_digit (take (i + 1) ds) ≡ true) × (digits_value 10 (take (i + 1) ds) ≡ digits_value 10 (take i ds) * 10 + (get_or ds i 0 - 48))
     × (digits_value 10 (take i ds) * 10 + (get_or ds i 0 - 48) < 2 ^ 64)

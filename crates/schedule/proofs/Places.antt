@@ -1,4 +1,4 @@
--- Places of a line: the numbers that are read are those that are spelled, and those that are spelled are read.
+-- Places of a line: reading and spelling their numbers are inverse.
 use Rattle.std.proofs.Common.{◌≡◌, ℕ, zero, suc, ◌^◌, ◌<◌, ◌≤◌, ◌==◌, Bool, true, false, cond, ltb, eqb, not, ◌||◌, List, [], ◌∷◌, length, get_or, map, drop, Option, Some, None, Result, Ok, Err, refl, sym, ap, subst, ◌∙◌, arith, inl, inr, ⊎_elim, lit<, eqb-true, ltb-false, ltb-true, le-ltb, lt-ltb, ne_eqb}
 use Rattle.schedule.proofs.LinesCommon.{cases_eq, cases_Bool, and_parts, and_from, or_cases, or_left, or_right, not-true, not-false, not_from_false, cond-true, cond-false, decimal_digit, digits_decimal}
 use Rattle.schedule.proofs.LinesCommon.{decimal-digits_value, decimal_nonempty, digits_value-decimal, first_decimal, decimal, AllByRecursion, digits_value, LineFault, BadNumber, TooBig, Shape, Number, many}

@@ -36,7 +36,7 @@ deeds_append [] b = refl
 deeds_append (Did deed ∷ a) b = ap (λ (ds : List Deed). deed ∷ ds) (deeds_append a b)
 deeds_append (Answered p answer ∷ a) b = deeds_append a b
 
--- what was told so far is written and heard
+-- what was reported so far is written and judged
 pub record Played (before now : Tape) (bench heard : Bench) (told : List Told) : Type 0 where
   pub writes : Writes before now (told_text told)
   pub hears : Hears bench (deeds_of told) heard
@@ -55,7 +55,7 @@ played_more t u v a b c told more so_far writes hears =
       hears = rw (deeds_append told more) (hears_both a b c (deeds_of told) (deeds_of more) so_far.hears hears);
     }
 
--- a beginning of what is still to be told
+-- a beginning of what is still to be written
 pub begins_further : (old mid new text more : List ℕ) → mid ≡ old ++ text → Begins mid new more → Begins old new (text ++ more)
 begins_further old mid new text more e begins =
     let w = begins.1 in (
@@ -110,16 +110,16 @@ line_told : (t : Told) → told_line t ≡ [] → ⊥
 line_told (Did deed) = line_some (words_of_deed deed)
 line_told (Answered p answer) = line_some (codes "answer" ∷ decimal p ∷ words_of_answer answer)
 
--- whoever tells something writes something
+-- the text of a report of something is not empty
 pub told_some : (t : Told) (told : List Told) → told_text (t ∷ told) ≡ [] → ⊥
 told_some t told e = line_told t (append_none (told_line t) (told_text told) e)
 
--- and so does a step that is a deed
+-- nor is that of a step that is a deed
 pub deed_some : (p : ℕ) (deed : Option Deed) (answer : Option Answer) → is_some deed ≡ true → told_text (told_of p deed answer) ≡ [] → ⊥
 deed_some p None answer is = absurd cc
 deed_some p (Some deed) answer is = told_some (Did deed) (answered p answer)
 
--- a part halts after what was told, within what is told next
+-- a part stops after what was reported, within what is reported next
 pub halts_further : (t u v : Tape) (a b : Bench) (told next after all : List Told) (refused : Option Refusal) (halt : Halt) → Played t u a b told → all ≡ told ++ (next ++ after)
     → Halts u v (told_text next) None halt → Halts t v (told_text all) refused halt
 halts_further t u v a b told next after all refused (Refused number) so_far e h = absurd (let no : None ≡ Some h.1.0 = h.1.1 in cc)
@@ -130,13 +130,13 @@ halts_further t u v a b told next after all refused OutOfMemory so_far e h =
     let text : told_text all ≡ told_text told ++ (told_text next ++ told_text after) = ap told_text e ∙ told_append told (next ++ after) ∙ ap (λ (xs : List ℕ). told_text told ++ xs) (told_append next after) in
     (rw text (breaks_further t.taken u.taken v.taken (told_text told) (told_text next ++ told_text after) so_far.writes.taken (breaks_wider u.taken v.taken (told_text next) (told_text after) h.0)), rw (← so_far.writes.fine) h.1)
 
--- what is not refused does not end by a refusal
+-- what is not refused does not stop by a refusal
 pub never_stops : {S : Type 0} (t u : Tape) (text : List ℕ) (halt : Halt) (a b : Bench) (told : List Told) (left s : S) → Halts t u text None halt → IsRefusal halt → Stops a b told left s
 never_stops t u text (Refused number) a b told left s h is = absurd (let no : None ≡ Some h.1.0 = h.1.1 in cc)
 never_stops t u text Write a b told left s h is = absurd is
 never_stops t u text OutOfMemory a b told left s h is = absurd is
 
--- there is no memory for the next step, which tells its deed
+-- out of memory at the next step, which reports its deed
 pub halts_here : (t u : Tape) (a b : Bench) (told after all : List Told) (p : ℕ) (step : Stepped) (refused : Option Refusal) → Played t u a b told
     → all ≡ told ++ (told_of p step.deed step.answer ++ after) → is_some step.deed ≡ true → Halts t u (told_text all) refused OutOfMemory
 halts_here t u a b told after all p step refused so_far e deed =
@@ -154,7 +154,7 @@ pub left_is : {S : Type 0} (a b : List Told × S) → a ≡ b → a.1 ≡ b.1
 left_is a b e = ap (λ x. x.1) e
 
 module _ {S : Type 0} (b : Behaviour S) (p : ℕ) where
-  -- where steps are still to be taken after what was told
+  -- where steps are still to be taken after what was reported
   abbrev pub StillTo : List Told × S → List Told → ℕ → S → Type 0
   StillTo total told n s = total ≡ (told ++ (steps b p n s).0, (steps b p n s).1)
 
@@ -169,7 +169,7 @@ module _ {S : Type 0} (b : Behaviour S) (p : ℕ) where
       let going : is_some (b.stepped s p).answer ≡ false = rw (← is) unanswered in
       rw (is, left) (still ∙ rw count (rw (taken, going) (ap (λ (xs : List Told). (xs, (steps b p k (b.advanced s p)).1)) (sym (append_assoc told (told_of p (b.stepped s p).deed (b.stepped s p).answer) (steps b p k (b.advanced s p)).0)))))
 
-  -- a step that tells nothing
+  -- a step that reports nothing
   pub step_silent : (total : List Told × S) (told : List Told) (n k : ℕ) (s t : S) → StillTo total told n s → n ≡ suc k
       → b.advance_refusal s p ≡ None → (b.stepped s p).deed ≡ None → (b.stepped s p).answer ≡ None → t ≡ b.advanced s p → StillTo total told k t
   step_silent total told n k s t still count taken no_deed no_answer left =
@@ -203,12 +203,12 @@ module _ {S : Type 0} (b : Behaviour S) (p : ℕ) where
   unfolding steps
   steps_none s = refl
 
--- a refusal that isn't for want of memory
+-- a refusal other than out of memory
 pub is_refused : (e : Refusal) (number : ℕ) (o : Option Refusal) → (e ≡ refusals.OutOfMemory) ⊎ (o ≡ Some e) → halt_of e ≡ Refused number → o ≡ Some e
 is_refused e number o (inl is) h = absurd (let no : halt_of refusals.OutOfMemory ≡ Refused number = ap halt_of (sym is) ∙ h in cc)
 is_refused e number o (inr is) h = is
 
--- all of a part was told
+-- all of a part was reported
 pub plays_all : {S : Type 0} (before now : Tape) (bench heard : Bench) (total : List Told × S) (told : List Told) (refused : Option Refusal) (s : S)
     → Played before now bench heard told → total ≡ (told, s) → refused ≡ None
     → Writes before now (told_text total.0) × Hears bench (deeds_of total.0) heard × (refused ≡ None) × (s ≡ total.1)
@@ -223,18 +223,18 @@ plays_then t u v a b c told total rest refused s (Ok x) so_far e accepted h =
 plays_then t u v a b c told total rest refused s (Err halt) so_far e accepted h =
     (halts_further t u v a b told rest.0 [] total.0 refused halt so_far (told_is _ _ e ∙ ap (λ (xs : List Told). told ++ xs) (sym (append-nil rest.0))) h.0, never_stops u v (told_text rest.0) halt a c total.0 total.1 s h.0)
 
--- what is told is all of a part
+-- what is reported is all of a part
 pub plays_told : {S A : Type 0} (t u : Tape) (a b : Bench) (told all : List Told) (left : S) (refused : Option Refusal) (s : S) (r : Result A Halt)
     → Tells t u a b told r → all ≡ told → s ≡ left → refused ≡ None → Plays t u a b all left refused s r
 plays_told t u a b told all left refused s (Ok x) h e is accepted = rw e (h.0, h.1, accepted, is)
 plays_told t u a b told all left refused s (Err halt) h e is accepted = (rw (e, accepted) h, never_stops t u (told_text told) halt a b all left s h)
 
--- a refusal without a number is want of memory
+-- a refusal without a number is out of memory
 pub unnumbered : (e : Refusal) → number_of e ≡ None → e ≡ refusals.OutOfMemory
 unnumbered refusals.OutOfMemory is = refl
 unnumbered _ is = absurd cc
 
--- a refusal before anything is told, or no memory for what would be told
+-- a refusal before anything is reported, or out of memory for what would be reported
 numbered_halts : (t : Tape) (text : List ℕ) (o : Option Refusal) (e : Refusal) (n : Option ℕ) → number_of e ≡ n → (e ≡ refusals.OutOfMemory) ⊎ (o ≡ Some e) → (e ≡ refusals.OutOfMemory → text ≡ [] → ⊥)
     → (o ≡ Some e → text ≡ []) → Halts t t text o (halted n)
 numbered_halts t text o e None is why memory silent = (breaks_nothing t.taken text (memory (unnumbered e is)), refl)
@@ -275,7 +275,7 @@ unless_halts t a o s told left now e why memory same =
     refusal_halts t a (unless o s told left).told (unless o s told left).left now o e why (λ is. rw (memory is).0 (memory is).1) (λ refused. rw refused (refl, same)))
 
 module _ {S : Type 0} (b : Behaviour S) where
-  -- where lines are still to be played after what was told
+  -- where lines are still to be played after what was reported
   abbrev pub RunsOn : Part S (ℕ × Refusal) → List Told → ℕ → S → List Line → Type 0
   RunsOn run told k s lines = run ≡ prepend told (run_on b k s lines)
 

@@ -1,4 +1,4 @@
--- What proof files of this crate cite from modules that two or more of them share, passed on from one place. Declares nothing.
+-- What proof files of this crate cite from modules that two or more of them share, passed on from here. Declares nothing.
 pub use Rattle.std.proofs.lemmas.Bool.{cases_Bool}
 pub use Rattle.std.specs.List.{onto_first, join_with_byte}
 pub use Rattle.schedule.specs.declared.lines.fault.LineFault.{LineFault}

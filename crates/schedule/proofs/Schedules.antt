@@ -1,4 +1,4 @@
--- A schedule's text: what is read is spelled so, and what is spelled so is read.
+-- A schedule's text: reading and spelling are inverse.
 use Rattle.std.proofs.Common.{◌≡◌, ℕ, List, [], ◌∷◌, ◌++◌, arith, Ok, refl, ap, subst}
 use Rattle.schedule.proofs.TextsCommon.{LineFault, words_of_line, IsLine, line_at, IsHeader, Scheduled, head_at, schedule_at, scheduled_with, words_of_head, head_of, sizes_of, schedule_form, head_with}
 use Rattle.schedule.proofs.TextsCommon.{spelling, IsHead, IsScheduled, parts_of, text_at}

@@ -1,4 +1,4 @@
--- Reading a trace line by line gives what reading it whole gives.
+-- Reading a trace line by line gives the same as reading its whole text.
 use Rattle.std.proofs.Common.{◌≡◌, ℕ, ◌+◌, ◌<◌, false, eqb, List, [], ◌∷◌, ◌++◌, length, Result, Ok, Err, refl, sym, ap, ◌∙◌, append_assoc, arith, length-append, ne_eqb}
 use Rattle.schedule.proofs.ReplaysCommon.{LineFault, text_at, items_at, words_of, ◌>>=◌}
 use Rattle.schedule.specs.Texts.{on_line}
@@ -10,7 +10,7 @@ more_parts : (lines parts : List (List ℕ)) → 0 < length parts → 0 < length
 more_parts lines parts some = omega (arith, length-append lines parts)
 
 module _ {A : Type 0} (item : List (List ℕ) → Result A LineFault) where
-  -- the items of some lines, and those of what stands behind them
+  -- the items of some lines, and those of the lines after them
   abbrev and_then : Result (List A) (ℕ × LineFault) → Result (List A) (ℕ × LineFault) → Result (List A) (ℕ × LineFault)
   and_then front rest = front >>= λ xs. rest >>= λ ys. Ok (xs ++ ys)
 
@@ -56,7 +56,7 @@ module _ {H A : Type 0} (head : List (List ℕ) → Result H LineFault) (item : 
   some_line [] y e = absurd cc
   some_line (first ∷ lines) y e = omega arith
 
-  -- ---- what stands behind some lines
+  -- ---- the lines after some lines
 
   abbrev reads_on : Result (H × List A) (ℕ × LineFault) → (H → Result (List A) (ℕ × LineFault)) → Result (H × List A) (ℕ × LineFault)
   reads_on front rest = front >>= λ y. rest y.0 >>= λ ys. Ok (y.0, y.1 ++ ys)
@@ -87,7 +87,7 @@ module _ {H A : Type 0} (head : List (List ℕ) → Result H LineFault) (item : 
           ap (pair h) (items_then (item h) 2 lines parts some)
           ∙ behind_items h (items_at (item h) 2 (lines ++ [] ∷ [])) (λ g. items_at (item g) (2 + length lines) parts)
 
-  -- one line more
+  -- one more line
   whole_then : (lines : List (List ℕ)) (line : List ℕ) → 0 < length lines → whole (lines ++ line ∷ []) ≡ reads_on (whole lines) (λ h. items_at (item h) (length lines + 1) (line ∷ [] ∷ []))
   whole_then lines line more = ap (text_at head item) (append_assoc lines (line ∷ []) ([] ∷ [])) ∙ text_then lines (line ∷ [] ∷ []) more (omega arith)
 

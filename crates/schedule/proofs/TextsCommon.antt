@@ -1,4 +1,4 @@
--- What proof files of this crate cite from modules that two or more of them share, passed on from one place. Declares nothing.
+-- What proof files of this crate cite from modules that two or more of them share, passed on from here. Declares nothing.
 pub use Rattle.std.proofs.lemmas.List.Splits.{length-slice_split, join_with_byte-slice_split}
 pub use Rattle.std.specs.List.{join_with_byte, AllByRecursion, flat_map}
 pub use Rattle.schedule.specs.declared.lines.fault.LineFault.{LineFault}

@@ -1,4 +1,4 @@
--- A trace's text: what is read is spelled so, and what is spelled so is read.
+-- A trace's text: reading and spelling are inverse.
 use Rattle.std.proofs.Common.{◌≡◌, ℕ, List, [], ◌∷◌, ◌++◌, arith, Ok, refl, ap, subst}
 use Rattle.schedule.proofs.TextsCommon.{LineFault, IsHeader, parts_of, text_at, trace_head_at, Traced, words_of_trace_head, trace_head_of, trace_sizes, trace_form, trace_head_with, trace_spelling}
 use Rattle.schedule.proofs.TextsCommon.{IsTraceHead, IsTraced, traced_with, trace_at}

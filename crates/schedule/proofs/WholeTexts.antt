@@ -1,4 +1,4 @@
--- A whole text: what is read is spelled so, and what is spelled so is read.
+-- A whole text: reading and spelling are inverse.
 use Rattle.std.proofs.Common.{◌≡◌, ℕ, ◌+◌, ◌==◌, Bool, true, false, cond, List, [], ◌∷◌, ◌++◌, length, Result, Ok, Err, IfOk, refl, sym, ap, subst, ◌∙◌, append_assoc, eqb-true}
 use Rattle.schedule.proofs.TextsCommon.{join_with_byte-slice_split, join_with_byte, AllByRecursion, flat_map, LineFault, NoNewline, TextFault, parts_of, line_of, on_line, Gives, text_at, items_at}
 use Rattle.schedule.proofs.TextsCommon.{words_of, ◌>>=◌}
@@ -13,7 +13,7 @@ on_line_ok : {A : Type 0} (k : ℕ) (r : Result A LineFault) (x : A) → on_line
 on_line_ok k (Ok y) x e = let is : y ≡ x = ok_is {E = ℕ × LineFault} y x e in ap (λ z. Ok z) is
 on_line_ok k (Err f) x e = absurd cc
 
--- a line gives back its bytes
+-- a line is its words, joined by spaces
 line_is : (line : List ℕ) (ws : List (List ℕ)) → words_of line ≡ ws → line ≡ join_with_byte 32 ws
 line_is line ws e = sym (join_with_byte-slice_split 32 line) ∙ ap (join_with_byte 32) e
 
@@ -75,12 +75,12 @@ module _ {H A : Type 0} (head : List (List ℕ) → Result H LineFault) (head_wo
       ∙ sym (append_assoc (join_with_byte 32 (head_words a.0)) (10 ∷ []) (flat_map (λ x. line_of (words x)) b.0)) in
       subst (Spells (line ++ 10 ∷ join_with_byte 10 (next ∷ parts))) (ok_is {E = ℕ × LineFault} (a.0, b.0) y b.2) (whole, one.1, rest.1)
 
-  -- what is read is spelled so
+  -- a text that is read is the spelling of its result
   pub text_takes : (text : List ℕ) (y : H × List A) → text_at head item (parts_of text) ≡ Ok y
       → (text ≡ spelled_text y.0 y.1) × ValidHead y.0 × AllByRecursion (Valid y.0) y.1
   text_takes text y e = subst (λ (t : List ℕ). Spells t y) (join_with_byte-slice_split 10 text) (parts_take (parts_of text) y e)
 
-  -- what is spelled so is read
+  -- the spelling of a text is read back
   pub text_again : (h : H) (xs : List A) → ValidHead h → AllByRecursion (Valid h) xs → text_at head item (parts_of (spelled_text h xs)) ≡ Ok (h, xs)
   text_again h xs valid all =
       let cut = parts_of-line (head_words h) (flat_map (λ x. line_of (words x)) xs) (head_codec.plain h valid) in
@@ -88,7 +88,7 @@ module _ {H A : Type 0} (head : List (List ℕ) → Result H LineFault) (head_wo
       text_at-cut head item (spelled_text h xs) (join_with_byte 32 (head_words h)) (flat_map (λ x. line_of (words x)) xs) cut
       ∙ rw (one, items_again (item h) words (Valid h) (codec h valid) 2 xs all) refl
 
--- reading and spelling whole texts that belong together: what the calls promise of what reading gives
+-- reading and spelling of whole texts are inverse: what the calls promise of what reading gives
 module _ {S : Type 0} (read : List ℕ → Result S (ℕ × LineFault)) (spelled : S → List ℕ) (Valid : S → Type 0) where
   pub is_found : ((text : List ℕ) (x : S) → read text ≡ Ok x → (text ≡ spelled x) × Valid x) → (text : List ℕ) (r : Result S TextFault) → Gives (λ x. x) r (read text) → IfOk r (λ x. (text ≡ spelled x) × Valid x)
   is_found takes text (Ok x) given = takes text x given

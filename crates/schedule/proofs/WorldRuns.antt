@@ -1,4 +1,4 @@
--- The run of a schedule on a world follows a story from where the world began, and so its deeds are legal.
+-- The run of a schedule on a world follows an execution from where the world began, so its deeds are legal.
 use Rattle.std.proofs.Common.{◌≡◌, ℕ, List, [], ◌∷◌, ◌++◌, map, Option, Some, None, Result, Ok, Err, IfOk, refl, sym, ap, ◌∙◌, subst, inl, append_assoc, append-nil}
 use Rattle.schedule.proofs.ReplaysCommon.{Fault, Refusal, one_more, Deed, empty, State, judged, Answer, Image, Stepped, new_refusal, WorldState, stand_at, spot_at, scene_of, Takes, new_world, image_world}
 use Rattle.schedule.proofs.ReplaysCommon.{Line, ReplayFault, Verdict, Fine, Tape, Part, deeds_of, Told, Did, told_of, did, answered, run_on, verdict_on, ruled, verdict_from, world_behaviour}
@@ -29,7 +29,7 @@ use Rattle.schedule.proofs.Playing.{deeds_told, deeds_append}
 use Rattle.redomail.specs.declared.layout.Layout.{Layout}
 use Rattle.rmeworld.specs.ImageRules.{layout_of, IsLawfulImage}
 
--- what is legal has no deed that the judge refuses
+-- a legal history has no deed that the judge refuses
 pub legal_is_fine : (k : ℕ) (s t : State) (deeds : List Deed) → Leads s deeds t → verdict_from k s deeds ≡ Fine
 legal_is_fine k s t [] leads = refl
 legal_is_fine k s t (d ∷ ds) leads = by (judged s d) leads (λ u. legal_is_fine (one_more k) u t ds)
@@ -43,7 +43,7 @@ deeds_did None = refl
 deeds_did (Some deed) = refl
 
 module _ (l : Layout) (limit : ℕ) where
-  -- a story from here comes to this scene, and tells this
+  -- an execution from here ends in this global state, and reports this
   record Tells (first w : Scene) (told : List Told) : Type 0 where
     pub story : List Happening
     pub may : Story l limit first story
@@ -59,7 +59,7 @@ module _ (l : Layout) (limit : ℕ) where
   told_deeds [] p (Some answer) = refl
   told_deeds (d ∷ ds) p answer = ap (λ (es : List Deed). d ∷ es) (told_deeds ds p answer)
 
-  -- the deeds of what a story tells are its deeds
+  -- the deeds in what an execution reports are its deeds
   story_deeds : (w : Scene) (es : List Happening) → deeds_of (told_in l limit w es) ≡ deeds l limit w es
   story_deeds w [] = refl
   story_deeds w (e ∷ es) = deeds_append (told_at l w e) (told_in l limit (onward l limit w e) es) ∙ (λ i. told_deeds (event_deeds l w e) (who e) (answer_to (w.spots (who e)) e) i ++ story_deeds (onward l limit w e) es i)
@@ -74,7 +74,7 @@ module _ (l : Layout) (limit : ℕ) where
         said = told_more first h.story e ∙ (λ i. h.said i ++ told_at l (h.last i) e);
       }
 
--- a world of these sizes that follows a story from here, which tells this
+-- a world of these sizes that follows an execution from here, which reports this
 record Goes (l : Layout) (limit : ℕ) (first : Scene) (s : WorldState) (told : List Told) : Type 0 where
   pub layout : s.layout ≡ l
   pub limited : s.limit ≡ limit
@@ -132,7 +132,7 @@ run_is_fine l limit k first state s lines begins now =
     let legal = follows_legal first state run.left (deeds_of run.told) there end.follows in
     legal_is_fine 1 state legal.0 (deeds_of run.told) legal.1
 
--- the run follows a story from where its world began, and its words are those of the story's end
+-- the run follows an execution from where its world began, and its words are those of the execution's end
 run_is_story : (l : Layout) (limit k : ℕ) (origin : Option Image) (s : WorldState) (lines : List Line) → Goes l limit (first_scene origin) s [] → IsStory l limit origin (run_on world_behaviour k s lines)
 run_is_story l limit k origin s lines now =
     let first : Scene = first_scene origin in
@@ -155,7 +155,7 @@ run_is_story l limit k origin s lines now =
       };
     }
 
--- a world that has told nothing yet
+-- a world that has reported nothing yet
 goes_new : (l : Layout) (limit : ℕ) → new_refusal l limit ≡ None → Goes l limit at_first (new_world l limit) []
 goes_new l limit may = record { layout = refl; limited = refl; follows = follows_new l limit may; tells = record { story = []; may = tt; last = sym (new_scene l limit); said = refl } }
 

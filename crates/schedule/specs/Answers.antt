@@ -1,4 +1,4 @@
--- The answer lines of a report.
+-- The answer lines of a report (the specification's Report).
 use Rattle.std.specs.Prelude.{ℕ, true, false, List, [], ◌∷◌, codes}
 use Rattle.std.specs.Fmt.{decimal}
 use Rattle.rmecore.specs.declared.found.Found.{Found}
@@ -8,6 +8,7 @@ use Rattle.redomail.specs.declared.reply.Reply.TheVariants as replies
 use Rattle.rmeworld.specs.declared.answer.Answer.{Answer}
 use Rattle.rmeworld.specs.declared.answer.Answer.TheVariants as answers
 
+-- the word after `found`
 abbrev pub word_of_found : Found → List ℕ
 word_of_found founds.Idle = codes "idle"
 word_of_found founds.Left = codes "left"
@@ -15,8 +16,7 @@ word_of_found founds.Doorway = codes "doorway"
 word_of_found founds.Waiting = codes "waiting"
 word_of_found founds.Inside = codes "inside"
 
--- the words of what a task answers. A put is done; whether the lock is ruined is the lock's own question, which no call is
--- answered with
+-- the words of a task's reply. Done answers a put. No call answers Ruined: it is the lock's own question
 abbrev pub words_of_reply : Reply → List (List ℕ)
 words_of_reply replies.Stored = codes "stored" ∷ []
 words_of_reply replies.Already = codes "already" ∷ []

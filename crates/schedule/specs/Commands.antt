@@ -1,4 +1,4 @@
--- The lines of a schedule but the first.
+-- The lines of a schedule after the header (the specification's Schedule text).
 use Rattle.std.specs.Prelude.{◌≡◌, ℕ, Bool, true, ◌<◌, ◌≤◌, ◌^◌, ◌==◌, List, [], ◌∷◌, map, drop, length, Result, if◌then◌else◌, codes, slice_index, slice_index_or}
 use Rattle.std.specs.List.{AllByRecursion}
 use Rattle.std.specs.Fmt.{decimal}
@@ -13,6 +13,7 @@ use Rattle.schedule.specs.Words.{Shape, Number, any, many, is_nil, item_at}
 
 -- ---- each line has one spelling
 
+-- the words of a line that starts a call of p
 abbrev pub words_of_call : ℕ → Call → List (List ℕ)
 words_of_call p calls.Lock = codes "lock" ∷ decimal p ∷ []
 words_of_call p calls.Unlock = codes "unlock" ∷ decimal p ∷ []
@@ -24,34 +25,38 @@ words_of_call p (calls.Put i v) = codes "put" ∷ decimal p ∷ decimal i ∷ de
 words_of_call p (calls.Get i) = codes "get" ∷ decimal p ∷ decimal i ∷ []
 words_of_call p calls.Withdraw = codes "withdraw" ∷ decimal p ∷ []
 
+-- the words of a line
 abbrev pub words_of_line : Line → List (List ℕ)
 words_of_line (Start p call) = words_of_call p call
 words_of_line (Step p k) = codes "step" ∷ decimal p ∷ (if k == 1 then [] else decimal k ∷ [])
 words_of_line (Crash p) = codes "crash" ∷ decimal p ∷ []
 
--- what the types keep: numbers of 64 bits, K from 1 to 1,000,000, and a value of the schedule's width
+-- what the types guarantee: numbers of 64 bits, K from 1 to 1,000,000, and a value of the schedule's width
 abbrev pub IsCall : ℕ → Call → Type 0
 IsCall width (calls.Append seq value) = (seq < 2 ^ 64) × (length value ≡ width) × AllByRecursion (λ v. v < 2 ^ 64) value
 IsCall width (calls.Put i v) = (i < 2 ^ 64) × (v < 2 ^ 64)
 IsCall width (calls.Get i) = i < 2 ^ 64
 IsCall width call = Unit {0}
 
+-- the same of a line
 abbrev pub IsLine : ℕ → Line → Type 0
 IsLine width (Start p call) = (p < 2 ^ 64) × IsCall width call
 IsLine width (Step p k) = (p < 2 ^ 64) × (1 ≤ k) × (k ≤ 1000000)
 IsLine width (Crash p) = p < 2 ^ 64
 
--- a value that it holds has this width
+-- whether each value that it holds has this width
 abbrev pub call_fits : ℕ → Call → Bool
 call_fits width (calls.Append seq value) = length value == width
 call_fits width call = true
 
+-- whether each value that a line holds has this width
 abbrev pub fits : ℕ → Line → Bool
 fits width (Start p call) = call_fits width call
 fits width line = true
 
 -- ---- reading: the command, then its numbers
 
+-- the name of a command
 abbrev pub word_of : Command → List ℕ
 word_of commands.Lock = codes "lock"
 word_of commands.Unlock = codes "unlock"
@@ -65,9 +70,11 @@ word_of commands.Withdraw = codes "withdraw"
 word_of commands.Step = codes "step"
 word_of commands.Crash = codes "crash"
 
+-- a command with its name
 abbrev pub entry : Command → List ℕ × Command
 entry command = (word_of command, command)
 
+-- all commands by their names
 abbrev pub commands_by_name : List (List ℕ × Command)
 commands_by_name =
     entry commands.Lock
@@ -83,7 +90,7 @@ commands_by_name =
     ∷ entry commands.Crash
     ∷ []
 
--- the places after a command; a step has a second one only where a word stands there
+-- the places after a command; a step has a second one only where a second word follows
 abbrev pub places : ℕ → Command → List (List ℕ) → List Shape
 places width commands.Append ws = any ∷ any ∷ many width
 places width commands.Put ws = any ∷ any ∷ any ∷ []
@@ -91,7 +98,7 @@ places width commands.Get ws = any ∷ any ∷ []
 places width commands.Step ws = if is_nil (drop 1 ws) then any ∷ [] else any ∷ Number 2 1000000 ∷ []
 places width command ws = any ∷ []
 
--- the line of a command with these numbers; a step with one number is one step
+-- the line that a command makes of these numbers; a step with one number is one step
 abbrev pub line_with : Command → List ℕ → Line
 line_with commands.Lock ns = Start (slice_index ns 0) calls.Lock
 line_with commands.Unlock ns = Start (slice_index ns 0) calls.Unlock
@@ -105,5 +112,6 @@ line_with commands.Withdraw ns = Start (slice_index ns 0) calls.Withdraw
 line_with commands.Step ns = Step (slice_index ns 0) (slice_index_or ns 1 1)
 line_with commands.Crash ns = Crash (slice_index ns 0)
 
+-- the line that these words say, or its fault (the specification's Schedule grammar)
 abbrev pub line_at : ℕ → List (List ℕ) → Result Line LineFault
 line_at width ws = item_at commands_by_name (places width) line_with ws

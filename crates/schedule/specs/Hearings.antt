@@ -1,4 +1,4 @@
--- The judging of a run as it goes on.
+-- The running verdict of a judge on the deeds of a run.
 use Rattle.std.specs.Prelude.{◌≡◌, ℕ, List, [], ◌∷◌, ◌++◌, Result, Ok, Err}
 use Rattle.rmecore.specs.declared.fault.Fault.{Fault}
 use Rattle.redomail.specs.declared.deed.Deed.{Deed}
@@ -10,27 +10,29 @@ use Rattle.schedule.specs.declared.replays.verdict.Verdict.{Verdict}
 use Rattle.schedule.specs.declared.replays.verdict.Verdict.TheVariants.{Fine, Against}
 use Rattle.schedule.specs.Verdicts.{verdict_from}
 
--- no deed is heard yet
+-- before the first deed
 abbrev pub opened : Hearing
 opened = record { number = 1; verdict = Fine }
 
--- a judge, and what was made of its answers
+-- a judge, and the running verdict on its answers
 pub record Bench : Type 0 where
   pub judge : Kept
   pub hearing : Hearing
 
+-- a judge with a running verdict
 abbrev pub bench : Kept → Hearing → Bench
 bench judge hearing = record { judge = judge; hearing = hearing }
 
--- the verdict where more deeds come: the first that is not allowed decides
+-- the verdict after more deeds: the first that is not allowed decides
 abbrev pub with_more : Verdict → ℕ → State → List Deed → Verdict
 with_more Fine k s deeds = verdict_from k s deeds
 with_more (Against at fault) k s deeds = Against at fault
 
+-- unless it has refused a deed, the judge is in this state of the judge table
 abbrev pub Sits : Bench → State → Type 0
 Sits b s = b.hearing.verdict ≡ Fine → Keeps b.judge s
 
--- what comes after a deed that is allowed, or this state
+-- the continuation where a deed is allowed, else this state
 abbrev pub if_allowed : Result State Fault → (State → State) → State → State
 if_allowed (Ok s) rest otherwise = rest s
 if_allowed (Err fault) rest otherwise = otherwise
@@ -40,12 +42,12 @@ abbrev pub heard : State → List Deed → State
 heard s [] = s
 heard s (d ∷ ds) = if_allowed (judged s d) (λ t. heard t ds) s
 
--- the state where more deeds come: after the first that is not allowed none is judged
+-- the state after more deeds: after the first that is not allowed none is judged
 abbrev pub heard_with : Verdict → State → List Deed → State
 heard_with Fine s deeds = heard s deeds
 heard_with (Against at fault) s deeds = s
 
--- a bench that has heard these deeds
+-- what giving these deeds to a judge makes of it and of its running verdict
 abbrev pub Hears : Bench → List Deed → Bench → Type 0
 Hears before deeds now =
     (s : State) → Sits before s

@@ -1,4 +1,4 @@
--- What the functions that play a part of a run do.
+-- What the functions that play a part of a run write, answer and leave.
 use Rattle.std.specs.Prelude.{◌≡◌, ℕ, ◌+◌, ◌-◌, ◌^◌, min, List, Option, Some, None, Result, Ok, Err}
 use Rattle.rmecore.specs.declared.refusal.Refusal.{Refusal}
 use Rattle.rmecore.specs.Refused.{number_of}
@@ -11,42 +11,43 @@ use Rattle.schedule.specs.Runs.{Told, Part, deeds_of}
 use Rattle.schedule.specs.Reports.{told_text}
 use Rattle.schedule.specs.Hearings.{Bench, Hears}
 
--- why a part is not played to its end. Memory is wanted only for what is still to be told, so never in place of a refusal
+-- why a part stops before its end. Out of memory leaves some of its text unwritten, so it never replaces a refusal
 abbrev pub Halts : Tape → Tape → List ℕ → Option Refusal → Halt → Type 0
 Halts before now text refused (Refused number) = Writes before now text × ((refusal : Refusal) × (refused ≡ Some refusal) × (number_of refusal ≡ Some number))
 Halts before now text refused Write = Begins before.taken now.taken text × (now.failures ≡ min (before.failures + 1) (2 ^ 64 - 1))
 Halts before now text refused OutOfMemory = BreaksOff before.taken now.taken text × (now.failures ≡ before.failures)
 
--- a refusal for want of memory has no number
+-- the refusal OutOfMemory has no number
 abbrev pub halted : Option ℕ → Halt
 halted None = OutOfMemory
 halted (Some number) = Refused number
 
+-- the stop that a refusal by the machine makes
 abbrev pub halt_of : Refusal → Halt
 halt_of refusal = halted (number_of refusal)
 
--- what is told is written and heard
+-- what is reported is written, and its deeds are given to the judge
 abbrev pub Tells : {A : Type 0} → Tape → Tape → Bench → Bench → List Told → Result A Halt → Type 0
 Tells before now bench heard told (Ok x) = Writes before now (told_text told) × Hears bench (deeds_of told) heard
 Tells before now bench heard told (Err halt) = Halts before now (told_text told) None halt
 
--- what was told is heard, and the machine stands where it is left
+-- the deeds that were reported are judged, and the machine is in the state that is left
 pub record Stops {S : Type 0} (bench heard : Bench) (told : List Told) (left s : S) : Type 0 where
   pub hears : Hears bench (deeds_of told) heard
   pub stands : s ≡ left
 
--- the machine refuses it
+-- the machine refuses the line
 abbrev pub IsRefusal : Halt → Type 0
 IsRefusal (Refused number) = Unit {0}
 IsRefusal halt = ⊥
 
--- a part of the run is played
+-- a part of a run is played: what it reports is written and judged, and the machine is in the state that is left
 abbrev pub Plays : {S A : Type 0} → Tape → Tape → Bench → Bench → List Told → S → Option Refusal → S → Result A Halt → Type 0
 Plays before now bench heard told left refused s (Ok x) =
     Writes before now (told_text told) × Hears bench (deeds_of told) heard × (refused ≡ None) × (s ≡ left)
 Plays before now bench heard told left refused s (Err halt) = Halts before now (told_text told) refused halt × (IsRefusal halt → Stops bench heard told left s)
 
--- what is answered where line k halts
+-- the answer of a replay that stops at this line
 abbrev pub fault_at : ℕ → Halt → ReplayFault
 fault_at line (Refused number) = faults.Refused line number
 fault_at line Write = faults.Write
@@ -60,7 +61,7 @@ Ends before now run faults.Write = Begins before.taken now.taken (told_text run.
 Ends before now run faults.OutOfMemory = BreaksOff before.taken now.taken (told_text run.told) × (now.failures ≡ before.failures)
 Ends before now run fault = ⊥
 
--- a line is refused
+-- the fault is a refused line
 abbrev pub IsRefused : ReplayFault → Type 0
 IsRefused (faults.Refused line number) = Unit {0}
 IsRefused fault = ⊥

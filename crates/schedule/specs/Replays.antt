@@ -1,4 +1,4 @@
--- What replaying a schedule on a machine writes and answers.
+-- What replaying a schedule on a machine writes and answers (the specification's Replay clause).
 use Rattle.std.specs.Prelude.{◌≡◌, ℕ, ◌+◌, ◌-◌, ◌^◌, min, List, Option, Some, None, Result, Ok, Err}
 use Rattle.rmecore.specs.declared.refusal.Refusal.{Refusal}
 use Rattle.rmecore.specs.Refused.{number_of}
@@ -12,12 +12,12 @@ use Rattle.schedule.specs.Verdicts.{verdict_on}
 use Rattle.schedule.specs.Reports.{told_text, IsReport, IsEnd}
 use Rattle.schedule.specs.Tapes.{Tape, Writes, Begins, BreaksOff}
 
--- all that is written of a run: its report, or only what it tells up to the line that is refused
+-- all that is written of a run: its report, or what it reports before the line that is refused
 abbrev pub IsAll : {S : Type 0} → State → (S → Image) → Part S (ℕ × Refusal) → Option (ℕ × Refusal) → List ℕ → Type 0
 IsAll start image_of run None text = IsReport start (image_of run.left) run.told text
 IsAll start image_of run (Some refusal) text = text ≡ told_text run.told
 
--- the report was written, and its verdict is the one of the run
+-- the report was written, and its verdict is that of the run
 pub record Reported {S : Type 0} (before now : Tape) (start : State) (image_of : S → Image) (run : Part S (ℕ × Refusal)) (verdict : Verdict) : Type 0 where
   pub accepted : run.refused ≡ None
   pub verdict_is : verdict ≡ verdict_on start (deeds_of run.told)
@@ -25,9 +25,9 @@ pub record Reported {S : Type 0} (before now : Tape) (start : State) (image_of :
   pub report : IsReport start (image_of run.left) run.told text
   pub writes : Writes before now text
 
--- why there is no verdict. After a refusal just what the earlier steps told was written; a sink that fails has failed once
--- more, and has taken a beginning; and where there is no memory a beginning was written and something is left: so where all
--- that the earlier steps told was written, a line that is refused is answered as refused
+-- why there is no verdict. After a refusal just what the steps before it report was written. A sink that fails has failed
+-- once more, and has taken a beginning. Out of memory leaves some of the text unwritten: so where all that the steps before
+-- a refused line report was written, the answer is the refusal
 abbrev pub CutShort : {S : Type 0} → Tape → Tape → State → (S → Image) → Part S (ℕ × Refusal) → ReplayFault → Type 0
 CutShort before now start image_of run (Refused line number) =
     Writes before now (told_text run.told) × ((refusal : Refusal) × (run.refused ≡ Some (line, refusal)) × (number_of refusal ≡ Some number))
@@ -37,6 +37,7 @@ CutShort before now start image_of run OutOfMemory =
     ((text : List ℕ) → IsAll start image_of run run.refused text → BreaksOff before.taken now.taken text) × (now.failures ≡ before.failures)
 CutShort before now start image_of run fault = ⊥
 
+-- what a replay writes and answers
 abbrev pub Replays : {S : Type 0} → Tape → Tape → State → (S → Image) → Part S (ℕ × Refusal) → Result Verdict ReplayFault → Type 0
 Replays before now start image_of run (Ok verdict) = Reported before now start image_of run verdict
 Replays before now start image_of run (Err fault) = CutShort before now start image_of run fault

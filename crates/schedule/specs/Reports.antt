@@ -1,4 +1,4 @@
--- The report of a run: the lines of what it tells, the last words, the mailbox, and the verdict.
+-- The report of a run: its deeds and answers, the last words, the mailbox, and the verdict (the specification's Report).
 use Rattle.std.specs.Prelude.{◌≡◌, ℕ, ◌+◌, List, [], ◌∷◌, ◌++◌, map, slice_index, ◌⊎◌, codes}
 use Rattle.std.specs.List.{flat_map}
 use Rattle.std.specs.Fmt.{decimal}
@@ -21,17 +21,20 @@ use Rattle.schedule.specs.Answers.{words_of_answer}
 use Rattle.schedule.specs.Verdicts.{number_of_fault, verdict_on}
 use Rattle.schedule.specs.Runs.{Told, Did, Answered, deeds_of}
 
--- ---- what a run tells
+-- ---- what a run reports
 
+-- the line of a deed or of an answer
 abbrev pub told_line : Told → List ℕ
 told_line (Did deed) = line_of (words_of_deed deed)
 told_line (Answered p answer) = line_of (codes "answer" ∷ decimal p ∷ words_of_answer answer)
 
+-- the lines of what a run reports
 abbrev pub told_text : List Told → List ℕ
 told_text told = flat_map told_line told
 
 -- ---- the last words
 
+-- the line `words P C N I`
 abbrev pub own_line : ℕ → Own → List ℕ
 own_line p own = line_of (codes "words" ∷ decimal p ∷ decimal own.choosing ∷ decimal own.number ∷ decimal own.inside ∷ [])
 
@@ -42,6 +45,7 @@ owns_text p (own ∷ owns) = own_line p own ++ owns_text (p + 1) owns
 
 -- ---- the mailbox
 
+-- the line `message AT SENDER SEQ VALUE..`
 abbrev pub message_line : ℕ → Message → List ℕ
 message_line at m = line_of (codes "message" ∷ decimal at ∷ decimal m.sender ∷ decimal m.seq ∷ map decimal m.value)
 
@@ -50,15 +54,18 @@ abbrev pub messages_text : ℕ → List Message → List ℕ
 messages_text at [] = []
 messages_text at (m ∷ ms) = message_line at m ++ messages_text (at + 1) ms
 
+-- the line `mail COUNT closed C ruined R`
 abbrev pub count_line : List ℕ → List ℕ
 count_line cells =
     line_of
     (codes "mail" ∷ decimal (slice_index cells 2) ∷ codes "closed" ∷ decimal (slice_index cells 1)
     ∷ codes "ruined" ∷ decimal (slice_index cells 0) ∷ [])
 
+-- the content of the mailbox
 abbrev pub content_text : Layout → List ℕ → List ℕ
 content_text layout cells = count_line cells ++ messages_text 0 (entries layout (words_of cells) (slice_index cells 2))
 
+-- the line `mail broken`
 abbrev pub broken_text : List ℕ
 broken_text = line_of (codes "mail" ∷ codes "broken" ∷ [])
 
@@ -69,15 +76,18 @@ IsMailText layout cells text =
 
 -- ---- the verdict
 
+-- the words after fault 4: who came before whom
 abbrev pub words_of_overtaking : Fault → List (List ℕ)
 words_of_overtaking (Overtaken by of) = codes "by" ∷ decimal by ∷ codes "of" ∷ decimal of ∷ []
 words_of_overtaking _ = []
 
+-- the words of a verdict
 abbrev pub words_of_verdict : Verdict → List (List ℕ)
 words_of_verdict Fine = codes "verdict" ∷ codes "fine" ∷ []
 words_of_verdict (Against at fault) =
     codes "verdict" ∷ codes "against" ∷ decimal (number_of_fault fault) ∷ codes "at" ∷ decimal at ∷ words_of_overtaking fault
 
+-- the last line of a report
 abbrev pub verdict_line : Verdict → List ℕ
 verdict_line verdict = line_of (words_of_verdict verdict)
 
@@ -88,7 +98,7 @@ abbrev pub IsEnd : Image → Verdict → List ℕ → Type 0
 IsEnd image verdict text =
     (mail : List ℕ) × IsMailText (layout_of image) image.cells mail × (text ≡ owns_text 0 image.lock ++ mail ++ verdict_line verdict)
 
--- the report of a run that is not refused, from a state of the judge table on, by the words that it leaves
+-- the report of a run without a refusal: judged from this state of the judge table, with the last words of this image
 abbrev pub IsReport : State → Image → List Told → List ℕ → Type 0
 IsReport start image told text =
     (end : List ℕ) × IsEnd image (verdict_on start (deeds_of told)) end × (text ≡ told_text told ++ end)

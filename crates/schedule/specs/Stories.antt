@@ -1,4 +1,5 @@
--- What a story of the definition tells, and the run of a schedule on a world as such a story.
+-- What an execution of the model reports, and the run of a schedule on a world as such an execution
+-- (the specification's Run).
 use Rattle.std.specs.Prelude.{◌≡◌, ℕ, List, [], ◌∷◌, ◌++◌, length, map, Option, Some, None}
 use Rattle.rmecore.specs.declared.refusal.Refusal.{Refusal}
 use Rattle.redomail.specs.declared.layout.Layout.{Layout}
@@ -18,16 +19,17 @@ abbrev pub first_scene : Option Image → Scene
 first_scene None = at_first
 first_scene (Some i) = crashed_scene (length i.lock) (own_at i.lock) (words_of i.cells)
 
--- a happening tells its deed, and the answer where it ends its call
+-- an event reports its deed, and the answer where it ends its call
 abbrev pub told_at : Layout → Scene → Happening → List Told
 told_at l w e = map Did (event_deeds l w e) ++ answered (who e) (answer_to (w.spots (who e)) e)
 
+-- what the events report, from this global state on
 abbrev pub told_in : Layout → ℕ → Scene → List Happening → List Told
 told_in l limit w [] = []
 told_in l limit w (e ∷ es) = told_at l w e ++ told_in l limit (onward l limit w e) es
 
--- Some story from where a world begins that is new, or was made of this image, tells just what the run tells, has just its
--- deeds, and ends with just the words that it leaves.
+-- Some execution, from the first state of a new world or of one made of this image, reports just what the run reports,
+-- has just its deeds, and ends with just the words that the run leaves.
 pub record IsStory (l : Layout) (limit : ℕ) (origin : Option Image) (run : Part WorldState (ℕ × Refusal)) : Type 0 where
   pub story : List Happening
   pub may : Story l limit (first_scene origin) story

@@ -1,19 +1,20 @@
--- Bytes that are read, and bytes that are written, a part at a time.
+-- Bytes that are read, and bytes that are written, in pieces.
 use Rattle.std.specs.Prelude.{◌≡◌, ℕ, Bool, List, [], ◌++◌}
 
--- how far a source was read: the bytes that it has given, whether it told its end, and how often it failed, held at 2^64 - 1
+-- what was read of a source: the bytes that it has given, whether it has reached its end, and how often it failed,
+-- at most 2^64 - 1
 pub record Reading : Type 0 where
   pub given : List ℕ
   pub ended : Bool
   pub failures : ℕ
 
--- of these bytes all but the rest were written
+-- all of these bytes but the rest were written
 pub record WritesFront (old new bytes rest : List ℕ) : Type 0 where
   pub front : List ℕ
   pub written : new ≡ old ++ front
   pub left : bytes ≡ front ++ rest
 
--- what a sink has taken, and how often it failed, held at 2^64 - 1
+-- what a sink has taken, and how often it failed, at most 2^64 - 1
 pub record Tape : Type 0 where
   pub taken : List ℕ
   pub failures : ℕ

@@ -1,4 +1,4 @@
--- Judging a trace, line by line.
+-- Judging a trace, line by line (the specification's Trace).
 use Rattle.std.specs.Prelude.{◌≡◌, ℕ, ◌-◌, min, Bool, true, ◌+◌, ◌<◌, ◌≤◌, ◌^◌, ◌&&◌, nat_lt, nat_le, List, [], ◌∷◌, ◌++◌, length, Option, Some, None, Result, Ok, Err, if◌then◌else◌}
 use Rattle.rmecore.specs.declared.refusal.Refusal.{Refusal}
 use Rattle.rmecore.specs.declared.refusal.Refusal.TheVariants.{BadProcs, BadCap}
@@ -22,11 +22,12 @@ use Rattle.schedule.specs.Traces.{trace_head_at}
 use Rattle.schedule.specs.Verdicts.{verdict_on}
 use Rattle.schedule.specs.Hearings.{opened, bench, Hears}
 
--- why there is no judge of such a trace
+-- why no judge has these sizes
 abbrev pub judge_refusal : ℕ → ℕ → Option Refusal
 judge_refusal procs cap =
     if nat_lt 0 procs && nat_le procs 64 then (if nat_lt 0 cap && nat_le cap 65536 then None else Some BadCap) else Some BadProcs
 
+-- the number of a refusal, if there is one
 abbrev pub numbered : Option Refusal → Option ℕ
 numbered None = None
 numbered (Some refusal) = number_of refusal
@@ -36,23 +37,26 @@ abbrev pub judged_of : Option ℕ → ℕ → ℕ → List Deed → Result Verdi
 judged_of None procs cap deeds = Ok (verdict_on (empty procs cap) deeds)
 judged_of (Some number) procs cap deeds = Err (Refused 1 number)
 
+-- the answer for what reading a trace gives
 abbrev pub answer_of : Result (TraceHead × List Deed) (ℕ × LineFault) → Result Verdict ReplayFault
 answer_of (Ok read) = judged_of (numbered (judge_refusal read.0.procs read.0.cap)) read.0.procs read.0.cap read.1
 answer_of (Err fault) = Err (Text fault.0 (number_of_line fault.1))
 
--- the answer of a trace's text, by its parts: its first fault, or why its header is refused, or the verdict on its deeds
+-- the answer for a trace's text, by its parts: its first fault, or the refusal of its header, or the verdict on its deeds
 abbrev pub trace_answer : List (List ℕ) → Result Verdict ReplayFault
 trace_answer parts = answer_of (text_at trace_head_at (λ h. deed_at h.width) parts)
 
--- ---- what stands after some lines
+-- ---- after some lines
 
--- the reading of a text of just these lines
+-- what reading gives for a text of just these lines
 abbrev pub reading_of : List (List ℕ) → Result (TraceHead × List Deed) (ℕ × LineFault)
 reading_of lines = text_at trace_head_at (λ h. deed_at h.width) (lines ++ [] ∷ [])
 
+-- a header's width, from 1 to 8
 abbrev pub IsNarrow : TraceHead → Type 0
 IsNarrow head = (1 ≤ head.width) × (head.width ≤ 8)
 
+-- what the type guarantees
 abbrev pub IsStage : Stage → Type 0
 IsStage stages.First = Unit {0}
 IsStage (stages.Refused head number) = IsNarrow head
@@ -69,28 +73,29 @@ Stands (stages.Judging head judge hearing) lines =
     × ((first : Kept) × Keeps first (empty head.procs head.cap) × Hears (bench first opened) deeds (bench judge hearing))
 Stands (stages.Faulty line fault) lines = (reading_of lines ≡ Err (line, fault)) × (0 < length lines)
 
--- a stage that has taken lines from the front of a text, the first of which has this number, up to where it goes on
+-- a stage has taken `more` lines from the front of a text, the first of which has this number; `rest` is the text after them
 pub record Fed (before now : Stage) (text rest : List ℕ) (number count_now : ℕ) : Type 0 where
   pub more : List (List ℕ)
   pub parts : parts_of text ≡ more ++ parts_of rest
   pub count : number < 2 ^ 64 → count_now ≡ min (number + length more) (2 ^ 64 - 1)
   pub stands : (lines : List (List ℕ)) → Stands before lines → Stands now (lines ++ more)
 
--- the number of the next line, and what is known
+-- the number of the next line, and what is known of the trace
 pub record Trial : Type 0 where
   pub line : ℕ
   pub stage : Stage
 
--- it is known after these lines, as long as they can be counted
+-- this is known after these lines, while their number fits in 64 bits
 abbrev pub Follows : Trial → List (List ℕ) → Type 0
 Follows trial lines = length lines + 3 < 2 ^ 64 → (trial.line ≡ length lines + 1) × Stands trial.stage lines
 
 -- ---- the whole source
 
--- the answer of the text that the source gave to its end
+-- the answer for the text that the source gave, to its end
 abbrev pub AnswersText : List ℕ → List ℕ → Bool → Result Verdict ReplayFault → Type 0
 AnswersText old new ended answer = (text : List ℕ) × (new ≡ old ++ text) × (ended ≡ true) × (answer ≡ trace_answer (parts_of text))
 
+-- what judging a trace answers
 abbrev pub JudgesTrace : List ℕ → List ℕ → ℕ → ℕ → Bool → Result Verdict ReplayFault → Type 0
 JudgesTrace old new before now ended (Err Read) = now ≡ min (before + 1) (2 ^ 64 - 1)
 JudgesTrace old new before now ended (Err OutOfMemory) = now ≡ before

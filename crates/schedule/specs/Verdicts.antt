@@ -1,4 +1,4 @@
--- The verdict on a list of deeds: the first that is not allowed, with its number.
+-- The verdict on a list of deeds: the first that is not allowed, with its number (the specification's Trace).
 use Rattle.std.specs.Prelude.{ℕ, List, [], ◌∷◌, Result, Ok, Err}
 use Rattle.rmecore.specs.declared.fault.Fault.{Fault}
 use Rattle.rmecore.specs.declared.fault.Fault.TheVariants.{OutOfPlace, TwoInside, NotReentered, Overtaken, NotInside, MailOrder, AfterClose}
@@ -8,6 +8,7 @@ use Rattle.rmecore.specs.Simulated.{one_more}
 use Rattle.schedule.specs.declared.replays.verdict.Verdict.{Verdict}
 use Rattle.schedule.specs.declared.replays.verdict.Verdict.TheVariants.{Fine, Against}
 
+-- the number of a judge's fault, from 1 to 7
 abbrev pub number_of_fault : Fault → ℕ
 number_of_fault OutOfPlace = 1
 number_of_fault TwoInside = 2
@@ -17,12 +18,12 @@ number_of_fault NotInside = 5
 number_of_fault MailOrder = 6
 number_of_fault AfterClose = 7
 
+-- the verdict where deed k is refused, or the rest after it
 abbrev pub ruled : ℕ → Result State Fault → (State → Verdict) → Verdict
 ruled k (Ok s) rest = rest s
 ruled k (Err fault) rest = Against k fault
 
--- the verdict on deeds of which the first has number k, from a state of the judge table on. The numbers are held at the
--- greatest u64
+-- the verdict on deeds, from a state of the judge table on. The first has number k; numbers stop at the greatest u64
 abbrev pub verdict_from : ℕ → State → List Deed → Verdict
 verdict_from k s [] = Fine
 verdict_from k s (d ∷ ds) = ruled k (judged s d) (λ t. verdict_from (one_more k) t ds)

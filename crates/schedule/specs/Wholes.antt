@@ -1,4 +1,5 @@
--- What replaying a text does: the schedule that it spells is played on a new world of its sizes, before a new judge.
+-- What replaying a text does: the schedule that it spells is played on a new world of its sizes, before a new judge
+-- (the specification's Replay clause).
 use Rattle.std.specs.Prelude.{◌≡◌, ℕ, ◌+◌, ◌-◌, ◌^◌, ◌⊎◌, min, Bool, true, List, ◌++◌, Option, Some, None, Result, Ok, Err}
 use Rattle.rmecore.specs.declared.refusal.Refusal.{Refusal}
 use Rattle.rmecore.specs.Refused.{number_of}
@@ -16,6 +17,7 @@ use Rattle.schedule.specs.Runs.{Part, run_on}
 use Rattle.schedule.specs.Tapes.{Tape, Reading}
 use Rattle.schedule.specs.Replays.{Replays}
 
+-- the sizes of a schedule's world, without the limit
 abbrev pub layout_of : Scheduled → Layout
 layout_of schedule = record { procs = schedule.procs; cap = schedule.cap; width = schedule.width }
 
@@ -28,12 +30,13 @@ pub record Silent (before now : Tape) : Type 0 where
   pub taken : now.taken ≡ before.taken
   pub fine : now.failures ≡ before.failures
 
+-- the answer where no world has the header's sizes
 abbrev pub header_fault : Option ℕ → ReplayFault
 header_fault None = OutOfMemory
 header_fault (Some number) = Refused 1 number
 
--- a header that no world has is refused at line 1; else the report is that of the schedule's run, and its verdict is fine.
--- Memory may be wanted before anything is played
+-- sizes that no world has are refused at line 1; else the report is that of the schedule's run, and its verdict is fine.
+-- Memory may run out before anything is played
 abbrev pub OfSchedule : Tape → Tape → Scheduled → Option Refusal → Result Verdict ReplayFault → Type 0
 OfSchedule before now schedule (Some refusal) answer = Silent before now × ((answer ≡ Err (header_fault (number_of refusal))) ⊎ (answer ≡ Err OutOfMemory))
 OfSchedule before now schedule None answer =
@@ -55,6 +58,7 @@ pub record WasRead (old new : Reading) (text : List ℕ) : Type 0 where
   pub ended : new.ended ≡ true
   pub fine : new.failures ≡ old.failures
 
+-- what `replay` reads, writes and answers
 abbrev pub ReplaysSource : Reading → Reading → Tape → Tape → Result Verdict ReplayFault → Type 0
 ReplaysSource old new before now answer =
     (Unread old new answer × Silent before now) ⊎ ((text : List ℕ) × WasRead old new text × OfText before now (schedule_at text) answer)

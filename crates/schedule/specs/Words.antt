@@ -1,4 +1,5 @@
--- A line as words, and the numbers that its words say. Faults come from the left.
+-- A line as words, and the numbers that the words say. Faults are found from the left
+-- (the specification's Faults of the text).
 use Rattle.std.specs.Prelude.{◌≡◌, ℕ, zero, suc, ◌^◌, ◌-◌, ◌==◌, Bool, true, false, not, ◌&&◌, ◌||◌, List, [], ◌∷◌, ◌++◌, length, drop, slice_index, Option, Some, None, Result, Ok, Err, nat_lt, if◌then◌else◌, bytes_eq}
 use Rattle.std.specs.List.{slice_split, join_with_byte, flat_map, list_all}
 use Rattle.std.specs.Char.{is_ascii_digit}
@@ -15,32 +16,36 @@ words_of line = slice_split (λ b. b == 32) line
 abbrev pub line_of : List (List ℕ) → List ℕ
 line_of ws = join_with_byte 32 ws ++ 10 ∷ []
 
--- the parts of a text, which is cut at every LF: its lines, and what stands after the last LF
+-- the parts of a text, which is cut at every LF: its lines, and the text after the last LF
 abbrev pub parts_of : List ℕ → List (List ℕ)
 parts_of text = slice_split (λ b. b == 10) text
 
+-- the first word, if there is one
 abbrev pub first_of : List (List ℕ) → Option (List ℕ)
 first_of [] = None
 first_of (w ∷ ws) = Some w
 
--- a place of a line: for a word that is given, or for a number from the first to the second
+-- a place of a line: a fixed word, or a number from the first to the second
 pub data Shape : Type 0 where
   Fixed : List ℕ → Shape
   Number : ℕ → ℕ → Shape
 
+-- a place for any number of 64 bits
 abbrev pub any : Shape
 any = Number 0 (2 ^ 64 - 1)
 
+-- this many such places
 abbrev pub many : ℕ → List Shape
 many zero = []
 many (suc n) = any ∷ many n
 
 infixl 10 ◌>>=◌
+-- a result, and what follows where it is no fault
 abbrev pub ◌>>=◌ : {A B E : Type 0} → Result A E → (A → Result B E) → Result B E
 (Ok x) >>= f = f x
 (Err e) >>= f = Err e
 
--- one digit or more, and no 0 before others
+-- one digit or more, without a leading zero
 abbrev pub is_numeral : List ℕ → Bool
 is_numeral word = nat_lt 0 (length word) && list_all is_ascii_digit word && (length word == 1 || not (slice_index word 0 == 48))
 
@@ -53,7 +58,7 @@ number_in least most (Some word) =
     else if nat_lt most (digits_value 10 word) then Err TooBig
     else Ok (digits_value 10 word)
 
--- the numbers at their places, and then no word more
+-- the numbers at their places, and no word after them
 abbrev pub numbers_at : List Shape → List (List ℕ) → Result (List ℕ) LineFault
 numbers_at [] [] = Ok []
 numbers_at [] (w ∷ ws) = Err TrailingText
@@ -68,32 +73,34 @@ abbrev pub begins_with : List ℕ → List (List ℕ) → Bool
 begins_with word [] = false
 begins_with word (w ∷ ws) = bytes_eq w word
 
--- the words that are given stand at their places
+-- the fixed words are at their places
 abbrev pub has_fixed : List Shape → List (List ℕ) → Bool
 has_fixed [] ws = true
 has_fixed (Fixed word ∷ shapes) ws = begins_with word ws && has_fixed shapes (drop 1 ws)
 has_fixed (Number least most ∷ shapes) ws = has_fixed shapes (drop 1 ws)
 
--- what a word names
+-- what a word names in this list
 abbrev pub named : {A : Type 0} → List (List ℕ × A) → List ℕ → Option A
 named [] word = None
 named (entry ∷ entries) word = if bytes_eq word entry.0 then Some entry.1 else named entries word
 
--- what stands after a word: the numbers at its places say what it is
+-- the item that a first word makes of the numbers after it
 unfoldable pub item_after : {C A : Type 0} → (C → List (List ℕ) → List Shape) → (C → List ℕ → A) → C → List (List ℕ) → Result A LineFault
 item_after places make command ws = do
   ns ← numbers_at (places command ws) ws
   Ok (make command ns)
 
+-- the item after a first word, which has to name something
 abbrev pub item_named : {C A : Type 0} → (C → List (List ℕ) → List Shape) → (C → List ℕ → A) → Option C → List (List ℕ) → Result A LineFault
 item_named places make None ws = Err BadWord
 item_named places make (Some command) ws = item_after places make command ws
 
--- a line but the first: its first word names the places and what is made of their numbers
+-- a line after the header: its first word decides the places, and what is made of their numbers
 abbrev pub item_at : {C A : Type 0} → List (List ℕ × C) → (C → List (List ℕ) → List Shape) → (C → List ℕ → A) → List (List ℕ) → Result A LineFault
 item_at entries places make [] = Err BadWord
 item_at entries places make (word ∷ ws) = item_named places make (named entries word) ws
 
+-- no word is left
 abbrev pub is_nil : List (List ℕ) → Bool
 is_nil [] = true
 is_nil (w ∷ ws) = false
@@ -107,7 +114,7 @@ abbrev pub words_left : Option (List ℕ) → List (List ℕ)
 words_left None = []
 words_left (Some line) = words_of line
 
--- what a function returned is what reading gives
+-- what a function returns, seen by view, is what the definition gives
 abbrev pub Reads : {X Y : Type 0} → (X → Y) → Result X LineFault → Result Y LineFault → Type 0
 Reads view (Ok x) read = read ≡ Ok (view x)
 Reads view (Err e) read = read ≡ Err e

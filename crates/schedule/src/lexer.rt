@@ -1,4 +1,4 @@
-//! The lines of a text, read where they stand at its front, so that none of them is kept.
+//! Reads the next line of a text in place, from the front of what is left. No line is kept.
 
 pub mod deed_front;
 pub mod front;

@@ -1,4 +1,4 @@
-//! Schedules, traces and reports: their texts, and replays of a schedule on any machine before any judge.
+//! Schedules, traces and reports: their texts, the replay of a schedule on any machine, and the judging of a trace.
 #![tactic(auto)]
 
 pub mod lexer;

@@ -1,4 +1,4 @@
-//! Trials: a schedule is played on a machine before a judge, and reported; a trace is judged as it comes.
+//! Replays a schedule on a machine before a judge, and reports it. Judges a trace while it is read.
 
 mod clerk;
 mod halt;

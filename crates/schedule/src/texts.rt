@@ -1,4 +1,4 @@
-//! Schedules and traces as texts, read and written, and the devices that their bytes come from and go to.
+//! The texts of schedules and traces, read and written, and the devices that their bytes come from and go to.
 
 pub mod device;
 pub mod fault;

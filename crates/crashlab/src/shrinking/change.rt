@@ -1,27 +1,27 @@
-//! A large change of a schedule, line by line.
+//! A large change of a schedule.
 
 use schedule::{Count, Line};
 
-/// Which lines go, and which come in their place. A range of lines ends before `to`.
+/// Which lines go, and which take their place. A range of lines ends before `to`.
 #[derive(Clone, Copy, Debug)]
 pub enum Change {
-    /// Lines go.
+    /// These lines go.
     LeaveOut {
         from: usize,
         to: usize,
     },
-    /// The lines of one process go.
+    /// The lines of one process in this range go.
     Silence {
         process: u64,
         from: usize,
         to: usize,
     },
-    /// The count of a line is lowered by so many.
+    /// The count of a line is lowered by `by`.
     Lower {
         at: usize,
         by: u64,
     },
-    /// Two lines of steps become one, in the place of the first or of the second.
+    /// Two lines of steps become one, in the place of one of them.
     Gather {
         first: usize,
         second: usize,
@@ -30,14 +30,14 @@ pub enum Change {
     },
 }
 
-/// Whose line it is.
+/// The process of a line.
 pub fn process_of(line: &Line) -> u64 {
     match *line {
         Line::Start(p, _) | Line::Step(p, _) | Line::Crash(p) => p,
     }
 }
 
-/// Two lines of steps of one process as one.
+/// Two lines of steps of one process as one line. None for other lines, or where the count is too great.
 pub fn both(first: &Line, second: &Line) -> Option<Line> {
     match (first, second) {
         (Line::Step(p, m), Line::Step(q, n)) if p == q => {
@@ -47,7 +47,7 @@ pub fn both(first: &Line, second: &Line) -> Option<Line> {
     }
 }
 
-/// The line with its count lowered by so many; a count that would be none, and a line without one, stay.
+/// The line with its count lowered by `by`. A line stays where it has no count, or where nothing would be left.
 fn lower(line: &Line, by: u64) -> Line {
     let Line::Step(p, count) = *line else {
         return *line;
@@ -59,7 +59,7 @@ fn lower(line: &Line, by: u64) -> Line {
 }
 
 impl Change {
-    /// What stands in the place of line number `index`.
+    /// The line in the place of line number `index`. None where that line goes.
     pub fn made(&self, index: usize, line: &Line) -> Option<Line> {
         match *self {
             Change::LeaveOut { from, to } if from <= index && index < to => None,

@@ -1,4 +1,4 @@
-//! Large changes, so that few changes by one are left. They promise nothing: what they come to is played once more.
+//! Large changes, so that few changes by one are left. Nothing is proved of them: their result is played once more.
 
 ghost use Rattle.std.specs.Prelude.{◌<◌};
 
@@ -21,7 +21,7 @@ fn changed(wanted: &Wanted, schedule: &Schedule, change: &Change) -> Result<Sche
     Ok(changed)
 }
 
-/// Makes a change, if the schedule still goes wrong then.
+/// Makes a change, if the schedule still goes wrong with it. Answers whether the change was made.
 fn make(wanted: &Wanted, schedule: &mut Schedule, change: Change) -> Result<bool, OutOfMemory> {
     let changed = changed(wanted, schedule, &change)?;
     let wrong = goes_wrong(wanted, &changed)?;
@@ -31,7 +31,7 @@ fn make(wanted: &Wanted, schedule: &mut Schedule, change: Change) -> Result<bool
     Ok(wrong)
 }
 
-/// Leaves out so many lines at a time, from the last on.
+/// Leaves out `size` lines at a time, from the end on.
 fn sweep(wanted: &Wanted, schedule: &mut Schedule, size: usize) -> Result<(), OutOfMemory>
     requires { 0 < size }
 {
@@ -44,7 +44,7 @@ fn sweep(wanted: &Wanted, schedule: &mut Schedule, size: usize) -> Result<(), Ou
     Ok(())
 }
 
-/// Leaves out lines, by halves of halves.
+/// Leaves out ranges of lines, each time half as long.
 fn sweep_all(wanted: &Wanted, schedule: &mut Schedule) -> Result<(), OutOfMemory> {
     let mut size = schedule.lines().len();
     while size > 1 {
@@ -54,7 +54,7 @@ fn sweep_all(wanted: &Wanted, schedule: &mut Schedule) -> Result<(), OutOfMemory
     Ok(())
 }
 
-/// Leaves out all lines of a process.
+/// Leaves out all lines of a process, for each process.
 fn silence(wanted: &Wanted, schedule: &mut Schedule) -> Result<(), OutOfMemory> {
     for process in 0..schedule.head().procs {
         let to = schedule.lines().len();
@@ -64,7 +64,7 @@ fn silence(wanted: &Wanted, schedule: &mut Schedule) -> Result<(), OutOfMemory> 
     Ok(())
 }
 
-/// Where the process next starts a call or crashes, from this line on.
+/// The next line, from this one on, at which the process starts a call or crashes. The end where there is none.
 fn next_turn(lines: &[Line], process: u64, from: usize) -> usize {
     for next in from..lines.len() {
         match lines[next] {
@@ -75,7 +75,7 @@ fn next_turn(lines: &[Line], process: u64, from: usize) -> usize {
     lines.len()
 }
 
-/// Leaves out what a process does from this line on, up to one of its next turns.
+/// Leaves out the lines of this line's process from it on, up to each of the next four starts or crashes of the process.
 fn silence_from(wanted: &Wanted, schedule: &mut Schedule, from: usize) -> Result<(), OutOfMemory> {
     let mut to = from;
     for _ in 0..4 {
@@ -89,7 +89,7 @@ fn silence_from(wanted: &Wanted, schedule: &mut Schedule, from: usize) -> Result
     Ok(())
 }
 
-/// Leaves out what a process does in one call, or in a few, one after another.
+/// Leaves out what a process does in one call, or in a few.
 fn silence_calls(wanted: &Wanted, schedule: &mut Schedule) -> Result<(), OutOfMemory> {
     for at in (0..schedule.lines().len()).rev() {
         silence_from(wanted, schedule, at)?;
@@ -108,7 +108,7 @@ fn next_of(lines: &[Line], first: usize) -> Option<usize> {
     None
 }
 
-/// Makes two lines of steps one, in the place of one of them.
+/// Makes two lines of steps one line, in the place `at`.
 fn gather_into(
     wanted: &Wanted,
     schedule: &mut Schedule,
@@ -132,7 +132,7 @@ fn gather_into(
     make(wanted, schedule, change)
 }
 
-/// Makes this line and the next of its process one, in the place of the first or of the second.
+/// Makes this line and the next of its process one, in the place of the first, else of the second.
 fn gather_at(wanted: &Wanted, schedule: &mut Schedule, first: usize) -> Result<bool, OutOfMemory> {
     let Some(second) = next_of(schedule.lines(), first) else {
         return Ok(false);
@@ -143,7 +143,7 @@ fn gather_at(wanted: &Wanted, schedule: &mut Schedule, first: usize) -> Result<b
     gather_into(wanted, schedule, first, second, second)
 }
 
-/// Makes two lines of steps one, wherever nothing of their process stands between them.
+/// Makes two lines of steps one, wherever no other line of their process is between them.
 fn gather(wanted: &Wanted, schedule: &mut Schedule) -> Result<(), OutOfMemory> {
     for first in (0..schedule.lines().len()).rev() {
         gather_at(wanted, schedule, first)?;
@@ -151,7 +151,7 @@ fn gather(wanted: &Wanted, schedule: &mut Schedule) -> Result<(), OutOfMemory> {
     Ok(())
 }
 
-/// Lowers each count by so many, where it can be.
+/// Lowers each count by `by`, where something is left.
 fn lower(wanted: &Wanted, schedule: &mut Schedule, by: u64) -> Result<(), OutOfMemory> {
     for at in 0..schedule.lines().len() {
         if let Some(Line::Step(_, count)) = schedule.lines().get(at) {
@@ -163,7 +163,7 @@ fn lower(wanted: &Wanted, schedule: &mut Schedule, by: u64) -> Result<(), OutOfM
     Ok(())
 }
 
-/// Lowers counts, by halves of halves.
+/// Lowers counts, each time by half as much.
 fn lower_all(wanted: &Wanted, schedule: &mut Schedule) -> Result<(), OutOfMemory> {
     let mut by = 1_000_000;
     while by > 1 {
@@ -173,7 +173,7 @@ fn lower_all(wanted: &Wanted, schedule: &mut Schedule) -> Result<(), OutOfMemory
     Ok(())
 }
 
-/// A schedule that still goes wrong, with large changes made.
+/// The schedule with large changes made. It still goes wrong.
 pub fn shorten(wanted: &Wanted, schedule: &Schedule) -> Result<Schedule, OutOfMemory> {
     let mut now = copied(wanted.alloc, schedule)?;
     for _ in 0..3 {

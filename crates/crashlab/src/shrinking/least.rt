@@ -1,4 +1,4 @@
-//! The changes by one: a line left out, or a count lowered by one.
+//! Changes by one: a line is left out, or a count is lowered by one.
 
 ghost use Rattle.std.specs.Prelude.{◌≡◌, ◌<◌, ◌∷◌, [], IfOk, MatchOption, length};
 ghost use Rattle.schedule.specs.declared.lines.line.Line.{Line as LineOf};
@@ -9,7 +9,7 @@ use crate::shrinking::replaced::with_replaced;
 use schedule::{Count, Line};
 use schedule::{OutOfMemory, Schedule};
 
-/// The schedule with other lines in the place of one, if it still goes wrong.
+/// The schedule with line `at` replaced by these, if it still goes wrong.
 fn tried(
     wanted: &Wanted,
     schedule: &Schedule,
@@ -27,7 +27,7 @@ fn tried(
     Ok(None)
 }
 
-/// The line of this number with its count lowered by one.
+/// The line of this number with its count lowered by one. None where it has no count, or a count of one.
 fn lowered(lines: &[Line], at: usize) -> Option<Line>
     requires { at < length lines.now }
     ensures { MatchOption result ((less : LineOf) → IsLowered lines.now at less → ⊥) (IsLowered lines.now at) }
@@ -38,7 +38,7 @@ fn lowered(lines: &[Line], at: usize) -> Option<Line>
     }
 }
 
-/// The schedule with this line left out, or else its count lowered by one, if it still goes wrong.
+/// The schedule without this line, or else with its count lowered by one, if it still goes wrong.
 fn less_at(wanted: &Wanted, schedule: &Schedule, at: usize) -> Result<Option<Schedule>, OutOfMemory>
     requires { at < length schedule.now.lines }
     ensures { IfOk result (λ found. MatchOption found (IsNeeded wanted.now.variant wanted.now.number schedule.now at) (IsLess wanted.now.variant wanted.now.number schedule.now)) }
@@ -52,7 +52,7 @@ fn less_at(wanted: &Wanted, schedule: &Schedule, at: usize) -> Result<Option<Sch
     }
 }
 
-/// A schedule that is less by one change, and still goes wrong.
+/// A schedule that is smaller by one such change and still goes wrong. None where there is no such schedule.
 fn smaller(wanted: &Wanted, schedule: &Schedule) -> Result<Option<Schedule>, OutOfMemory>
     ensures { IfOk result (λ found. MatchOption found (IsLeast wanted.now.variant wanted.now.number schedule.now) (IsLess wanted.now.variant wanted.now.number schedule.now)) }
 {
@@ -64,7 +64,7 @@ fn smaller(wanted: &Wanted, schedule: &Schedule) -> Result<Option<Schedule>, Out
     Ok(None)
 }
 
-/// Changes it by one, until no such change is left.
+/// Makes such changes until none is left.
 pub fn least(wanted: &Wanted, schedule: Schedule) -> Result<Schedule, OutOfMemory>
     requires { GoesWrong wanted.now.variant wanted.now.number schedule }
     ensures { IfOk result (IsShrunk wanted.now.variant wanted.now.number schedule) }

@@ -1,4 +1,4 @@
-//! What a schedule comes to on a variant.
+//! The verdict on a schedule that is played on a variant.
 
 ghost use Rattle.std.specs.Prelude.{◌≡◌, ◌↔◌, IfOk, IsTrue};
 ghost use Rattle.rmecore.specs.Refused.{number_of};
@@ -14,7 +14,7 @@ use std::alloc::Global;
 use schedule::replays::verdict::fault_number;
 use schedule::{ReplayFault, Verdict, replay_on};
 
-/// A verdict that is to be kept: on which variant, and against which number.
+/// The verdict that a smaller schedule has to keep: on this variant, against this number.
 #[derive(Clone, Copy)]
 pub struct Wanted {
     pub alloc: Global,
@@ -22,7 +22,7 @@ pub struct Wanted {
     pub number: u64,
 }
 
-/// What is answered where no world has the schedule's sizes.
+/// The fault where no world has the schedule's sizes.
 fn at_header(refusal: Refusal) -> ReplayFault
     ensures { result ≡ header_fault (number_of refusal) }
 {
@@ -46,7 +46,7 @@ pub fn played(alloc: Global, variant: Variant, schedule: &Schedule) -> Result<Ve
     let Ok(mut judge) = Judge::new(alloc, head.procs, head.cap) else {
         return Err(ReplayFault::OutOfMemory);
     };
-    // A page takes no more where there is no memory.
+    // A page fails only where it is out of memory.
     let mut page = Page::new(alloc);
     match replay_on(alloc, &mut world, &mut judge, schedule, &mut page) {
         Ok(verdict) => Ok(verdict),
@@ -55,7 +55,7 @@ pub fn played(alloc: Global, variant: Variant, schedule: &Schedule) -> Result<Ve
     }
 }
 
-/// Whether a schedule has the verdict that is to be kept.
+/// Whether a schedule has the verdict to keep.
 pub fn goes_wrong(wanted: &Wanted, schedule: &Schedule) -> Result<bool, OutOfMemory>
     ensures { IfOk result (λ wrong. IsTrue wrong ↔ GoesWrong wanted.now.variant wanted.now.number schedule.now) }
 {

@@ -7,7 +7,7 @@ use schedule::Line;
 use schedule::{OutOfMemory, Schedule};
 use std::alloc::Global;
 
-/// Puts lines behind those that are there.
+/// Adds lines.
 fn put_lines(schedule: &mut Schedule, lines: &[Line]) -> Result<(), OutOfMemory>
     ensures { OnOk result (schedule.new ≡ with_lines schedule.old (schedule.old.lines ++ lines.now)) }
 {
@@ -30,7 +30,7 @@ pub fn emptied(alloc: Global, schedule: &Schedule) -> Result<Schedule, OutOfMemo
     }
 }
 
-/// The same schedule once more.
+/// A copy of the schedule.
 pub fn copied(alloc: Global, schedule: &Schedule) -> Result<Schedule, OutOfMemory>
     ensures { IfOk result (λ copy. copy ≡ schedule.now) }
 {
@@ -39,7 +39,7 @@ pub fn copied(alloc: Global, schedule: &Schedule) -> Result<Schedule, OutOfMemor
     Ok(copy)
 }
 
-/// The schedule with other lines in the place of one.
+/// The schedule with line `at` replaced by these.
 pub fn with_replaced(
     alloc: Global,
     schedule: &Schedule,

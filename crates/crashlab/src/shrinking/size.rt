@@ -1,4 +1,4 @@
-//! How long a schedule is.
+//! The length of a schedule.
 
 ghost use Rattle.std.specs.Prelude.{◌≡◌, IfSome, IsTrue};
 ghost use Rattle.crashlab.specs.Shrunk.{steps_asked as steps_in, IsNoLonger};
@@ -6,7 +6,7 @@ ghost use Rattle.crashlab.specs.Shrunk.{steps_asked as steps_in, IsNoLonger};
 use schedule::Line;
 use schedule::Schedule;
 
-/// How many steps the lines ask for, if the number can be told.
+/// The number of steps that the lines ask for. None where it takes more than 64 bits.
 fn steps_asked(lines: &[Line]) -> Option<u64>
     ensures { IfSome result (λ steps. steps ≡ steps_in lines.now) }
 {
@@ -19,7 +19,7 @@ fn steps_asked(lines: &[Line]) -> Option<u64>
     Some(sum)
 }
 
-/// Whether a schedule has the sizes of another, no more lines and no more steps.
+/// Whether a schedule has the sizes of another, and no more lines or steps. False also where the steps can't be counted.
 pub fn is_no_longer(now: &Schedule, before: &Schedule) -> bool
     ensures { IsTrue result → IsNoLonger before.now now.now }
 {

@@ -1,4 +1,4 @@
-//! A schedule that goes wrong, made least.
+//! Minimizes a schedule that goes wrong on a variant.
 
 ghost use Rattle.std.specs.Prelude.{IfOk, MatchResult, Some};
 ghost use Rattle.crashlab.specs.Hunts.{IsFound};
@@ -15,7 +15,7 @@ use std::alloc::Global;
 use schedule::replays::verdict::fault_number;
 use schedule::{ReplayFault, Verdict};
 
-/// What large changes make of a schedule that goes wrong; or the schedule itself.
+/// The schedule with large changes made, if it still goes wrong and is no longer; else a copy of the schedule.
 fn shortened(wanted: &Wanted, schedule: &Schedule) -> Result<Schedule, OutOfMemory>
     requires { GoesWrong wanted.now.variant wanted.now.number schedule.now }
     ensures { IfOk result (λ short. IsNoLonger schedule.now short × GoesWrong wanted.now.variant wanted.now.number short) }
@@ -27,7 +27,7 @@ fn shortened(wanted: &Wanted, schedule: &Schedule) -> Result<Schedule, OutOfMemo
     copied(wanted.alloc, schedule)
 }
 
-/// A schedule that goes wrong, made least.
+/// Minimizes a schedule that goes wrong.
 fn shrink_wrong(wanted: &Wanted, schedule: &Schedule) -> Result<Schedule, OutOfMemory>
     requires { GoesWrong wanted.now.variant wanted.now.number schedule.now }
     ensures { IfOk result (IsShrunk wanted.now.variant wanted.now.number schedule.now) }
@@ -36,8 +36,9 @@ fn shrink_wrong(wanted: &Wanted, schedule: &Schedule) -> Result<Schedule, OutOfM
     least(wanted, short)
 }
 
-/// The schedule made least, where its verdict on the variant is against some number: no line of it can be left out, and no
-/// count of steps be lowered by one, without losing a verdict against that number. None where the verdict is fine.
+/// Minimizes a schedule whose verdict on the variant is against some number. No line of the result can be left out, and no
+/// count of steps lowered by one, without losing a verdict against that number. None where the verdict is fine.
+/// `Refused` where a world of the variant refuses the sizes or a line.
 pub fn shrink(
     alloc: Global,
     variant: Variant,
@@ -60,7 +61,7 @@ pub fn shrink(
     }
 }
 
-/// The same of a schedule that a hunt has found, which always goes wrong.
+/// The same for a schedule that a hunt has found, which always goes wrong.
 pub fn shrink_found(
     alloc: Global,
     variant: Variant,
@@ -73,7 +74,7 @@ pub fn shrink_found(
     match shrink(alloc, variant, found) {
         Ok(Some(least)) => Ok(least),
         Ok(None) => unreachable!(),
-        // What is found is not refused.
+        // A schedule that was found is not refused.
         Err(_) => Err(OutOfMemory),
     }
 }

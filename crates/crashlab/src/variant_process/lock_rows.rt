@@ -1,4 +1,4 @@
-//! The rows that a variant changes of the lock's part: the table, and the steps by it.
+//! The rows of the lock's part that a variant changes: the table, and the steps by it.
 
 ghost use Rattle.std.specs.Prelude.{◌≡◌, ◌<◌, ◌+◌, ◌==◌, ◌||◌, ℕ, false, Some, None, IfSome};
 ghost use Rattle.rmecore.specs.Place.{is_before};
@@ -15,21 +15,21 @@ use rmecore::{Access, CoreCall, Kind, Stage, Word};
 use rmeworld::errand::Errand;
 use rmeworld::{Outcome, PrivateMemory, Process};
 
-/// What a process has to do with the data words.
+/// The script state of a process.
 pub(super) fn errand_of(process: &Process) -> Errand
     ensures { result ≡ process.now.errand }
 {
     process.seam_memory().errand
 }
 
-/// Where the lock's part of a process stands.
+/// The place of the lock's part of a process.
 fn stage_of(process: &Process) -> Stage
     ensures { place_of process.now.layout.procs process.now.index result ≡ process.now.lock }
 {
     process.seam_memory().stage
 }
 
-/// Puts a process outside the section, with nothing to be mended.
+/// Sets a process to a place outside the section, with no script and nothing to mend.
 fn stand_outside(process: &mut Process, to: Stage)
     ensures { process.new ≡ outside_at process.old (place_of process.old.layout.procs process.old.index to) }
 {
@@ -41,7 +41,7 @@ fn stand_outside(process: &mut Process, to: Stage)
     });
 }
 
-/// Takes the lock's step, and stays outside.
+/// Takes the lock's step, and leaves the process outside the section.
 fn feed_outside(process: &mut Process, value: u64)
     ensures { process.new ≡ outside_at (stepped process.old value) (stepped process.old value).lock }
 {
@@ -50,14 +50,14 @@ fn feed_outside(process: &mut Process, value: u64)
     stand_outside(process, stage);
 }
 
-/// Whether a waiter goes past process j, whose number was read.
+/// Whether a waiter passes process j, whose number is `value`.
 fn passes(number: u64, index: u64, value: u64, j: u64) -> bool
     ensures { result ≡ ((value == 0) || is_before number index value j) }
 {
     value == 0 || (number, index) < (value, j)
 }
 
-/// Where a waiter stands that has gone past process j of so many, and so past all before it.
+/// The place of a waiter that has passed process j, and so all before it.
 fn past(procs: u64, number: u64, j: u64) -> Stage
     requires { j < procs }
     ensures { result ≡ Stage.Wait number (j + 1) false }
@@ -70,7 +70,7 @@ fn past(procs: u64, number: u64, j: u64) -> Stage
     }
 }
 
-/// No look: who would look weighs, and goes past or stays.
+/// `NoLook`: in place of a look the waiter weighs, and passes or stays.
 fn weighing_row(process: &Process, value: u64) -> Option<(Stage, Detour)>
     requires { process.now.errand ≡ Free }
     ensures some { IfSome result (λ r. weighing_row_of process.now.index process.now.lock (next_access process.now) value ≡ Some (place_of process.now.layout.procs process.now.index r.0, r.1)) }
@@ -90,7 +90,7 @@ fn weighing_row(process: &Process, value: u64) -> Option<(Stage, Detour)>
     Some((past, Detour::Straight))
 }
 
-/// No ties: who weighs an equal number goes past.
+/// `NoTies`: a weigh that finds an equal number passes.
 fn tied_row(process: &Process, value: u64) -> Option<(Stage, Detour)>
     requires { process.now.errand ≡ Free }
     ensures some { IfSome result (λ r. tied_row_of process.now.lock (next_access process.now) value ≡ Some (place_of process.now.layout.procs process.now.index r.0, r.1)) }
@@ -109,7 +109,7 @@ fn tied_row(process: &Process, value: u64) -> Option<(Stage, Detour)>
     Some((past, Detour::Straight))
 }
 
-/// Renumber: a lock whose third reread finds a number taken in the doorway scans again.
+/// `Renumber`: a lock whose third reread finds a number taken in the doorway scans again.
 fn taken_row(stage: Stage) -> Option<(Stage, Detour)>
     ensures some { IfSome result (λ r. (n p : ℕ) → taken_row_of n p (place_of n p stage) ≡ Some (place_of n p r.0, r.1)) }
     ensures none { result ≡ None → (n p : ℕ) → taken_row_of n p (place_of n p stage) ≡ None }
@@ -129,7 +129,7 @@ fn taken_row(stage: Stage) -> Option<(Stage, Detour)>
     }
 }
 
-/// Exit on crash: whom the third reread finds inside drops the number, and goes on as one that it finds leaving.
+/// `ExitOnCrash`: a process that the third reread finds inside drops its number, and goes on as if it was found leaving.
 fn inside_row(stage: Stage, value: u64) -> Option<(Stage, Detour)>
     ensures some { IfSome result (λ r. (n p : ℕ) → inside_row_of (place_of n p stage) value ≡ Some (place_of n p r.0, r.1)) }
     ensures none { result ≡ None → (n p : ℕ) → inside_row_of (place_of n p stage) value ≡ None }
@@ -150,7 +150,7 @@ fn inside_row(stage: Stage, value: u64) -> Option<(Stage, Detour)>
     }
 }
 
-/// A lock, or else a recover.
+/// `Lock` for a lock, else `Recover`.
 fn lock_or_recover(call: CoreCall) -> CoreCall
     ensures { result ≡ lock_or_recover_of call }
 {
@@ -163,7 +163,7 @@ fn lock_or_recover(call: CoreCall) -> CoreCall
 impl VariantProcess {
     ghost use Rattle.crashlab.specs.VariantStands.{unless_changed, plain_outcome, led, by_row, over_way, part_beside, part_outcome, silent};
 
-    /// A step of one that has rows of its own.
+    /// Takes a step of a variant that changes rows of the lock.
     pub(super) fn feed_by_rows(&mut self, value: u64) -> Outcome
         ensures exact { self.new ≡ part_beside self.old.stand.errand self.old.detour self.old value }
         ensures outcome { result ≡ part_outcome self.old.stand.errand self.old.detour self.old value }
@@ -184,7 +184,7 @@ impl VariantProcess {
         }
     }
 
-    /// A step off any detour: by a row that the variant changes, or by the lock's.
+    /// Takes a step of a process without a variant state: by a row that the variant changes, or by the lock's.
     fn go_by_row(&mut self, value: u64) -> Outcome
         requires { self.old.stand.errand ≡ Free }
         ensures exact { self.new ≡ by_row self.old (row_of self.old.variant self.old.stand value) value }
@@ -199,7 +199,7 @@ impl VariantProcess {
         }
     }
 
-    /// Where a row that the variant changes leads, if the next step is one.
+    /// Where the next step leads, if it is by a row that the variant changes.
     fn row(&self, value: u64) -> Option<(Stage, Detour)>
         requires { self.now.stand.errand ≡ Free }
         ensures some { IfSome result (λ r. row_of self.now.variant self.now.stand value ≡ Some (place_of self.now.stand.layout.procs self.now.stand.index r.0, r.1)) }
@@ -214,7 +214,7 @@ impl VariantProcess {
         }
     }
 
-    /// Goes where a row leads.
+    /// Goes where such a row leads.
     fn go(&mut self, to: Stage, detour: Detour)
         requires { self.old.stand.errand ≡ Free }
         ensures { self.new ≡ led self.old (place_of self.old.stand.layout.procs self.old.stand.index to) detour }
@@ -232,7 +232,7 @@ impl VariantProcess {
         }
     }
 
-    /// A step of one that scans again, beside a number that stands. Where no number is left it waits with that one.
+    /// Takes a step of a process that scans again and keeps its number. Where no number is left it waits with that one.
     fn scan_again(&mut self, number: u64, value: u64)
         ensures { self.new ≡ over_way self.old number (next_access self.old.stand) value }
     {

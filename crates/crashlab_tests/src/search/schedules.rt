@@ -10,7 +10,7 @@ use rmeworld::{Call, Machine};
 use std::alloc::Global;
 use std::test::Fail;
 
-/// A world that is searched, and how many crashes there may be.
+/// The sizes of a search: a variant's world, and the most crashes.
 #[derive(Clone, Copy)]
 struct Sizes {
     variant: Variant,
@@ -29,7 +29,7 @@ impl Sizes {
         }
     }
 
-    /// Searches, and keeps at most a million states.
+    /// Searches for a shortest schedule, and keeps at most a million states.
     fn explore(
         &self,
         alloc: Global,
@@ -52,7 +52,7 @@ impl Sizes {
         )
     }
 
-    /// What the judge says of the last deed of these moves, and whether it allows all before it.
+    /// The fault of the last deed of these moves. None where the judge allows it, or refuses an earlier one.
     fn judged(&self, alloc: Global, moves: &[Move]) -> Result<Option<Fault>, Refusal> {
         let mut world = VariantWorld::new(
             alloc,
@@ -84,8 +84,8 @@ impl Sizes {
     }
 }
 
-/// Of a size, and with these calls, the shortest schedule has so many moves, and the judge says this of the last; one move
-/// less is too few.
+/// Whether the shortest schedule, with these sizes and calls, has this many moves, its last deed has this fault, and no
+/// schedule has fewer moves.
 fn is_shortest(
     alloc: Global,
     sizes: Sizes,

@@ -5,7 +5,7 @@ use explorer::{Found, SearchFault, Unwatched, Watch, search};
 use std::alloc::Global;
 use std::test::Fail;
 
-/// Searches from empty jugs.
+/// Searches from empty jugs for this many litres.
 fn pour_until(
     alloc: Global,
     wanted: u64,
@@ -53,7 +53,7 @@ fn seven_litres_are_nowhere_among_sixteen_states(rt: HostRuntime) -> Result<(), 
     Ok(())
 }
 
-/// What a search has told: how often, the sum of the moves, and what it told first and last.
+/// What a search showed its watcher: how many states, the sum of the moves to them, and the first and the last call.
 #[derive(Drop)]
 struct Told {
     times: u64,

@@ -1,4 +1,4 @@
-//! A worked schedule cut off behind each of its lines, with the whole report of what is left.
+//! A worked schedule cut off after each of its lines, with the whole report of what is left.
 
 use crate::texts::devices::{REPORT, TORN, writes_fail};
 use crate::texts::kit::{check, replays};
@@ -21,7 +21,7 @@ message 0 0 1 77
 verdict fine
 ";
 
-/// For each count of lines, from one on: how many deeds and answers they make, and what stands then.
+/// For each number of lines, from one on: the number of deeds and answers that they make, and the end of the report.
 const CUTS: [(u64, &[u8]); 12] = [
     (0, AT_FIRST),
     (0, AT_FIRST),
@@ -37,7 +37,7 @@ const CUTS: [(u64, &[u8]); 12] = [
     (11, SHOWN),
 ];
 
-/// So many lines from the front of a text.
+/// The first `lines` lines of a text.
 fn front(alloc: Global, text: &[u8], lines: u64) -> Result<Vec<u8>, AllocError> {
     let mut taken = Vec::new(alloc);
     let mut ended = 0u64;

@@ -88,12 +88,12 @@ impl Write for Lines<'_> {
     }
 }
 
-/// A schedule with its report: one that is torn and mended, and the longest one.
+/// Two schedules with their reports: one whose append is torn and mended, and the longest one.
 const ROWS: [(&[u8], &[u8]); 2] = [(TORN, REPORT), (EVERYTHING, EVERYTHING_REPORT)];
 
-/// Every read of a text fails once: nothing is written. One read more than there are changes nothing.
+/// Fails each read of a text once: then nothing is written. To fail one read more than there are changes nothing.
 fn reads_fail(rt: &HostRuntime, text: &[u8], report: &[u8]) -> Result<(), Fail> {
-    // pieces of 40 bytes, the last of them shorter, and the read that tells the end
+    // Pieces of 40 bytes, the last of them shorter, and the read that answers the end.
     let reads = text.len() as u64 / 40 + 2;
     for at in 1..reads + 2 {
         let pieces = Pieces {
@@ -122,7 +122,7 @@ fn a_read_fails(rt: HostRuntime) -> Result<(), Fail> {
     Ok(())
 }
 
-/// Every read of a trace fails once, in pieces of 40 bytes.
+/// Fails each read of a trace once, in pieces of 40 bytes.
 #[test]
 fn a_read_of_a_trace_fails(rt: HostRuntime) -> Result<(), Fail> {
     let text = b"trace 1 procs 1 cap 1\nbegin 0\nready 0\nenter 0\nleave 0\nbegin 0\nquit 0\n";
@@ -143,7 +143,7 @@ fn a_read_of_a_trace_fails(rt: HostRuntime) -> Result<(), Fail> {
     Ok(())
 }
 
-/// Whether the write `at` was met, and answered as it must be.
+/// Whether there is a write `at`. Checks the answer where it fails.
 fn fails_at(
     rt: &HostRuntime,
     (schedule, report): (&[u8], &[u8]),
@@ -170,13 +170,13 @@ fn fails_at(
     Ok(true)
 }
 
-/// Every write of a report fails once, until a run meets none.
+/// Fails each write of a report once, until there is no such write.
 pub fn writes_fail(rt: &HostRuntime, row: (&[u8], &[u8])) -> Result<(), Fail> {
     for at in 1..10_000u64 {
         let failed = fails_at(rt, row, at, false)?;
         check(fails_at(rt, row, at, true)? == failed, "both kinds")?;
         if !failed {
-            // no write takes more than five bytes
+            // No write takes more than five bytes.
             return check(at > row.1.len() as u64 / 5, "as many writes");
         }
     }
@@ -202,7 +202,7 @@ fn last_line(text: &[u8]) -> u64 {
     line
 }
 
-/// The fault of a text that ends here, too early; none where it ends with a line.
+/// The fault of a text that ends too early. None where it ends with a line.
 fn early(text: &[u8]) -> Option<ReplayFault> {
     if text.ends_with(b"\n") {
         return None;
@@ -213,7 +213,7 @@ fn early(text: &[u8]) -> Option<ReplayFault> {
     })
 }
 
-/// Every beginning of a text: the report of its lines, or the fault of the last one.
+/// Each beginning of a text: the report of its lines, or the fault of the last one.
 fn begins(rt: &HostRuntime, whole: &[u8]) -> Result<(), Fail> {
     for end in 0..whole.len() {
         let text = &whole[..end];
@@ -241,7 +241,7 @@ fn beginnings(rt: HostRuntime) -> Result<(), Fail> {
     Ok(())
 }
 
-/// A sink that takes all, and whose flush fails.
+/// A sink that takes all bytes, and whose flush fails.
 #[derive(Drop)]
 struct Unflushed<'a> {
     text: &'a mut Vec<u8>,
@@ -258,7 +258,7 @@ impl Write for Unflushed<'_> {
     }
 }
 
-/// What a replay answers, and what it wrote, where the flush at its end fails.
+/// Checks what a replay answers, and what it wrote, where the flush at its end fails.
 fn fails_at_the_end(rt: &HostRuntime, schedule: &[u8], written: &[u8]) -> Result<(), Fail> {
     let mut text = Vec::new(rt.alloc());
     let mut sink = ToWriter::new(Unflushed { text: &mut text });

@@ -1,4 +1,4 @@
-//! The longest worked row: 64 processes, two in the line, and then each of them crashes.
+//! The longest worked row: 64 processes, two of them waiting, and then each of them crashes.
 
 use crate::texts::kit::replays;
 use std::test::Fail;

@@ -6,7 +6,7 @@ use schedule::{Page, Text, read_schedule};
 use std::test::Fail;
 use schedule::{ReplayFault, put_verdict, replay, replay_on};
 
-/// It holds, or the test has failed.
+/// Fails the test unless this holds.
 pub fn check(holds: bool, what: &'static str) -> Result<(), Fail> {
     if !holds {
         return Err(Fail::from(what));
@@ -14,7 +14,7 @@ pub fn check(holds: bool, what: &'static str) -> Result<(), Fail> {
     Ok(())
 }
 
-/// The text gives just this report, and the verdict in its last line.
+/// Checks that the text gives just this report, and the verdict in its last line.
 pub fn replays(rt: &HostRuntime, text: &[u8], report: &[u8]) -> Result<(), Fail> {
     let mut page = Page::new(rt.alloc());
     let verdict = replay(rt.alloc(), &mut Text::new(text, 7), &mut page)
@@ -26,7 +26,7 @@ pub fn replays(rt: &HostRuntime, text: &[u8], report: &[u8]) -> Result<(), Fail>
     check(report.ends_with(&line), "the verdict")
 }
 
-/// The text is refused at this line with this number, after this was written.
+/// Checks that the text is refused at this line with this number, and what was written before.
 pub fn refuses(
     rt: &HostRuntime,
     text: &[u8],
@@ -40,7 +40,7 @@ pub fn refuses(
     check(page.as_slice() == written, "what was written")
 }
 
-/// On two processes of a variant the text is refused at this line with this number, after this was written.
+/// Checks that the text is refused so on two processes of a variant.
 pub fn refuses_on(
     rt: &HostRuntime,
     variant: Variant,

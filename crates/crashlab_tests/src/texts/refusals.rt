@@ -4,19 +4,19 @@ use crate::texts::kit::{refuses, refuses_on};
 use crashlab::Variant;
 use std::test::Fail;
 
-/// A lock of one that is inside.
+/// A lock of a process that is inside.
 const ALREADY_IN: &[u8] = b"rme 1 procs 2 limit 10 cap 1\nlock 0\nstep 0 11\nlock 0\n";
 
-/// What an entry tells.
+/// What an entry reports.
 const ENTRY: &[u8] = b"begin 0\nready 0\nenter 0\nanswer 0 clean\n";
 
-/// A lock of one that is about to lock.
+/// A lock of a process whose lock is under way.
 const CALL_UNDER_WAY: &[u8] = b"rme 1 procs 2 limit 10 cap 1\nlock 0\nlock 0\n";
 
-/// A step of one that has no call.
+/// A step of a process without a call.
 const NOTHING_TO_DO: &[u8] = b"rme 1 procs 2 limit 10 cap 1\nstep 0\n";
 
-/// A crash of a process that there is not.
+/// A crash of a process that does not exist.
 const NO_SUCH_PROCESS: &[u8] = b"rme 1 procs 2 limit 10 cap 1\ncrash 5\n";
 
 const VARIANTS: [Variant; 7] = [

@@ -1,4 +1,4 @@
-//! Schedules made least.
+//! Minimized schedules.
 
 use crate::texts::kit::check;
 use crashlab::Variant;
@@ -8,17 +8,17 @@ use crashlab::{shrink, shrink_found};
 use std::test::Fail;
 use schedule::ReplayFault;
 
-/// 0 has read the numbers and not taken its own, while 1 comes in; then 0 comes in too.
+/// Process 0 has read the numbers and not taken its own, while process 1 enters; then 0 enters too.
 const TWO_INSIDE: &[u8] =
     b"rme 1 procs 2 limit 10 cap 1\nlock 0\nlock 1\nstep 0 5\nstep 1 6\nstep 1 4\nstep 0 6\n";
 
-/// 1 needs nine steps to come in, and 0 four after the five in its doorway.
+/// Process 1 needs nine steps to enter, and process 0 needs four after the five in its doorway.
 const LEAST: &[u8] =
     b"rme 1 procs 2 limit 10 cap 1\nlock 0\nlock 1\nstep 0 5\nstep 1 9\nstep 0 4\n";
 
 const MENDED_FIRST: &[u8] = b"rme 1 procs 1 limit 10 cap 1\nlock 0\nstep 0 8\nconsistent 0\n";
 
-/// What the text comes to when it is made least.
+/// The text minimized on the variant.
 fn shrunk(
     rt: &HostRuntime,
     variant: Variant,
@@ -51,7 +51,7 @@ fn nothing_to_shrink(rt: HostRuntime) -> Result<(), Fail> {
     check(unmade == Some(line_1), "a header that no world has")
 }
 
-/// How many lines the schedule of a hunt of seed 1 comes to, of some fifty to four hundred.
+/// The number of lines of the minimized schedule of a hunt of seed 1, which has some fifty to four hundred lines.
 const LINES: [(Variant, usize); 6] = [
     (Variant::NoLook, 6),
     (Variant::NoTies, 11),

@@ -51,7 +51,7 @@ fn hostile_texts(rt: HostRuntime) {
     }
 }
 
-/// What is read is written again.
+/// Whether the text that is read is written again.
 fn is_kept(rt: &HostRuntime, text: &[u8]) -> Result<bool, Fail> {
     let schedule = read_schedule(rt.alloc(), text).ok().ok_or("a schedule")?;
     let written = write_schedule(rt.alloc(), &schedule)?;

@@ -38,7 +38,7 @@ quit 0
 enter 1
 ";
 
-/// The answer is this one, in pieces of every length up to the whole.
+/// Checks the answer, in pieces of each length up to the whole text.
 fn judges(rt: &HostRuntime, text: &[u8], answer: Result<Verdict, ReplayFault>) -> Result<(), Fail> {
     for piece in 1..text.len() + 2 {
         let got = judge_trace(rt.alloc(), &mut Text::new(text, piece));
@@ -97,7 +97,7 @@ fn a_fault_of_the_text_comes_first(rt: HostRuntime) -> Result<(), Fail> {
     )
 }
 
-/// Every beginning of a trace: the verdict on its whole lines, or the fault of the line that is cut off.
+/// Each beginning of a trace: the verdict on its whole lines, or the fault of the line that is cut off.
 #[test]
 fn beginnings(rt: HostRuntime) -> Result<(), Fail> {
     let mut line = 1u64;
@@ -127,7 +127,7 @@ fn fed(rt: &HostRuntime, procs: u64, deeds: &[Deed]) -> Result<Verdict, Fail> {
     Ok(Verdict::Fine)
 }
 
-/// The text is read as these deeds of so many processes, and a judge that is fed them answers so.
+/// Checks that the text is read as these deeds of this many processes, and the verdict of a judge that is fed them.
 fn reads(
     rt: &HostRuntime,
     text: &[u8],
@@ -153,7 +153,7 @@ const BOTH_WAIT: [Deed; 4] = [
     Deed::Outer(Outer::Ready(1)),
 ];
 
-/// Both wait, and then these deeds come.
+/// The deeds of both processes up to waiting, and then these.
 fn both_wait_and(rt: &HostRuntime, more: &[Outer]) -> Result<Vec<Deed>, Fail> {
     let mut deeds = Vec::from_slice(rt.alloc(), &BOTH_WAIT)?;
     for outer in more {

@@ -9,15 +9,15 @@ use rmeworld::Machine;
 use schedule::{Schedule, read_schedule};
 use std::alloc::Global;
 
-/// 0 restarts with its number taken and its doorway not shut.
+/// Process 0 restarts with its number taken and its doorway not shut.
 const BETWEEN_TWO_WORDS: &[u8] =
     b"rme 1 procs 2 limit 10 cap 1\nlock 0\nstep 0 6\ncrash 0\nlock 1\nstep 1 8\nlock 0\nstep 0 8\nstep 1 4\n";
 
-/// 0 has read the numbers and not taken its own, while 1 waits.
+/// Process 0 has read the numbers and not taken its own, while process 1 waits.
 const IN_THE_DOORWAY: &[u8] =
     b"rme 1 procs 2 limit 10 cap 1\nlock 0\nlock 1\nstep 0 5\nstep 1 6\nstep 1 4\nstep 0 6\n";
 
-/// The deeds of a schedule under a variant, of which only these are judged, with the judge's first fault and its place.
+/// A run of a schedule under a variant: the number of its deeds, the first fault of the judge and its place, and the words.
 #[derive(Drop)]
 struct Course {
     deeds: u64,

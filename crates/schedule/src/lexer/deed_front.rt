@@ -1,4 +1,4 @@
-//! The deed lines of a trace, read where they stand.
+//! Reads the deed lines of a trace in place.
 
 ghost use Rattle.std.specs.Prelude.{◌≡◌, ℕ, ◌≤◌, ◌++◌, ◌∷◌, [], IfSome};
 ghost use Rattle.std.specs.Fmt.{decimal};
@@ -12,7 +12,8 @@ use crate::lines::deed::DeedWord;
 use redomail::Deed;
 use rmecore::Outer;
 
-/// The first word of a deed's line, and what stands behind the space after it.
+/// The first word of a deed's line, and the text after the space that follows it.
+// Inline: one call a line.
 #[inline(always)]
 fn word(text: &[u8]) -> Option<(DeedWord, &[u8])>
     ensures { IfSome result (λ read. text.now ≡ word_of read.0 ++ 32 ∷ read.1.now) }
@@ -26,7 +27,8 @@ fn word(text: &[u8]) -> Option<(DeedWord, &[u8])>
     }
 }
 
-/// As `word`, of a deed of the mailbox.
+/// As `word`, for the deeds of the mailbox.
+// Inline: one call a line.
 #[inline(always)]
 fn mail_word(text: &[u8]) -> Option<(DeedWord, &[u8])>
     ensures { IfSome result (λ read. text.now ≡ word_of read.0 ++ 32 ∷ read.1.now) }
@@ -40,7 +42,8 @@ fn mail_word(text: &[u8]) -> Option<(DeedWord, &[u8])>
     }
 }
 
-/// As `word`, of a deed on the way into the section.
+/// As `word`, for the deeds from the doorway up to the entry.
+// Inline: one call a line.
 #[inline(always)]
 fn way_word(text: &[u8]) -> Option<(DeedWord, &[u8])>
     ensures { IfSome result (λ read. text.now ≡ word_of read.0 ++ 32 ∷ read.1.now) }
@@ -57,7 +60,8 @@ fn way_word(text: &[u8]) -> Option<(DeedWord, &[u8])>
     }
 }
 
-/// As `word`, of a deed that leads out of the section or the line before it, and of a crash.
+/// As `word`, for `leave`, `crash` and `quit`.
+// Inline: one call a line.
 #[inline(always)]
 fn end_word(text: &[u8]) -> Option<(DeedWord, &[u8])>
     ensures { IfSome result (λ read. text.now ≡ word_of read.0 ++ 32 ∷ read.1.now) }
@@ -70,7 +74,8 @@ fn end_word(text: &[u8]) -> Option<(DeedWord, &[u8])>
     }
 }
 
-/// The deed of a word that has one number, which is its process.
+/// The deed of a word that takes one number, its process. None for `commit` and `show`.
+// Inline: one call a line.
 #[inline(always)]
 fn short_deed(word: DeedWord, p: u64) -> Option<Deed>
     ensures { IfSome result (λ deed. (words_of_deed deed ≡ word_of word ∷ decimal p ∷ []) × ((width : ℕ) → IsDeed width deed)) }
@@ -89,7 +94,8 @@ fn short_deed(word: DeedWord, p: u64) -> Option<Deed>
     }
 }
 
-/// The rest of a line that says which message is to be committed.
+/// Reads the rest of a `commit` line: the sequence number and the value.
+// Inline: one call a message.
 #[inline(always)]
 fn commit(width: u64, p: u64, text: &[u8]) -> Option<(Deed, &[u8])>
     requires { (1 ≤ width) × (width ≤ 8) }
@@ -104,7 +110,8 @@ fn commit(width: u64, p: u64, text: &[u8]) -> Option<(Deed, &[u8])>
     Some((Deed::Commit { p, seq, v }, after))
 }
 
-/// The rest of a line that says which message is shown.
+/// Reads the rest of a `show` line: the place, the sequence number and the value.
+// Inline: one call a message.
 #[inline(always)]
 fn show(width: u64, p: u64, text: &[u8]) -> Option<(Deed, &[u8])>
     requires { (1 ≤ width) × (width ≤ 8) }
@@ -121,7 +128,9 @@ fn show(width: u64, p: u64, text: &[u8]) -> Option<(Deed, &[u8])>
     Some((Deed::Show { p, at, seq, v }, after))
 }
 
-/// The deed that the first line of a text says, and what stands behind that line.
+/// The deed on the first line of a text, and the text after that line.
+/// None is no fault: the caller then reads the line by its words.
+// Inline: one call a line.
 #[inline(always)]
 pub fn first_deed(width: u64, text: &[u8]) -> Option<(Deed, &[u8])>
     requires { (1 ≤ width) × (width ≤ 8) }

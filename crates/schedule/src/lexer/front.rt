@@ -1,4 +1,4 @@
-//! What a text begins with, read byte by byte: the common lines, spelled as they are written.
+//! Reads parts of a line in place, byte by byte: numbers, spaces and line ends, and whole lines of steps.
 
 ghost use Rattle.std.specs.Prelude.{◌≡◌, ℕ, ◌<◌, ◌≤◌, ◌^◌, ◌++◌, ◌∷◌, [], IfSome, codes, take};
 ghost use Rattle.std.specs.Fmt.{decimal};
@@ -11,7 +11,9 @@ ghost use Rattle.schedule.specs.Fronts.{Begins};
 use crate::lines::range::fit_words;
 use rmecore::Body;
 
-/// A number at the front of a text, and what stands behind it. One of twenty digits may be left to others.
+/// A decimal number at the front of a text, and the text after it.
+/// None also for the six greatest numbers of 64 bits, which are read by words.
+// Inline: one call a number.
 #[inline(always)]
 #[tactic(auto, using(crate::proofs::Fronts::first_digit, crate::proofs::Fronts::next_digit))]
 pub(crate) fn number(text: &[u8]) -> Option<(u64, &[u8])>
@@ -39,7 +41,8 @@ pub(crate) fn number(text: &[u8]) -> Option<(u64, &[u8])>
     Some((value, rest))
 }
 
-/// What stands behind the end of a line.
+/// The text after a line end.
+// Inline: compares one byte.
 #[inline(always)]
 pub(crate) fn behind_end(text: &[u8]) -> Option<&[u8]>
     ensures { IfSome result (λ rest. text.now ≡ 10 ∷ rest.now) }
@@ -50,7 +53,8 @@ pub(crate) fn behind_end(text: &[u8]) -> Option<&[u8]>
     }
 }
 
-/// What stands behind a space.
+/// The text after a space.
+// Inline: compares one byte.
 #[inline(always)]
 pub(crate) fn behind_space(text: &[u8]) -> Option<&[u8]>
     ensures { IfSome result (λ rest. text.now ≡ 32 ∷ rest.now) }
@@ -61,7 +65,8 @@ pub(crate) fn behind_space(text: &[u8]) -> Option<&[u8]>
     }
 }
 
-/// Reads as many words, with a space before each, and answers what stands behind them.
+/// Reads `width` numbers into the front of `words`, each after a space. Answers the text after them.
+// Inline: one call a message.
 #[inline(always)]
 pub(crate) fn numbers<'a>(width: u64, words: &mut [u64; 8], text: &'a [u8]) -> Option<&'a [u8]>
     requires { (1 ≤ width) × (width ≤ 8) }
@@ -77,7 +82,8 @@ pub(crate) fn numbers<'a>(width: u64, words: &mut [u64; 8], text: &'a [u8]) -> O
     Some(rest)
 }
 
-/// The value of the first of the words, as many as this.
+/// The value of the first `width` words.
+// Inline: one call a message.
 #[inline(always)]
 pub(crate) fn value(width: u64, words: &[u64; 8]) -> Body
     requires { (1 ≤ width) × (width ≤ 8) }
@@ -89,7 +95,8 @@ pub(crate) fn value(width: u64, words: &[u64; 8]) -> Body
     Body::new(all).unwrap()
 }
 
-/// What stands behind the word of a line of steps.
+/// The text after `step` and a space.
+// Inline: compares five bytes.
 #[inline(always)]
 fn behind_step(text: &[u8]) -> Option<&[u8]>
     ensures { IfSome result (λ rest. text.now ≡ codes "step " ++ rest.now) }
@@ -100,8 +107,9 @@ fn behind_step(text: &[u8]) -> Option<&[u8]>
     }
 }
 
-/// The one byte that stands where a line of one step names its process, and what stands behind that line. The first four bytes
-/// are read as one number.
+/// Reads the commonest line, `step P` with a P of one byte: that byte, and the text after the line.
+/// The first four bytes are compared as one number.
+// Inline: one call a line.
 #[inline(always)]
 fn short_step(text: &[u8]) -> Option<(u8, &[u8])>
     ensures { IfSome result (λ read. text.now ≡ codes "step " ++ (read.0 ∷ (10 ∷ read.1.now))) }
@@ -116,8 +124,8 @@ fn short_step(text: &[u8]) -> Option<(u8, &[u8])>
     Some((*name, rest))
 }
 
-/// Who takes the one step that the first line of a text asks for, where one digit names it, and what stands behind that
-/// line.
+/// Reads `step P` with a P of one digit: the process, and the text after the line.
+// Inline: one call a line.
 #[inline(always)]
 #[tactic(auto, using(crate::proofs::Fronts::digit_step))]
 fn one_step(text: &[u8]) -> Option<(u64, &[u8])>
@@ -130,7 +138,9 @@ fn one_step(text: &[u8]) -> Option<(u64, &[u8])>
     Some((u64::from(name - b'0'), rest))
 }
 
-/// Who takes the steps that the first line of a text asks for, how many these are, and what stands behind that line.
+/// Reads a line of steps: the process, the number of steps, and the text after the line.
+/// None is no fault: the caller then reads the line by its words.
+// Inline: one call a line.
 #[inline(always)]
 pub fn steps(text: &[u8]) -> Option<(u64, u64, &[u8])>
     ensures read { (width : ℕ) → IfSome result (λ read. Begins (line_at width) text.now (Step read.0 read.1) read.2.now) }

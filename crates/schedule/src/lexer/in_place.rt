@@ -1,5 +1,5 @@
-//! The lines of a schedule, read where they stand in its text. A line is not kept, so a text is read twice: once for its
-//! faults, and once more as it is played.
+//! Reads the lines of a schedule in place. No line is kept, so a text is read twice: once to find its faults, and once as it
+//! is played.
 
 ghost use Rattle.std.specs.Prelude.{◌≡◌, ℕ, ◌+◌, ◌^◌, ◌<◌, ◌≤◌, ◌++◌, length, List, drop, Ok, Err, IfOk, IfErr};
 ghost use Rattle.schedule.specs.declared.lines.line.Line.{Line as LineOf};
@@ -19,7 +19,8 @@ use crate::texts::fault::TextFault;
 use crate::texts::head::Head;
 use crate::texts::whole::Heading;
 
-/// The first line of a text that is not empty, read by its words, and what stands behind it.
+/// Reads the first line of a text that is not empty, word by word: the line, and the text after it.
+// Apart: few lines come here.
 #[inline(never)]
 fn line_by_words(width: u64, text: &[u8]) -> Result<(Line, &[u8]), LineFault>
     requires width { (1 ≤ width) × (width ≤ 8) }
@@ -36,7 +37,8 @@ fn line_by_words(width: u64, text: &[u8]) -> Result<(Line, &[u8]), LineFault>
     }
 }
 
-/// The first line of a text that is not empty, and what stands behind it.
+/// Reads the first line of a text that is not empty: the line, and the text after it.
+// Inline: one call a line.
 #[inline(always)]
 pub fn next_line(width: u64, text: &[u8]) -> Result<(Line, &[u8]), LineFault>
     requires width { (1 ≤ width) × (width ≤ 8) }
@@ -50,7 +52,8 @@ pub fn next_line(width: u64, text: &[u8]) -> Result<(Line, &[u8]), LineFault>
     }
 }
 
-/// What stands behind the first line of a text that is not empty.
+/// The text after the first line of a text that is not empty, where that line has no fault.
+// Apart: most lines are steps.
 #[inline(never)]
 fn behind_line(width: u64, text: &[u8]) -> Result<&[u8], LineFault>
     requires width { (1 ≤ width) × (width ≤ 8) }
@@ -64,7 +67,8 @@ fn behind_line(width: u64, text: &[u8]) -> Result<&[u8], LineFault>
     }
 }
 
-/// What stands behind the first line of a text that is not empty. Most lines are of steps.
+/// The same. A line of steps, the commonest, is tried first.
+// Inline: one call a line.
 #[inline(always)]
 fn behind_next(width: u64, text: &[u8]) -> Result<&[u8], LineFault>
     requires width { (1 ≤ width) × (width ≤ 8) }
@@ -78,7 +82,8 @@ fn behind_next(width: u64, text: &[u8]) -> Result<&[u8], LineFault>
     }
 }
 
-/// Whether the lines from this number on are those of a schedule.
+/// Checks all lines of a text. `first` is the number of its first line, which a fault names.
+// Apart: a loop by itself.
 #[inline(never)]
 fn check_lines(width: u64, first: u64, text: &[u8]) -> Result<(), TextFault>
     requires width { (1 ≤ width) × (width ≤ 8) }
@@ -100,7 +105,7 @@ fn check_lines(width: u64, first: u64, text: &[u8]) -> Result<(), TextFault>
     Ok(())
 }
 
-/// The header of a schedule's text, and its other lines, which are all read.
+/// Checks a whole text of a schedule. Answers its header, and the text after the header.
 fn read(text: &[u8]) -> Result<(Head, &[u8]), TextFault>
     requires room { length text.now + 2 < 2 ^ 64 }
     ensures lines { IfOk result (λ read. (lines : List LineOf) × (items_at (line_at read.0.width) 2 (parts_of read.1.now) ≡ Ok lines) × (schedule_at text.now ≡ Ok (scheduled_with (read.0, lines)))) }
@@ -131,7 +136,7 @@ fn read(text: &[u8]) -> Result<(Head, &[u8]), TextFault>
     }
 }
 
-/// The header of a schedule's text, and where its other lines begin, which are all read.
+/// As `read`, with the place of the first byte after the header.
 fn read_to(text: &[u8]) -> Result<(Head, usize), TextFault>
     requires room { length text.now + 2 < 2 ^ 64 }
     ensures lines { IfOk result (λ read. (lines : List LineOf) × (items_at (line_at read.0.width) 2 (parts_of (drop read.1 text.now)) ≡ Ok lines) × (schedule_at text.now ≡ Ok (scheduled_with (read.0, lines)))) }
@@ -145,7 +150,7 @@ fn read_to(text: &[u8]) -> Result<(Head, usize), TextFault>
     }
 }
 
-/// As `read_to`, of a text that is owned.
+/// As `read_to`, for a text that is owned.
 pub fn read_whole(text: &Vec<u8>) -> Result<(Head, usize), TextFault>
     requires room { length text.now.items + 2 < 2 ^ 64 }
     ensures lines { IfOk result (λ read. (lines : List LineOf) × (items_at (line_at read.0.width) 2 (parts_of (drop read.1 text.now.items)) ≡ Ok lines) × (schedule_at text.now.items ≡ Ok (scheduled_with (read.0, lines)))) }

@@ -1,4 +1,4 @@
-//! The lines of a schedule that start a call or are a crash, read where they stand.
+//! Reads in place the lines of a schedule that start a call or are a crash.
 
 ghost use Rattle.std.specs.Prelude.{◌≡◌, ℕ, ◌≤◌, ◌++◌, ◌∷◌, [], IfSome};
 ghost use Rattle.std.specs.Fmt.{decimal};
@@ -12,7 +12,8 @@ use crate::lines::line::Line;
 use crate::lines::command::Command;
 use rmeworld::Call;
 
-/// The first word of a line, and what stands behind the space after it.
+/// The first word of a line, and the text after the space that follows it.
+// Inline: one call a line.
 #[inline(always)]
 fn word(text: &[u8]) -> Option<(Command, &[u8])>
     ensures { IfSome result (λ read. text.now ≡ word_of read.0 ++ 32 ∷ read.1.now) }
@@ -26,7 +27,8 @@ fn word(text: &[u8]) -> Option<(Command, &[u8])>
     }
 }
 
-/// As `word`, of a call of the lock, and of a crash.
+/// As `word`, for the calls of the lock, and for `crash`.
+// Inline: one call a line.
 #[inline(always)]
 fn lock_word(text: &[u8]) -> Option<(Command, &[u8])>
     ensures { IfSome result (λ read. text.now ≡ word_of read.0 ++ 32 ∷ read.1.now) }
@@ -55,7 +57,8 @@ fn lock_word(text: &[u8]) -> Option<(Command, &[u8])>
     }
 }
 
-/// As `word`, of a call that stores a message, ends a torn one, or closes the mailbox.
+/// As `word`, for `append`, `consistent` and `close`.
+// Inline: one call a line.
 #[inline(always)]
 fn mail_word(text: &[u8]) -> Option<(Command, &[u8])>
     ensures { IfSome result (λ read. text.now ≡ word_of read.0 ++ 32 ∷ read.1.now) }
@@ -81,7 +84,8 @@ fn mail_word(text: &[u8]) -> Option<(Command, &[u8])>
     }
 }
 
-/// As `word`, of a call on a board word.
+/// As `word`, for the calls on board words.
+// Inline: one call a line.
 #[inline(always)]
 fn board_word(text: &[u8]) -> Option<(Command, &[u8])>
     ensures { IfSome result (λ read. text.now ≡ word_of read.0 ++ 32 ∷ read.1.now) }
@@ -93,7 +97,8 @@ fn board_word(text: &[u8]) -> Option<(Command, &[u8])>
     }
 }
 
-/// The line of a command that has one number, which is its process. Steps are read by others.
+/// The line of a command that takes one number, its process. None for the other commands.
+// Inline: one call a line.
 #[inline(always)]
 fn short_line(command: Command, p: u64) -> Option<Line>
     ensures { IfSome result (λ line. (words_of_line line ≡ word_of command ∷ decimal p ∷ []) × ((width : ℕ) → IsLine width line)) }
@@ -110,7 +115,8 @@ fn short_line(command: Command, p: u64) -> Option<Line>
     }
 }
 
-/// The rest of a line that says which message is to be stored.
+/// Reads the rest of an `append` line: the sequence number and the value.
+// Inline: one call a message.
 #[inline(always)]
 fn append(width: u64, p: u64, text: &[u8]) -> Option<(Line, &[u8])>
     requires { (1 ≤ width) × (width ≤ 8) }
@@ -125,7 +131,8 @@ fn append(width: u64, p: u64, text: &[u8]) -> Option<(Line, &[u8])>
     Some((Line::Start(p, Call::Append { seq, value: v }), after))
 }
 
-/// The rest of a line that says which board word is to be read.
+/// Reads the rest of a `get` line: the index of the board word.
+// Inline: one call a line.
 #[inline(always)]
 fn get(p: u64, text: &[u8]) -> Option<(Line, &[u8])>
     ensures { IfSome result (λ read. (line_of (words_of_line read.0) ++ read.1.now ≡ word_of commands.Get ++ 32 ∷ (decimal p ++ text.now)) × ((width : ℕ) → IsLine width read.0)) }
@@ -136,7 +143,8 @@ fn get(p: u64, text: &[u8]) -> Option<(Line, &[u8])>
     Some((Line::Start(p, Call::Get(i)), after))
 }
 
-/// The rest of a line that says which board word is to be written, and what.
+/// Reads the rest of a `put` line: the index of the board word, and the word to write.
+// Inline: one call a line.
 #[inline(always)]
 fn put(p: u64, text: &[u8]) -> Option<(Line, &[u8])>
     ensures { IfSome result (λ read. (line_of (words_of_line read.0) ++ read.1.now ≡ word_of commands.Put ++ 32 ∷ (decimal p ++ text.now)) × ((width : ℕ) → IsLine width read.0)) }
@@ -149,8 +157,9 @@ fn put(p: u64, text: &[u8]) -> Option<(Line, &[u8])>
     Some((Line::Start(p, Call::Put(i, v)), after))
 }
 
-/// The first line of a text, and what stands behind it. One of steps, and one that isn't spelled as it is written, is left to
-/// others.
+/// Reads the first line of a text: the line, and the text after it. None for a line of steps.
+/// None also for a faulty line, or one with a number among the greatest: the caller then reads it by its words.
+// Inline: one call a line.
 #[inline(always)]
 pub fn first_line(width: u64, text: &[u8]) -> Option<(Line, &[u8])>
     requires { (1 ≤ width) × (width ≤ 8) }

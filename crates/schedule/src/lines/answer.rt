@@ -1,4 +1,4 @@
-//! The answers of calls, and the lines of a report.
+//! Writes the deed lines and the answer lines of a report.
 
 ghost use Rattle.std.specs.Prelude.{◌≡◌, ◌++◌, ◌∷◌, [], OnOk, codes, map, length};
 ghost use Rattle.std.specs.List.{join_with_byte};
@@ -42,7 +42,7 @@ pub fn put_deed(out: &mut Vec<u8>, deed: &Deed) -> Result<(), AllocError>
     Ok(())
 }
 
-/// Writes the words of an answer behind `answer P`.
+/// Writes a space and one word.
 fn put_word(out: &mut Vec<u8>, word: &[u8]) -> Result<(), AllocError>
     ensures { OnOk result (out.new.items ≡ out.old.items ++ 32 ∷ word.now) }
 {
@@ -94,7 +94,7 @@ fn put_answer_words(out: &mut Vec<u8>, answer: Answer) -> Result<(), AllocError>
     }
 }
 
-/// Writes an answer's line.
+/// Writes the line of an answer of p.
 pub fn put_answer(out: &mut Vec<u8>, p: u64, answer: Answer) -> Result<(), AllocError>
     ensures { OnOk result (out.new.items ≡ out.old.items ++ line_of (codes "answer" ∷ decimal p ∷ words_of_answer answer)) }
 {

@@ -4,7 +4,7 @@ ghost use Rattle.std.specs.Prelude.{◌≡◌};
 ghost use Rattle.schedule.specs.Words.{named};
 ghost use Rattle.schedule.specs.Commands.{commands_by_name};
 
-/// The first word of a line: the call that a process starts, or its step or crash.
+/// The first word of a line: a call that a process starts, or `step`, or `crash`.
 #[derive(Clone, Copy)]
 pub enum Command {
     Lock,

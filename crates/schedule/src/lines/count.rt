@@ -1,10 +1,10 @@
-//! How many steps a line asks for.
+//! The number of steps that a line asks for.
 
 ghost use Rattle.std.specs.Prelude.{◌≡◌, ℕ, ◌≤◌, ◌↔◌, IsSome, IfSome};
 
 use std::marker::Model;
 
-/// A number from 1 to 1,000,000.
+/// A number of steps, from 1 to 1,000,000.
 #[derive(Clone, Copy, Debug, PartialEq, Eq)]
 pub struct Count {
     value: u64,
@@ -24,7 +24,7 @@ impl Count {
     /// One step.
     pub const ONE: Count = Count { value: 1 };
 
-    /// This number of steps, if it is 1 to 1,000,000.
+    /// This number of steps. None unless it is from 1 to 1,000,000.
     pub fn new(value: u64) -> Option<Count>
         ensures value { IfSome result (λ c. c ≡ value) }
         ensures valid { IsSome result ↔ ((1 ≤ value) × (value ≤ 1000000)) }
@@ -36,7 +36,7 @@ impl Count {
         }
     }
 
-    /// The number.
+    /// The number of steps.
     pub fn get(self) -> u64
         ensures value { result ≡ self }
         ensures least { 1 ≤ result }

@@ -90,7 +90,7 @@ fn deed_after(width: u64, word: DeedWord, words: &mut Words) -> Result<Deed, Lin
     Ok(deed)
 }
 
-/// The deed that a trace of this width has there.
+/// Reads a line of a trace of this width, without its LF.
 pub fn read_deed(width: u64, line: &[u8]) -> Result<Deed, LineFault>
     requires { (1 ≤ width) × (width ≤ 8) }
     ensures { Reads (λ deed. deed) result (deed_at width (words_of line.now)) }

@@ -7,24 +7,24 @@ use std::fmt;
 /// What is wrong with a line.
 #[derive(Clone, Copy, Debug, PartialEq, Eq)]
 pub enum LineFault {
-    /// There is no line, or a word of the first one is missing or another.
+    /// The text is empty, or a fixed word of its first line is missing or another.
     NoHeader,
-    /// The first word is no command.
+    /// The first word is no command of a schedule, or no deed of a trace.
     BadWord,
-    /// There is no number in its place, or it is spelled otherwise, or too small.
+    /// A number is missing, has a leading zero or a byte that is no digit, or is too small.
     BadNumber,
-    /// The number is too great.
+    /// A number is too great.
     TooBig,
-    /// The line is not ended.
+    /// The line has no LF at its end.
     NoNewline,
-    /// The line goes on behind its last word.
+    /// Text follows the last word of the line.
     TrailingText,
 }
 
 impl LineFault {
     ghost use Rattle.schedule.specs.Numbers.{number_of};
 
-    /// Its number, from 1 to 6.
+    /// Its number, from 1 to 6, as `ReplayFault::Text` has it.
     pub fn number(self) -> u64
         ensures { result ≡ number_of self }
     {

@@ -3,12 +3,12 @@
 use crate::lines::count::Count;
 use rmeworld::Call;
 
-/// A line but the first.
+/// A line after the header.
 #[derive(Clone, Copy, Debug, PartialEq, Eq)]
 pub enum Line {
     /// A process starts a call.
     Start(u64, Call),
-    /// A process takes steps, until it has taken as many or its call is answered.
+    /// A process takes this many steps, or fewer where its call is answered first.
     Step(u64, Count),
     /// A process crashes.
     Crash(u64),

@@ -1,4 +1,4 @@
-//! The numbers that words say.
+//! Reads the numbers of a text.
 
 ghost use Rattle.std.specs.Prelude.{◌≡◌, ℕ, ◌^◌, ◌-◌, ◌<◌, ◌≤◌, ◌⊎◌, length, Some, IfSome, IfNone, IfOk, IfErr, IsErrOf, true, false};
 ghost use Rattle.std.specs.List.{list_all};
@@ -9,7 +9,7 @@ ghost use Rattle.schedule.specs.Words.{number_in, Reads};
 
 use crate::lines::fault::LineFault;
 
-/// The number that digits write, unless it takes more than 64 bits.
+/// The number of these digits. None where it takes more than 64 bits.
 fn value_of(digits: &[u8]) -> Option<u64>
     requires { AllDigits 10 digits.now }
     ensures value { IfSome result (λ n. n ≡ digits_value 10 digits.now) }
@@ -30,10 +30,10 @@ fn all_digits(word: &[u8]) -> bool
     word.iter().all(|byte| byte.is_ascii_digit())
 }
 
-/// The most digits that always fit.
+/// The most digits that always fit in 64 bits.
 const SHORT: usize = 19;
 
-/// The number that a short word of digits writes.
+/// The number of a word of at most 19 digits. None where a byte is no digit.
 fn short_value(word: &[u8]) -> Option<u64>
     requires { length word.now ≤ 19 }
     ensures digits { IfSome result (λ n. (list_all is_ascii_digit word.now ≡ true) × (n ≡ digits_value 10 word.now)) }
@@ -49,7 +49,8 @@ fn short_value(word: &[u8]) -> Option<u64>
     Some(value)
 }
 
-/// The number that a word of more digits writes.
+/// The number of a word of any length. `BadNumber` where a byte is no digit, else `TooBig` above 64 bits.
+// Apart: few numbers are long.
 #[inline(never)]
 fn long_value(word: &[u8]) -> Result<u64, LineFault>
     ensures number { IfOk result (λ n. (list_all is_ascii_digit word.now ≡ true) × (n ≡ digits_value 10 word.now)) }
@@ -63,7 +64,7 @@ fn long_value(word: &[u8]) -> Result<u64, LineFault>
     value_of(word).ok_or(LineFault::TooBig)
 }
 
-/// The number of a numeral.
+/// The number of a word that is digits without a leading zero.
 #[tactic(auto, unfolding(crate::specs::Words::number_in))]
 fn numeral(word: &[u8]) -> Result<u64, LineFault>
     ensures { Reads (λ n. n) result (number_in 0 (2 ^ 64 - 1) (Some word.now)) }
@@ -78,7 +79,7 @@ fn numeral(word: &[u8]) -> Result<u64, LineFault>
 }
 
 #[tactic(auto, unfolding(crate::specs::Words::number_in))]
-/// The number from `least` to `most` that the word says.
+/// The number that the word says. `BadNumber` where the word is missing, no number, or below `least`; `TooBig` above `most`.
 pub fn number_from(least: u64, most: u64, word: Option<&[u8]>) -> Result<u64, LineFault>
     ensures number { Reads (λ n. n) result (number_in least most (option_copied word.entry)) }
     ensures range { IfOk result (λ n. (least ≤ n) × (n ≤ most)) }
@@ -92,7 +93,7 @@ pub fn number_from(least: u64, most: u64, word: Option<&[u8]>) -> Result<u64, Li
     }
 }
 
-/// The number that the word says.
+/// The number of 64 bits that the word says.
 pub fn number(word: Option<&[u8]>) -> Result<u64, LineFault>
     ensures { Reads (λ n. n) result (number_in 0 (2 ^ 64 - 1) (option_copied word.entry)) }
 {

@@ -40,7 +40,7 @@ fn line_after(width: u64, command: Command, words: &mut Words) -> Result<Line, L
     Ok(line)
 }
 
-/// The line that a schedule of this width has there.
+/// Reads a line of a schedule of this width, without its LF.
 pub fn read_line(width: u64, line: &[u8]) -> Result<Line, LineFault>
     requires { (1 ≤ width) × (width ≤ 8) }
     ensures { Reads (λ line. line) result (line_at width (words_of line.now)) }

@@ -1,4 +1,4 @@
-//! The words of a line, one after the other.
+//! Reads the words of a line one after the other.
 
 ghost use Rattle.std.specs.Prelude.{if◌then◌else◌, ◌≡◌, ℕ, ◌^◌, ◌<◌, ◌-◌, ◌≤◌, List, [], length, take, drop, Option, MatchOption, IfSome, IfNone, IfOk, OnOk, Ok, Some, None, IsTrue, ◌↔◌, true, false, Err, ◌∷◌};
 ghost use Rattle.std.specs.Option.{option_copied};
@@ -13,7 +13,7 @@ use crate::lines::number::number_from;
 use rmecore::Body;
 use std::marker::Model;
 
-/// What is left of a line, which is cut at every space.
+/// The rest of a line, as words that are cut at every space.
 #[derive(Drop)]
 pub struct Words<'a> {
     rest: Option<&'a [u8]>,
@@ -55,7 +55,7 @@ impl<'a> Words<'a> {
         }
     }
 
-    /// Whether a word is left.
+    /// Whether no word is left.
     pub fn is_empty(&self) -> bool
         ensures { result ≡ is_nil self.now }
     {
@@ -65,7 +65,7 @@ impl<'a> Words<'a> {
         }
     }
 
-    /// The number from `least` to `most` that the next word says.
+    /// The number from `least` to `most` that the next word says. Faults as of `number::number_from`.
     pub fn number_from(&mut self, least: u64, most: u64) -> Result<u64, LineFault>
         ensures number { Reads (λ n. n) result (number_in least most (first_of self.old)) }
         ensures range { IfOk result (λ n. (least ≤ n) × (n ≤ most)) }
@@ -74,7 +74,7 @@ impl<'a> Words<'a> {
         number_from(least, most, self.next())
     }
 
-    /// The number that the next word says.
+    /// The number of 64 bits that the next word says.
     pub fn number(&mut self) -> Result<u64, LineFault>
         ensures number { Reads (λ n. n) result (number_in 0 (2 ^ 64 - 1) (first_of self.old)) }
         ensures rest { self.new ≡ drop 1 self.old }
@@ -82,7 +82,7 @@ impl<'a> Words<'a> {
         self.number_from(0, u64::MAX)
     }
 
-    /// No word is left.
+    /// `TrailingText` where a word is left.
     pub fn end(&self) -> Result<(), LineFault>
         ensures { Reads (λ _. []) result (numbers_at [] self.now) }
     {
@@ -92,7 +92,7 @@ impl<'a> Words<'a> {
         }
     }
 
-    /// How many steps the last word says; one if no word is left.
+    /// The number of steps that the last word says, from 2 to 1,000,000. One where no word is left.
     pub fn count(&mut self) -> Result<Count, LineFault>
         ensures number { Reads (λ k. k) result (if is_nil self.old then Ok 1 else number_in 2 1000000 (first_of self.old)) }
         ensures rest { self.new ≡ drop 1 self.old }
@@ -104,7 +104,7 @@ impl<'a> Words<'a> {
         Ok(Count::new(value).unwrap())
     }
 
-    /// The words that are left as numbers, `width` of them and no more.
+    /// The value of the words that are left: `width` numbers, and no more.
     pub fn body(&mut self, width: u64) -> Result<Body, LineFault>
         requires { (1 ≤ width) × (width ≤ 8) }
         ensures numbers { Reads (λ body. body) result (numbers_at (many width) self.old) }
@@ -118,7 +118,7 @@ impl<'a> Words<'a> {
         Ok(Body::new(&words[..width as usize]).unwrap())
     }
 
-    /// The next word is this one, in a header.
+    /// Takes the next word of a header. `NoHeader` unless it is this one.
     pub fn fixed(&mut self, word: &[u8]) -> Result<(), LineFault>
         ensures word { Reads (λ _. true) result (if begins_with word.now self.old then Ok true else Err NoHeader) }
         ensures rest { self.new ≡ drop 1 self.old }
@@ -129,7 +129,7 @@ impl<'a> Words<'a> {
         }
     }
 
-    /// Whether the next word is this one. It stays.
+    /// Whether the next word is this one. It is not taken.
     pub fn begins_with(&self, word: &[u8]) -> bool
         ensures { result ≡ begins_with word.now self.now }
     {
@@ -140,7 +140,7 @@ impl<'a> Words<'a> {
         }
     }
 
-    /// The width that the last word of a wide header says; a narrow one has no word there.
+    /// The width at the end of a header: from 2 to 8 where it is wide, else 1, without a word.
     pub fn width(&mut self, wide: bool) -> Result<u64, LineFault>
         ensures width { Reads (λ width. (if wide then width ∷ [] else [])) result (numbers_at (if wide then Number 2 8 ∷ [] else []) self.old) }
         ensures range { IfOk result (λ width. (1 ≤ width) × (width ≤ 8)) }

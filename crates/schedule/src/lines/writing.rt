@@ -1,4 +1,4 @@
-//! Writes a line at the end of a text.
+//! Writes lines at the end of a text.
 
 ghost use Rattle.std.specs.Prelude.{◌≡◌, ◌++◌, ◌∷◌, OnOk, map};
 ghost use Rattle.std.specs.List.{join_with_byte};
@@ -12,7 +12,8 @@ use rmecore::Body;
 use rmeworld::Call;
 use std::alloc::AllocError;
 
-/// As `put_number`, for a number of any length.
+/// As `put_number`, for any number.
+// Apart: few numbers are long.
 #[inline(never)]
 fn put_long_number(out: &mut Vec<u8>, number: u64) -> Result<(), AllocError>
     ensures { OnOk result (out.new.items ≡ out.old.items ++ 32 ∷ decimal number) }
@@ -21,7 +22,8 @@ fn put_long_number(out: &mut Vec<u8>, number: u64) -> Result<(), AllocError>
     out.extend_from_slice(Buffer::new().format(number).as_bytes())
 }
 
-/// Writes one more word of a line: a space and the number. Most are of one digit.
+/// Writes a space and the number. Most numbers have one digit.
+// Inline: one call a number.
 #[inline(always)]
 #[tactic(auto, using(crate::proofs::Spaced::digit_written))]
 pub fn put_number(out: &mut Vec<u8>, number: u64) -> Result<(), AllocError>
@@ -35,7 +37,7 @@ pub fn put_number(out: &mut Vec<u8>, number: u64) -> Result<(), AllocError>
     Ok(())
 }
 
-/// Writes one more word of a line for each word of the value.
+/// Writes a space and a number for each word of the value.
 pub fn put_body(out: &mut Vec<u8>, body: &Body) -> Result<(), AllocError>
     ensures { OnOk result (out.new.items ≡ out.old.items ++ spaced body.now) }
 {
@@ -46,6 +48,7 @@ pub fn put_body(out: &mut Vec<u8>, body: &Body) -> Result<(), AllocError>
 }
 
 /// Writes the first words of a line: a name and a process.
+// Inline: one call a line.
 #[inline(always)]
 pub fn put_start(out: &mut Vec<u8>, name: &[u8], p: u64) -> Result<(), AllocError>
     ensures { OnOk result (out.new.items ≡ out.old.items ++ name.now ++ 32 ∷ decimal p) }
@@ -54,7 +57,7 @@ pub fn put_start(out: &mut Vec<u8>, name: &[u8], p: u64) -> Result<(), AllocErro
     put_number(out, p)
 }
 
-/// Writes a name, a process, a number and a value.
+/// Writes a name, a process, a sequence number and a value.
 #[tactic(auto, using(crate::proofs::Spaced::join_spaced))]
 pub fn put_message(
     out: &mut Vec<u8>,

@@ -1,4 +1,4 @@
-//! Who writes down what a run tells, and hears the judge on it.
+//! The reporter of a replay: it gives each deed to the judge, and writes the lines of deeds and answers.
 
 ghost use Rattle.std.specs.Prelude.{◌≡◌, ◌++◌, ◌∷◌, [], None, IfErr, OnOk, OnErr};
 ghost use Rattle.schedule.specs.Hearings.{opened, bench, Hears};
@@ -18,7 +18,7 @@ use crate::texts::device::{Sink, write_all};
 use std::alloc::{AllocError, Global};
 use std::marker::Model;
 
-/// The hearing of the judge, and a page for lines that are not written yet.
+/// The running verdict, and a page for the lines of one step.
 #[derive(Drop)]
 pub struct Clerk {
     hearing: Hearing,
@@ -34,7 +34,7 @@ impl Model for Clerk {
 }
 
 impl Clerk {
-    /// Nothing is heard or written yet.
+    /// A reporter that has judged and written nothing.
     pub fn new(alloc: Global) -> Clerk
         ensures { result ≡ opened }
     {
@@ -51,7 +51,7 @@ impl Clerk {
         self.hearing.verdict()
     }
 
-    /// Hears the judge on a deed, if there is one.
+    /// Gives the deed to the judge, if there is one.
     fn hear(&mut self, judge: &mut Judge, deed: &Option<Deed>)
         ensures { Hears (bench judge.old self.old) (deeds_of (did deed.now)) (bench judge.new self.new) }
     {
@@ -61,7 +61,7 @@ impl Clerk {
         self.hearing.hear(judge, deed);
     }
 
-    /// Writes down the deed and the answer of p.
+    /// Writes the line of the deed, then that of p's answer.
     fn write<W: Sink>(
         &mut self,
         w: &mut W,
@@ -79,7 +79,8 @@ impl Clerk {
         Ok(())
     }
 
-    /// Hears the judge on the deed, and writes it down with the answer.
+    /// Gives the deed to the judge, then writes its line and that of p's answer.
+    // Apart: most steps report nothing.
     #[inline(never)]
     fn record_all<W: Sink>(
         &mut self,
@@ -95,7 +96,7 @@ impl Clerk {
         self.write(w, p, deed, answer)
     }
 
-    /// Takes what a step or a crash of p tells. Most steps tell nothing.
+    /// Reports a step or a crash of p. Most steps have neither a deed nor an answer.
     pub fn tell<W: Sink>(
         &mut self,
         judge: &mut Judge,

@@ -1,4 +1,4 @@
-//! Why a part of a run is not played to its end.
+//! Why a replay stops before its end.
 
 ghost use Rattle.std.specs.Prelude.{◌≡◌};
 ghost use Rattle.schedule.specs.declared.replays.halt.Halt.TheVariants.{OutOfMemory as HaltOutOfMemory, Write as HaltWrite};
@@ -9,19 +9,19 @@ use rmecore::Refusal;
 use crate::texts::device::Failed;
 use std::alloc::AllocError;
 
-/// Why a part of a run is not played to its end.
+/// Why a replay stops before its end.
 #[derive(Clone, Copy, Debug, PartialEq, Eq)]
 pub enum Halt {
-    /// The machine refuses it; the number is that of the refusal.
+    /// The machine refuses the line. The number is that of the `Refusal`.
     Refused(u64),
     /// The sink failed.
     Write,
-    /// There was no memory.
+    /// Out of memory.
     OutOfMemory,
 }
 
 impl Halt {
-    /// What is answered where it comes at this line.
+    /// The fault of a replay that stops at this line.
     pub fn at(self, line: u64) -> ReplayFault
         ensures { result ≡ fault_at line self }
     {

@@ -1,4 +1,4 @@
-//! Hearing a judge on the deeds of a run.
+//! The running verdict of a judge on the deeds of a run.
 
 ghost use Rattle.std.specs.Prelude.{◌≡◌, ◌∷◌, []};
 ghost use Rattle.schedule.specs.Hearings.{bench, Hears};
@@ -7,7 +7,8 @@ use crate::replays::verdict::Verdict;
 use judge::Judge;
 use redomail::Deed;
 
-/// The number of the next deed, and the verdict so far. After the first deed that the judge refuses no further one is judged.
+/// The number of the next deed, and the verdict so far.
+/// After the first deed that the judge refuses, no deed is judged.
 #[derive(Clone, Copy)]
 pub struct Hearing {
     number: u64,
@@ -15,7 +16,7 @@ pub struct Hearing {
 }
 
 impl Hearing {
-    /// No deed is heard yet.
+    /// Before the first deed.
     pub const OPENED: Hearing = Hearing {
         number: 1,
         verdict: Verdict::Fine,
@@ -28,7 +29,7 @@ impl Hearing {
         self.verdict
     }
 
-    /// Asks the judge, after deeds that were allowed.
+    /// Gives the deed to a judge that has allowed all deeds before.
     fn ask(&mut self, judge: &mut Judge, deed: &Deed)
         requires { self.old.verdict ≡ Verdict.Fine }
         ensures { Hears (bench judge.old self.old) (deed.now ∷ []) (bench judge.new self.new) }
@@ -43,7 +44,7 @@ impl Hearing {
         self.number = self.number.saturating_add(1);
     }
 
-    /// Hears the judge on the next deed.
+    /// Gives the next deed to the judge, unless it has refused one.
     pub fn hear(&mut self, judge: &mut Judge, deed: &Deed)
         ensures { Hears (bench judge.old self.old) (deed.now ∷ []) (bench judge.new self.new) }
     {

@@ -24,7 +24,7 @@ fn put_own(out: &mut Vec<u8>, p: u64, own: &Own) -> Result<(), AllocError>
     Ok(())
 }
 
-/// The lock words of each process.
+/// Writes the lock words of each process, by rising number.
 fn put_owns(out: &mut Vec<u8>, owns: &[Own]) -> Result<(), AllocError>
     ensures { OnOk result (out.new.items ≡ out.old.items ++ owns_text 0 owns.now) }
 {
@@ -51,7 +51,7 @@ fn put_entry(out: &mut Vec<u8>, at: u64, message: &Message) -> Result<(), AllocE
     Ok(())
 }
 
-/// The messages of the mailbox, by rising place.
+/// Writes the messages of the mailbox, by rising place.
 fn put_messages(out: &mut Vec<u8>, messages: &[Message]) -> Result<(), AllocError>
     ensures { OnOk result (out.new.items ≡ out.old.items ++ messages_text 0 messages.now) }
 {
@@ -63,14 +63,14 @@ fn put_messages(out: &mut Vec<u8>, messages: &[Message]) -> Result<(), AllocErro
     Ok(())
 }
 
-// A word, 0 past the end.
+// The word at this place; 0 past the end.
 fn word(words: &[u64], i: u64) -> u64
     ensures { result ≡ slice_index words.now i }
 {
     words.get(i as usize).copied().unwrap_or(0)
 }
 
-/// How many messages there are, whether the mailbox is closed, and whether the lock is ruined.
+/// Writes the number of messages, whether the mailbox is closed, and whether the lock is ruined.
 fn put_count(out: &mut Vec<u8>, cells: &[u64]) -> Result<(), AllocError>
     ensures { OnOk result (out.new.items ≡ out.old.items ++ count_line cells.now) }
 {
@@ -81,7 +81,7 @@ fn put_count(out: &mut Vec<u8>, cells: &[u64]) -> Result<(), AllocError>
     Ok(())
 }
 
-/// The content of the mailbox, or that the data words break its rules.
+/// Writes the content of the mailbox, or `mail broken` where the data words break the content's rules.
 fn put_mail(
     alloc: Global,
     out: &mut Vec<u8>,
@@ -113,7 +113,7 @@ fn put_verdict_words(out: &mut Vec<u8>, at: u64, fault: Fault) -> Result<(), All
     Ok(())
 }
 
-/// The verdict line, at the end of what stands there.
+/// Writes the verdict line.
 pub fn put_verdict(out: &mut Vec<u8>, verdict: Verdict) -> Result<(), AllocError>
     ensures { OnOk result (out.new.items ≡ out.old.items ++ verdict_line verdict) }
 {
@@ -123,7 +123,7 @@ pub fn put_verdict(out: &mut Vec<u8>, verdict: Verdict) -> Result<(), AllocError
     }
 }
 
-/// All lines at the end of a report.
+/// Writes all lines at the end of a report.
 pub fn put_end(
     alloc: Global,
     out: &mut Vec<u8>,

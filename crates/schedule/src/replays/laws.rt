@@ -1,4 +1,4 @@
-//! Laws of the runs of schedules.
+//! Laws of the runs of schedules on worlds.
 
 ghost use Rattle.std.specs.Prelude.{◌≡◌, ℕ, List, Result, Some, None, IfOk};
 ghost use Rattle.redomail.specs.declared.layout.Layout.{Layout as LayoutOf};
@@ -20,17 +20,17 @@ ghost use Rattle.schedule.specs.Runs.{deeds_of, run_on};
 ghost use Rattle.schedule.specs.Stories.{IsStory};
 ghost use Rattle.schedule.specs.Verdicts.{verdict_on};
 
-/// The run of a schedule on a world is a story of the definition, whether a line is refused or not, and whether memory is
-/// found or not. From a new world, or from that of a lawful image, some story tells just the deeds and answers that the run
-/// tells, in its order, and ends with just the words that it leaves. A replay reports of just this run.
+/// The run of a schedule on a world is an execution of the model, also where a line is refused or memory runs out.
+/// From a new world, or from that of a lawful image, some execution has just the deeds and answers of the run, in its order,
+/// and ends with just the words that the run leaves. A replay reports just this run.
 pub fn runs_are_stories()
     ensures new { (l : LayoutOf) (limit : ℕ) (lines : List LineOf) → new_refusal l limit ≡ None → IsStory l limit None (run_on world_behaviour 2 (new_world l limit) lines) }
     ensures later { (i : ImageOf) (lines : List LineOf) → IsLawfulImage i → IsStory (layout_of i) i.limit (Some i) (run_on world_behaviour 2 (image_world i) lines) }
 {}
 
-/// The lock theorem of replays: whatever lines are played on a new world, a new judge of its processes and its capacity
-/// allows each deed, and so does a judge that starts from the start of an image, on the world of that image. `replayed` and
-/// `replayed_later` say it of what `replay_on` answers there.
+/// The lock theorem for replays: whatever lines are played on a new world, a new judge of its processes and its capacity
+/// allows each deed. So does a judge made from the start of an image, on the world of that image.
+/// `replayed` and `replayed_later` say it of what `replay_on` answers there.
 pub fn worlds_are_never_found_out()
     ensures new { (l : LayoutOf) (limit : ℕ) (lines : List LineOf) → new_refusal l limit ≡ None → verdict_on (empty l.procs l.cap) (deeds_of (run_on world_behaviour 2 (new_world l limit) lines).told) ≡ Fine }
     ensures later { (i : ImageOf) (s : StartOf) (lines : List LineOf) → IsLawfulImage i → IsStartOf i s → verdict_on (state_of s) (deeds_of (run_on world_behaviour 2 (image_world i) lines).told) ≡ Fine }

@@ -1,4 +1,4 @@
-//! Lines out of pieces of any length, and the whole text of a source.
+//! Cuts pieces of any length into lines, and reads the whole text of a source.
 
 ghost use Rattle.std.specs.Prelude.{◌≡◌, ℕ, ◌+◌, ◌-◌, ◌^◌, ◌⊎◌, List, [], ◌∷◌, ◌++◌, OnOk, IfOk, IfErr, true, min, length, ◌≤◌};
 ghost use Rattle.schedule.specs.Words.{parts_of};
@@ -8,23 +8,24 @@ use crate::lines::cut::cut_once;
 use crate::texts::device::{Failed, Source};
 use std::alloc::{AllocError, Global};
 
-/// Takes lines.
+/// Takes lines, one after the other.
 pub trait TakeLine {
-    /// what it is after these lines
+    /// what holds of it after these lines
     ghost after: { Self → List (List ℕ) → Type 0 };
 
     /// Takes the next line, without its LF.
     fn take_line(&mut self, line: &[u8]) -> Result<(), AllocError>
         ensures { (lines : List (List ℕ)) → after self.old lines → OnOk result (after self.new (lines ++ line.now ∷ [])) };
 
-    /// Takes lines from the front of a text that begins with a line. It may leave any of them, and answers what stands from
-    /// there on.
+    /// Takes lines from the front of a text that begins with a line. It may take none.
+    /// Answers the text after the lines that it took.
     fn take_front<'a>(&mut self, text: &'a [u8]) -> &'a [u8]
         ensures taken { (lines : List (List ℕ)) → after self.old lines → (more : List (List ℕ)) × (parts_of text.now ≡ more ++ parts_of result.now) × after self.new (lines ++ more) }
         ensures shorter { length result.now ≤ length text.now };
 }
 
-/// Hands on the line that begins in the buffer and ends so. One that begins here is handed on from where it stands.
+/// Gives the taker the line that begins in the buffer and ends with these bytes.
+/// Where the buffer is empty, nothing is copied.
 fn hand_on<T: TakeLine>(buffer: &mut Vec<u8>, taker: &mut T, end: &[u8]) -> Result<(), AllocError>
     ensures cleared { OnOk result (buffer.new.items ≡ []) }
     ensures taken { (lines : List (List ℕ)) → T.after taker.old lines → OnOk result (T.after taker.new (lines ++ (buffer.old.items ++ end.now) ∷ [])) }
@@ -39,7 +40,7 @@ fn hand_on<T: TakeLine>(buffer: &mut Vec<u8>, taker: &mut T, end: &[u8]) -> Resu
     Ok(())
 }
 
-/// Hands on each line that ends in the piece, and keeps the beginning of the next in the buffer.
+/// Gives the taker each line that ends in the piece. Keeps the beginning of the next one in the buffer.
 fn feed<T: TakeLine>(buffer: &mut Vec<u8>, taker: &mut T, piece: &[u8]) -> Result<(), AllocError>
     requires { parts_of buffer.old.items ≡ buffer.old.items ∷ [] }
     ensures kept { OnOk result (parts_of buffer.new.items ≡ buffer.new.items ∷ []) }
@@ -55,11 +56,11 @@ fn feed<T: TakeLine>(buffer: &mut Vec<u8>, taker: &mut T, piece: &[u8]) -> Resul
     Ok(())
 }
 
-/// Room for any line without a fault: the longest names twelve words, eleven of them numbers of twenty digits.
+/// Bytes of any line without a fault: the longest has twelve words, eleven of them numbers of twenty digits.
 const LINE_ROOM: usize = 240;
 
-/// Hands on each line of the source, and answers what stands after the last one. It keeps one line at a time.
-/// What the taker becomes doesn't depend on how the bytes were cut into pieces.
+/// Gives the taker each line of the source. Answers the bytes after the last LF. It keeps one line at a time.
+/// The result does not depend on how the source cuts its bytes into pieces. `Read` where the source fails.
 pub fn take_lines<S: Source, T: TakeLine>(
     alloc: Global,
     source: &mut S,
@@ -85,7 +86,7 @@ pub fn take_lines<S: Source, T: TakeLine>(
     unreachable!()
 }
 
-/// All bytes that the source still gives.
+/// All bytes that the source still has. `Read` where the source fails.
 pub fn read_all<S: Source>(alloc: Global, source: &mut S) -> Result<Vec<u8>, ReplayFault>
     ensures given { IfOk result (λ text. (S.reading source.new).given ≡ (S.reading source.old).given ++ text.items) }
     ensures ended { OnOk result ((S.reading source.new).ended ≡ true) }

@@ -1,4 +1,4 @@
-//! The lines of a schedule, played on a machine.
+//! Plays the lines of a schedule on a machine.
 
 ghost use Rattle.std.specs.Prelude.{◌≡◌, ◌≤◌, ◌∷◌, [], None, Some};
 ghost use Rattle.schedule.specs.Hearings.{bench};
@@ -13,7 +13,8 @@ use crate::lines::line::Line;
 use rmeworld::Machine;
 use crate::texts::device::Sink;
 
-/// At most n steps of p, until its call is answered.
+/// Takes at most n more steps of p, until its call is answered. A refusal ends them, and is no fault.
+// Apart: most lines ask one step.
 #[inline(never)]
 fn more_steps<M: Machine, W: Sink>(
     machine: &mut M,
@@ -44,7 +45,8 @@ fn more_steps<M: Machine, W: Sink>(
     Ok(())
 }
 
-/// As `take_steps`, where the first step may have something to tell.
+/// As `take_steps`, where the machine has not taken the first step silently.
+// Apart: most steps are silent.
 #[inline(never)]
 fn take_told_steps<M: Machine, W: Sink>(
     machine: &mut M,
@@ -70,7 +72,8 @@ fn take_told_steps<M: Machine, W: Sink>(
     more_steps(machine, judge, clerk, w, p, n - 1)
 }
 
-/// At most n steps of p, until its call is answered. They are refused where the first is.
+/// Takes at most n steps of p, until its call is answered. They are refused where the first one is.
+// Inline: one call a line.
 #[inline(always)]
 pub(crate) fn take_steps<M: Machine, W: Sink>(
     machine: &mut M,
@@ -93,7 +96,8 @@ pub(crate) fn take_steps<M: Machine, W: Sink>(
     more_steps(machine, judge, clerk, w, p, left)
 }
 
-/// A crash of p.
+/// Crashes p.
+// Apart: few lines are crashes.
 #[inline(never)]
 fn take_crash<M: Machine, W: Sink>(
     machine: &mut M,
@@ -109,7 +113,7 @@ fn take_crash<M: Machine, W: Sink>(
     clerk.tell(judge, w, p, &deed, &nothing)
 }
 
-/// One line.
+/// Plays one line.
 pub(crate) fn play_line<M: Machine, W: Sink>(
     machine: &mut M,
     judge: &mut Judge,
@@ -129,7 +133,7 @@ pub(crate) fn play_line<M: Machine, W: Sink>(
     }
 }
 
-/// The lines of a schedule, of which the first has number 2.
+/// Plays the lines of a schedule. The first of them has number 2.
 pub fn play_lines<M: Machine, W: Sink>(
     machine: &mut M,
     judge: &mut Judge,

@@ -1,4 +1,4 @@
-//! The lines of a schedule's text, played on a machine where they stand.
+//! Plays the lines of a schedule in place, from its text.
 
 ghost use Rattle.std.specs.Prelude.{◌≡◌, ℕ, ◌+◌, ◌^◌, ◌<◌, ◌≤◌, List, length, Ok, IfOk, IfErr};
 ghost use Rattle.schedule.specs.declared.lines.line.Line.{Line as LineOf};
@@ -20,7 +20,8 @@ use judge::Judge;
 use rmeworld::Machine;
 use crate::texts::device::Sink;
 
-/// The first line of a text, and what stands behind it.
+/// Plays the first line of a text that was checked. Answers the text after it.
+// Apart: most lines are steps.
 #[inline(never)]
 fn play_next<'a, M: Machine, W: Sink>(
     machine: &mut M,
@@ -43,7 +44,8 @@ fn play_next<'a, M: Machine, W: Sink>(
     Ok(after)
 }
 
-/// The same. Most lines are of steps.
+/// The same. A line of steps, the commonest, is tried first.
+// Inline: one call a line.
 #[inline(always)]
 fn play_first<'a, M: Machine, W: Sink>(
     machine: &mut M,
@@ -66,7 +68,8 @@ fn play_first<'a, M: Machine, W: Sink>(
     Ok(after)
 }
 
-/// The lines of a text, of which the first has number 2.
+/// Plays all lines of a text that was checked. The first of them has number 2.
+// Apart: a loop by itself.
 #[inline(never)]
 pub(crate) fn play_text<M: Machine, W: Sink>(
     machine: &mut M,

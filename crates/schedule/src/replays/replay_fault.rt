@@ -1,4 +1,4 @@
-//! Why a text could not be replayed.
+//! Why a replay, or the judging of a trace, has no verdict.
 
 ghost use Rattle.std.specs.Prelude.{◌≡◌};
 ghost use Rattle.schedule.specs.declared.replays.replay_fault.ReplayFault.TheVariants.{OutOfMemory as ReplayOutOfMemory, Write as ReplayWrite};
@@ -7,14 +7,13 @@ use crate::texts::device::Failed;
 use std::alloc::{AllocError, AllocFailed};
 use thiserror::Error;
 
-/// Why a replay, or the judging of a trace, was not brought to its verdict.
+/// Why a replay, or the judging of a trace, has no verdict. Lines count from 1.
 #[derive(Clone, Copy, Debug, PartialEq, Eq, Error)]
 pub enum ReplayFault {
     /// The text has a fault; its number is that of the `LineFault`. Nothing was written.
     #[error("line {line}: fault {number}")]
     Text { line: u64, number: u64 },
-    /// The line asks for what the world refuses; the number is that of the `Refusal`. What the lines before it tell was
-    /// written.
+    /// The world refuses the line; the number is that of the `Refusal`. What the lines before it report was written.
     #[error("line {line}: refused {number}")]
     Refused { line: u64, number: u64 },
     /// The source failed. Nothing was written.
@@ -23,7 +22,7 @@ pub enum ReplayFault {
     /// The sink failed. It has taken a beginning of the report.
     #[error("write failed")]
     Write,
-    /// There was no memory. A beginning of the report was written.
+    /// Out of memory. A beginning of the report was written.
     #[error("out of memory")]
     OutOfMemory,
 }

@@ -1,4 +1,4 @@
-//! Replaying the text of a schedule.
+//! Replays the text of a schedule.
 
 ghost use Rattle.std.specs.Prelude.{◌≡◌, ◌+◌, ◌^◌, ◌<◌, ◌≤◌, List, length, drop, Ok, IfOk};
 ghost use Rattle.judge.specs.Table.{State};
@@ -32,7 +32,7 @@ use crate::texts::device::{Sink, Source};
 use crate::texts::fault::TextFault;
 use std::alloc::Global;
 
-/// What is answered where a world or a judge of the header's sizes is refused.
+/// The fault where no world or no judge has the header's sizes.
 fn at_header(refusal: Refusal) -> ReplayFault
     ensures { result ≡ header_fault (number_of refusal) }
 {
@@ -42,7 +42,7 @@ fn at_header(refusal: Refusal) -> ReplayFault
     }
 }
 
-/// The lines of a schedule's text from a place on, as `play_text`. Then the text is let go.
+/// Plays the lines of a text from this byte on, as `play_text` does, and then frees the text.
 fn play_behind<M: Machine, W: Sink>(
     machine: &mut M,
     judge: &mut Judge,
@@ -61,8 +61,8 @@ fn play_behind<M: Machine, W: Sink>(
     play_text(machine, judge, clerk, w, width, &text[from..])
 }
 
-/// Replays the lines of a schedule's text from a place on, as `replay_on` does, and keeps none of them. What is written at the
-/// end takes memory too, so the text is let go before.
+/// Replays the lines of a text from this byte on, as `replay_on` does, and keeps none of them.
+/// The text is freed before the end of the report is written, since that takes memory too.
 fn replay_in_place<M: Machine, W: Sink>(
     alloc: Global,
     machine: &mut M,
@@ -90,7 +90,7 @@ fn replay_in_place<M: Machine, W: Sink>(
     Ok(verdict)
 }
 
-/// Replays the lines of a schedule's text from a place on, on a new world, before a new judge.
+/// Replays the lines of a text from this byte on, on a new world and before a new judge.
 fn replay_new<W: Sink>(
     alloc: Global,
     head: Head,
@@ -133,8 +133,8 @@ fn replay_text<W: Sink>(alloc: Global, text: Vec<u8>, w: &mut W) -> Result<Verdi
     }
 }
 
-/// Replays the schedule whose text the source gives, and writes its report. The whole input is read, then checked, and then
-/// played on a new world of the schedule's sizes, before a new judge; a header that no world has is refused at line 1.
+/// Replays the schedule whose text the source gives, and writes its report. The whole text is read and checked first.
+/// It is played on a new world of the header's sizes, before a new judge. Sizes that no world has are refused at line 1.
 pub fn replay<R: Source, W: Sink>(
     alloc: Global,
     source: &mut R,

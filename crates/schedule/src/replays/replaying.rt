@@ -1,4 +1,4 @@
-//! Replaying a schedule.
+//! Replays a schedule.
 
 ghost use Rattle.std.specs.Prelude.{◌≡◌, ℕ, ◌+◌, ◌-◌, ◌^◌, min, ◌⊎◌, List, None, Some, OnOk, IfErr};
 ghost use Rattle.judge.specs.Table.{State};
@@ -30,7 +30,7 @@ fn put_out<W: Sink>(w: &mut W, text: &[u8]) -> Result<(), ReplayFault>
     Ok(())
 }
 
-/// Writes the end of a report.
+/// Writes the end of a report: lock words, mailbox and verdict.
 pub fn close<W: Sink>(
     alloc: Global,
     image: &Image,
@@ -44,7 +44,7 @@ pub fn close<W: Sink>(
     put_out(w, &page)
 }
 
-/// Flushes the sink after a run that was not played to its end.
+/// Flushes the sink after a refused line. Answers the fault, or `Write` where the flush fails.
 pub(crate) fn settle<W: Sink>(w: &mut W, fault: ReplayFault) -> ReplayFault
     ensures taken { (W.tape w.new).taken ≡ (W.tape w.old).taken }
     ensures fault { (result ≡ fault) × ((W.tape w.new).failures ≡ (W.tape w.old).failures) ⊎ (result ≡ ReplayFault.Write) × ((W.tape w.new).failures ≡ min ((W.tape w.old).failures + 1) (2 ^ 64 - 1)) × IsRefused fault }
@@ -58,9 +58,9 @@ pub(crate) fn settle<W: Sink>(w: &mut W, fault: ReplayFault) -> ReplayFault
     }
 }
 
-/// Replays the lines of a schedule on a machine, from where a judge stands, and writes the report: lines go to the sink as
-/// the steps are taken. The sizes that count are the machine's and the judge's; those that the schedule names are not asked.
-/// What is answered speaks of the run that the machine's own steps are.
+/// Replays a schedule on a machine and before a judge that are lent, and writes the report as the steps are taken.
+/// The sizes of the machine and the judge count; those that the schedule names are not compared.
+/// The contract speaks of the run that the machine's own steps make.
 pub fn replay_on<M: Machine, W: Sink>(
     alloc: Global,
     machine: &mut M,
@@ -68,11 +68,11 @@ pub fn replay_on<M: Machine, W: Sink>(
     schedule: &Schedule,
     w: &mut W,
 ) -> Result<Verdict, ReplayFault>
-    // The report of just this run is written, and its verdict answered; or why not.
+    // The report of just this run is written and its verdict answered, or the reason why not.
     ensures replay { (start : State) → Keeps judge.old start → Replays (W.tape w.old) (W.tape w.new) start M.behaviour.image_of (run_on M.behaviour 2 machine.old schedule.now.lines) result }
-    // After a verdict, or a refused line, the machine is left as the run leaves it: a run stops at the line that is refused.
+    // After a verdict or a refused line the machine is as the run leaves it. A run ends at the line that is refused.
     ensures left { IsOver result → machine.new ≡ (run_on M.behaviour 2 machine.old schedule.now.lines).left }
-    // And the judge has heard the deeds of just this run, up to the first that is not allowed.
+    // The judge was given the deeds of just this run, up to the first that is not allowed.
     ensures heard { (start : State) → Keeps judge.old start → IsOver result → Keeps judge.new (heard start (deeds_of (run_on M.behaviour 2 machine.old schedule.now.lines).told)) }
 {
     let mut clerk = Clerk::new(alloc);

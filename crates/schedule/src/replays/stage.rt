@@ -16,17 +16,17 @@ use std::alloc::{AllocError, Global};
 /// What is known of a trace after some of its lines.
 #[derive(Drop)]
 pub enum Stage {
-    /// Not even the first line is known.
+    /// No line was read.
     First,
     /// The header is refused with this number; later lines may still have a fault.
     Refused(TraceHead, u64),
-    /// The deeds so far were heard.
+    /// The deeds so far were given to the judge.
     Judging(TraceHead, Judge, Hearing),
-    /// The first faulty line.
+    /// The first faulty line: its number, counted from 1, and its fault.
     Faulty(u64, LineFault),
 }
 
-/// After the first line.
+/// The stage after the first line.
 fn begin(alloc: Global, line: &[u8]) -> Result<Stage, AllocError>
     ensures stage { IfOk result (λ stage. IsStage stage) }
     ensures stands { IfOk result (λ stage. Stands stage (line.now ∷ [])) }
@@ -44,8 +44,8 @@ fn begin(alloc: Global, line: &[u8]) -> Result<Stage, AllocError>
     }
 }
 
-/// Hears the judge on the deeds of the lines at the front of a text, and counts these. It stops before a line that has a
-/// fault, that is not whole, or that is read another way, and answers what stands from there on.
+/// Gives the judge the deeds of the lines at the front of a text, and counts these lines.
+/// It stops before a line that is faulty, not whole, or read by its words. Answers the text from there on.
 fn hear_lines<'a>(
     head: &TraceHead,
     judge: &mut Judge,
@@ -67,7 +67,8 @@ fn hear_lines<'a>(
 }
 
 impl Stage {
-    /// Takes the first line. What this takes on the stack is not made ready at each other line.
+    /// Takes the first line.
+    // Apart: keeps `take`'s stack small.
     #[inline(never)]
     fn take_first(&mut self, alloc: Global, line: &[u8]) -> Result<(), AllocError>
         requires { IsStage self.old }
@@ -78,7 +79,7 @@ impl Stage {
         Ok(())
     }
 
-    /// Takes one more line, which has this number.
+    /// Takes one more line, of this number.
     pub fn take(&mut self, alloc: Global, number: u64, line: &[u8]) -> Result<(), AllocError>
         requires { IsStage self.old }
         ensures stage { IsStage self.new }
@@ -106,8 +107,8 @@ impl Stage {
             Stage::Faulty(..) => Ok(()),
         }
     }
-    /// Takes lines from the front of a text, the first of which has this number, and counts them. It may leave any of them,
-    /// and answers what stands from there on.
+    /// Takes lines from the front of a text, the first of which has this number, and counts them. It may take none.
+    /// Answers the text after the lines that it took.
     pub fn take_front<'a>(&mut self, number: &mut u64, text: &'a [u8]) -> &'a [u8]
         requires { IsStage self.old }
         ensures stage { IsStage self.new }

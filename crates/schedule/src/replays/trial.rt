@@ -1,4 +1,4 @@
-//! Judging a trace as it comes.
+//! Judges a trace while it is read.
 
 ghost use Rattle.std.specs.Prelude.{◌≡◌, ℕ, ◌+◌, ◌-◌, ◌<◌, ◌^◌, ◌++◌, ◌∷◌, [], ◌⊎◌, List, length, IfOk, IfErr, OnOk, min, true};
 ghost use Rattle.schedule.specs.Numbers.{number_of};
@@ -42,7 +42,7 @@ impl TraceJudge {
         }
     }
 
-    /// The answer of a trace that was judged to its end, by what stands after its last line.
+    /// The answer for a trace that was read to its end. `rest` is the text after the last LF.
     fn answer(&self, rest: &[u8]) -> Result<Verdict, ReplayFault>
         ensures { (lines : List (List ℕ)) → Follows self.now lines → length lines + 3 < 2 ^ 64 → result ≡ trace_answer (lines ++ rest.now ∷ []) }
     {
@@ -87,9 +87,9 @@ impl TakeLine for TraceJudge {
     }
 }
 
-/// Judges the trace that the source gives. It keeps one line at a time, and its answer is that of the whole text, however
-/// the bytes are cut into pieces: the first fault of the text, or else why there is no judge of its sizes, as `Refused` at
-/// line 1, or else the verdict on its deeds. A source that fails comes before all of these.
+/// Judges the trace that the source gives. It keeps one line at a time.
+/// The answer is that of the whole text, however the bytes are cut into pieces. It is the first of these that fits:
+/// `Read`, the first fault of the text, `Refused` at line 1 where no judge has its sizes, the verdict on its deeds.
 pub fn judge_trace<S: Source>(alloc: Global, source: &mut S) -> Result<Verdict, ReplayFault>
     ensures { JudgesTrace (S.reading source.old).given (S.reading source.new).given (S.reading source.old).failures (S.reading source.new).failures (S.reading source.new).ended result }
 {

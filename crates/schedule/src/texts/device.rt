@@ -1,4 +1,4 @@
-//! Bytes that come and bytes that go.
+//! Devices: sources of bytes, and sinks for bytes.
 
 ghost use Rattle.std.specs.Prelude.{◌≡◌, ◌+◌, ◌-◌, ◌^◌, ◌<◌, ◌≤◌, ◌++◌, List, ℕ, true, false, [], length, take, OnOk, OnErr, IfOk, IfErr, min};
 ghost use Rattle.schedule.specs.Tapes.{WritesFront, Reading, Tape};
@@ -11,12 +11,12 @@ use thiserror::Error;
 #[error("the device failed")]
 pub struct Failed;
 
-/// Bytes that come, a piece at a time.
+/// A source of bytes, read in pieces, in the shape of std's `Read`.
 pub trait Source {
-    /// how far it was read
+    /// what was read of it
     ghost reading: { Self → Reading };
 
-    /// Reads into the front of the buffer. 0 at a buffer that is not empty tells the end.
+    /// Reads into the front of the buffer, and answers how many bytes. 0 for a buffer that is not empty is the end.
     fn read(&mut self, buf: &mut [u8]) -> Result<usize, Failed>
         ensures bound { IfOk result (λ n. n ≤ length buf.new) }
         ensures given { IfOk result (λ n. (reading self.new).given ≡ (reading self.old).given ++ take n buf.new) }
@@ -24,16 +24,16 @@ pub trait Source {
         ensures fine { OnOk result ((reading self.new).failures ≡ (reading self.old).failures) }
         ensures failed { OnErr result ((reading self.new).failures ≡ min ((reading self.old).failures + 1) (2 ^ 64 - 1)) }
         ensures kept { OnErr result ((reading self.new).given ≡ (reading self.old).given) }
-        // What it gives is finite.
+        // A source has finitely many bytes.
         ensures finite { OnOk result (length (reading self.new).given ≤ 2 ^ 63) };
 }
 
-/// Bytes that go.
+/// A sink for bytes, in the shape of std's `Write`.
 pub trait Sink {
     /// what it has taken
     ghost tape: { Self → Tape };
 
-    /// Takes some of the front of the bytes, at least one unless there is none.
+    /// Takes some of the front of the bytes, at least one unless there is none, and answers how many.
     fn write(&mut self, bytes: &[u8]) -> Result<usize, Failed>
         ensures bound { IfOk result (λ n. n ≤ length bytes.now) }
         ensures moves { IfOk result (λ n. 0 < length bytes.now → 0 < n) }
@@ -42,14 +42,14 @@ pub trait Sink {
         ensures failed { OnErr result ((tape self.new).failures ≡ min ((tape self.old).failures + 1) (2 ^ 64 - 1)) }
         ensures kept { OnErr result ((tape self.new).taken ≡ (tape self.old).taken) };
 
-    /// Hands on what it holds back; no bytes are taken.
+    /// Passes on what it holds back. Takes no bytes.
     fn flush(&mut self) -> Result<(), Failed>
         ensures taken { (tape self.new).taken ≡ (tape self.old).taken }
         ensures fine { OnOk result ((tape self.new).failures ≡ (tape self.old).failures) }
         ensures failed { OnErr result ((tape self.new).failures ≡ min ((tape self.old).failures + 1) (2 ^ 64 - 1)) };
 }
 
-/// Bytes in memory as a source, in pieces of a length.
+/// Bytes in memory as a source, in pieces of at most a given length.
 #[derive(Drop)]
 pub struct Text<'a> {
     all: &'a [u8],
@@ -57,12 +57,12 @@ pub struct Text<'a> {
     piece: usize,
     ended: bool,
     ghost within: { at ≤ length all.now },
-    // It tells its end only where nothing is left.
+    // It answers its end only where nothing is left.
     ghost told: { ended ≡ true → at ≡ length all.now },
 }
 
 impl<'a> Text<'a> {
-    /// These bytes, of which none is given yet. A length of 0 counts as 1.
+    /// A source of these bytes. A piece length of 0 counts as 1.
     pub fn new(all: &'a [u8], piece: usize) -> Text<'a>
         ensures all { result.all.now ≡ all.now }
         ensures at { result.at ≡ 0 }
@@ -94,7 +94,7 @@ impl<'a> Source for Text<'a> {
     }
 }
 
-/// Bytes in memory as a sink. It fails where memory does.
+/// Bytes in memory as a sink. It fails where it is out of memory.
 #[derive(Drop)]
 pub struct Page {
     bytes: Vec<u8>,
@@ -139,7 +139,7 @@ impl Sink for Page {
     }
 }
 
-/// Writes all of the bytes.
+/// Writes all of the bytes. After `Failed` the sink has taken a beginning of them.
 pub fn write_all<W: Sink>(sink: &mut W, bytes: &[u8]) -> Result<(), Failed>
     ensures all { OnOk result ((W.tape sink.new).taken ≡ (W.tape sink.old).taken ++ bytes.now) }
     ensures beginning { OnErr result ((rest : List ℕ) × WritesFront (W.tape sink.old).taken (W.tape sink.new).taken bytes.now rest) }

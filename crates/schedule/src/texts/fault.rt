@@ -33,7 +33,7 @@ impl<T: Drop> From<AllocFailed<T>> for TextFault {
     }
 }
 
-/// There was no memory for a text.
+/// Out of memory for a text.
 #[derive(Clone, Copy, Debug, PartialEq, Eq, Error)]
 #[error("out of memory")]
 pub struct OutOfMemory;

@@ -10,7 +10,7 @@ use crate::lines::words::Words;
 use crate::lines::line::Line;
 use crate::lines::fault::LineFault;
 
-/// What the first line says.
+/// The header of a schedule: the sizes of its world.
 #[derive(Clone, Copy, Debug, PartialEq, Eq)]
 pub struct Head {
     pub procs: u64,

@@ -13,7 +13,7 @@ use rmecore::Refusal;
 use std::alloc::Global;
 use std::marker::Model;
 
-/// What is to be run: a world's size, and lines.
+/// A schedule: the sizes of a world, and the lines to play on it.
 #[derive(Debug, Drop)]
 pub struct Schedule {
     procs: u64,
@@ -32,8 +32,8 @@ impl Model for Schedule {
 }
 
 impl Schedule {
-    /// A schedule with no lines yet. Whether there can be a world of these sizes is not asked; only the width has to be
-    /// that of some value.
+    /// A schedule without lines. `BadWidth` unless the width is from 1 to 8.
+    /// Whether a world has these sizes is not checked here.
     pub fn new(
         alloc: Global,
         procs: u64,
@@ -57,16 +57,16 @@ impl Schedule {
         })
     }
 
-    /// One more line. `BadWidth` where it holds a value of another width.
+    /// Adds a line. `BadWidth` where it holds a value of another width.
     pub fn push(&mut self, line: Line) -> Result<(), Refusal>
         ensures ok { OnOk result (self.new ≡ record self.old { lines = self.old.lines ++ line ∷ [] }) }
         ensures accepted { OnOk result (IsTrue (fits self.old.width line)) }
         ensures refused { IfErr result (λ refusal. (refusal ≡ Refusal.BadWidth) × IsFalse (fits self.old.width line) ⊎ (refusal ≡ Refusal.OutOfMemory)) }
-        // A wrong width is told before any want of memory.
+        // A wrong width comes before out of memory.
         ensures width { IsFalse (fits self.old.width line) → IsErrOf result Refusal.BadWidth }
         ensures err { OnErr result (self.new ≡ self.old) }
     {
-        // Rattle's borrow checker has to see what a line holds.
+        // The borrow checker has to see what a line holds.
         let line = match line {
             Line::Start(p, call) => Line::Start(p, call),
             Line::Step(p, count) => Line::Step(p, count),
@@ -87,10 +87,11 @@ impl Schedule {
         }
     }
 
-    /// A law of every schedule: its text can say each of its numbers, so a line of steps asks for one at least.
+    /// Every schedule has a spelling: its numbers have 64 bits, and a line of steps asks for at least one.
     pub fn can_be_spelled(&self)
         ensures { IsScheduled self.now }
     {
+        // For the proof alone: its value is read.
         let _ = &self.lines;
     }
 
@@ -115,13 +116,13 @@ fn schedule_of(alloc: Global, text: &[u8]) -> Result<Schedule, TextFault>
     })
 }
 
-/// The schedule that the text spells, all of the text.
+/// Reads the schedule that the text spells, all of the text.
 pub fn read_schedule(alloc: Global, text: &[u8]) -> Result<Schedule, TextFault>
-    // What is read is spelled so.
+    // The text is the spelling of what is read.
     ensures found { IfOk result (λ schedule. (text.now ≡ spelling schedule) × IsScheduled schedule) }
-    // What is spelled so is read, unless memory runs out.
+    // Each spelling is read, unless memory runs out.
     ensures only { (schedule : Scheduled) → IsScheduled schedule → text.now ≡ spelling schedule → Gives (λ schedule. schedule) result (Ok schedule) }
-    // Which fault it is.
+    // The fault is the one that the definition gives.
     ensures exact { Gives (λ schedule. schedule) result (schedule_at text.now) }
 {
     schedule_of(alloc, text)

@@ -15,7 +15,7 @@ use rmecore::Refusal;
 use std::alloc::Global;
 use std::marker::Model;
 
-/// What the first line says.
+/// The header of a trace: the sizes of its judge, and the width of its values.
 #[derive(Clone, Copy, Debug, PartialEq, Eq)]
 pub struct TraceHead {
     pub procs: u64,
@@ -55,7 +55,7 @@ impl Heading for TraceHead {
     }
 }
 
-/// The deeds of a run, and its world's size.
+/// A trace: the sizes of a world, and the deeds of a run.
 #[derive(Debug, Drop)]
 pub struct Trace {
     procs: u64,
@@ -73,7 +73,7 @@ impl Model for Trace {
 }
 
 impl Trace {
-    /// A trace with no deeds yet. Only the width has to be that of some value.
+    /// A trace without deeds. `BadWidth` unless the width is from 1 to 8.
     pub fn new(alloc: Global, procs: u64, cap: u64, width: u64) -> Result<Trace, Refusal>
         ensures ok { IfOk result (λ trace. trace ≡ record { procs = procs; cap = cap; width = width; deeds = [] }) }
         ensures valid { IsOk result ↔ ((1 ≤ width) × (width ≤ 8)) }
@@ -90,12 +90,12 @@ impl Trace {
         })
     }
 
-    /// One more deed. `BadWidth` where it holds a value of another width.
+    /// Adds a deed. `BadWidth` where it holds a value of another width.
     pub fn push(&mut self, deed: Deed) -> Result<(), Refusal>
         ensures ok { OnOk result (self.new ≡ record self.old { deeds = self.old.deeds ++ deed ∷ [] }) }
         ensures accepted { OnOk result (IsTrue (fits self.old.width deed)) }
         ensures refused { IfErr result (λ refusal. (refusal ≡ Refusal.BadWidth) × IsFalse (fits self.old.width deed) ⊎ (refusal ≡ Refusal.OutOfMemory)) }
-        // A wrong width is told before any want of memory.
+        // A wrong width comes before out of memory.
         ensures width { IsFalse (fits self.old.width deed) → IsErrOf result Refusal.BadWidth }
         ensures err { OnErr result (self.new ≡ self.old) }
     {
@@ -133,13 +133,13 @@ fn trace_of(alloc: Global, text: &[u8]) -> Result<Trace, TextFault>
     })
 }
 
-/// The trace that the text spells, all of the text.
+/// Reads the trace that the text spells, all of the text.
 pub fn read_trace(alloc: Global, text: &[u8]) -> Result<Trace, TextFault>
-    // What is read is spelled so.
+    // The text is the spelling of what is read.
     ensures found { IfOk result (λ trace. (text.now ≡ trace_spelling trace) × IsTraced trace) }
-    // What is spelled so is read, unless memory runs out.
+    // Each spelling is read, unless memory runs out.
     ensures only { (trace : Traced) → IsTraced trace → text.now ≡ trace_spelling trace → Gives (λ trace. trace) result (Ok trace) }
-    // Which fault it is.
+    // The fault is the one that the definition gives.
     ensures exact { Gives (λ trace. trace) result (trace_at text.now) }
 {
     trace_of(alloc, text)

@@ -1,4 +1,4 @@
-//! A text: its first line, and the items of the others.
+//! A whole text: its header, and an item on each further line.
 
 ghost use Rattle.std.specs.Prelude.{◌≡◌, ℕ, ◌+◌, ◌^◌, ◌<◌, ◌≤◌, ◌⊎◌, ◌++◌, ◌∷◌, [], Bool, List, Result, length, IfOk, OnOk, OnErr, IfErr, IsErrOf, IsTrue, IsFalse};
 ghost use Rattle.schedule.specs.declared.lines.fault.LineFault.{LineFault};
@@ -12,7 +12,7 @@ use crate::lines::item::Item;
 use rmecore::Refusal;
 use std::alloc::Global;
 
-/// One more item. `BadWidth` where it holds a value of another width.
+/// Adds an item. `BadWidth` where it holds a value of another width.
 pub fn add<T: Item>(items: &mut Vec<T>, width: u64, item: T) -> Result<(), Refusal>
     ensures ok { OnOk result (items.new.items ≡ items.old.items ++ item ∷ []) }
     ensures item { OnOk result (T.is_item width item) }
@@ -28,7 +28,7 @@ pub fn add<T: Item>(items: &mut Vec<T>, width: u64, item: T) -> Result<(), Refus
     Ok(())
 }
 
-/// The items of the lines from this number on.
+/// Reads the items of all lines. `first` is the number of the first of them, which a fault names.
 pub fn items<T: Item>(
     alloc: Global,
     width: u64,
@@ -62,7 +62,7 @@ pub fn items<T: Item>(
     Ok(items)
 }
 
-/// What stands on the first line.
+/// The header of a text, its first line.
 pub trait Heading: Drop {
     type Item: Item;
 
@@ -72,7 +72,7 @@ pub trait Heading: Drop {
     /// how many words a value has
     ghost width_of: { Self → ℕ };
 
-    /// Reads it from the first line.
+    /// Reads it from the first line, without its LF.
     fn read(line: &[u8]) -> Result<Self, LineFault>
         ensures head { Reads (λ head. head) result (head_at (words_of line.now)) }
         ensures width { IfOk result (λ head. (1 ≤ width_of head) × (width_of head ≤ 8)) };
@@ -82,7 +82,7 @@ pub trait Heading: Drop {
         ensures { result ≡ width_of self.now };
 }
 
-/// A whole text.
+/// Reads a whole text.
 pub fn whole<H: Heading>(alloc: Global, text: &[u8]) -> Result<(H, Vec<H::Item>), TextFault>
     ensures { Gives (λ read. (read.0, read.1.items)) result (text_at H.head_at (λ head. H.Item.item_at (H.width_of head)) (parts_of text.now)) }
 {

@@ -6,7 +6,7 @@ use crate::texts::device::{Failed, Sink, Source};
 use histories::Log;
 use std::{io, mem};
 
-/// Adds the bytes to the log, at no cost.
+/// The log with the bytes added. A log is for proofs alone and takes no memory.
 fn logged(log: Log<u8>, bytes: &[u8]) -> Log<u8>
     ensures { result.items ≡ log.items ++ bytes.now }
 {
@@ -17,11 +17,11 @@ fn logged(log: Log<u8>, bytes: &[u8]) -> Log<u8>
     all
 }
 
-/// The most bytes that a reader gives.
+/// The most bytes that a `FromReader` gives.
 const MOST_BYTES: u64 = 1 << 62;
 
-/// Any reader of std as a source. It fails where the reader does, also where that was only interrupted, and once it has
-/// given 2^62 bytes.
+/// Any reader of std as a source. It fails where the reader does, also where that was only interrupted.
+/// It fails once it has given 2^62 bytes.
 #[derive(Drop)]
 pub struct FromReader<R> {
     inner: R,
@@ -90,7 +90,7 @@ impl<R: io::Read> Source for FromReader<R> {
     }
 }
 
-/// Any writer of std as a sink. It fails where the writer does, also where that was only interrupted or has written nothing.
+/// Any writer of std as a sink. It fails where the writer does, also where that was only interrupted or wrote nothing.
 #[derive(Drop)]
 pub struct ToWriter<W> {
     inner: W,

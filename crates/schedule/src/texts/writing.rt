@@ -42,7 +42,7 @@ fn put_head(out: &mut Vec<u8>, head: &Head) -> Result<(), AllocError>
     Ok(())
 }
 
-/// The one spelling of the schedule.
+/// The text of a schedule, in its one spelling.
 pub fn write_schedule(alloc: Global, schedule: &Schedule) -> Result<Vec<u8>, OutOfMemory>
     ensures { IfOk result (λ text. text.items ≡ spelling schedule.now) }
 {

@@ -50,11 +50,12 @@ WORDS = [
     (r"(?:an?|its|the|each|every|whose|this|caller's|member's|seat's) pass(?:es)?", "view"),
 ]
 # A blank of a phrase may be a line break.
-REFUSED = re.compile("|".join(rf"(?P<w{at}>\b(?:{word})\b)".replace(" ", r"\s+") for at, (word, _) in enumerate(WORDS)), re.I)
+GROUPS = "|".join(f"(?P<w{at}>{word})".replace(" ", r"\s+") for at, (word, _) in enumerate(WORDS))
+REFUSED = re.compile(rf"\b(?:{GROUPS})\b", re.I)
 
-# Where one of these words stands all the same: the file, the exact words, and why.
+# Where one of these words is right all the same: the file, the exact words, and why. One that nothing needs is a finding.
 ALLOWED = [
-    ("docs/theory/model.md", "the pass", "the specification's definition Pass is quoted under its own name"),
+    ("docs/theory/model.md", "The pass", "the specification's definition Pass is quoted under its own name"),
     ("docs/theory/model.md", "each pass", "the specification's definition Pass is quoted under its own name"),
     ("docs/theory/model.md", "its pass", "the specification's definition Pass is quoted under its own name"),
     ("docs/theory/model.md", "member p's pass", "the specification's definition Pass is quoted under its own name"),

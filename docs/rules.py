@@ -1,0 +1,376 @@
+"""The rules that pages and sources keep to, each a function that yields its findings as `file:line: what is wrong`.
+
+They read files alone: no program has to be built. docs/check runs them."""
+
+import os
+import re
+import subprocess
+
+TOP = os.path.dirname(os.path.dirname(os.path.realpath(__file__)))
+ARCHITECTURE = "docs/dev/architecture.md"
+THEOREM = "docs/theory/theorem.md"
+
+MOST_CRATES = 27
+MOST_LINES_OF_A_FILE = 500
+MOST_LINES_OF_A_BODY = 40
+WIDEST_CLAUSE = 140
+MOST_NOUNS = 40
+MOST_DOUBLE_NAMES = 4
+MOST_HEADLINES = 2
+HEADLINE = "any list of steps and crashes, no two are in the section"
+
+# ---- words
+
+# Words that comments and pages don't use, and what to write.
+WORDS = [
+    (r"behind", "after"),
+    (r"(?:stands?|stood|standing) for", "is, or means"),
+    (r"told", "who answers, returns, writes or is notified"),
+    (r"so many", "the number, or that many"),
+    (r"(?:comes?|came|coming) on", "goes on, or progress"),
+    (r"wants? of memory|memory (?:is|was) want(?:ed|ing)", "out of memory"),
+    (r"clerks?", "reporter"),
+    (r"hearings?", "running verdict"),
+    (r"halts?", "the stop of a replay"),
+    (r"errands?|chores?", "script state"),
+    (r"happenings?", "event"),
+    (r"story|stories", "execution"),
+    (r"spots?", "process state"),
+    (r"scenes?", "global state"),
+    (r"walkers?", "port"),
+    (r"runners?", "call driver"),
+    (r"sights", "observer"),
+    (r"routes?", "drawn moves"),
+    (r"detours?", "variant state"),
+    (r"topics?", "entry of the dictionary"),
+    (r"calm", "that it never crashes"),
+    (r"quiet(?:ly)?|unheard", "silent"),
+    (r"sheets?|pens?", "layout, lifeline state"),
+    (r"scarcity", "memory limit"),
+    (r"(?:an?|its|the|each|every|whose|this|caller's|member's|seat's) pass(?:es)?", "view"),
+]
+# A blank of a phrase may be a line break.
+GROUPS = "|".join(f"(?P<w{at}>{word})".replace(" ", r"\s+") for at, (word, _) in enumerate(WORDS))
+REFUSED = re.compile(rf"\b(?:{GROUPS})\b", re.I)
+
+# Where one of these words is right all the same: the file, the exact words, and why. One that nothing needs is a finding.
+ALLOWED = [
+    ("docs/theory/model.md", "The pass", "the specification's definition Pass is quoted under its own name"),
+    ("docs/theory/model.md", "each pass", "the specification's definition Pass is quoted under its own name"),
+    ("docs/theory/model.md", "its pass", "the specification's definition Pass is quoted under its own name"),
+    ("docs/theory/model.md", "member p's pass", "the specification's definition Pass is quoted under its own name"),
+]
+
+# Names that were replaced, as types and modules. Found, Seat and Words have a second meaning that stays.
+RETIRED_NAMES = (
+    "Away Chore Clerk Court Detour Due Errand Far Ground Halt Happening Hearing Home Known LineFront Made Notes Owed Pass Pen "
+    "Play Route Runner Scarce Scene Seen Sheet Sights Spot Stand Story Topic Walker Why"
+).split()
+DECLARES = re.compile(rf"\b(?:struct|enum|trait|type|record|data|abbrev)\s+(?:pub\s+)?({'|'.join(RETIRED_NAMES)})\b")
+RETIRED_CRATES = (
+    "drawing fronts hunt_rows imaging laboratory lock_search lock_spaces meanings memory_rows order_rows orders plain_lab "
+    "plain_rows plans process_words program_kit program_rows replay_rows row_kit scarcity schedule_commands search_rows "
+    "shrinking table_calls table_walk text_rows trials world_rows"
+).split()
+NAMES_A_CRATE = re.compile(rf"`(?:crates/)?({'|'.join(RETIRED_CRATES)})(?:`|::|/)")
+
+FENCE = re.compile(r"^```.*?^```$", re.M | re.S)
+CODE = re.compile(r"`[^`\n]*`")
+LINK = re.compile(r"\]\(([^)\s#]*)(?:#([^)\s]*))?\)")
+MENTION = re.compile(r"\bdocs/[\w/-]+\.(?:md|1)\b|\bdocs/[\w/-]*\b(?:check|from-help)\b")
+
+
+def text_of(name):
+    with open(os.path.join(TOP, name), encoding="utf-8") as file:
+        return file.read()
+
+
+def repository_files():
+    listed = subprocess.run(["git", "-C", TOP, "ls-files"], capture_output=True, text=True, check=True).stdout.split("\n")
+    return [name for name in listed if name and os.path.isfile(os.path.join(TOP, name))]
+
+
+def pages():
+    return [name for name in repository_files() if name.endswith(".md")]
+
+
+def sources(*ends):
+    return [name for name in repository_files() if name.startswith("crates/") and name.endswith(ends)]
+
+
+def crates():
+    return re.findall(r"^(\w+)[ :]", text_of("crates.txt"), re.M)
+
+
+def blanked(text, pattern):
+    """The text with each match made blank, so that every line keeps its number."""
+    return pattern.sub(lambda match: re.sub(r"[^\n]", " ", match[0]), text)
+
+
+def line_at(text, at):
+    return text.count("\n", 0, at) + 1
+
+
+def prose_of_page(text):
+    return blanked(blanked(text, FENCE), CODE)
+
+
+# A comment, a string, a raw string or a character of Rattle's sources.
+RATTLE = re.compile(r"//[^\n]*|b?r(#*)\".*?\"\1|b?\"(?:\\.|[^\"\\])*\"|b?'(?:\\.[^']*|[^'\\])'", re.S)
+
+
+def comments_of(name, text):
+    """Only the comments, everything else blank."""
+    if name.endswith(".rt"):
+        kept = [match for match in RATTLE.finditer(text) if match[0].startswith("//")]
+    else:
+        kept = list(re.finditer(r"(?:^|(?<=\s))--(?=\s)[^\n]*", text))
+    lines, at = [], 0
+    for match in kept:
+        lines.append(re.sub(r"[^\n]", " ", text[at : match.start()]))
+        lines.append(re.sub(r"^(//[/!]?|--)", lambda mark: " " * len(mark[0]), match[0]))
+        at = match.end()
+    return "".join(lines + [re.sub(r"[^\n]", " ", text[at:])])
+
+
+def refused_words():
+    used = set()
+    for name in pages() + sources(".rt", ".antt"):
+        text = text_of(name)
+        prose = prose_of_page(text) if name.endswith(".md") else blanked(comments_of(name, text), CODE)
+        for file, words, _ in ALLOWED:
+            if file == name and words in prose:
+                used.add((file, words))
+                prose = prose.replace(words, " " * len(words))
+        for match in REFUSED.finditer(prose):
+            said, instead = " ".join(match[0].split()), WORDS[int(match.lastgroup[1:])][1]
+            yield f"{name}:{line_at(text, match.start())}: `{said}`: write {instead}"
+    for file, words, _ in ALLOWED:
+        if (file, words) not in used:
+            yield f"docs/rules.py:{line_at(text_of('docs/rules.py'), text_of('docs/rules.py').index(words))}: nothing in {file} needs `{words}`"
+
+
+def retired_names():
+    for name in sources(".rt", ".antt"):
+        stem = os.path.basename(name).rsplit(".", 1)[0].replace("_", "").lower()
+        if stem in {retired.lower() for retired in RETIRED_NAMES}:
+            yield f"{name}:1: the file has a retired name"
+        text = text_of(name)
+        for match in DECLARES.finditer(text):
+            yield f"{name}:{line_at(text, match.start())}: {match[1]} is a retired name"
+    for name in pages() + sources(".rt", ".antt"):
+        text = text_of(name)
+        for match in NAMES_A_CRATE.finditer(text):
+            yield f"{name}:{line_at(text, match.start())}: {match[1]} is no crate any more"
+
+
+# ---- sizes
+
+CLAUSE = re.compile(r"(?<![\w.])(requires|ensures|ghost)\b")
+FUNCTION = re.compile(r"\bfn\s+(\w+)")
+
+
+def closing(text, at):
+    """The place after the brace that closes the one at this place."""
+    depth = 0
+    while at < len(text):
+        depth += (text[at] == "{") - (text[at] == "}")
+        at += 1
+        if depth == 0:
+            return at
+    return at
+
+
+def clause_end(code, at):
+    """The place after the clause that begins here: after its braces, or after its semicolon."""
+    brace = re.compile(r"[{;]").search(code, at)
+    if not brace:
+        return len(code)
+    if brace[0] == ";":
+        return brace.end()
+    end = closing(code, brace.start())
+    tail = re.compile(r"[ \t]*;").match(code, end)
+    return tail.end() if tail else end
+
+
+def body_of(code, at):
+    """The place of the brace that opens the body of the function whose name ends here, or none."""
+    depth = 0
+    while at < len(code):
+        clause = CLAUSE.match(code, at)
+        if clause and depth == 0:
+            at = clause_end(code, at)
+            continue
+        depth += (code[at] in "([") - (code[at] in ")]")
+        if depth == 0 and code[at] == ";":
+            return None
+        if depth == 0 and code[at] == "{":
+            return at
+        at += 1
+    return None
+
+
+def code_of(text):
+    """The text without comments, and with nothing in its strings and characters."""
+    return blanked(text, RATTLE)
+
+
+def lines_of_body(text, code, start):
+    end = closing(code, start)
+    body = code[start + 1 : end - 1]
+    kept, at = [], 0
+    while at < len(body):
+        clause = CLAUSE.search(body, at)
+        if not clause:
+            break
+        kept.append(body[at : clause.start()])
+        past = clause_end(body, clause.start())
+        kept.append(re.sub(r"[^\n]", " ", body[clause.start() : past]))
+        at = past
+    shown = "".join(kept) + body[at:]
+    # A line that has only a string is a line of code; a comment is none.
+    written = blanked(text, re.compile(r"//[^\n]*"))[start + 1 : end - 1].split("\n")
+    return sum(1 for a, b in zip(shown.split("\n"), written) if a.strip() or re.fullmatch(r"\s*b?r?#*\".*", b))
+
+
+def long_functions():
+    for name in sources(".rt"):
+        if "/src/" not in name:
+            continue
+        text = text_of(name)
+        code = code_of(text)
+        for function in FUNCTION.finditer(code):
+            start = body_of(code, function.end())
+            many = lines_of_body(text, code, start) if start is not None else 0
+            if many > MOST_LINES_OF_A_BODY:
+                yield f"{name}:{line_at(code, function.start())}: {function[1]} has {many} lines"
+
+
+def wide_clauses():
+    for name in sources(".rt"):
+        text = text_of(name)
+        code, wide = code_of(text), set()
+        lines = text.split("\n")
+        for clause in CLAUSE.finditer(code):
+            if code[code.rfind("\n", 0, clause.start()) + 1 : clause.start()].strip() in ("", "pub"):
+                first, last = line_at(code, clause.start()), line_at(code, clause_end(code, clause.start()))
+                wide |= {at for at in range(first, last + 1) if len(lines[at - 1]) > WIDEST_CLAUSE}
+        for at in sorted(wide):
+            yield f"{name}:{at}: a clause of {len(lines[at - 1])} characters"
+
+
+def long_files():
+    for name in sources(".rt", ".antt"):
+        many = text_of(name).count("\n")
+        if many > MOST_LINES_OF_A_FILE:
+            yield f"{name}:{MOST_LINES_OF_A_FILE + 1}: the file has {many} lines"
+
+
+# ---- pages
+
+
+def table_after(text, heading):
+    """The rows of the first table below this heading, each with its line."""
+    at = re.search(rf"^#+ {heading}$", text, re.M)
+    rows = []
+    for number, line in enumerate(text.split("\n"), 1):
+        if at and number > line_at(text, at.start()):
+            if line.startswith("|"):
+                rows.append((number, line))
+            elif rows or line.startswith("#"):
+                break
+    return rows[2:]
+
+
+def crates_listed():
+    """At most so many crates; each in the one table of architecture.md; and no second list of them."""
+    listed = crates()
+    if len(listed) > MOST_CRATES:
+        yield f"crates.txt:1: {len(listed)} crates, {MOST_CRATES} at most"
+    rows = table_after(text_of(ARCHITECTURE), "The crates")
+    known = [crate for _, row in rows for crate in re.findall(r"`(\w+)`", row.split("|")[1])]
+    for crate in listed:
+        if known.count(crate) != 1:
+            yield f"{ARCHITECTURE}:1: `{crate}` is in {known.count(crate)} rows of the crates"
+    for line, row in rows:
+        for crate in re.findall(r"`(\w+)`", row.split("|")[1]):
+            if crate not in listed:
+                yield f"{ARCHITECTURE}:{line}: crates.txt has no `{crate}`"
+    for page in pages():
+        met = []
+        for line, row in enumerate(text_of(page).split("\n") + [""], 1):
+            item = re.match(r"(?:\| |[-*] |\d+\. )`(\w+)`", row)
+            if item and item[1] in set(listed) | set(known):
+                met.append(line)
+            elif not row.startswith(("|", "-", "*")):
+                if len(met) > 5 and page != ARCHITECTURE:
+                    yield f"{page}:{met[0]}: a second list of crates"
+                met = []
+
+
+def glossary_too_long():
+    for heading, most in [("Glossary", MOST_NOUNS), ("Double names", MOST_DOUBLE_NAMES)]:
+        rows = table_after(text_of(ARCHITECTURE), heading)
+        if not rows or len(rows) > most:
+            yield f"{ARCHITECTURE}:{rows[-1][0] if rows else 1}: {heading} has {len(rows)} rows, 1 to {most} are allowed"
+
+
+def headline_repeated():
+    found = [(page, line_at(text_of(page), at.start())) for page in pages() for at in re.finditer(re.escape(HEADLINE), text_of(page))]
+    for page, line in found[MOST_HEADLINES:]:
+        yield f"{page}:{line}: the headline once more"
+    if {page for page, _ in found} != {"README.md", THEOREM}:
+        yield f"{THEOREM}:1: the headline belongs here and in README.md"
+
+
+def anchors_of(text):
+    found = set()
+    for heading in re.findall(r"^#+ (.*)$", FENCE.sub("", text), re.M):
+        shown = re.sub(r"\[([^]]*)\]\([^)]*\)", r"\1", heading)
+        slug = re.sub(r"[^\w\- ]", "", shown.lower()).replace(" ", "-")
+        found.add(slug)
+    return found
+
+
+def links_that_lead_nowhere():
+    for page in pages():
+        text = text_of(page)
+        for link in LINK.finditer(blanked(text, FENCE)):
+            path, anchor = link[1], link[2]
+            if "://" in path:
+                continue
+            target = os.path.normpath(os.path.join(os.path.dirname(page), path)) if path else page
+            if not os.path.exists(os.path.join(TOP, target)):
+                yield f"{page}:{line_at(text, link.start())}: no file {path}"
+            elif anchor and target.endswith(".md") and anchor not in anchors_of(text_of(target)):
+                yield f"{page}:{line_at(text, link.start())}: {target} has no part #{anchor}"
+
+
+def mentions_of_no_page():
+    """Paths of pages that sources, scripts and pages name."""
+    for name in repository_files():
+        if name.endswith((".svg", ".edit")) or name.startswith("wrong-bodies/"):
+            continue
+        text = text_of(name)
+        for mention in MENTION.finditer(text):
+            if not os.path.exists(os.path.join(TOP, mention[0])):
+                yield f"{name}:{line_at(text, mention.start())}: no page {mention[0]}"
+
+
+RULES = [
+    refused_words,
+    retired_names,
+    long_functions,
+    wide_clauses,
+    long_files,
+    crates_listed,
+    glossary_too_long,
+    headline_repeated,
+    links_that_lead_nowhere,
+    mentions_of_no_page,
+]
+
+
+def findings():
+    for rule in RULES:
+        yield from rule()

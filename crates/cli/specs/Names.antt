@@ -17,7 +17,7 @@ use Rattle.cli.specs.declared.explain.rule.Rule.TheVariants as rules
 use Rattle.cli.specs.declared.explain.topic.Topic.{Topic}
 use Rattle.cli.specs.declared.explain.topic.Topic.TheVariants.{Fault, Refused, Rule as OfRule, Against, Answer as OfAnswer, Step}
 
--- the number of an image's rule, in the order of docs/texts.md
+-- the number of an image's rule, in the order of docs/dev/texts.md
 abbrev pub number_of_rule : Rule → ℕ
 number_of_rule rules.Form = 1
 number_of_rule rules.Version = 2

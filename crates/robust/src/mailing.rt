@@ -22,7 +22,7 @@ use std::sync::Wait;
 
 impl Member {
     /// Stores a message with this sequence number, from 1, unless the process is blocked once more than `turns` times
-    /// (docs/mailbox.md, Append; its lock is docs/model.md, Lock). After Stored the message is shown; after Already, the
+    /// (docs/theory/mailbox.md, Append; its lock is docs/theory/model.md, Lock). After Stored the message is shown; after Already, the
     /// message that was stored under this number before. Full, Closed and OutOfOrder are what held of the mailbox at one
     /// moment of the call. The first two stay so. After OutOfOrder, send this sender's next number.
     ///
@@ -61,8 +61,8 @@ impl Member {
             .mail_within(plan, &Call::Append { seq, value }, turns)
     }
 
-    /// Closes the mailbox, unless the process is blocked once more than `turns` times (docs/mailbox.md, Close; its lock is
-    /// docs/model.md, Lock). It answers ClosedNow, or AlreadyClosed where it was closed before. From then on each sender's
+    /// Closes the mailbox, unless the process is blocked once more than `turns` times (docs/theory/mailbox.md, Close; its lock is
+    /// docs/theory/model.md, Lock). It answers ClosedNow, or AlreadyClosed where it was closed before. From then on each sender's
     /// next message is answered Closed.
     ///
     /// `AlreadyIn`: the process is in the section; unlock first. `Crashed`: the mailbox may be closed or not; close it
@@ -87,7 +87,7 @@ impl Member {
         self.runner.mail_within(plan, &Call::Close, turns)
     }
 
-    /// Stores a message with this sequence number, from 1, and waits as long as it has to (docs/mailbox.md, Append). Its
+    /// Stores a message with this sequence number, from 1, and waits as long as it has to (docs/theory/mailbox.md, Append). Its
     /// answers are those of `append_within`.
     ///
     /// `BadWidth`, `AlreadyIn`, `Crashed`, `NumbersSpent` and `NotRecoverable` as at `append_within`; never `NotYet`.
@@ -117,7 +117,7 @@ impl Member {
         self.runner.mail(rt, plan, &Call::Append { seq, value })
     }
 
-    /// Closes the mailbox, and waits as long as it has to (docs/mailbox.md, Close).
+    /// Closes the mailbox, and waits as long as it has to (docs/theory/mailbox.md, Close).
     ///
     /// `AlreadyIn`, `Crashed`, `NumbersSpent` and `NotRecoverable` as at `close_within`; never `NotYet`.
     pub fn close<R: Wait, C: CrashPlan>(&mut self, rt: &R, plan: &mut C) -> Result<Reply, LockFault>

@@ -86,7 +86,7 @@ impl Member {
         self.runner.by()
     }
 
-    /// The own steps of the last call that was started, at most the greatest u64; 0 before any call (docs/model.md, Own
+    /// The own steps of the last call that was started, at most the greatest u64; 0 before any call (docs/theory/model.md, Own
     /// steps of a call). A whole mailbox call is one call. A refused call and `read_from` leave the number as it was.
     pub fn steps(&self) -> u64
         ensures { result ≡ self.now.steps }
@@ -96,7 +96,7 @@ impl Member {
 
     /// The messages shown, from `place` on. It reads from anywhere, also while a lock still waits or after a crash. The
     /// messages are those of one moment, the reading of count, so they are no older than anything that the caller has seen.
-    /// It is no call of the process: `steps` answers as before (docs/mailbox.md, Entries below count).
+    /// It is no call of the process: `steps` answers as before (docs/theory/mailbox.md, Entries below count).
     ///
     /// `AllocError`: there was no room for all of them, and only count was read. Ask again from a later place, or once there
     /// is memory.
@@ -108,7 +108,7 @@ impl Member {
         self.runner.read_from(alloc, place)
     }
 
-    /// Leaves the section (POSIX: `pthread_mutex_unlock`; docs/model.md, Unlock). A holder that entered again after a crash
+    /// Leaves the section (POSIX: `pthread_mutex_unlock`; docs/theory/model.md, Unlock). A holder that entered again after a crash
     /// and hasn't mended ruins the lock for good, as an unlock without `pthread_mutex_consistent` does.
     ///
     /// `NotOwner` (POSIX: EPERM): the process isn't in the section, or crashed there; lock first. `Crashed`: it may have
@@ -131,7 +131,7 @@ impl Member {
         }
     }
 
-    /// Gives up the place in the line, after a call that answered NotYet (docs/model.md, Withdraw). A later lock is after
+    /// Gives up the place in the line, after a call that answered NotYet (docs/theory/model.md, Withdraw). A later lock is after
     /// those that have a number then.
     ///
     /// `NotOwner`: the process doesn't wait, since its last call didn't answer NotYet; there is nothing to give up.
@@ -151,7 +151,7 @@ impl Member {
     }
 
     /// Reads a word of the board, 0 to 3, as a holder: the value of the run's last `put` there, or 0 where there is none. If
-    /// the caller has put there since it entered, crashes between or not, that last `put` is its own (docs/mailbox.md,
+    /// the caller has put there since it entered, crashes between or not, that last `put` is its own (docs/theory/mailbox.md,
     /// BoardGet).
     ///
     /// `NotOwner`: the process isn't in the section, or crashed there; lock first. `BadIndex`: there is no such word; take
@@ -174,7 +174,7 @@ impl Member {
         }
     }
 
-    /// Writes a word of the board, 0 to 3, as a holder (docs/mailbox.md, BoardPut).
+    /// Writes a word of the board, 0 to 3, as a holder (docs/theory/mailbox.md, BoardPut).
     ///
     /// `NotOwner`: the process isn't in the section, or crashed there; lock first. `BadIndex`: there is no such word; take
     /// one from 0 to 3. `Crashed`: the word may be written or not; lock again, which answers `OwnerDied`, and write it
@@ -194,7 +194,7 @@ impl Member {
         }
     }
 
-    /// Mends what a crash inside has left, as a holder that entered again (POSIX: `pthread_mutex_consistent`; docs/model.md,
+    /// Mends what a crash inside has left, as a holder that entered again (POSIX: `pthread_mutex_consistent`; docs/theory/model.md,
     /// Consistent). True: an append was cut off after its commit, and its message is shown from now on. False: there was
     /// none.
     ///
@@ -217,7 +217,7 @@ impl Member {
         }
     }
 
-    /// Finds out where a crash has left the process, with as few steps as possible: it never waits (docs/model.md, Recover).
+    /// Finds out where a crash has left the process, with as few steps as possible: it never waits (docs/theory/model.md, Recover).
     /// Found inside, the process is a holder that has to mend: its unlock ruins the lock otherwise. Found waiting or in its
     /// doorway, it holds nothing, and its next lock goes on from there. Found idle or left, it is at rest.
     ///
@@ -238,7 +238,7 @@ impl Member {
     }
 
     /// Enters the section, also after a crash, unless it is blocked once more than `turns` times (POSIX:
-    /// `pthread_mutex_timedlock`, with turns in place of time; docs/model.md, Lock). `OwnerDied` (POSIX: EOWNERDEAD): this
+    /// `pthread_mutex_timedlock`, with turns in place of time; docs/theory/model.md, Lock). `OwnerDied` (POSIX: EOWNERDEAD): this
     /// process itself crashed inside; call `consistent` before the unlock.
     ///
     /// `AlreadyIn`: the process is in the section, and goes on there. `Crashed`: lock again. `NotYet`: it still waits and
@@ -267,7 +267,7 @@ impl Member {
         }
     }
 
-    /// Enters the section, also after a crash, and waits as long as it has to (POSIX: `pthread_mutex_lock`; docs/model.md,
+    /// Enters the section, also after a crash, and waits as long as it has to (POSIX: `pthread_mutex_lock`; docs/theory/model.md,
     /// Lock). `OwnerDied` (POSIX: EOWNERDEAD): this process itself crashed inside; call `consistent` before the unlock.
     ///
     /// `AlreadyIn`, `Crashed`, `NumbersSpent` and `NotRecoverable` as at `lock_within`; never `NotYet`.

@@ -90,7 +90,7 @@ fn of_lock(name: &'static str, text: &'static str) -> Meaning
     Meaning {
         name,
         text,
-        page: "docs/model.md, Calls as rows of steps",
+        page: "docs/theory/model.md, Calls as rows of steps",
     }
 }
 
@@ -100,7 +100,7 @@ fn of_restart(name: &'static str, text: &'static str) -> Meaning
     Meaning {
         name,
         text,
-        page: "docs/model.md, Restart table",
+        page: "docs/theory/model.md, Restart table",
     }
 }
 
@@ -110,7 +110,7 @@ fn of_task(name: &'static str, text: &'static str) -> Meaning
     Meaning {
         name,
         text,
-        page: "docs/mailbox.md, Tasks",
+        page: "docs/theory/mailbox.md, Tasks",
     }
 }
 

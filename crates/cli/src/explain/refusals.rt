@@ -66,7 +66,7 @@ fn of_call(name: &'static str, text: &'static str) -> Meaning
     Meaning {
         name,
         text,
-        page: "docs/surface.md, Rules for all calls",
+        page: "docs/dev/surface.md, Rules for all calls",
     }
 }
 

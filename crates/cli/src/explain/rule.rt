@@ -1,4 +1,4 @@
-//! The rules of an image (docs/texts.md, Image).
+//! The rules of an image (docs/dev/texts.md, Image).
 
 ghost use Rattle.std.specs.Prelude.{◌≡◌, ◌≤◌};
 

@@ -52,7 +52,7 @@ fn of_step(name: &'static str, text: &'static str) -> Meaning
     Meaning {
         name,
         text,
-        page: "docs/model.md, Step",
+        page: "docs/theory/model.md, Step",
     }
 }
 

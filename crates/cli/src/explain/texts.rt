@@ -49,7 +49,7 @@ another 2 + W for each place of `cap`.";
 
 const ROWS: &str =
     "The three words of each process are a row of the restart table, and its number is at most the limit. That table \
-stands in docs/model.md.";
+stands in docs/theory/model.md.";
 
 const INSIDE: &str =
     "At most one process is inside, which the words 0, a number and 1 tell. It is the first in the line: its pair of \
@@ -99,7 +99,7 @@ fn of_text(name: &'static str, text: &'static str) -> Meaning
     Meaning {
         name,
         text,
-        page: "docs/texts.md, Faults of the text",
+        page: "docs/dev/texts.md, Faults of the text",
     }
 }
 
@@ -109,7 +109,7 @@ fn of_image(name: &'static str, text: &'static str) -> Meaning
     Meaning {
         name,
         text,
-        page: "docs/texts.md, Image",
+        page: "docs/dev/texts.md, Image",
     }
 }
 
@@ -119,7 +119,7 @@ fn of_judge(name: &'static str, text: &'static str) -> Meaning
     Meaning {
         name,
         text,
-        page: "docs/judge.md, The judge table",
+        page: "docs/theory/judge.md, The judge table",
     }
 }
 

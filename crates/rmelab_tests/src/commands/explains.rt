@@ -83,46 +83,46 @@ step glance
 
 pub const NO_NEWLINE: &str =
     "fault 5: The last line is not ended by a line feed. Each line of a schedule or a trace ends with one, the last one too.
-See docs/texts.md, Faults of the text.
+See docs/dev/texts.md, Faults of the text.
 ";
 
 const UNMENDED: &str =
     "refused 12: The process came back after a crash inside, and has not mended what it found. First `consistent P` has to be answered.
-See docs/surface.md, Rules for all calls.
+See docs/dev/surface.md, Rules for all calls.
 ";
 
 const NO_MEMORY: &str =
     "out of memory: A request for memory was refused. It counts only where no other cause holds, and the call may be made again.
-See docs/surface.md, Rules for all calls.
+See docs/dev/surface.md, Rules for all calls.
 ";
 
 const HEADS: &str =
     "rule 7: The words ruined, closed and armed are at most 1, and count is at most the capacity. Closed and armed are not both 1.
-See docs/texts.md, Image.
+See docs/dev/texts.md, Image.
 ";
 
 const OVERTAKEN: &str =
     "against 4: `by Q of P`: process Q entered, though P was ready before Q began, and P has neither entered since nor given up its place. First come, first served is broken.
-See docs/judge.md, The judge table.
+See docs/theory/judge.md, The judge table.
 ";
 
 const FOUND_LEFT: &str =
     "answer found left: `recover` read the words 0,0,1: the process had crashed on its way out. It has made its exit whole, and is at rest.
-See docs/model.md, Restart table.
+See docs/theory/model.md, Restart table.
 ";
 
 const ALREADY: &str =
     "answer already: The sender's message with this number is there. Nothing was written, so an append that a crash cut off can be made again.
-See docs/mailbox.md, Tasks.
+See docs/theory/mailbox.md, Tasks.
 ";
 
 const CLEAN: &str = "answer clean: The process is inside, by the line. Nothing is left to be mended.
-See docs/model.md, Calls as rows of steps.
+See docs/theory/model.md, Calls as rows of steps.
 ";
 
 const LOOK: &str =
     "step look: Loads choosing of another process, to pass it. Where it is 1 the step is blocked, and the next one reads the same word.
-See docs/model.md, Step.
+See docs/theory/model.md, Step.
 ";
 
 #[test]
